@@ -17,7 +17,7 @@ use Rattle.assise_console.specs.OneEvent.{IsOne, IsOneAt}
 use Rattle.assise_console.specs.Lines.{Prints}
 use Rattle.assise_console.specs.State.{ConsoleState, Stocks, begun_console}
 use Rattle.assise_link.specs.Kinds.{Kind}
-use Rattle.assise_console.specs.Steps.{Calls, Carries, IsVerdict, Returns, Serves, SetsHot, SetsLink, is_carried, is_verdict, is_linked, is_made, is_nowhere, is_out, is_refused, lacks_room}
+use Rattle.assise_console.specs.Steps.{Calls, CarriesFrames, IsVerdict, Returns, Serves, SetsHot, SetsLink, is_carried, is_verdict, is_linked, is_made, is_nowhere, is_out, is_refused, lacks_room}
 use Rattle.assise_rounds.proofs.ReturnTrace.{return_trace}
 use Rattle.assise_rounds.proofs.Traces.{trace_legal, trace_of, trace_then, trace_told, event_trace, tries_trace}
 
@@ -33,7 +33,7 @@ calls_trace : (manual : Bool) (links : List Kind) (turns c : ℕ) (op : Op) (a :
 calls_trace true links turns c op a m es m' h = one_trace (try_call c op) a m es m' h
 calls_trace false links turns c op a m es m' h = tries_trace turns c op h.result m es m' h.tries
 
-carries_trace : (perfect : Type 0) (n : ℕ) (a : Response) (m : Machine) (es : Told) (m' : Machine) → Carries perfect n a m es m' → IsEventTrace m es m'
+carries_trace : (perfect : Type 0) (n : ℕ) (a : Response) (m : Machine) (es : Told) (m' : Machine) → CarriesFrames perfect n a m es m' → IsEventTrace m es m'
 carries_trace perfect n a m es m' (is_carried count is h) = trace_of m m' es h.happen
 carries_trace perfect n a m es m' (is_refused r is h) = event_trace _ _ m es m' h
 

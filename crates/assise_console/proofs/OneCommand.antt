@@ -27,7 +27,7 @@ use Rattle.assise_rounds.specs.Rounds.{Replicates}
 use Rattle.assise_rounds.specs.Trying.{TriesOften, is_settled}
 use Rattle.assise_console.specs.OneEvent.{IsOne, IsOneAt, Tells, TellsAt}
 use Rattle.assise_console.specs.State.{ConsoleState, stock_of, with_machine, with_stock}
-use Rattle.assise_console.specs.Steps.{Calls, CallsOften, Carries, Changes, OpensClient, Returns, ReturnsWhole, SetsHot, Shows, call_answer, is_carried, is_made, is_out, is_refused, is_shown, lacks_memory, return_answer}
+use Rattle.assise_console.specs.Steps.{Calls, CallsOften, CarriesFrames, Changes, OpensClient, Returns, ReturnsWhole, SetsHot, Shows, call_answer, is_carried, is_made, is_out, is_refused, is_shown, lacks_memory, return_answer}
 use Rattle.assise_console.proofs.Numbers.{comes_nowhere, crashes_nobody, digests_nowhere, fails_nowhere, fills_nowhere, joins_nowhere, no_node, opens_nowhere, raises_nowhere, sets_nowhere, tries_nobody}
 
 -- ---- links
@@ -129,20 +129,20 @@ replicates_less : (F G : Type 0) → (F → G) → (n count : ℕ) (m : Machine)
 replicates_less F G to n count m es m' h = record { carried = h.carried; same = λ f. h.same (to f); counts = h.counts; told = h.told; happen = h.happen }
 
 pub carries_some : (s : ConsoleState) (n k count : ℕ) (m' : Machine) (G : Type 0) (links : List Kind) → k ≡ n → (FaithfulAt s.links k → G) → links ≡ s.links → (es : Told) × Replicates G k count s.machine es m'
-    → (es : Told) × Changes (Carries (FaithfulAt s.links n) n (Carried count)) s es (with_links s m' links)
+    → (es : Told) × Changes (CarriesFrames (FaithfulAt s.links n) n (Carried count)) s es (with_links s m' links)
 carries_some s n k count m' G links same to stay (es, h) =
-    let here : Carries (FaithfulAt s.links k) k (Carried count) s.machine es m' = is_carried count refl (replicates_less (FaithfulAt s.links k) G to k count s.machine es m' h) in
-    changes_links (Carries (FaithfulAt s.links n) n (Carried count)) s m' links stay (es, subst (λ j. Carries (FaithfulAt s.links j) j (Carried count) s.machine es m') same here)
+    let here : CarriesFrames (FaithfulAt s.links k) k (Carried count) s.machine es m' = is_carried count refl (replicates_less (FaithfulAt s.links k) G to k count s.machine es m' h) in
+    changes_links (CarriesFrames (FaithfulAt s.links n) n (Carried count)) s m' links stay (es, subst (λ j. CarriesFrames (FaithfulAt s.links j) j (Carried count) s.machine es m') same here)
 
 pub carries_refused : (s : ConsoleState) (n k : ℕ) (r : Refusal) (m' : Machine) (links : List Kind) → k ≡ n → links ≡ s.links → Sending s.machine k (refused r) m'
-    → (es : Told) × Changes (Carries (FaithfulAt s.links n) n (Refused r)) s es (with_links s m' links)
+    → (es : Told) × Changes (CarriesFrames (FaithfulAt s.links n) n (Refused r)) s es (with_links s m' links)
 carries_refused s n k r m' links same stay h =
-    changes_links (Carries (FaithfulAt s.links n) n (Refused r)) s m' links stay (_, is_refused r refl record { told = refl; happens = subst (λ j. Sending s.machine j (refused r) m') same h })
+    changes_links (CarriesFrames (FaithfulAt s.links n) n (Refused r)) s m' links stay (_, is_refused r refl record { told = refl; happens = subst (λ j. Sending s.machine j (refused r) m') same h })
 
-pub carries_nowhere : (s : ConsoleState) (n : ℕ) → node_fault s.machine n ≡ Some BadNode → (es : Told) × Changes (Carries (FaithfulAt s.links n) n (Refused BadNode)) s es s
+pub carries_nowhere : (s : ConsoleState) (n : ℕ) → node_fault s.machine n ≡ Some BadNode → (es : Told) × Changes (CarriesFrames (FaithfulAt s.links n) n (Refused BadNode)) s es s
 carries_nowhere s n none = (_, record { events = is_refused BadNode refl record { told = refl; happens = node_refused BadNode none refl refl }; stays = refl })
 
-pub carries_none : (s : ConsoleState) (n : ℕ) → length s.machine.members.nodes < n → (es : Told) × Changes (Carries (FaithfulAt s.links n) n (Refused BadNode)) s es s
+pub carries_none : (s : ConsoleState) (n : ℕ) → length s.machine.members.nodes < n → (es : Told) × Changes (CarriesFrames (FaithfulAt s.links n) n (Refused BadNode)) s es s
 carries_none s n far = carries_nowhere s n (no_node s.machine n far)
 
 pub digests_by : (m : Machine) (n k : ℕ) (a : Response) (e : Answer) (m' : Machine) → k ≡ n → Tells a e → Digesting m k e m' → (es : Told) × IsOne (digest n) a m es m'

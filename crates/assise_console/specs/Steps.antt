@@ -63,9 +63,9 @@ Calls true links turns c op a m es m' = IsOne (try_call c op) a m es m'
 Calls false links turns c op a m es m' = CallsOften links turns c op a m es m'
 
 -- node n makes a replicate turn, over a link that is perfect or isn't
-pub data Carries (perfect : Type 0) (n : ℕ) (a : answers.Response) (m : Machine) (es : Told) (m' : Machine) : Type 0 where
-  is_carried : (count : ℕ) → a ≡ Carried count → Replicates perfect n count m es m' → Carries perfect n a m es m'
-  is_refused : (r : Refusal) → a ≡ Refused r → IsEvent (outgoing n) (refused r) m es m' → Carries perfect n a m es m'
+pub data CarriesFrames (perfect : Type 0) (n : ℕ) (a : answers.Response) (m : Machine) (es : Told) (m' : Machine) : Type 0 where
+  is_carried : (count : ℕ) → a ≡ Carried count → Replicates perfect n count m es m' → CarriesFrames perfect n a m es m'
+  is_refused : (r : Refusal) → a ≡ Refused r → IsEvent (outgoing n) (refused r) m es m' → CarriesFrames perfect n a m es m'
 
 -- so many inodes may be hot at node n then, which the answer tells; a number out of limits does nothing
 pub data SetsHot (n capacity : ℕ) (a : answers.Response) (m : Machine) (es : Told) (m' : Machine) : Type 0 where
@@ -127,7 +127,7 @@ Serves s (Cluster n l h) es a t = IsUneventful a es t s
 Serves s Manual es a t = IsUneventful a es t (record s { manual = true })
 Serves s (Open n kind u) es a t = OpensClient s n kind u es a t
 Serves s (Call c op) es a t = Changes (Calls s.manual s.links s.turns c op a) s es t
-Serves s (Carry n) es a t = Changes (Carries (FaithfulAt s.links n) n a) s es t
+Serves s (Carry n) es a t = Changes (CarriesFrames (FaithfulAt s.links n) n a) s es t
 Serves s (Link n kind) es a t = SetsLink s n kind a t × (es ≡ [])
 Serves s (Hot n capacity) es a t = Changes (SetsHot n capacity a) s es t
 Serves s (Digest n) es a t = Changes (IsOne (digest n) a) s es t

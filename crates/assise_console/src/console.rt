@@ -8,7 +8,7 @@ ghost use Rattle.assise_console.specs.Consoles.{console_seen, stocks};
 ghost use Rattle.assise_rounds.specs.Traces.{Told};
 ghost use Rattle.assise_console.specs.State.{begun_console, perfect_links};
 ghost use Rattle.assise_console.specs.Stored.{Stores, StoresLast};
-ghost use Rattle.assise_console.specs.Steps.{Calls, Carries, Changes, IsVerdict, Does, OpensClient, Returns, SetsHot, SetsLink, Shows, call_answer, link_kind, return_answer};
+ghost use Rattle.assise_console.specs.Steps.{Calls, CarriesFrames, Changes, IsVerdict, Does, OpensClient, Returns, SetsHot, SetsLink, Shows, call_answer, link_kind, return_answer};
 ghost use Rattle.assise_console.specs.OneEvent.{IsOne, IsOneAt, Tells};
 ghost use Rattle.assise_link.specs.TestLinks.{IsUnusedLink, kind_of_link};
 ghost use Rattle.assise_model_events.specs.Faults.{node_fault};
@@ -183,7 +183,7 @@ impl<C: Revokes + Drop> ConsoleOf<C> {
     /// One replicate turn of a node.
     fn carry(&mut self, alloc: Global, node: u64) -> Response
         ensures { (es : Told) ×
-            Changes (Carries (FaithfulAt (console_seen self.old).links node) node result)
+            Changes (CarriesFrames (FaithfulAt (console_seen self.old).links node) node result)
             (console_seen self.old) es (console_seen self.new) }
     {
         let Some(node) = number_of(node) else {

@@ -82,7 +82,7 @@ pub record TellsEvent {X : Type 0} (number : X → Result ℕ DeskFault) (answer
   pub event : IsEvent e (answer told) m es m'
 
 -- a client is opened, with a revoker of the kind that the request names
-pub record OpensClient (r : DeskRequest) (result : Result ℕ DeskFault) (files : Files) (es : Told) (left : Files) : Type 0 where
+pub record ServesOpen (r : DeskRequest) (result : Result ℕ DeskFault) (files : Files) (es : Told) (left : Files) : Type 0 where
   pub kind : CutKind
   pub named : NamesKind r.kind kind
   pub opened : Result ℕ Refusal
@@ -125,7 +125,7 @@ pub record TellsLength (result : Result ℕ DeskFault) (m : Machine) (es : Told)
 
 -- what it does, with its result, and with the bytes before it and then
 abbrev pub DoesAt : ClusterCall → DeskRequest → Result ℕ DeskFault → List ℕ → List ℕ → Files → Told → Files → Type 0
-DoesAt Open r result before out files es left = OpensClient r result files es left
+DoesAt Open r result before out files es left = ServesOpen r result files es left
 DoesAt Crash r result before out files es left = TellsEvent done_told crashing_answer (crash r.client) result (cluster_seen files) es (cluster_seen left)
 DoesAt Fail r result before out files es left = TellsFailure r.node result before out (cluster_seen files) es (cluster_seen left)
 DoesAt Back r result before out files es left = TellsReturn r.node result (cluster_seen files) es (cluster_seen left)

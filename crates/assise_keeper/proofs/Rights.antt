@@ -3,7 +3,7 @@ use Rattle.std.proofs.Common.{◌≡◌, ℕ, List, [], Option, sym, refl, ap, �
 use Rattle.assise_history.specs.Entries.{EntryValue}
 use Rattle.assise_keeper.specs.declared.view.Opens.{Opens}
 use Rattle.assise_keeper.specs.declared.view.Opens.TheVariants.{Never, Alone, AmongOthers}
-use Rattle.assise_keeper.specs.Clients.{openings_of, MayAddAll, MayOpen}
+use Rattle.assise_keeper.specs.Clients.{openings_of, MayAddAll, MayOpenClients}
 use Rattle.assise_keeper.specs.Rule.{Opener, alone, anyone, HasRight, Owner}
 use Rattle.assise_keeper.proofs.PassAdds.{no_openings}
 
@@ -37,7 +37,7 @@ passes_on Never was from to has = record { who = was; first = tt; second = tt; o
 passes_on Alone was from to has = record { who = alone to; first = tt; second = refl; others = λ at p other h. none_else was (alone to) from at p has other h }
 passes_on AmongOthers was from to has = record { who = was; first = tt; second = has; others = λ at p other h. h }
 
-pub shares : (o : Opens) → MayOpen o → CanPart o AmongOthers AmongOthers
+pub shares : (o : Opens) → MayOpenClients o → CanPart o AmongOthers AmongOthers
 shares Never may was from to has = absurd may
 shares Alone may was from to has = record { who = anyone; first = refl; second = refl; others = λ at p other h. none_else was anyone from at p has other h }
 shares AmongOthers may was from to has = record { who = was; first = has; second = has; others = λ at p other h. h }

@@ -30,10 +30,10 @@ Extends h prefix = (more : List EntryValue) × (h ≡ prefix ++ more)
 -- ---- what a pass may add: calls of its client; where it has none, the opening of one, if it has the right; and what is nobody's
 
 -- a pass with this right may open clients
-abbrev pub MayOpen : Opens → Type 0
-MayOpen Never = ⊥
-MayOpen Alone = Unit {0}
-MayOpen AmongOthers = Unit {0}
+abbrev pub MayOpenClients : Opens → Type 0
+MayOpenClients Never = ⊥
+MayOpenClients Alone = Unit {0}
+MayOpenClients AmongOthers = Unit {0}
 
 -- the client of a pass that added the entry
 abbrev pub client_with : Option ℕ → EntryValue → Option ℕ
@@ -50,7 +50,7 @@ client_after c (e ∷ es) = client_after (client_with c e) es
 
 -- a pass with this client, or none, and this right may add the entry
 abbrev pub MayAdd : Option ℕ → Opens → EntryValue → Type 0
-MayAdd c o (opens d n u) = (c ≡ None) × MayOpen o
+MayAdd c o (opens d n u) = (c ≡ None) × MayOpenClients o
 MayAdd c o (calls x) = c ≡ Some x.client
 MayAdd c o (crashes d) = Unit {0}
 MayAdd c o (fails n losses) = Unit {0}

@@ -32,7 +32,7 @@ impl<S: Growing> Keeper<S> {
     ghost use Rattle.std.specs.Prelude.{◌≡◌, ℕ, Some, None, IsNone, IfSome, IfNone, IfOk, IfErr};
     ghost use Rattle.assise_names.specs.declared.refusal.Refusal.TheVariants.{OutOfMemory};
     ghost use Rattle.assise_keeper.specs.declared.view.Opens.TheVariants.{Never, Alone, AmongOthers};
-    ghost use Rattle.assise_keeper.specs.Clients.{Extends, calls_of, openings_of, MayGive, MayOpen, client_after, added};
+    ghost use Rattle.assise_keeper.specs.Clients.{Extends, calls_of, openings_of, MayGive, MayOpenClients, client_after, added};
     ghost use Rattle.assise_keeper.specs.Views.{holding, given};
     ghost use Rattle.assise_keeper.specs.Rule.{CoversHalf};
     ghost use Rattle.assise_keeper.specs.Passes.{seen, client, mine, opens, view, taken, IsPassOf, IsHolding, IsHoldingThis, IsFirst};
@@ -194,7 +194,7 @@ impl<S: Growing> Keeper<S> {
     /// clients themselves: none of them knows that nobody else opened one.
     pub fn split_sharing(&self, pass: &mut Pass<S>) -> Pass<S>
         requires pass { IsPassOf self.now pass.old }
-        requires right { MayOpen (opens pass.old) }
+        requires right { MayOpenClients (opens pass.old) }
         ensures pass { IsPassOf self.now pass.new }
         ensures same { (seen pass.new ≡ seen pass.old) × (client pass.new ≡ client pass.old) }
         ensures new { IsPassOf self.now result }

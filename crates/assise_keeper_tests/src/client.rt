@@ -1,6 +1,6 @@
 // Turns of a client and of a worker: a take, what is done with the state, and the give.
 ghost use Rattle.std.specs.Prelude.{◌≡◌, ◌++◌, map, Some, None, IfOk, OnErr};
-ghost use Rattle.assise_keeper.specs.Clients.{Extends, ExtendsByOne, MayOpen};
+ghost use Rattle.assise_keeper.specs.Clients.{Extends, ExtendsByOne, MayOpenClients};
 ghost use Rattle.assise_keeper.specs.Passes.{seen, client, mine, opens, IsPassOf};
 ghost use Rattle.assise_keeper.specs.Working.{pass_of};
 ghost use Rattle.assise_keeper_tests.specs.Made.{made};
@@ -20,7 +20,7 @@ pub fn open_as<R: Wait>(
     pass: &mut Pass<Book>,
 ) -> Result<u32, Refusal>
     requires pass { IsPassOf keeper.now pass.old × (client pass.old ≡ None) }
-    requires right { MayOpen (opens pass.old) }
+    requires right { MayOpenClients (opens pass.old) }
     ensures free { IsPassOf keeper.now pass.new }
     ensures seen { Extends (seen pass.new) (seen pass.old) }
     ensures opened { IfOk result (λ c. client pass.new ≡ Some c) }

@@ -1,6 +1,6 @@
 // Two clients and a worker in threads of their own.
 ghost use Rattle.std.specs.Prelude.{◌≡◌, map, Some, None, IfSome};
-ghost use Rattle.assise_keeper.specs.Clients.{MayOpen};
+ghost use Rattle.assise_keeper.specs.Clients.{MayOpenClients};
 ghost use Rattle.assise_keeper.specs.Passes.{IsPassOf, seen, client, mine, opens};
 ghost use Rattle.assise_keeper.specs.Working.{pass_of};
 ghost use Rattle.assise_keeper_tests.specs.Made.{made, EndsWith};
@@ -47,7 +47,7 @@ pub fn serve<R: Wait>(
     count: u32,
 ) -> Option<Served>
     requires pass { IsPassOf keeper.now pass × (client pass ≡ None) }
-    requires right { MayOpen (opens pass) }
+    requires right { MayOpenClients (opens pass) }
     ensures free { IfSome result (λ s. IsPassOf keeper.now s.pass ×
         (client s.pass ≡ Some s.client)) }
     ensures made { IfSome result (λ s. EndsWith (mine s.pass)
@@ -72,7 +72,7 @@ fn serve_beside_worker<R: Threads + Wait + Sync>(
     count: u32,
 ) -> (Option<Served>, u64)
     requires client { IsPassOf keeper.now pass × (client pass ≡ None) }
-    requires right { MayOpen (opens pass) }
+    requires right { MayOpenClients (opens pass) }
     requires worker { IsPassOf keeper.now (pass_of worker) }
     ensures free { IfSome result.0 (λ s. IsPassOf keeper.now s.pass ×
         (client s.pass ≡ Some s.client)) }
@@ -102,7 +102,7 @@ pub fn two_clients<R: Threads + Wait + Sync>(rt: &R, alloc: Global, count: u32) 
         || serve(rt, alloc, &keeper, first, count),
         || -> (Option<Served>, u64)
             requires { IsPassOf keeper second × (client second ≡ None) ×
-                MayOpen (opens second) × IsPassOf keeper (pass_of worker) }
+                MayOpenClients (opens second) × IsPassOf keeper (pass_of worker) }
             ensures free { IfSome result.0 (λ s. IsPassOf keeper s.pass ×
                 (client s.pass ≡ Some s.client)) }
             ensures made { IfSome result.0 (λ s. EndsWith (mine s.pass)

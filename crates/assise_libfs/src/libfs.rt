@@ -57,7 +57,7 @@ impl<'a, S: Served> LibFs<'a, S> {
     ghost use Rattle.assise_names.specs.declared.call.Op.TheVariants.{Create, Dsync, Fsync, List as Lists, Mkdir, Read, Rename, Rmdir, Stat, Truncate, Unlink, Write};
     ghost use Rattle.assise_history.specs.Legal.{IsLegal, calls_made};
     ghost use Rattle.assise_keeper.specs.declared.view.Opens.TheVariants.{Alone, Never};
-    ghost use Rattle.assise_keeper.specs.Clients.{Extends, MayOpen, openings_of};
+    ghost use Rattle.assise_keeper.specs.Clients.{Extends, MayOpenClients, openings_of};
     ghost use Rattle.assise_keeper.specs.Passes.{AreOfOneKeeper, IsPassOf, client as client_of_pass, mine, opens, seen};
     ghost use Rattle.assise_libfs.specs.Calling.{MayRefuse, MayRefuseTry, SeesCall, SeesTry};
     ghost use Rattle.assise_libfs.specs.Clients.{IsSameClient, client_of, keeper_of, limit_of, node_of, opens_of, pass_of, seen_by};
@@ -82,7 +82,7 @@ impl<'a, S: Served> LibFs<'a, S> {
         limit: u32,
     ) -> Result<LibFs<'a, S>, (Refusal, Pass<S>, S::Stored)>
         requires pass { IsPassOf keeper.now pass × (client_of_pass pass ≡ None) }
-        requires right { MayOpen (opens pass) }
+        requires right { MayOpenClients (opens pass) }
         requires some_turns { 1 ≤ limit }
         requires few_turns { limit ≤ 1000000 }
         ensures keeper { IfOk result (λ it. keeper_of it ≡ keeper.now) }

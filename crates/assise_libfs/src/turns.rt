@@ -2,7 +2,7 @@
 ghost use Rattle.std.specs.Prelude.{◌≡◌, IfErr, IfOk, None, OnErr, Some};
 ghost use Rattle.assise_history.specs.Legal.{IsLegal, calls_made};
 ghost use Rattle.assise_keeper.specs.declared.view.Opens.TheVariants.{Alone};
-ghost use Rattle.assise_keeper.specs.Clients.{Extends, MayOpen, openings_of};
+ghost use Rattle.assise_keeper.specs.Clients.{Extends, MayOpenClients, openings_of};
 ghost use Rattle.assise_keeper.specs.Passes.{IsPassOf, client, opens, seen};
 ghost use Rattle.assise_libfs.specs.Calling.{MayRefuseTry, SeesTry, answers};
 ghost use Rattle.assise_libfs.specs.Lives.{EndsWithOpening, IsOpenedAs, OpensNoOther};
@@ -56,7 +56,7 @@ pub(crate) fn open_turn<S: Served, R: Wait>(
     durability: Durability,
 ) -> Result<u32, (Refusal, S::Stored)>
     requires pass { IsPassOf keeper.now pass.old × (client pass.old ≡ None) }
-    requires right { MayOpen (opens pass.old) }
+    requires right { MayOpenClients (opens pass.old) }
     ensures free { IsPassOf keeper.now pass.new }
     ensures right { opens pass.new ≡ opens pass.old }
     ensures seen { Extends (seen pass.new) (seen pass.old) }

@@ -1,6 +1,6 @@
 // Clients of a ledger.
 ghost use Rattle.std.specs.Prelude.{◌≡◌, ◌≤◌, None};
-ghost use Rattle.assise_keeper.specs.Clients.{MayOpen};
+ghost use Rattle.assise_keeper.specs.Clients.{MayOpenClients};
 ghost use Rattle.assise_keeper.specs.Passes.{IsPassOf, client, opens};
 
 use crate::calls::{TURNS, told};
@@ -32,7 +32,7 @@ fn open_and_sync<R: Wait>(
     turns: u32,
 ) -> Option<String>
     requires pass { IsPassOf keeper.now pass × (client pass ≡ None) }
-    requires right { MayOpen (opens pass) }
+    requires right { MayOpenClients (opens pass) }
     requires some { 1 ≤ turns }
     requires few { turns ≤ 1000000 }
 {
@@ -59,7 +59,7 @@ fn sync_and_meet<R: Wait>(
 ) -> Option<(u64, u64)>
     requires first { IsPassOf keeper.now first × (client first ≡ None) }
     requires second { IsPassOf keeper.now second × (client second ≡ None) }
-    requires rights { MayOpen (opens first) × MayOpen (opens second) }
+    requires rights { MayOpenClients (opens first) × MayOpenClients (opens second) }
 {
     let durability = Durability::Pessimistic;
     let mut first = LibFs::open(rt, alloc, keeper, first, 1, 0, durability, TURNS).ok()?;

@@ -1,7 +1,7 @@
 // A keeper, a client and its calls, where each allocation of a run is refused in turn: what is refused gives back what it was given,
 // changes nothing, and is done when it is made again.
 ghost use Rattle.std.specs.Prelude.{◌≡◌, IfSome, None};
-ghost use Rattle.assise_keeper.specs.Clients.{MayOpen};
+ghost use Rattle.assise_keeper.specs.Clients.{MayOpenClients};
 ghost use Rattle.assise_keeper.specs.Passes.{IsPassOf, client, opens};
 
 use crate::calls::{TURNS, call_in, make, told};
@@ -54,7 +54,7 @@ list / = names 0
 /// A keeper of a cluster, which comes back where memory is refused, and is kept then.
 fn kept(alloc: Global, cluster: Cluster) -> Option<(Keeper<Cluster>, Pass<Cluster>)>
     ensures pass { IfSome result (λ both. IsPassOf both.0 both.1 × (client both.1 ≡ None)) }
-    ensures right { IfSome result (λ both. MayOpen (opens both.1)) }
+    ensures right { IfSome result (λ both. MayOpenClients (opens both.1)) }
 {
     match Keeper::new(alloc, cluster) {
         Ok(both) => Some(both),
@@ -70,7 +70,7 @@ fn opened<'a, R: Wait>(
     pass: Pass<Cluster>,
 ) -> Option<LibFs<'a, Cluster>>
     requires pass { IsPassOf keeper.now pass × (client pass ≡ None) }
-    requires right { MayOpen (opens pass) }
+    requires right { MayOpenClients (opens pass) }
 {
     let durability = Durability::Pessimistic;
     match LibFs::open(rt, alloc, keeper, pass, 1, Whole, durability, TURNS) {
@@ -105,7 +105,7 @@ fn are_answered<R: Wait>(
     pass: Pass<Cluster>,
 ) -> Option<bool>
     requires pass { IsPassOf keeper.now pass × (client pass ≡ None) }
-    requires right { MayOpen (opens pass) }
+    requires right { MayOpenClients (opens pass) }
 {
     let mut libfs = opened(rt, alloc, keeper, pass)?;
     for line in LINES.lines() {

@@ -1,6 +1,6 @@
 // The threads, each with what it needs.
 ghost use Rattle.std.specs.Prelude.{◌≡◌};
-ghost use Rattle.assise_keeper.specs.Clients.{MayOpen};
+ghost use Rattle.assise_keeper.specs.Clients.{MayOpenClients};
 ghost use Rattle.assise_keeper.specs.Passes.{IsPassOf, opens};
 
 use crate::mailer::{Mailer, SURVIVOR};
@@ -30,7 +30,7 @@ impl<'a, S: Served> Writers<'a, S>
 where
     S::Stored: Drop,
 {
-    ghost use Rattle.assise_keeper.specs.Clients.{MayOpen};
+    ghost use Rattle.assise_keeper.specs.Clients.{MayOpenClients};
     ghost use Rattle.assise_keeper.specs.Passes.{IsPassOf, opens};
 
     /// With a client for each, two on the node that fails.
@@ -41,8 +41,8 @@ where
         main: &mut Pass<S>,
         revokers: &mut Vec<S::Stored>,
     ) -> Result<Writers<'a, S>, MailFault>
-        requires { IsPassOf keeper.now main.old × MayOpen (opens main.old) }
-        ensures { IsPassOf keeper.now main.new × MayOpen (opens main.new) }
+        requires { IsPassOf keeper.now main.old × MayOpenClients (opens main.old) }
+        ensures { IsPassOf keeper.now main.new × MayOpenClients (opens main.new) }
     {
         Ok(Writers {
             first: Mailer::new(rt, alloc, keeper, main, revokers, FAILING)?,
@@ -66,7 +66,7 @@ impl<'a, S: Served> Readers<'a, S>
 where
     S::Stored: Drop,
 {
-    ghost use Rattle.assise_keeper.specs.Clients.{MayOpen};
+    ghost use Rattle.assise_keeper.specs.Clients.{MayOpenClients};
     ghost use Rattle.assise_keeper.specs.Passes.{IsPassOf, opens};
 
     /// With a client for each, one on the node that fails.
@@ -77,8 +77,8 @@ where
         main: &mut Pass<S>,
         revokers: &mut Vec<S::Stored>,
     ) -> Result<Readers<'a, S>, MailFault>
-        requires { IsPassOf keeper.now main.old × MayOpen (opens main.old) }
-        ensures { IsPassOf keeper.now main.new × MayOpen (opens main.new) }
+        requires { IsPassOf keeper.now main.old × MayOpenClients (opens main.old) }
+        ensures { IsPassOf keeper.now main.new × MayOpenClients (opens main.new) }
     {
         Ok(Readers {
             first: Mailer::new(rt, alloc, keeper, main, revokers, FAILING)?,
@@ -103,7 +103,7 @@ impl<'a, S: Served + Replicated + Failing> Crew<'a, S>
 where
     S::Stored: Drop,
 {
-    ghost use Rattle.assise_keeper.specs.Clients.{MayOpen};
+    ghost use Rattle.assise_keeper.specs.Clients.{MayOpenClients};
     ghost use Rattle.assise_keeper.specs.Passes.{IsPassOf, opens};
 
     /// With a client for each thread that delivers or reads.
@@ -114,8 +114,8 @@ where
         main: &mut Pass<S>,
         revokers: &mut Vec<S::Stored>,
     ) -> Result<Crew<'a, S>, MailFault>
-        requires { IsPassOf keeper.now main.old × MayOpen (opens main.old) }
-        ensures { IsPassOf keeper.now main.new × MayOpen (opens main.new) }
+        requires { IsPassOf keeper.now main.old × MayOpenClients (opens main.old) }
+        ensures { IsPassOf keeper.now main.new × MayOpenClients (opens main.new) }
     {
         let nodes = workers_up_to(alloc, keeper, main, SURVIVOR)?;
         let operator = Operator::new(keeper, main);

@@ -1,6 +1,6 @@
 // A thread that delivers or reads, with its client.
 ghost use Rattle.std.specs.Prelude.{◌≡◌};
-ghost use Rattle.assise_keeper.specs.Clients.{MayOpen};
+ghost use Rattle.assise_keeper.specs.Clients.{MayOpenClients};
 ghost use Rattle.assise_keeper.specs.Passes.{IsPassOf, opens};
 ghost use Rattle.assise_keeper.specs.declared.view.Opens.TheVariants.{AmongOthers};
 
@@ -59,7 +59,7 @@ fn open_files<'a, S: Served, R: Wait>(
 ) -> Result<LibFs<'a, S>, MailFault>
 where
     S::Stored: Drop,
-    requires { IsPassOf keeper.now pass.old × MayOpen (opens pass.old) }
+    requires { IsPassOf keeper.now pass.old × MayOpenClients (opens pass.old) }
     ensures { IsPassOf keeper.now pass.new × (opens pass.new ≡ AmongOthers) }
 {
     let own = keeper.split_sharing(pass);
@@ -77,7 +77,7 @@ impl<'a, S: Served> Mailer<'a, S>
 where
     S::Stored: Drop,
 {
-    ghost use Rattle.assise_keeper.specs.Clients.{MayOpen};
+    ghost use Rattle.assise_keeper.specs.Clients.{MayOpenClients};
     ghost use Rattle.assise_keeper.specs.Passes.{IsPassOf, opens};
 
     /// With a client on a node, and two of the revokers: one for the client, one to spare.
@@ -89,8 +89,8 @@ where
         revokers: &mut Vec<S::Stored>,
         node: u32,
     ) -> Result<Mailer<'a, S>, MailFault>
-        requires { IsPassOf keeper.now main.old × MayOpen (opens main.old) }
-        ensures { IsPassOf keeper.now main.new × MayOpen (opens main.new) }
+        requires { IsPassOf keeper.now main.old × MayOpenClients (opens main.old) }
+        ensures { IsPassOf keeper.now main.new × MayOpenClients (opens main.new) }
     {
         let mut pass = keeper.split_sharing(main);
         let files = open_files(rt, alloc, keeper, &mut pass, node, revokers.pop())?;

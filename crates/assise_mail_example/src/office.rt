@@ -1,6 +1,6 @@
 // What all threads do, and what they saw.
 ghost use Rattle.std.specs.Prelude.{◌≡◌};
-ghost use Rattle.assise_keeper.specs.Clients.{MayOpen};
+ghost use Rattle.assise_keeper.specs.Clients.{MayOpenClients};
 ghost use Rattle.assise_keeper.specs.Passes.{IsPassOf, opens};
 
 use crate::crew::{Crew, Readers, Writers};
@@ -169,8 +169,8 @@ fn find_at<S: Served + Replicated + Send, R: Threads + Wait + Sync>(
 ) -> Result<(), MailFault>
 where
     S::Stored: Drop + Send,
-    requires { IsPassOf keeper.now main.old × MayOpen (opens main.old) }
-    ensures { IsPassOf keeper.now main.new × MayOpen (opens main.new) }
+    requires { IsPassOf keeper.now main.old × MayOpenClients (opens main.old) }
+    ensures { IsPassOf keeper.now main.new × MayOpenClients (opens main.new) }
 {
     let mut searcher = Mailer::new(rt, alloc, keeper, main, revokers, node)?;
     find_tended(rt, alloc, &mut searcher, nodes, tally)
@@ -187,7 +187,7 @@ fn run_crew<S: Served + Replicated + Failing + Send, R: Threads + Wait + Sync>(
 ) -> Result<Report, MailFault>
 where
     S::Stored: Drop + Send,
-    requires { IsPassOf keeper.now main.old × MayOpen (opens main.old) }
+    requires { IsPassOf keeper.now main.old × MayOpenClients (opens main.old) }
 {
     let tally = Tally::new();
     crew.make_directories(rt, alloc)?;
@@ -208,7 +208,7 @@ fn with_main<S: Served + Replicated + Failing + Send, R: Threads + Wait + Sync>(
 ) -> Result<Report, MailFault>
 where
     S::Stored: Drop + Send,
-    requires { IsPassOf keeper.now main.old × MayOpen (opens main.old) }
+    requires { IsPassOf keeper.now main.old × MayOpenClients (opens main.old) }
 {
     let mut crew = Crew::new(rt, alloc, keeper, main, revokers)?;
     run_crew(rt, alloc, keeper, main, revokers, &mut crew)

@@ -1,6 +1,6 @@
 // What no contract says: that calls of a mail store succeed.
 ghost use Rattle.std.specs.Prelude.{◌≡◌, None};
-ghost use Rattle.assise_keeper.specs.Clients.{MayOpen};
+ghost use Rattle.assise_keeper.specs.Clients.{MayOpenClients};
 ghost use Rattle.assise_keeper.specs.Passes.{IsPassOf, client, opens};
 
 use assise_keeper::keeper::Keeper;
@@ -67,7 +67,7 @@ fn with_client<R: Wait>(
     place: &Path,
 ) -> Option<()>
     requires pass { IsPassOf keeper.now pass × (client pass ≡ None) }
-    requires right { MayOpen (opens pass) }
+    requires right { MayOpenClients (opens pass) }
 {
     let durability = Durability::Pessimistic;
     let mut files = LibFs::open(rt, alloc, keeper, pass, 1, Whole, durability, 100).ok()?;

@@ -4,9 +4,6 @@ use Rattle.std.specs.List.{list_all}
 use Rattle.std.specs.Fmt.{digits, digit_glyph}
 use Rattle.std.proofs.lemmas.Bool.{and_parts, cases_lt, eqb-true, ltb-true}
 use Rattle.std.proofs.lemmas.Fmt.{hex_one_digit}
-use Rattle.std.proofs.Common.{Result, Ok, Err}
-use Rattle.std.specs.Prelude.{OnOk}
-use Rattle.std.specs.Result.{is_err}
 use Rattle.std.specs.Str.{IsAscii}
 use Rattle.std.proofs.lemmas.Str.Ascii.{IsAscii-nil, IsAscii-cons}
 use Rattle.hex.proofs.HexLemmas.{IsAscii-encode_with}
@@ -44,8 +41,3 @@ ascii (b ∷ text) h = let parts = and_parts (nat_lt b 128) (list_all (λ b. nat
 
 pub IsAscii-encoded : (bytes : List ℕ) → IsAscii (encode_lower bytes)
 IsAscii-encoded bytes = IsAscii-encode_with lower_digits bytes (ascii lower_digits refl)
-
--- what was written where nothing was refused
-pub encoded : {E : Type 0} (bytes out : List ℕ) (r : Result (Unit {0}) E) {b : Bool} → b ≡ false → b ≡ is_err r → OnOk r (out ≡ encode_lower bytes) → out ≡ encode_lower bytes
-encoded bytes out (Ok u) none err written = written
-encoded bytes out (Err e) none err written = cc

@@ -1,6 +1,7 @@
 // What calls answer.
-ghost use Rattle.std.specs.Prelude.{◌≡◌, ◌≤◌, IfOk, IsOkUnless, OnErr, Some, length};
+ghost use Rattle.std.specs.Prelude.{◌≡◌, ◌≤◌, ◌<◌, ◌*◌, IfOk, IsOkUnless, OnErr, Some, length, slice_index};
 ghost use Rattle.std.specs.Fmt.{WritesOnOk};
+ghost use Rattle.hex.specs.Hex.{encode_lower, lower_digits};
 ghost use Rattle.assise_names.specs.Reply.{HoldsWhatWasRead};
 ghost use Rattle.assise_names.specs.Text.{error_text, hex, reply_text, spaced};
 ghost use Rattle.assise_names.specs.declared.refusal.Refusal.TheVariants.{OutOfMemory};
@@ -138,12 +139,34 @@ fn write_digits<W: fmt::Write>(f: &mut Formatter<W>, bytes: &[u8]) -> fmt::Resul
 {
     let mut buffer = [0u8; 2 * PIECE];
     let digits = &mut buffer[..2 * bytes.len()];
-    if hex::encode_to_slice(bytes, digits).is_err() {
-        unreachable!();
-    }
+    spell_bytes(bytes, digits);
     match simdutf8::compat::from_utf8(digits) {
         Ok(text) => f.write_str(text),
         Err(_) => unreachable!(),
+    }
+}
+
+/// Spells bytes by arithmetic in one loop, which the compiler turns into one of vectors.
+fn spell_bytes(bytes: &[u8], digits: &mut [u8])
+    requires { length digits.old ≡ 2 * length bytes.now }
+    ensures { digits.new ≡ encode_lower bytes.now }
+{
+    'bytes: for place in 0..bytes.len() {
+        let byte = bytes[place];
+        digits[2 * place] = digit(byte >> 4);
+        digits[2 * place + 1] = digit(byte & 0x0f);
+    }
+}
+
+/// The lower-case hexadecimal digit of four bits.
+fn digit(value: u8) -> u8
+    requires { value < 16 }
+    ensures { result ≡ slice_index lower_digits value }
+{
+    if value < 10 {
+        b'0' + value
+    } else {
+        b'a' - 10 + value
     }
 }
 

@@ -20,7 +20,7 @@ use Rattle.assise_fault_script.specs.declared.command.Command.{Command}
 use Rattle.assise_fault_script.specs.declared.command.Command.TheVariants.{Cluster, Manual, Open, Call, Carry, Link, Hot, Digest, Release, Crash, Fail, Back, Refill, Join, Raise, Tree, History, Check}
 use Rattle.assise_console.specs.declared.response.Response.{Response}
 use Rattle.assise_libfs.specs.Lives.{EndsWithOpening}
-use Rattle.assise_workers.specs.Told.{AreMade}
+use Rattle.assise_workers.specs.Told.{AreCallsMade}
 use Rattle.assise_threads.specs.ClientTurns.{TurnedThere}
 use Rattle.assise_threads.specs.Fronts.{HearsLine, HearsOn, HearsOpening, IsOpenedThen}
 use Rattle.assise_threads.specs.Hearing.{HearsStretch, sight_of}
@@ -74,29 +74,29 @@ module _ (c : ℕ) (s : Said) (ss : List Said) (is_call : IsClientCall s.command
           let all = subst (AllByRecursion (λ r. r ≡ Err BadClient)) same bad in
           (None, (subst (λ z. HearsLine c s z None None) (sym one) (told.1.0 ∙ ap outcome_answer all.0, refl), rest all.1))
 
-  some_hears : (now later rs : List (Result Reply Refusal)) (old new : List EntryValue) → TellsCall (call_in c s.command.command) s.answer now → rs ≡ now ++ later → AreMade TurnedThere c (call_in c s.command.command ++ calls_in c (commands_said ss)) old rs new
-      → ((mid : List EntryValue) → AreMade TurnedThere c (calls_in c (commands_said ss)) mid later new → HearsOn c (Some mid) ss (Some new)) → HearsOn c (Some old) (s ∷ ss) (Some new)
+  some_hears : (now later rs : List (Result Reply Refusal)) (old new : List EntryValue) → TellsCall (call_in c s.command.command) s.answer now → rs ≡ now ++ later → AreCallsMade TurnedThere c (call_in c s.command.command ++ calls_in c (commands_said ss)) old rs new
+      → ((mid : List EntryValue) → AreCallsMade TurnedThere c (calls_in c (commands_said ss)) mid later new → HearsOn c (Some mid) ss (Some new)) → HearsOn c (Some old) (s ∷ ss) (Some new)
   some_hears now later rs old new first is made rest = by_case (one_or_none c s.command.command)
     where
       by_case : (call_in c s.command.command ≡ []) ⊎ ((op : Op) × (call_in c s.command.command ≡ op ∷ [])) → HearsOn c (Some old) (s ∷ ss) (Some new)
       by_case (inl none) =
           let told : now ≡ [] = subst (λ z. TellsCall z s.answer now) none first in
           let same : rs ≡ later = is ∙ ap (λ z. z ++ later) told in
-          let left = subst (λ z. AreMade TurnedThere c (z ++ calls_in c (commands_said ss)) old rs new) none made in
-          (Some old, (passes c s (Some old) is_call none, rest old (subst (λ z. AreMade TurnedThere c (calls_in c (commands_said ss)) old z new) same left)))
+          let left = subst (λ z. AreCallsMade TurnedThere c (z ++ calls_in c (commands_said ss)) old rs new) none made in
+          (Some old, (passes c s (Some old) is_call none, rest old (subst (λ z. AreCallsMade TurnedThere c (calls_in c (commands_said ss)) old z new) same left)))
       by_case (inr (op, one)) =
           let told = subst (λ z. TellsCall z s.answer now) one first in
           let same : rs ≡ told.0 ∷ later = is ∙ ap (λ z. z ++ later) told.1.1 in
-          let left = subst (λ z. AreMade TurnedThere c (z ++ calls_in c (commands_said ss)) old rs new) one made in
-          let all = subst (λ z. AreMade TurnedThere c (op ∷ calls_in c (commands_said ss)) old z new) same left in
+          let left = subst (λ z. AreCallsMade TurnedThere c (z ++ calls_in c (commands_said ss)) old rs new) one made in
+          let all = subst (λ z. AreCallsMade TurnedThere c (op ∷ calls_in c (commands_said ss)) old z new) same left in
           (Some all.0, (subst (λ z. HearsLine c s z (Some old) (Some all.0)) (sym one) (told.0, (told.1.0, (all.0, (all.1.0, refl)))), rest all.0 all.1.1))
 
 none_hear : (c : ℕ) (ss : List Said) (rs : List (Result Reply Refusal)) → AreCalls (commands_said ss) → TellsClient c ss rs → AllByRecursion (λ r. r ≡ Err BadClient) rs → HearsOn c None ss None
 none_hear c [] rs are tells bad = refl
 none_hear c (s ∷ ss) rs (is_call, are) (now, (later, (first, (rest, is)))) bad = none_hears c s ss is_call now later rs first is bad (λ b. none_hear c ss later are rest b)
 
-some_hear : (c : ℕ) (ss : List Said) (rs : List (Result Reply Refusal)) (old new : List EntryValue) → AreCalls (commands_said ss) → TellsClient c ss rs → AreMade TurnedThere c (calls_in c (commands_said ss)) old rs new → HearsOn c (Some old) ss (Some new)
-some_hear c [] rs old new are tells made = ap Some (subst (λ z. AreMade TurnedThere c [] old z new) tells made)
+some_hear : (c : ℕ) (ss : List Said) (rs : List (Result Reply Refusal)) (old new : List EntryValue) → AreCalls (commands_said ss) → TellsClient c ss rs → AreCallsMade TurnedThere c (calls_in c (commands_said ss)) old rs new → HearsOn c (Some old) ss (Some new)
+some_hear c [] rs old new are tells made = ap Some (subst (λ z. AreCallsMade TurnedThere c [] old z new) tells made)
 some_hear c (s ∷ ss) rs old new (is_call, are) (now, (later, (first, (rest, is)))) made = some_hears c s ss is_call now later rs old new first is made (λ m b. some_hear c ss later m new are rest b)
 
 pub hears_on : (c : ℕ) (ss : List Said) (p q : Option (List EntryValue)) → AreCalls (commands_said ss) → HearsStretch c ss p q → HearsOn c p ss q

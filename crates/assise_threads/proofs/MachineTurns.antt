@@ -18,7 +18,7 @@ use Rattle.assise_workers.specs.declared.worker.TurnEnd.{TurnEnd}
 use Rattle.assise_workers.specs.declared.worker.TurnEnd.TheVariants.{Did, Refused as NotDone, Stopped}
 use Rattle.assise_threads.specs.Answered.{CarriesSome, is_carried, is_refused}
 use Rattle.assise_workers.specs.ClusterTurns.{cluster_acts, cluster_history, cluster_reads}
-use Rattle.assise_workers.specs.Told.{AreMade, SeesAll, Turned}
+use Rattle.assise_workers.specs.Told.{AreCallsMade, SeesAll, Turned}
 use Rattle.assise_threads.specs.ClientTurns.{HappensSoundly, TurnedThere, history_seen, versions_read}
 
 module _ (C : Type 0) where
@@ -64,7 +64,7 @@ module _ (C : Type 0) where
     turns_of limit (Err StaleMessage) old new t = ends_of limit _ old new t
     turns_of limit (Err LogFull) old new t = ends_of limit _ old new t
 
-  made_of : (limit c : ℕ) (ops : List Op) (old : List EntryValue) (rs : List (Result Reply Refusal)) (new : List EntryValue) → AreMade (Turned there does limit) c ops old rs new → AreMade TurnedThere c ops old rs new
+  made_of : (limit c : ℕ) (ops : List Op) (old : List EntryValue) (rs : List (Result Reply Refusal)) (new : List EntryValue) → AreCallsMade (Turned there does limit) c ops old rs new → AreCallsMade TurnedThere c ops old rs new
   made_of limit c [] old [] new same = same
   made_of limit c [] old (r ∷ rs) new e = absurd e
   made_of limit c (op ∷ ops) old [] new e = absurd e

@@ -8,7 +8,7 @@ use Rattle.assise_names.specs.declared.reply.Reply.{Reply}
 use Rattle.assise_history.specs.Entries.{EntryValue, opens, calls, crashes, fails, returns}
 use Rattle.assise_console.specs.declared.response.Response.{Response}
 use Rattle.assise_console.specs.declared.response.Response.TheVariants.{Refused}
-use Rattle.assise_workers.specs.Told.{IsMade}
+use Rattle.assise_workers.specs.Told.{IsCallMade}
 use Rattle.assise_threads.specs.ClientTurns.{TurnedThere}
 use Rattle.assise_threads.specs.Openings.{opening_in}
 use Rattle.assise_threads.specs.Said.{Said, call_in, outcome_answer}
@@ -16,7 +16,7 @@ use Rattle.assise_threads.specs.Said.{Said, call_in, outcome_answer}
 -- a call is told what came of it, from one front of the history to another; who wasn't opened yet is told that there is no such client
 abbrev pub HearsCall : ℕ → Op → Response → Option (List EntryValue) → Option (List EntryValue) → Type 0
 HearsCall c op a None now = (a ≡ Refused BadClient) × (now ≡ None)
-HearsCall c op a (Some old) now = (r : Result Reply Refusal) × ((a ≡ outcome_answer r) × ((new : List EntryValue) × (IsMade TurnedThere c op old r new × (now ≡ Some new))))
+HearsCall c op a (Some old) now = (r : Result Reply Refusal) × ((a ≡ outcome_answer r) × ((new : List EntryValue) × (IsCallMade TurnedThere c op old r new × (now ≡ Some new))))
 
 -- it is this client that is opened, who wasn't before; or another
 abbrev pub IsOpenedThen : Bool → List EntryValue → Option (List EntryValue) → Option (List EntryValue) → Type 0

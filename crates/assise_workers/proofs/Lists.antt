@@ -10,7 +10,7 @@ use Rattle.assise_keeper.specs.Clients.{calls_by, Extends}
 use Rattle.assise_keeper.proofs.PassAdds.{extends-same}
 use Rattle.assise_libfs.specs.Calling.{MayRefuse, SeesCall, told_call}
 use Rattle.assise_libfs.proofs.Tries.{one-extends, others-extends}
-use Rattle.assise_workers.specs.Told.{AreMade, IsMade, SeesAll, told_all}
+use Rattle.assise_workers.specs.Told.{AreCallsMade, IsCallMade, SeesAll, told_all}
 
 pub extends-on : (d b a : List EntryValue) → Extends d b → Extends b a → Extends d a
 extends-on d b a e f = (f.0 ++ e.0, e.1 ∙ (ap (λ z. z ++ e.0) f.1 ∙ append_assoc a f.0 e.0))
@@ -36,8 +36,8 @@ told-append c k (o ∷ ops) (Err refusal ∷ rs) more came same = let n : length
 
 -- one call more
 pub one_made : (T : ℕ → Op → List EntryValue → Result Reply Refusal → List EntryValue → Type 0) (c : ℕ) (ops : List Op) (a : List EntryValue) (rs : List (Result Reply Refusal)) (b : List EntryValue) (op : Op) (r : Result Reply Refusal) (d : List EntryValue)
-    → AreMade T c ops a rs b → IsMade T c op b r d → AreMade T c (ops ++ op ∷ []) a (rs ++ r ∷ []) d
-one_made T c [] a [] b op r d made one = (d, (subst (λ z. IsMade T c op z r d) made one, refl))
+    → AreCallsMade T c ops a rs b → IsCallMade T c op b r d → AreCallsMade T c (ops ++ op ∷ []) a (rs ++ r ∷ []) d
+one_made T c [] a [] b op r d made one = (d, (subst (λ z. IsCallMade T c op z r d) made one, refl))
 one_made T c [] a (q ∷ rs) b op r d made one = absurd made
 one_made T c (o ∷ ops) a [] b op r d made one = absurd made
 one_made T c (o ∷ ops) a (q ∷ rs) b op r d made one = (made.0, (made.1.0, one_made T c ops made.0 rs b op r d made.1.1 one))
@@ -52,7 +52,7 @@ module _ (T : ℕ → Op → List EntryValue → Result Reply Refusal → List E
   number : calls_made c b ≡ calls_made c a + length (told_all c (calls_made c a) ops rs)
   number = ap length s.told ∙ length-append (calls_by c a) (told_all c (calls_made c a) ops rs)
 
-  pub one_more : (op : Op) (r : Result Reply Refusal) (d : List EntryValue) → IsMade T c op b r d → SeesAll T c (ops ++ op ∷ []) a (rs ++ r ∷ []) d
+  pub one_more : (op : Op) (r : Result Reply Refusal) (d : List EntryValue) → IsCallMade T c op b r d → SeesAll T c (ops ++ op ∷ []) a (rs ++ r ∷ []) d
   one_more op (Ok reply) d was =
       let one = was.0 in
       let so_far = told_all c (calls_made c a) ops rs in
@@ -76,4 +76,4 @@ module _ (T : ℕ → Op → List EntryValue → Result Reply Refusal → List E
 
 pub one_more_of : (T : ℕ → Op → List EntryValue → Result Reply Refusal → List EntryValue → Type 0) (c d : ℕ) (ops : List Op) (a : List EntryValue) (rs : List (Result Reply Refusal)) (b : List EntryValue) (op : Op) (r : Result Reply Refusal) (e : List EntryValue) → d ≡ c
     → SeesAll T c ops a rs b → SeesCall d op b r e → IfErr r (MayRefuse d op e) → T d op b r e → SeesAll T c (ops ++ op ∷ []) a (rs ++ r ∷ []) e
-one_more_of T c d ops a rs b op r e same s one fits turns = one_more T c ops a rs b s op r e (subst (λ z. IsMade T z op b r e) same (one, (fits, turns)))
+one_more_of T c d ops a rs b op r e same s one fits turns = one_more T c ops a rs b s op r e (subst (λ z. IsCallMade T z op b r e) same (one, (fits, turns)))

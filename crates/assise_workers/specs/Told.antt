@@ -23,19 +23,19 @@ abbrev pub Turned : {S : Type 0} → (S → List EntryValue) → (S → ClusterE
 Turned history acts limit c op old r new = TurnsTo history acts c op limit r old new
 
 -- What came of one call, whose turns were such: what was seen goes on by the call with its reply; or it is refused, for what is seen then.
-abbrev pub IsMade : (ℕ → Op → List EntryValue → Result Reply Refusal → List EntryValue → Type 0) → ℕ → Op → List EntryValue → Result Reply Refusal → List EntryValue → Type 0
-IsMade T c op old r new = SeesCall c op old r new × (IfErr r (MayRefuse c op new) × T c op old r new)
+abbrev pub IsCallMade : (ℕ → Op → List EntryValue → Result Reply Refusal → List EntryValue → Type 0) → ℕ → Op → List EntryValue → Result Reply Refusal → List EntryValue → Type 0
+IsCallMade T c op old r new = SeesCall c op old r new × (IfErr r (MayRefuse c op new) × T c op old r new)
 
 -- so from call to call
-abbrev pub AreMade : (ℕ → Op → List EntryValue → Result Reply Refusal → List EntryValue → Type 0) → ℕ → List Op → List EntryValue → List (Result Reply Refusal) → List EntryValue → Type 0
-AreMade T c [] old [] new = new ≡ old
-AreMade T c [] old (r ∷ rs) new = ⊥
-AreMade T c (op ∷ ops) old [] new = ⊥
-AreMade T c (op ∷ ops) old (r ∷ rs) new = (mid : List EntryValue) × (IsMade T c op old r mid × AreMade T c ops mid rs new)
+abbrev pub AreCallsMade : (ℕ → Op → List EntryValue → Result Reply Refusal → List EntryValue → Type 0) → ℕ → List Op → List EntryValue → List (Result Reply Refusal) → List EntryValue → Type 0
+AreCallsMade T c [] old [] new = new ≡ old
+AreCallsMade T c [] old (r ∷ rs) new = ⊥
+AreCallsMade T c (op ∷ ops) old [] new = ⊥
+AreCallsMade T c (op ∷ ops) old (r ∷ rs) new = (mid : List EntryValue) × (IsCallMade T c op old r mid × AreCallsMade T c ops mid rs new)
 
 -- a client made these calls in order, and this came of each: what was seen goes on, and of the client by the calls that were answered
 pub record SeesAll (T : ℕ → Op → List EntryValue → Result Reply Refusal → List EntryValue → Type 0) (c : ℕ) (ops : List Op) (old : List EntryValue) (rs : List (Result Reply Refusal)) (new : List EntryValue) : Type 0 where
   pub count : length rs ≡ length ops
   pub extends : Extends new old
   pub told : calls_by c new ≡ calls_by c old ++ told_all c (calls_made c old) ops rs
-  pub each : AreMade T c ops old rs new
+  pub each : AreCallsMade T c ops old rs new

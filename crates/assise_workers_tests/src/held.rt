@@ -1,6 +1,6 @@
 // What goes on while a frame is held: two clients on two nodes.
 ghost use Rattle.std.specs.Prelude.{◌≡◌};
-ghost use Rattle.assise_keeper.specs.Clients.{MayOpen};
+ghost use Rattle.assise_keeper.specs.Clients.{MayOpenClients};
 ghost use Rattle.assise_keeper.specs.Passes.{IsPassOf, opens};
 
 use crate::gates::UntilAnswered;
@@ -32,8 +32,8 @@ fn open<'a, R: Wait>(
     node: u32,
     revoker: Revoker,
 ) -> Option<LibFs<'a, Cluster>>
-    requires { IsPassOf keeper.now main.old × MayOpen (opens main.old) }
-    ensures { IsPassOf keeper.now main.new × MayOpen (opens main.new) }
+    requires { IsPassOf keeper.now main.old × MayOpenClients (opens main.old) }
+    ensures { IsPassOf keeper.now main.new × MayOpenClients (opens main.new) }
 {
     let pass = keeper.split_sharing(main);
     let durability = Durability::Pessimistic;
@@ -136,7 +136,7 @@ fn begin_and_sync<R: Threads + Wait + Sync>(
     revokers: &mut Vec<Revoker>,
     gate: &UntilAnswered,
 ) -> Option<(Option<Reply>, Option<Reply>)>
-    requires { IsPassOf keeper.now main.old × MayOpen (opens main.old) }
+    requires { IsPassOf keeper.now main.old × MayOpenClients (opens main.old) }
 {
     let mut nodes = workers_up_to(alloc, keeper, main, 2).ok()?;
     let mut first = open(rt, alloc, keeper, main, 1, revokers.pop()?)?;

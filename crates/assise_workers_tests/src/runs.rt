@@ -1,6 +1,6 @@
 // Clients in threads of their own, beside the workers of all nodes.
 ghost use Rattle.std.specs.Prelude.{◌≡◌};
-ghost use Rattle.assise_keeper.specs.Clients.{MayOpen};
+ghost use Rattle.assise_keeper.specs.Clients.{MayOpenClients};
 ghost use Rattle.assise_keeper.specs.Passes.{IsPassOf, opens};
 
 use crate::begun::calls_in;
@@ -43,8 +43,8 @@ fn list_of<'a, R: Wait>(
     durability: Durability,
     lines: &str,
 ) -> Option<ClientList<'a, Cluster>>
-    requires { IsPassOf keeper.now main.old × MayOpen (opens main.old) }
-    ensures { IsPassOf keeper.now main.new × MayOpen (opens main.new) }
+    requires { IsPassOf keeper.now main.old × MayOpenClients (opens main.old) }
+    ensures { IsPassOf keeper.now main.new × MayOpenClients (opens main.new) }
 {
     let pass = keeper.split_sharing(main);
     let calls = calls_in(alloc, lines)?;
@@ -61,8 +61,8 @@ fn lists_of<'a, R: Wait>(
     revokers: &mut Vec<Revoker>,
     clients: &Clients<'_>,
 ) -> Option<Vec<ClientList<'a, Cluster>>>
-    requires { IsPassOf keeper.now main.old × MayOpen (opens main.old) }
-    ensures { IsPassOf keeper.now main.new × MayOpen (opens main.new) }
+    requires { IsPassOf keeper.now main.old × MayOpenClients (opens main.old) }
+    ensures { IsPassOf keeper.now main.new × MayOpenClients (opens main.new) }
 {
     let mut lists = Vec::new(alloc);
     let mut node = 0_u32;
@@ -95,7 +95,7 @@ fn serve<G: Gate, R: Threads + Wait + Sync>(
     gate: &G,
     clients: &Clients<'_>,
 ) -> Option<usize>
-    requires { IsPassOf keeper.now main.old × MayOpen (opens main.old) }
+    requires { IsPassOf keeper.now main.old × MayOpenClients (opens main.old) }
 {
     let nodes = workers_up_to(alloc, keeper, main, clients.nodes).ok()?;
     let lists = lists_of(rt, alloc, keeper, main, revokers, clients)?;

@@ -1,6 +1,6 @@
-use Rattle.assise_keeper.specs.Clients.{MayOpen}
+use Rattle.assise_keeper.specs.Clients.{MayOpenClients}
 use Rattle.assise_keeper.specs.Passes.{IsPassOf, opens}
 use Rattle.assise_workers_tests.proofs.runs.lists_of.Given as goal
 
 abbrev pub invariant-loop-lines : goal.invariant-loop-lines
-invariant-loop-lines g l = IsPassOf l.keeper l.main × MayOpen (opens l.main)
+invariant-loop-lines g l = IsPassOf l.keeper l.main × MayOpenClients (opens l.main)
