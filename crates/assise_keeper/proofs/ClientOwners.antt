@@ -44,11 +44,11 @@ owns_other owner at None d ne = refl
 owns_other owner at (Some c) d ne = let other : d ≢ c = λ e. ne (ap (λ (z : ℕ). let o : Option ℕ = Some z in o) (sym e)) in rw (ne_eqb d c other) refl
 
 -- a half with no client of the new owner stays
-pub fits_still : (h : List EntryValue) (owner : ℕ → ℕ × Bool) (who : Opener) (j : ℕ) (side : Bool) (v : Half) (at : ℕ × Bool) (c : Option ℕ) → ((d : ℕ) → v.client ≡ Some d → ¬ (c ≡ Some d)) → HalfFits h owner who j side v → HalfFits h (owns owner at c) who j side v
+pub fits_still : {S : Type 0} (h : List EntryValue) (owner : ℕ → ℕ × Bool) (who : Opener) (j : ℕ) (side : Bool) (v : Half S) (at : ℕ × Bool) (c : Option ℕ) → ((d : ℕ) → v.client ≡ Some d → ¬ (c ≡ Some d)) → HalfFits h owner who j side v → HalfFits h (owns owner at c) who j side v
 fits_still h owner who j side v at c disjoint f = (f.0, (λ d is. let t = f.1 d is in (t.0, owns_other owner at c d (disjoint d is) ∙ t.1)), f.2)
 
 -- another's half outlives what a pass adds
-pub fits_on : (h xs : List EntryValue) (owner : ℕ → ℕ × Bool) (who : Opener) (id j : ℕ) (side : Bool) (c : Option ℕ) (o : Opens) (v : Half) → ((d : ℕ) → c ≡ Some d → owner d ≡ (id, true)) → HasRight who (id, true) o → MayAddAll c o xs → OpensOnce (h ++ xs)
+pub fits_on : {S : Type 0} (h xs : List EntryValue) (owner : ℕ → ℕ × Bool) (who : Opener) (id j : ℕ) (side : Bool) (c : Option ℕ) (o : Opens) (v : Half S) → ((d : ℕ) → c ≡ Some d → owner d ≡ (id, true)) → HasRight who (id, true) o → MayAddAll c o xs → OpensOnce (h ++ xs)
     → (half_of j side ≡ half_of id true → ⊥) → HalfFits h owner who j side v → HalfFits (h ++ xs) (owns owner (id, true) (client_after c xs)) who j side v
 fits_on h xs owner who id j side c o v mine right own once disjoint f =
     let not_mine : (d : ℕ) → v.client ≡ Some d → ¬ (client_after c xs ≡ Some d) = λ d is e.

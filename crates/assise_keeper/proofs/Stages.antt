@@ -4,5 +4,5 @@ use Rattle.assise_keeper.specs.declared.view.Stage.{Stage}
 use Rattle.assise_keeper.specs.declared.view.Stage.TheVariants.{Holding}
 use Rattle.assise_keeper.specs.Passes.{taken_at}
 
-pub self_taken : (st : Stage) (h : List EntryValue) → st ≡ Holding h → st ≡ Holding (taken_at st)
-self_taken st h is = is ∙ ap (λ (z : Stage). Holding (taken_at z)) (sym is)
+pub self_taken : {S : Type 0} (st : Stage S) (h : List EntryValue) (s : S) → st ≡ Holding h s → st ≡ Holding (taken_at st) s
+self_taken {S} st h s is = is ∙ ap (λ (z : Stage S). Holding (taken_at z) s) (sym is)

@@ -16,134 +16,140 @@ use Rattle.assise_keeper.specs.declared.view.View.{View}
 use Rattle.assise_history.specs.Opened.{OpensOnce}
 use Rattle.assise_keeper.specs.Clients.{openings, client_after, MayAddAll, MayGive}
 use Rattle.assise_keeper.specs.Views.{half, clientless, newcomer, beginning, spent, together, with_right, with_no_client, own_of, guest_of, holding, given}
-use Rattle.assise_keeper.specs.Rule.{StatePlace, not_in, home, out, IsAt, IsStage, CoversHalf, HalfFits, HasRight, Opener, Owner, anyone, alone, IsPassAt, IsKept}
+use Rattle.assise_keeper.specs.Rule.{StatePlace, not_in, home, out, AreLed, IsAt, IsLed, IsStage, CoversHalf, HalfFits, HasRight, Opener, Owner, anyone, alone, IsPassAt, IsKept}
 use Rattle.assise_keeper.specs.Steps.{Sitting, taking, releasing, setting_up}
 use Rattle.assise_keeper.proofs.PassAdds.{was_or_opened, openings-append, opened-in, extends-same, drop-prefix}
 use Rattle.assise_keeper.proofs.ClientOwners.{half_of, owns, owns_mine, fits_still, fits_on, at_snoc_place, no_side, no_side', same_seat}
 use Rattle.assise_keeper.proofs.Rights.{CanPart, passes_on}
+use Rattle.assise_keeper.proofs.Following.{led_further}
 
 -- the fact holds of each seat after one view was set
-seats : (K : ℕ → View → Type 0) (vs : List View) (me : ℕ) (w : View) → K me w → ((j : ℕ) (d : View) → j ≢ me → get_elem? vs j ≡ some d → K j d)
-    → (j : ℕ) (d : View) → get_elem? (set vs me w) j ≡ some d → K j d
-seats K vs me w mine others j d e = ⊎_elim (λ (t : (j ≡ me) × (w ≡ d)). subst (λ (x : ℕ × View). K x.0 x.1) (λ i. (sym t.0 i, t.1 i)) mine)
+seats : {S : Type 0} (K : ℕ → View S → Type 0) (vs : List (View S)) (me : ℕ) (w : View S) → K me w → ((j : ℕ) (d : View S) → j ≢ me → get_elem? vs j ≡ some d → K j d)
+    → (j : ℕ) (d : View S) → get_elem? (set vs me w) j ≡ some d → K j d
+seats {S} K vs me w mine others j d e = ⊎_elim (λ (t : (j ≡ me) × (w ≡ d)). subst (λ (x : ℕ × View S). K x.0 x.1) (λ i. (sym t.0 i, t.1 i)) mine)
     (λ (t : (j ≢ me) × (get_elem? vs j ≡ some d)). others j d t.0 t.1) (at_set vs me j w d e)
 
 -- a stage that tells nothing of the place stays so
-others_stage : (p q : StatePlace) (h h' : List EntryValue) (j : ℕ) (st : Stage) → (p ≡ not_in → ⊥) → (p ≡ out j → ⊥) → IsStage p h j st → IsStage q h' j st
-others_stage p q h h' j Fresh nf nout ok = absurd (nf ok)
-others_stage p q h h' j Idle nf nout ok = tt
-others_stage p q h h' j (Holding g) nf nout ok = absurd (nout ok.0)
+others_stage : {S : Type 0} (p q : StatePlace) (h h' : List EntryValue) (now now' : Option S) (j : ℕ) (st : Stage S) → (p ≡ not_in → ⊥) → (p ≡ out j → ⊥) → IsStage p h now j st → IsStage q h' now' j st
+others_stage p q h h' now now' j Fresh nf nout ok = absurd (nf ok)
+others_stage p q h h' now now' j Idle nf nout ok = tt
+others_stage p q h h' now now' j (Holding g s) nf nout ok = absurd (nout ok.0)
 
 -- what is written to a place that there is stands there
-set_at : (vs : List View) (id : ℕ) (w v : View) → get_elem? vs id ≡ some v → get_elem? (set vs id w) id ≡ some w
+set_at : {S : Type 0} (vs : List (View S)) (id : ℕ) (w v : View S) → get_elem? vs id ≡ some v → get_elem? (set vs id w) id ≡ some w
 set_at [] id w v e = absurd (some-ne-none v (sym e))
 set_at (u ∷ vs) Rattle.std.proofs.Common.zero w v e = refl
 set_at (u ∷ vs) (Rattle.std.proofs.Common.suc id) w v e = set_at vs id w v e
 
 -- of one view there is the first place alone
-only : (vs : List View) → vs ≡ newcomer ∷ [] → (j : ℕ) (d : View) → get_elem? vs j ≡ some d → (j ≡ 0) × (newcomer ≡ d)
-only vs one j d e = only_one j d (sym (ap (λ (z : List View). get_elem? z j) one) ∙ e)
+only : {S : Type 0} (vs : List (View S)) → vs ≡ newcomer ∷ [] → (j : ℕ) (d : View S) → get_elem? vs j ≡ some d → (j ≡ 0) × (newcomer ≡ d)
+only {S} vs one j d e = only_one j d (sym (ap (λ (z : List (View S)). get_elem? z j) one) ∙ e)
   where
-    only_one : (j : ℕ) (d : View) → get_elem? (newcomer ∷ []) j ≡ some d → (j ≡ 0) × (newcomer ≡ d)
+    only_one : (j : ℕ) (d : View S) → get_elem? (newcomer ∷ []) j ≡ some d → (j ≡ 0) × (newcomer ≡ d)
     only_one Rattle.std.proofs.Common.zero d e = (refl, some-injective newcomer d e)
     only_one (Rattle.std.proofs.Common.suc j) d e = absurd (some-ne-none d (sym e))
 
-module _ {S : Type 0} (history : S → List EntryValue) where
+module _ {S : Type 0} (history : S → List EntryValue) (leads : S → S → Type 0) (itself : (s : S) → leads s s) (onward : (s t u : S) → leads s t → leads t u → leads s u) where
+  all_led : (d : View S) (s x : S) → leads s x → AreLed leads d (Some s) → AreLed leads d (Some x)
+  all_led d s x step led = record { own = led_further leads onward d.own.last s x step led.own; guest = led_further leads onward d.guest.last s x step led.guest }
+
   -- a pass that holds nothing may be followed by a new one
-  at_one_more : (words : List ℕ) (homes : List (maybe.Option (Option S))) (vs : List View) (h : List EntryValue) (id : ℕ) (v w : View) → get_elem? vs id ≡ some v → v.stage ≡ Idle
-      → (p : StatePlace) → IsAt history words homes vs h p → IsAt history words homes (vs ++ w ∷ []) h p
-  at_one_more words homes vs h id v w at idle not_in is = absurd (let first : Fresh ≡ Idle = ap (λ (z : View). z.stage) (only vs is.2 id v at).1 ∙ idle in (cc))
-  at_one_more words homes vs h id v w at idle home is = is
-  at_one_more words homes vs h id v w at idle (out j) is = (is.0, is.1, (is.2.0, at_longer vs (w ∷ []) j is.2.0 is.2.1, is.2.2))
+  at_one_more : (words : List ℕ) (homes : List (maybe.Option (Option S))) (vs : List (View S)) (h : List EntryValue) (now : Option S) (id : ℕ) (v w : View S) → get_elem? vs id ≡ some v → v.stage ≡ Idle
+      → (p : StatePlace) → IsAt history words homes vs h now p → IsAt history words homes (vs ++ w ∷ []) h now p
+  at_one_more words homes vs h now id v w at idle not_in is = absurd (let first : Fresh ≡ Idle = ap (λ (z : View S). z.stage) (only vs is.2 id v at).1 ∙ idle in (cc))
+  at_one_more words homes vs h now id v w at idle home is = is
+  at_one_more words homes vs h now id v w at idle (out j) is = (is.0, is.1, (is.2.0, at_longer vs (w ∷ []) j is.2.0 is.2.1, is.2.2))
 
   -- a pass that holds nothing may know something else
-  at_another : (words : List ℕ) (homes : List (maybe.Option (Option S))) (vs : List View) (h : List EntryValue) (id : ℕ) (v w : View) → get_elem? vs id ≡ some v → v.stage ≡ Idle
-      → (p : StatePlace) → IsAt history words homes vs h p → IsAt history words homes (set vs id w) h p
-  at_another words homes vs h id v w at idle not_in is = absurd (let first : Fresh ≡ Idle = ap (λ (z : View). z.stage) (only vs is.2 id v at).1 ∙ idle in (cc))
-  at_another words homes vs h id v w at idle home is = is
-  at_another words homes vs h id v w at idle (out j) is =
+  at_another : (words : List ℕ) (homes : List (maybe.Option (Option S))) (vs : List (View S)) (h : List EntryValue) (now : Option S) (id : ℕ) (v w : View S) → get_elem? vs id ≡ some v → v.stage ≡ Idle
+      → (p : StatePlace) → IsAt history words homes vs h now p → IsAt history words homes (set vs id w) h now p
+  at_another words homes vs h now id v w at idle not_in is = absurd (let first : Fresh ≡ Idle = ap (λ (z : View S). z.stage) (only vs is.2 id v at).1 ∙ idle in (cc))
+  at_another words homes vs h now id v w at idle home is = is
+  at_another words homes vs h now id v w at idle (out j) is =
       let other : j ≢ id = λ same.
       let found : some is.2.0 ≡ some v = sym is.2.1 ∙ (ap (λ (z : ℕ). get_elem? vs z) same ∙ at) in
-      let stage : Holding h ≡ Idle = sym is.2.2 ∙ (ap (λ (z : View). z.stage) (some-injective is.2.0 v found) ∙ idle) in (cc) in
+      let stage : Holding h is.2.2.0 ≡ Idle = sym is.2.2.1 ∙ (ap (λ (z : View S). z.stage) (some-injective is.2.0 v found) ∙ idle) in (cc) in
       (is.0, is.1, (is.2.0, set_else vs id j w other ∙ is.2.1, is.2.2))
 
   abbrev St : Type 0
-  St = State (Option S) View
+  St = State (Option S) (View S)
 
   abbrev Rule : St → Type 0
-  Rule = IsKept history
+  Rule = IsKept history leads
 
   abbrev Homes : Type 0
   Homes = List (maybe.Option (Option S))
 
   -- nothing changes
-  stays : (s : St) → Rule s → (id : ℕ) (v : View) → get_elem? s.views id ≡ some v → Rule record { words = s.words; homes = s.homes; views = set s.views id v }
-  stays s r id v at = subst (λ (vs : List View). Rule record { words = s.words; homes = s.homes; views = vs }) (sym (set_again s.views id v at)) r
+  stays : (s : St) → Rule s → (id : ℕ) (v : View S) → get_elem? s.views id ≡ some v → Rule record { words = s.words; homes = s.homes; views = set s.views id v }
+  stays s r id v at = subst (λ (vs : List (View S)). Rule record { words = s.words; homes = s.homes; views = vs }) (sym (set_again s.views id v at)) r
 
-  abbrev TakesAt : (id : ℕ) (v : View) (views : List View) → List ℕ → Homes → Type 0
-  TakesAt id v views ws hs = (w : View) × (a : Act (Option S)) × Valid hs [] a
+  abbrev TakesAt : (id : ℕ) (v : View S) (views : List (View S)) → List ℕ → Homes → Type 0
+  TakesAt id v views ws hs = (w : View S) × (a : Act (Option S)) × Valid hs [] a
       × Rule (stepped (record { words = ws; homes = hs; views = views }) 0 (either (eqb (get_or ws 0 0) 0) 1 (get_or ws 0 0)) id [] w a)
-      × taking history (step 1 0 0 1 none) (v, []) (get_or ws 0 0) (w, carried_after [] a)
+      × taking history leads (step 1 0 0 1 none) (v, []) (get_or ws 0 0) (w, carried_after [] a)
 
-  takes_in : (s : St) (r : Rule s) (id : ℕ) (v : View) → get_elem? s.views id ≡ some v → (p : StatePlace) → r.place ≡ p → IsAt history s.words s.homes s.views r.h p → TakesAt id v s.views s.words s.homes
+  takes_in : (s : St) (r : Rule s) (id : ℕ) (v : View S) → get_elem? s.views id ≡ some v → (p : StatePlace) → r.place ≡ p → IsAt history s.words s.homes s.views r.h r.now p → TakesAt id v s.views s.words s.homes
   takes_in s r id v at not_in is ph = subst (λ (z : List ℕ × Homes). TakesAt id v s.views z.0 z.1) (λ k. (sym ph.0 k, s.homes))
       (v, keeps, tt, subst (λ (ws : List ℕ). Rule record { words = ws; homes = s.homes; views = set s.views id v }) ph.0 (stays s r id v at), ((λ z. absurd (omega arith)), λ _. refl))
   takes_in s r id v at (out i) is ph = subst (λ (z : List ℕ × Homes). TakesAt id v s.views z.0 z.1) (λ k. (sym ph.0 k, s.homes))
       (v, keeps, tt, subst (λ (ws : List ℕ). Rule record { words = ws; homes = s.homes; views = set s.views id v }) ph.0 (stays s r id v at), ((λ z. absurd (omega arith)), λ _. refl))
-  takes_in s r id v at home is ph = let x = ph.1.0 in let mine = r.each id v at in
+  takes_in s r id v at home is ph = let x = ph.1.0 in let mine = r.each id v at in let led = subst (AreLed leads v) ph.1.3 mine.3 in
       let not_fresh : r.place ≡ not_in → ⊥ = λ e. let e' = sym is ∙ e in (cc) in
       let not_out : (j : ℕ) → r.place ≡ out j → ⊥ = λ j e. let e' = sym is ∙ e in (cc) in
       subst (λ (z : List ℕ × Homes). TakesAt id v s.views z.0 z.1) (λ k. (sym ph.0 k, sym ph.1.1 k)) (
-        holding v (history x),
+        holding v (history x) x,
         takes 0 (Some x),
         refl,
         record {
           h = r.h;
+          now = Some x;
           place = out id;
           owner = r.owner;
           who = r.who;
-          is_at = (refl, refl, (holding v (history x), set_at s.views id (holding v (history x)) v at, ap (λ (z : List EntryValue). Holding z) ph.1.2));
-          each = seats (IsPassAt (out id) r.h r.owner r.who) s.views id (holding v (history x)) (mine.0, mine.1, (refl, ph.1.2))
-              (λ j d other e. let ok = r.each j d e in (ok.0, ok.1, others_stage r.place (out id) r.h r.h j d.stage not_fresh (not_out j) ok.2));
+          is_at = (refl, refl, (holding v (history x) x, set_at s.views id (holding v (history x) x) v at, (x, ap (λ (z : List EntryValue). Holding z x) ph.1.2, refl)));
+          each = seats (IsPassAt leads (out id) r.h (Some x) r.owner r.who) s.views id (holding v (history x) x) (mine.0, mine.1, (refl, ph.1.2, refl), record { own = led.own; guest = led.guest })
+              (λ j d other e. let ok = r.each j d e in (ok.0, ok.1, others_stage r.place (out id) r.h r.h r.now (Some x) j d.stage not_fresh (not_out j) ok.2, subst (AreLed leads d) ph.1.3 ok.3));
         },
-        ((λ _. (x, refl, subst (λ (h : List EntryValue). CoversHalf h v.own) (sym ph.1.2) mine.0.0, subst (λ (h : List EntryValue). CoversHalf h v.guest) (sym ph.1.2) mine.1.0)), λ n. absurd (n refl)),
+        ((λ _. (x, refl, subst (λ (h : List EntryValue). CoversHalf h v.own) (sym ph.1.2) mine.0.0, subst (λ (h : List EntryValue). CoversHalf h v.guest) (sym ph.1.2) mine.1.0, led)), λ n. absurd (n refl)),
       )
 
-  pub takes_move : (id : ℕ) (v : View) → Allows Rule 1 id (v, []) 0 (λ n. either (eqb n 0) 1 n) (taking history (step 1 0 0 1 none) (v, []))
+  pub takes_move : (id : ℕ) (v : View S) → Allows Rule 1 id (v, []) 0 (λ n. either (eqb n 0) 1 n) (taking history leads (step 1 0 0 1 none) (v, []))
   takes_move id v s r _ at _ = takes_in s r id v at r.place refl r.is_at
 
   -- the same at a seat that carries nothing
-  pub takes_for : (slots id : ℕ) (me : Sitting S) → slots ≡ 1 → me.1 ≡ [] → Allows Rule slots id me 0 (λ n. either (eqb n 0) 1 n) (taking history (step slots 0 0 1 none) me)
-  takes_for slots id me one bare = subst (λ (z : ℕ × List (ℕ × Option S)). Allows Rule z.0 id (me.0, z.1) 0 (λ n. either (eqb n 0) 1 n) (taking history (step z.0 0 0 1 none) (me.0, z.1))) (λ k. (sym one k, sym bare k)) (takes_move id me.0)
+  pub takes_for : (slots id : ℕ) (me : Sitting S) → slots ≡ 1 → me.1 ≡ [] → Allows Rule slots id me 0 (λ n. either (eqb n 0) 1 n) (taking history leads (step slots 0 0 1 none) me)
+  takes_for slots id me one bare = subst (λ (z : ℕ × List (ℕ × Option S)). Allows Rule z.0 id (me.0, z.1) 0 (λ n. either (eqb n 0) 1 n) (taking history leads (step z.0 0 0 1 none) (me.0, z.1))) (λ k. (sym one k, sym bare k)) (takes_move id me.0)
 
-  abbrev StoresAt : (slots id : ℕ) (v : View) (c : List (ℕ × Option S)) (views : List View) → List ℕ → Homes → Type 0
-  StoresAt slots id v c views ws hs = (w : View) × (a : Act (Option S)) × Valid hs c a
+  abbrev StoresAt : (slots id : ℕ) (v : View S) (c : List (ℕ × Option S)) (views : List (View S)) → List ℕ → Homes → Type 0
+  StoresAt slots id v c views ws hs = (w : View S) × (a : Act (Option S)) × Valid hs c a
       × Rule (stepped (record { words = ws; homes = hs; views = views }) 0 0 id c w a)
       × releasing history (step slots 0 0 0 none) (v, c) 0 (w, carried_after c a)
 
-  fits_nobody : (h : List EntryValue) (owner : ℕ → ℕ × Bool) (who : Opener) (j : ℕ) (side : Bool) → HalfFits h owner who j side clientless
+  fits_nobody : (h : List EntryValue) (owner : ℕ → ℕ × Bool) (who : Opener) (j : ℕ) (side : Bool) → HalfFits {S = S} h owner who j side clientless
   fits_nobody h owner who j side = (((h, refl), (λ c e. absurd (cc)), (λ e. absurd (cc))), (λ c e. absurd (cc)), tt)
 
   abbrev first_of : Option S → List (ℕ × Option S) → Option S
   first_of d [] = d
   first_of d (z ∷ zs) = z.1
 
-  gives_rule : (views : List View) (h xs : List EntryValue) (owner : ℕ → ℕ × Bool) (who : Opener) (id : ℕ) (v : View) (x : S) → ((j : ℕ) (d : View) → get_elem? views j ≡ some d → IsPassAt (out id) h owner who j d)
-      → get_elem? views id ≡ some v → MayAddAll v.own.client v.own.opens xs → OpensOnce (h ++ xs) → history x ≡ h ++ xs
-      → Rule record { words = 0 ∷ []; homes = some (Some x) ∷ []; views = set views id (record { own = half (h ++ xs) (client_after v.own.client xs) v.own.opens; guest = half (h ++ xs) v.guest.client v.guest.opens; stage = Idle }) }
-  gives_rule views h xs owner who id v x each at own once is =
+  gives_rule : (views : List (View S)) (h xs : List EntryValue) (was : S) (owner : ℕ → ℕ × Bool) (who : Opener) (id : ℕ) (v : View S) (x : S) → ((j : ℕ) (d : View S) → get_elem? views j ≡ some d → IsPassAt leads (out id) h (Some was) owner who j d)
+      → get_elem? views id ≡ some v → MayAddAll v.own.client v.own.opens xs → OpensOnce (h ++ xs) → history x ≡ h ++ xs → leads was x
+      → Rule record { words = 0 ∷ []; homes = some (Some x) ∷ []; views = set views id (record { own = half (h ++ xs) (Some x) (client_after v.own.client xs) v.own.opens; guest = half (h ++ xs) (Some x) v.guest.client v.guest.opens; stage = Idle }) }
+  gives_rule views h xs was owner who id v x each at own once is step =
       let mine = each id v at in
       let c : Option ℕ = client_after v.own.client xs in
-      let still : (j : ℕ) (side : Bool) (u : Half) → (half_of j side ≡ half_of id true → ⊥) → HalfFits h owner who j side u → HalfFits (h ++ xs) (owns owner (id, true) c) who j side u
+      let still : (j : ℕ) (side : Bool) (u : Half S) → (half_of j side ≡ half_of id true → ⊥) → HalfFits h owner who j side u → HalfFits (h ++ xs) (owns owner (id, true) c) who j side u
       = λ j side u. fits_on h xs owner who id j side v.own.client v.own.opens u (λ k i. (mine.0.1 k i).1) mine.0.2 own once in
       let guest_stays = still id false v.guest (no_side id id) mine.1 in
       record {
         h = h ++ xs;
+        now = Some x;
         place = home;
         owner = owns owner (id, true) c;
         who = who;
-        is_at = (refl, (x, refl, is));
-        each = seats (IsPassAt home (h ++ xs) (owns owner (id, true) c) who) views id (record { own = half (h ++ xs) c v.own.opens; guest = half (h ++ xs) v.guest.client v.guest.opens; stage = Idle }) (
+        is_at = (refl, (x, refl, is, refl));
+        each = seats (IsPassAt leads home (h ++ xs) (Some x) (owns owner (id, true) c) who) views id (record { own = half (h ++ xs) (Some x) c v.own.opens; guest = half (h ++ xs) (Some x) v.guest.client v.guest.opens; stage = Idle }) (
           (
             (extends-same (h ++ xs), (λ d e. refl), (λ e. refl)),
             (λ d e. (
@@ -154,51 +160,54 @@ module _ {S : Type 0} (history : S → List EntryValue) where
           ),
           ((extends-same (h ++ xs), (λ d e. refl), (λ e. refl)), (λ d e. let t = guest_stays.1 d e in (opened-in d (h ++ xs) v.guest.seen guest_stays.0.0 t.0, t.1)), guest_stays.2),
           tt,
+          record { own = itself x; guest = itself x },
         )
             (λ j d other e. let ok = each j d e in (
               still j true d.own (λ (i : half_of j true ≡ half_of id true). other (same_seat j id true true i)) ok.0,
               still j false d.guest (no_side j id) ok.1,
-              others_stage (out id) home h (h ++ xs) j d.stage (λ i. cc) (λ i. other (cc)) ok.2,
+              others_stage (out id) home h (h ++ xs) (Some was) (Some x) j d.stage (λ i. cc) (λ i. other (cc)) ok.2,
+              all_led d was x step ok.3,
             ));
       }
 
-  pub gives_for : (slots id : ℕ) (me : Sitting S) (x : S) (h : List EntryValue) → me.1 ≡ (0, Some x) ∷ [] → me.0.stage ≡ Holding h → MayGive me.0.own.client me.0.own.opens h (history x) → OpensOnce (history x)
+  pub gives_for : (slots id : ℕ) (me : Sitting S) (x : S) (h : List EntryValue) (was : S) → me.1 ≡ (0, Some x) ∷ [] → me.0.stage ≡ Holding h was → leads was x → MayGive me.0.own.client me.0.own.opens h (history x) → OpensOnce (history x)
       → Allows Rule slots id me 0 (λ _. 0) (λ _. releasing history (step slots 0 0 0 none) me 0)
-  gives_for slots id me x h carried holds grows once s r _ at _ =
+  gives_for slots id me x h was carried holds step grows once s r _ at _ =
       let v = me.0 in
       let mine = r.each id v at in
-      let ok : IsStage r.place r.h id (Holding h) = subst (IsStage r.place r.h id) holds mine.2 in
-      let ph : IsAt history s.words s.homes s.views r.h (out id) = subst (IsAt history s.words s.homes s.views r.h) ok.0 r.is_at in
-      let each : (j : ℕ) (d : View) → get_elem? s.views j ≡ some d → IsPassAt (out id) h r.owner r.who j d = subst (λ (z : StatePlace × List EntryValue). (j : ℕ) (d : View) → get_elem? s.views j ≡ some d → IsPassAt z.0 z.1 r.owner r.who j d) (λ i. (ok.0 i, sym ok.1 i)) r.each in
+      let ok : IsStage r.place r.h r.now id (Holding h was) = subst (IsStage r.place r.h r.now id) holds mine.2 in
+      let ph : IsAt history s.words s.homes s.views r.h r.now (out id) = subst (IsAt history s.words s.homes s.views r.h r.now) ok.0 r.is_at in
+      let each : (j : ℕ) (d : View S) → get_elem? s.views j ≡ some d → IsPassAt leads (out id) h (Some was) r.owner r.who j d = subst (λ (z : StatePlace × List EntryValue × Option S). (j : ℕ) (d : View S) → get_elem? s.views j ≡ some d → IsPassAt leads z.0 z.1 z.2 r.owner r.who j d) (λ i. (ok.0 i, sym ok.1 i, ok.2 i)) r.each in
       let once' : OpensOnce (h ++ grows.0) = subst OpensOnce grows.1 once in
-      let w : View = record { own = half (h ++ grows.0) (client_after v.own.client grows.0) v.own.opens; guest = half (h ++ grows.0) v.guest.client v.guest.opens; stage = Idle } in
-      let is : w ≡ given v h (history x) = let added : grows.0 ≡ drop (length h) (history x) = sym (drop-prefix h grows.0) ∙ ap (drop (length h)) (sym grows.1) in
-      λ i. record { own = half (sym grows.1 i) (client_after v.own.client (added i)) v.own.opens; guest = half (sym grows.1 i) v.guest.client v.guest.opens; stage = Idle } in
+      let w : View S = record { own = half (h ++ grows.0) (Some x) (client_after v.own.client grows.0) v.own.opens; guest = half (h ++ grows.0) (Some x) v.guest.client v.guest.opens; stage = Idle } in
+      let is : w ≡ given v h (history x) x = let added : grows.0 ≡ drop (length h) (history x) = sym (drop-prefix h grows.0) ∙ ap (drop (length h)) (sym grows.1) in
+      λ i. record { own = half (sym grows.1 i) (Some x) (client_after v.own.client (added i)) v.own.opens; guest = half (sym grows.1 i) (Some x) v.guest.client v.guest.opens; stage = Idle } in
       let Goal : List (ℕ × Option S) × (List ℕ × Homes) → Type 0 = λ z. StoresAt slots id v z.0 s.views z.1.0 z.1.1 in
       let done : StoresAt slots id v ((0, Some x) ∷ []) s.views (1 ∷ []) (none ∷ []) = (
         w,
         gives,
         tt,
-        gives_rule s.views h grows.0 r.owner r.who id v x each at grows.2 once' grows.1,
-        λ y g c' st. let some_same : Some x ≡ Some y = ap (first_of (Some x)) c' in let same : x ≡ y = cc in let same_h : h ≡ g = let e = sym holds ∙ st in (cc) in λ i. (let e2 : w ≡ given v g (history y) = is ∙ (λ k. given v (same_h k) (history (same k))) in e2 i, []),
+        gives_rule s.views h grows.0 was r.owner r.who id v x each at grows.2 once' grows.1 step,
+        λ y g before c' st. let some_same : Some x ≡ Some y = ap (first_of (Some x)) c' in let same : x ≡ y = cc in let same_h : h ≡ g = let e = sym holds ∙ st in (cc) in λ i. (let e2 : w ≡ given v g (history y) y = is ∙ (λ k. given v (same_h k) (history (same k)) (same k)) in e2 i, []),
       ) in
       subst Goal (λ i. (sym carried i, (sym ph.0 i, sym ph.1 i))) done
 
   -- the first pass puts the state in
-  sets_rule : (s : St) (r : Rule s) (id : ℕ) (v : View) (x : S) → get_elem? s.views id ≡ some v → s.views ≡ newcomer ∷ [] → Rule record { words = 1 ∷ []; homes = none ∷ []; views = set s.views id (beginning (history x)) }
+  sets_rule : (s : St) (r : Rule s) (id : ℕ) (v : View S) (x : S) → get_elem? s.views id ≡ some v → s.views ≡ newcomer ∷ [] → Rule record { words = 1 ∷ []; homes = none ∷ []; views = set s.views id (beginning (history x) x) }
   sets_rule s r id v x at one = record {
     h = history x;
+    now = Some x;
     place = out id;
     owner = r.owner;
     who = alone (id, true);
-    is_at = (refl, refl, (beginning (history x), set_at s.views id (beginning (history x)) v at, refl));
-    each = seats (IsPassAt (out id) (history x) r.owner (alone (id, true))) s.views id (beginning (history x))
-        (((extends-same (history x), (λ c e. refl), (λ e. refl)), (λ c e. absurd (cc)), refl), fits_nobody (history x) r.owner (alone (id, true)) id false, (refl, refl))
+    is_at = (refl, refl, (beginning (history x) x, set_at s.views id (beginning (history x) x) v at, (x, refl, refl)));
+    each = seats (IsPassAt leads (out id) (history x) (Some x) r.owner (alone (id, true))) s.views id (beginning (history x) x)
+        (((extends-same (history x), (λ c e. refl), (λ e. refl)), (λ c e. absurd (cc)), refl), fits_nobody (history x) r.owner (alone (id, true)) id false, (refl, refl, refl), record { own = itself x; guest = tt })
         (λ j d other e. absurd (other ((only s.views one j d e).0 ∙ sym (only s.views one id v at).0)));
   }
 
-  abbrev SetsAt : (slots id : ℕ) (v : View) (x : S) (c : List (ℕ × Option S)) (views : List View) → List ℕ → Homes → Type 0
-  SetsAt slots id v x c views ws hs = (w : View) × (a : Act (Option S)) × Valid hs c a
+  abbrev SetsAt : (slots id : ℕ) (v : View S) (x : S) (c : List (ℕ × Option S)) (views : List (View S)) → List ℕ → Homes → Type 0
+  SetsAt slots id v x c views ws hs = (w : View S) × (a : Act (Option S)) × Valid hs c a
       × Rule (stepped (record { words = ws; homes = hs; views = views }) 0 (either (eqb (get_or ws 0 0) 2) 1 (get_or ws 0 0)) id c w a)
       × setting_up history (step slots 0 2 1 (some (Some x))) (v, c) (get_or ws 0 0) (w, carried_after c a)
 
@@ -206,65 +215,67 @@ module _ {S : Type 0} (history : S → List EntryValue) where
   sets_for slots id me x is_fresh s r _ at _ =
       let v = me.0 in
       let mine = r.each id v at in
-      let ok : r.place ≡ not_in = subst (IsStage r.place r.h id) is_fresh mine.2 in
-      let ph : IsAt history s.words s.homes s.views r.h not_in = subst (IsAt history s.words s.homes s.views r.h) ok r.is_at in
+      let ok : r.place ≡ not_in = subst (IsStage r.place r.h r.now id) is_fresh mine.2 in
+      let ph : IsAt history s.words s.homes s.views r.h r.now not_in = subst (IsAt history s.words s.homes s.views r.h r.now) ok r.is_at in
       let done : SetsAt slots id v x me.1 s.views (2 ∷ []) (some None ∷ []) = (
-        beginning (history x),
+        beginning (history x) x,
         takes 0 None,
         refl,
         sets_rule s r id v x at ph.2,
-        λ y said st. let same : x ≡ y = cc in (refl, λ i. (beginning (history (same i)), (0, None) ∷ me.1)),
+        λ y said st. let same : x ≡ y = cc in (refl, λ i. (beginning (history (same i)) (same i), (0, None) ∷ me.1)),
       ) in
       subst (λ (z : List ℕ × Homes). SetsAt slots id v x me.1 s.views z.0 z.1) (λ i. (sym ph.0 i, sym ph.1 i)) done
 
-  seats_one : (j : ℕ) (d : View) → get_elem? (newcomer ∷ []) j ≡ some d → IsPassAt not_in [] (λ _. (0, true)) anyone j d
-  seats_one Rattle.std.proofs.Common.zero d e = subst (IsPassAt not_in [] (λ _. (0, true)) anyone 0) (some-injective newcomer d e) (fits_nobody [] (λ _. (0, true)) anyone 0 true, fits_nobody [] (λ _. (0, true)) anyone 0 false, refl)
+  seats_one : (j : ℕ) (d : View S) → get_elem? (newcomer ∷ []) j ≡ some d → IsPassAt leads not_in [] None (λ _. (0, true)) anyone j d
+  seats_one Rattle.std.proofs.Common.zero d e = subst (IsPassAt leads not_in [] None (λ _. (0, true)) anyone 0) (some-injective newcomer d e) (fits_nobody [] (λ _. (0, true)) anyone 0 true, fits_nobody [] (λ _. (0, true)) anyone 0 false, refl, record { own = tt; guest = tt })
   seats_one (Rattle.std.proofs.Common.suc j) d e = absurd (some-ne-none d (sym e))
 
   pub starts : Rule (opening (2 ∷ []) (None ∷ []) newcomer)
   starts = record {
     h = [];
+    now = None;
     place = not_in;
     owner = λ _. (0, true);
     who = anyone;
-    is_at = (refl, refl, refl, refl);
+    is_at = (refl, refl, refl, refl, refl);
     each = seats_one;
   }
 
   -- a pass is cut in two, and its right is parted
-  pub cuts_for : (o p : Opens) (id : ℕ) (v : View) → CanPart v.own.opens o p → (o ≡ Alone → v.own.opens ≡ Alone) → (p ≡ Alone → v.own.opens ≡ Alone) → v.stage ≡ Idle → Splits Rule id v (with_right o v) (with_no_client p v)
+  pub cuts_for : (o p : Opens) (id : ℕ) (v : View S) → CanPart v.own.opens o p → (o ≡ Alone → v.own.opens ≡ Alone) → (p ≡ Alone → v.own.opens ≡ Alone) → v.stage ≡ Idle → Splits Rule id v (with_right o v) (with_no_client p v)
   cuts_for o p id v part left right idle s r at =
       let mine = r.each id v at in
       let vs = set s.views id (with_right o v) in
       let n : ℕ = length vs in
       let moved = part r.who (id, true) (n, true) mine.0.2 in
-      let still : (j : ℕ) (side : Bool) (u : Half) → (half_of j side ≡ half_of id true → ⊥) → HalfFits r.h r.owner r.who j side u → HalfFits r.h r.owner moved.who j side u = λ j side u other f. (f.0, f.1, moved.others (j, side) u.opens other f.2) in
+      let still : (j : ℕ) (side : Bool) (u : Half S) → (half_of j side ≡ half_of id true → ⊥) → HalfFits r.h r.owner r.who j side u → HalfFits r.h r.owner moved.who j side u = λ j side u other f. (f.0, f.1, moved.others (j, side) u.opens other f.2) in
       record {
         h = r.h;
+        now = r.now;
         place = r.place;
         owner = r.owner;
         who = moved.who;
-        is_at = at_one_more s.words s.homes vs r.h id (with_right o v) (with_no_client p v) (set_at s.views id (with_right o v) v at) idle r.place (at_another s.words s.homes s.views r.h id v (with_right o v) at idle r.place r.is_at);
+        is_at = at_one_more s.words s.homes vs r.h r.now id (with_right o v) (with_no_client p v) (set_at s.views id (with_right o v) v at) idle r.place (at_another s.words s.homes s.views r.h r.now id v (with_right o v) at idle r.place r.is_at);
         each = λ j d e. ⊎_elim
-            (λ (a : get_elem? vs j ≡ some d). seats (IsPassAt r.place r.h r.owner moved.who) s.views id (with_right o v)
-            (((mine.0.0.0, mine.0.0.1, (λ i. mine.0.0.2 (left i))), mine.0.1, moved.first), still id false v.guest (no_side id id) mine.1, mine.2)
-            (λ k u other b. let ok = r.each k u b in (still k true u.own (λ i. other (same_seat k id true true i)) ok.0, still k false u.guest (no_side k id) ok.1, ok.2)) j d a)
-            (λ (a : (j ≡ n) × (with_no_client p v ≡ d)). subst (λ (z : ℕ × View). IsPassAt r.place r.h r.owner moved.who z.0 z.1) (λ i. (sym a.0 i, a.1 i))
-            (((mine.0.0.0, (λ c i. absurd (cc)), (λ i. mine.0.0.2 (right i))), (λ c i. absurd (cc)), moved.second), fits_nobody r.h r.owner moved.who n false, tt))
+            (λ (a : get_elem? vs j ≡ some d). seats (IsPassAt leads r.place r.h r.now r.owner moved.who) s.views id (with_right o v)
+            (((mine.0.0.0, mine.0.0.1, (λ i. mine.0.0.2 (left i))), mine.0.1, moved.first), still id false v.guest (no_side id id) mine.1, mine.2, record { own = mine.3.own; guest = mine.3.guest })
+            (λ k u other b. let ok = r.each k u b in (still k true u.own (λ i. other (same_seat k id true true i)) ok.0, still k false u.guest (no_side k id) ok.1, ok.2, ok.3)) j d a)
+            (λ (a : (j ≡ n) × (with_no_client p v ≡ d)). subst (λ (z : ℕ × View S). IsPassAt leads r.place r.h r.now r.owner moved.who z.0 z.1) (λ i. (sym a.0 i, a.1 i))
+            (((mine.0.0.0, (λ c i. absurd (cc)), (λ i. mine.0.0.2 (right i))), (λ c i. absurd (cc)), moved.second), fits_nobody r.h r.owner moved.who n false, tt, record { own = mine.3.own; guest = tt }))
             (at_snoc_place vs (with_no_client p v) d j e);
       }
 
   -- a half that is another than the one that moves keeps its owner and its right
   keeps_half : (h : List EntryValue) (owner : ℕ → ℕ × Bool) (was who : Opener) (at : ℕ × Bool) (c : Option ℕ) (from : ℕ × Bool) → ((d : ℕ) → c ≡ Some d → owner d ≡ from) → ((at : Owner) (p : Opens) → (at ≡ from → ⊥) → HasRight was at p → HasRight who at p)
-      → (j : ℕ) (side : Bool) (v : Half) → (half_of j side ≡ from → ⊥) → HalfFits h owner was j side v → HalfFits h (owns owner at c) who j side v
+      → (j : ℕ) (side : Bool) (v : Half S) → (half_of j side ≡ from → ⊥) → HalfFits h owner was j side v → HalfFits h (owns owner at c) who j side v
   keeps_half h owner was who at c from had others j side v disjoint' f = let t = fits_still h owner was j side v at c (λ d is e. disjoint' (sym (f.1 d is).1 ∙ had d e)) f in (t.0, t.1, others (j, side) v.opens disjoint' f.2)
 
   -- a half moves to another pass, or to its other side
-  moves_half : (h : List EntryValue) (owner : ℕ → ℕ × Bool) (was who : Opener) (j k : ℕ) (side to : Bool) (v : Half) → HasRight who (k, to) v.opens → HalfFits h owner was j side v → HalfFits h (owns owner (k, to) v.client) who k to v
+  moves_half : (h : List EntryValue) (owner : ℕ → ℕ × Bool) (was who : Opener) (j k : ℕ) (side to : Bool) (v : Half S) → HasRight who (k, to) v.opens → HalfFits h owner was j side v → HalfFits h (owns owner (k, to) v.client) who k to v
   moves_half h owner was who j k side to v right f = (f.0, (λ d is. ((f.1 d is).0, owns_mine owner (k, to) v.client d is)), right)
 
   -- two passes that met part
-  pub parts_for : (id : ℕ) (v : View) → v.stage ≡ Idle → Splits Rule id v (own_of v) (guest_of v)
+  pub parts_for : (id : ℕ) (v : View S) → v.stage ≡ Idle → Splits Rule id v (own_of v) (guest_of v)
   parts_for id v idle s r at =
       let mine = r.each id v at in
       let vs = set s.views id (own_of v) in
@@ -272,23 +283,24 @@ module _ {S : Type 0} (history : S → List EntryValue) where
       let to : ℕ → ℕ × Bool = owns r.owner (n, true) v.guest.client in
       let moved = passes_on v.guest.opens r.who (id, false) (n, true) mine.1.2 in
       let was : (d : ℕ) → v.guest.client ≡ Some d → r.owner d ≡ (id, false) = λ d i. (mine.1.1 d i).1 in
-      let still : (j : ℕ) (side : Bool) (u : Half) → (half_of j side ≡ (id, false) → ⊥) → HalfFits r.h r.owner r.who j side u → HalfFits r.h to moved.who j side u = keeps_half r.h r.owner r.who moved.who (n, true) v.guest.client (id, false) was moved.others in
+      let still : (j : ℕ) (side : Bool) (u : Half S) → (half_of j side ≡ (id, false) → ⊥) → HalfFits r.h r.owner r.who j side u → HalfFits r.h to moved.who j side u = keeps_half r.h r.owner r.who moved.who (n, true) v.guest.client (id, false) was moved.others in
       record {
         h = r.h;
+        now = r.now;
         place = r.place;
         owner = to;
         who = moved.who;
-        is_at = at_one_more s.words s.homes vs r.h id (own_of v) (guest_of v) (set_at s.views id (own_of v) v at) idle r.place (at_another s.words s.homes s.views r.h id v (own_of v) at idle r.place r.is_at);
+        is_at = at_one_more s.words s.homes vs r.h r.now id (own_of v) (guest_of v) (set_at s.views id (own_of v) v at) idle r.place (at_another s.words s.homes s.views r.h r.now id v (own_of v) at idle r.place r.is_at);
         each = λ j d e. ⊎_elim
-            (λ (a : get_elem? vs j ≡ some d). seats (IsPassAt r.place r.h to moved.who) s.views id (own_of v) (still id true v.own (no_side' id id) mine.0, fits_nobody r.h to moved.who id false, mine.2)
-            (λ k u other b. let ok = r.each k u b in (still k true u.own (no_side' k id) ok.0, still k false u.guest (λ i. other (same_seat k id false false i)) ok.1, ok.2)) j d a)
-            (λ (a : (j ≡ n) × (guest_of v ≡ d)). subst (λ (z : ℕ × View). IsPassAt r.place r.h to moved.who z.0 z.1) (λ i. (sym a.0 i, a.1 i))
-            (moves_half r.h r.owner r.who moved.who id n false true v.guest moved.second mine.1, fits_nobody r.h to moved.who n false, tt))
+            (λ (a : get_elem? vs j ≡ some d). seats (IsPassAt leads r.place r.h r.now to moved.who) s.views id (own_of v) (still id true v.own (no_side' id id) mine.0, fits_nobody r.h to moved.who id false, mine.2, record { own = mine.3.own; guest = tt })
+            (λ k u other b. let ok = r.each k u b in (still k true u.own (no_side' k id) ok.0, still k false u.guest (λ i. other (same_seat k id false false i)) ok.1, ok.2, ok.3)) j d a)
+            (λ (a : (j ≡ n) × (guest_of v ≡ d)). subst (λ (z : ℕ × View S). IsPassAt leads r.place r.h r.now to moved.who z.0 z.1) (λ i. (sym a.0 i, a.1 i))
+            (moves_half r.h r.owner r.who moved.who id n false true v.guest moved.second mine.1, fits_nobody r.h to moved.who n false, tt, record { own = mine.3.guest; guest = tt }))
             (at_snoc_place vs (guest_of v) d j e);
       }
 
   -- one pass takes another in
-  pub meets_for : (id : ℕ) (v : View) (other : ℕ) (w : View) → v.stage ≡ Idle → w.stage ≡ Idle → Joins Rule id v other w (together v w) spent
+  pub meets_for : (id : ℕ) (v : View S) (other : ℕ) (w : View S) → v.stage ≡ Idle → w.stage ≡ Idle → Joins Rule id v other w (together v w) spent
   meets_for id v other w idle other_idle s r at disjoint_seats there =
       let at_other : get_elem? s.views other ≡ some w = sym (set_else s.views id other (together v w) disjoint_seats) ∙ there in
       let mine = r.each id v at in
@@ -296,15 +308,16 @@ module _ {S : Type 0} (history : S → List EntryValue) where
       let to : ℕ → ℕ × Bool = owns r.owner (id, false) w.own.client in
       let moved = passes_on w.own.opens r.who (other, true) (id, false) theirs.0.2 in
       let was : (d : ℕ) → w.own.client ≡ Some d → r.owner d ≡ (other, true) = λ d i. (theirs.0.1 d i).1 in
-      let still : (j : ℕ) (side : Bool) (u : Half) → (half_of j side ≡ (other, true) → ⊥) → HalfFits r.h r.owner r.who j side u → HalfFits r.h to moved.who j side u = keeps_half r.h r.owner r.who moved.who (id, false) w.own.client (other, true) was moved.others in
+      let still : (j : ℕ) (side : Bool) (u : Half S) → (half_of j side ≡ (other, true) → ⊥) → HalfFits r.h r.owner r.who j side u → HalfFits r.h to moved.who j side u = keeps_half r.h r.owner r.who moved.who (id, false) w.own.client (other, true) was moved.others in
       record {
         h = r.h;
+        now = r.now;
         place = r.place;
         owner = to;
         who = moved.who;
-        is_at = at_another s.words s.homes (set s.views id (together v w)) r.h other w spent there other_idle r.place (at_another s.words s.homes s.views r.h id v (together v w) at idle r.place r.is_at);
-        each = seats (IsPassAt r.place r.h to moved.who) (set s.views id (together v w)) other spent (fits_nobody r.h to moved.who other true, fits_nobody r.h to moved.who other false, tt)
-            (λ j d not_other e. seats (λ (k : ℕ) (u : View). ¬ (k ≡ other) → IsPassAt r.place r.h to moved.who k u) s.views id (together v w)
-            (λ no_o. (still id true v.own (λ i. no_o (same_seat id other true true i)) mine.0, moves_half r.h r.owner r.who moved.who other id true false w.own moved.second theirs.0, mine.2))
-            (λ k u not_id b no_o. let ok = r.each k u b in (still k true u.own (λ i. no_o (same_seat k other true true i)) ok.0, still k false u.guest (no_side k other) ok.1, ok.2)) j d e not_other);
+        is_at = at_another s.words s.homes (set s.views id (together v w)) r.h r.now other w spent there other_idle r.place (at_another s.words s.homes s.views r.h r.now id v (together v w) at idle r.place r.is_at);
+        each = seats (IsPassAt leads r.place r.h r.now to moved.who) (set s.views id (together v w)) other spent (fits_nobody r.h to moved.who other true, fits_nobody r.h to moved.who other false, tt, record { own = tt; guest = tt })
+            (λ j d not_other e. seats (λ (k : ℕ) (u : View S). ¬ (k ≡ other) → IsPassAt leads r.place r.h r.now to moved.who k u) s.views id (together v w)
+            (λ no_o. (still id true v.own (λ i. no_o (same_seat id other true true i)) mine.0, moves_half r.h r.owner r.who moved.who other id true false w.own moved.second theirs.0, mine.2, record { own = mine.3.own; guest = theirs.3.own }))
+            (λ k u not_id b no_o. let ok = r.each k u b in (still k true u.own (λ i. no_o (same_seat k other true true i)) ok.0, still k false u.guest (no_side k other) ok.1, ok.2, ok.3)) j d e not_other);
       }

@@ -1,5 +1,5 @@
 -- What a clause says of a pass.
-use Rattle.std.specs.Prelude.{◌≡◌, ℕ, List, [], ◌∷◌, Option, None}
+use Rattle.std.specs.Prelude.{◌≡◌, ℕ, List, [], ◌∷◌, Option, None, Some}
 use Rattle.assise_history.specs.Entries.{EntryValue}
 use Rattle.assise_keeper.specs.declared.view.View.{View}
 use Rattle.assise_keeper.specs.declared.view.Opens.{Opens}
@@ -8,19 +8,29 @@ use Rattle.assise_keeper.specs.declared.view.Stage.TheVariants.{Fresh, Idle, Hol
 use Rattle.assise_keeper.specs.declared.pass.Pass.{Pass}
 use Rattle.assise_keeper.specs.declared.keeper.Keeper.{Keeper}
 use Rattle.assise_keeper.specs.Clients.{calls_of}
+use Rattle.assise_keeper.specs.Rule.{IsLed}
 
-abbrev pub taken_at : Stage → List EntryValue
+abbrev pub taken_at : {S : Type 0} → Stage S → List EntryValue
 taken_at Fresh = []
 taken_at Idle = []
-taken_at (Holding h) = h
+taken_at (Holding h s) = h
+
+abbrev pub state_at : {S : Type 0} → Stage S → Option S
+state_at Fresh = None
+state_at Idle = None
+state_at (Holding h s) = Some s
 
 module _ {S : Type 0} where
-  abbrev pub view : Pass S → View
+  abbrev pub view : Pass S → View S
   view p = p.seat.me.0
 
   -- what the pass has seen of the history
   abbrev pub seen : Pass S → List EntryValue
   seen p = p.seat.me.0.own.seen
+
+  -- the state that it has seen last, whose history that is
+  abbrev pub last : Pass S → Option S
+  last p = p.seat.me.0.own.last
 
   -- its client, if it has one
   abbrev pub client : Pass S → Option ℕ
@@ -38,6 +48,10 @@ module _ {S : Type 0} where
   abbrev pub taken : Pass S → List EntryValue
   taken p = taken_at p.seat.me.0.stage
 
+  -- the state that it took, as it was then, while it holds
+  abbrev pub state_taken : Pass S → Option S
+  state_taken p = state_at p.seat.me.0.stage
+
   -- both are passes of one keeper
   abbrev pub AreOfOneKeeper : Pass S → Pass S → Type 0
   AreOfOneKeeper p q = q.seat.table_id ≡ p.seat.table_id
@@ -50,14 +64,21 @@ module _ {S : Type 0} where
   abbrev pub IsPassOf : Keeper S → Pass S → Type 0
   IsPassOf k p = (p.seat.table_id ≡ k.table.shared.table_id) × (p.seat.me.1 ≡ []) × (p.seat.me.0.stage ≡ Idle)
 
-  -- it is a pass of this keeper and holds a state that was taken with the history h
-  abbrev pub IsHoldingThis : Keeper S → Pass S → List EntryValue → Type 0
-  IsHoldingThis k p h = (p.seat.table_id ≡ k.table.shared.table_id) × (p.seat.me.1 ≡ (0, None) ∷ []) × (p.seat.me.0.stage ≡ Holding h)
+  -- it is a pass of this keeper and holds a state that was this one, with the history h, when it was taken
+  abbrev pub IsHoldingThis : Keeper S → Pass S → List EntryValue → S → Type 0
+  IsHoldingThis k p h s = (p.seat.table_id ≡ k.table.shared.table_id) × (p.seat.me.1 ≡ (0, None) ∷ []) × (p.seat.me.0.stage ≡ Holding h s)
 
   -- it is a pass of this keeper and holds the state
   abbrev pub IsHolding : Keeper S → Pass S → Type 0
-  IsHolding k p = IsHoldingThis k p (taken p)
+  IsHolding k p = (s : S) × IsHoldingThis k p (taken p) s
 
   -- it is the first pass of this keeper, before the state is in
   abbrev pub IsFirst : Keeper S → Pass S → Type 0
   IsFirst k p = (p.seat.table_id ≡ k.table.shared.table_id) × (p.seat.me.1 ≡ []) × (p.seat.me.0.stage ≡ Fresh)
+
+  -- It has seen a state last, with its history, to which what it had seen last before leads.
+  pub record HasGoneOn (history : S → List EntryValue) (leads : S → S → Type 0) (old new : Pass S) : Type 0 where
+    pub state : S
+    pub is_last : last new ≡ Some state
+    pub is_seen : seen new ≡ history state
+    pub led : IsLed leads (last old) (Some state)

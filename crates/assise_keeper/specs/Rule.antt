@@ -22,21 +22,32 @@ pub data StatePlace : Type 0 where
 
 -- The word, the slot and who holds the state. Until the state is in, the word is 2, the slot is home and empty, and the
 -- one pass has seen nothing. Where the state is home, the word is 0. Where it is out, the word is 1, the slot is out, and
--- there is a pass that holds it and noted the history.
+-- there is a pass that holds it and noted it with its history.
 module _ {S : Type 0} (history : S → List EntryValue) where
-  abbrev pub IsAt : List ℕ → List (maybe.Option (Option S)) → List View → List EntryValue → StatePlace → Type 0
-  IsAt words homes views h not_in = (words ≡ 2 ∷ []) × (homes ≡ some None ∷ []) × (views ≡ newcomer ∷ []) × (h ≡ [])
-  IsAt words homes views h home = (words ≡ 0 ∷ []) × ((x : S) × (homes ≡ some (Some x) ∷ []) × (history x ≡ h))
-  IsAt words homes views h (out j) = (words ≡ 1 ∷ []) × (homes ≡ none ∷ []) × ((v : View) × (get_elem? views j ≡ some v) × (v.stage ≡ Holding h))
+  abbrev pub IsAt : List ℕ → List (maybe.Option (Option S)) → List (View S) → List EntryValue → Option S → StatePlace → Type 0
+  IsAt words homes views h now not_in = (words ≡ 2 ∷ []) × (homes ≡ some None ∷ []) × (views ≡ newcomer ∷ []) × (h ≡ []) × (now ≡ None)
+  IsAt words homes views h now home = (words ≡ 0 ∷ []) × ((x : S) × (homes ≡ some (Some x) ∷ []) × (history x ≡ h) × (now ≡ Some x))
+  IsAt words homes views h now (out j) = (words ≡ 1 ∷ []) × (homes ≡ none ∷ []) × ((v : View S) × (get_elem? views j ≡ some v) × ((s : S) × (v.stage ≡ Holding h s) × (now ≡ Some s)))
 
 -- No other pass holds: a pass holds only where the state is out with it.
-abbrev pub IsStage : StatePlace → List EntryValue → ℕ → Stage → Type 0
-IsStage p h j Fresh = p ≡ not_in
-IsStage p h j Idle = Unit {0}
-IsStage p h j (Holding taken) = (p ≡ out j) × (taken ≡ h)
+abbrev pub IsStage : {S : Type 0} → StatePlace → List EntryValue → Option S → ℕ → Stage S → Type 0
+IsStage p h now j Fresh = p ≡ not_in
+IsStage p h now j Idle = Unit {0}
+IsStage p h now j (Holding taken s) = (p ≡ out j) × (taken ≡ h) × (now ≡ Some s)
+
+-- what was noted leads to the state, if something was
+abbrev pub IsLed : {S : Type 0} → (S → S → Type 0) → Option S → Option S → Type 0
+IsLed leads None now = Unit {0}
+IsLed leads (Some s) None = ⊥
+IsLed leads (Some s) (Some t) = leads s t
+
+-- so does what both halves noted
+pub record AreLed {S : Type 0} (leads : S → S → Type 0) (v : View S) (now : Option S) : Type 0 where
+  pub own : IsLed leads v.own.last now
+  pub guest : IsLed leads v.guest.last now
 
 -- The history extends what was seen. It has no call of the client that wasn't seen, and no opening where the half alone may open.
-abbrev pub CoversHalf : List EntryValue → Half → Type 0
+abbrev pub CoversHalf : {S : Type 0} → List EntryValue → Half S → Type 0
 CoversHalf h v = Extends h v.seen × ((c : ℕ) → v.client ≡ Some c → calls_by c h ≡ calls_by c v.seen) × (v.opens ≡ Alone → openings_of h ≡ openings_of v.seen)
 
 -- Where a client is: with which pass, and whether with the pass itself (true) or with the one that it meets.
@@ -55,17 +66,19 @@ HasRight who at Alone = who ≡ alone at
 HasRight who at AmongOthers = who ≡ anyone
 
 -- The half is covered; its client was opened in what was seen, and is with this half alone; and it may have its right.
-abbrev pub HalfFits : List EntryValue → (ℕ → Owner) → Opener → ℕ → Bool → Half → Type 0
+abbrev pub HalfFits : {S : Type 0} → List EntryValue → (ℕ → Owner) → Opener → ℕ → Bool → Half S → Type 0
 HalfFits h owner who pass side v = CoversHalf h v × ((c : ℕ) → v.client ≡ Some c → (0 < openings c v.seen) × (owner c ≡ (pass, side))) × HasRight who (pass, side) v.opens
 
-abbrev pub IsPassAt : StatePlace → List EntryValue → (ℕ → Owner) → Opener → ℕ → View → Type 0
-IsPassAt p h owner who j v = HalfFits h owner who j true v.own × HalfFits h owner who j false v.guest × IsStage p h j v.stage
+abbrev pub IsPassAt : {S : Type 0} → (S → S → Type 0) → StatePlace → List EntryValue → Option S → (ℕ → Owner) → Opener → ℕ → View S → Type 0
+IsPassAt leads p h now owner who j v = HalfFits h owner who j true v.own × HalfFits h owner who j false v.guest × IsStage p h now j v.stage × AreLed leads v now
 
--- There is one history: that of the state at home, or as it was when it was taken. It covers what every pass knows.
-pub record IsKept {S : Type 0} (history : S → List EntryValue) (s : State (Option S) View) : Type 0 where
+-- There is one state, with one history: the state at home, or as it was when it was taken. The history covers what every pass knows, and
+-- what every pass noted leads to the state.
+pub record IsKept {S : Type 0} (history : S → List EntryValue) (leads : S → S → Type 0) (s : State (Option S) (View S)) : Type 0 where
   pub h : List EntryValue
+  pub now : Option S
   pub place : StatePlace
   pub owner : ℕ → Owner
   pub who : Opener
-  pub is_at : IsAt history s.words s.homes s.views h place
-  pub each : (j : ℕ) (v : View) → get_elem? s.views j ≡ some v → IsPassAt place h owner who j v
+  pub is_at : IsAt history s.words s.homes s.views h now place
+  pub each : (j : ℕ) (v : View S) → get_elem? s.views j ≡ some v → IsPassAt leads place h now owner who j v

@@ -23,7 +23,7 @@ const NAP_MICROS: u64 = 100;
 /// Keeps a state that threads take in turn. It has one word, which is 0 where the state is there, 1 where it is out
 /// and 2 until it was put in, and one slot for the state.
 pub struct Keeper<S: Growing> {
-    table: Table<Option<S>, View, (), OneHistory, Global>,
+    table: Table<Option<S>, View<S>, (), OneHistory, Global>,
     progress: EventCount,
     ghost one_word: { (table.shared.table_id.words ≡ 1) × (table.shared.table_id.slots ≡ 1) },
 }
@@ -34,8 +34,8 @@ impl<S: Growing> Keeper<S> {
     ghost use Rattle.assise_keeper.specs.declared.view.Opens.TheVariants.{Never, Alone, AmongOthers};
     ghost use Rattle.assise_keeper.specs.Clients.{Extends, calls_of, openings_of, MayGive, MayOpenClients, client_after, added};
     ghost use Rattle.assise_keeper.specs.Views.{holding, given};
-    ghost use Rattle.assise_keeper.specs.Rule.{CoversHalf};
-    ghost use Rattle.assise_keeper.specs.Passes.{seen, client, mine, opens, view, taken, IsPassOf, IsHolding, IsHoldingThis, IsFirst};
+    ghost use Rattle.assise_keeper.specs.Rule.{AreLed, CoversHalf, IsLed};
+    ghost use Rattle.assise_keeper.specs.Passes.{seen, last, client, mine, opens, view, taken, state_taken, IsPassOf, IsHolding, IsHoldingThis, IsFirst};
 
     /// Keeps the state, and gives the first pass, which has seen the state's whole history, has no client, and alone may open clients.
     /// Where there is no memory the state comes back with [`Refusal::OutOfMemory`].
@@ -43,6 +43,7 @@ impl<S: Growing> Keeper<S> {
         ensures pass { IfOk result (λ made. IsPassOf made.0 made.1) }
         ensures seen { IfOk result (λ made. (seen made.1 ≡ S.history state) ×
             (client made.1 ≡ None)) }
+        ensures last { IfOk result (λ made. last made.1 ≡ Some state) }
         ensures alone { IfOk result (λ made. opens made.1 ≡ Alone) }
         ensures refused { IfErr result (λ refused. refused ≡ (OutOfMemory, state)) }
     {
@@ -62,7 +63,7 @@ impl<S: Growing> Keeper<S> {
     fn set_up(&self, pass: &mut Pass<S>, state: S)
         requires { IsFirst self.now pass.old }
         ensures { IsPassOf self.now pass.new × (seen pass.new ≡ S.history state) ×
-            (client pass.new ≡ None) × (opens pass.new ≡ Alone) }
+            (client pass.new ≡ None) × (opens pass.new ≡ Alone) × (last pass.new ≡ Some state) }
     {
         let full = Some(state);
         self.table
@@ -77,8 +78,10 @@ impl<S: Growing> Keeper<S> {
         requires holding { IsHolding self.now pass.old }
         requires grows { MayGive (client pass.old) (opens pass.old)
             (taken pass.old) (S.history state) }
+        requires leads { IsLed S.leads (state_taken pass.old) (Some state) }
         ensures free { IsPassOf self.now pass.new }
-        ensures view { view pass.new ≡ given (view pass.old) (taken pass.old) (S.history state) }
+        ensures view { view pass.new ≡ given (view pass.old) (taken pass.old)
+            (S.history state) state }
     {
         let shared = &self.table.shared;
         let before = shared.exchange(&mut pass.seat, 0, Some(state));
@@ -88,10 +91,11 @@ impl<S: Growing> Keeper<S> {
 
     fn try_take(&self, pass: &mut Pass<S>) -> Option<S>
         requires { IsPassOf self.now pass.old }
-        ensures took { IfSome result (λ t. IsHoldingThis self.now pass.new (S.history t) ×
-            (view pass.new ≡ holding (view pass.old) (S.history t)) ×
+        ensures took { IfSome result (λ t. IsHoldingThis self.now pass.new (S.history t) t ×
+            (view pass.new ≡ holding (view pass.old) (S.history t) t) ×
             CoversHalf (S.history t) (view pass.old).own ×
-            CoversHalf (S.history t) (view pass.old).guest) }
+            CoversHalf (S.history t) (view pass.old).guest ×
+            AreLed S.leads (view pass.old) (Some t)) }
         ensures none { IfNone result (IsPassOf self.now pass.new ×
             (view pass.new ≡ view pass.old)) }
     {
@@ -108,10 +112,11 @@ impl<S: Growing> Keeper<S> {
     // Waits until the state is there, and takes it.
     fn get<R: Wait>(&self, rt: &R, pass: &mut Pass<S>) -> S
         requires { IsPassOf self.now pass.old }
-        ensures took { IsHoldingThis self.now pass.new (S.history result) }
-        ensures view { view pass.new ≡ holding (view pass.old) (S.history result) }
+        ensures took { IsHoldingThis self.now pass.new (S.history result) result }
+        ensures view { view pass.new ≡ holding (view pass.old) (S.history result) result }
         ensures own { CoversHalf (S.history result) (view pass.old).own }
         ensures guest { CoversHalf (S.history result) (view pass.old).guest }
+        ensures led { AreLed S.leads (view pass.old) (Some result) }
     {
         let nap = Duration::from_micros(NAP_MICROS);
         let mut tries = 0;
@@ -129,14 +134,17 @@ impl<S: Growing> Keeper<S> {
         unreachable!()
     }
 
-    /// Waits until the state is there, and takes it. Its history extends what the pass has seen. It has no call of the pass's client
-    /// that the pass hadn't seen, and no opening where the pass alone may open clients.
+    /// Waits until the state is there, and takes it. What the pass has seen last leads to it, and its history extends what the pass has
+    /// seen. It has no call of the pass's client that the pass hadn't seen, and no opening where the pass alone may open clients.
     pub fn take<R: Wait>(&self, rt: &R, pass: &mut Pass<S>) -> Held<S>
         requires { IsPassOf self.now pass.old }
         ensures holds { IsHolding self.now pass.new }
         ensures taken { taken pass.new ≡ S.history result }
+        ensures state { state_taken pass.new ≡ Some result }
         ensures same { (seen pass.new ≡ seen pass.old) × (client pass.new ≡ client pass.old) }
+        ensures last { last pass.new ≡ last pass.old }
         ensures right { opens pass.new ≡ opens pass.old }
+        ensures led { IsLed S.leads (last pass.old) (Some result) }
         ensures extends { Extends (S.history result) (seen pass.old) }
         ensures mine { calls_of (client pass.old) (S.history result) ≡ mine pass.old }
         ensures alone { opens pass.old ≡ Alone →
@@ -145,14 +153,16 @@ impl<S: Growing> Keeper<S> {
         Held::of(self.get(rt, pass))
     }
 
-    /// Gives the state back, and the pass has seen it. It waits for nobody and takes no memory. What was added to the
-    /// history is what the pass may add: calls of its own client, and, with the right to, the opening of one client where it has none.
+    /// Gives the state back, and the pass has seen it. It waits for nobody and takes no memory. The state that was taken leads to it, and
+    /// what was added to the history is what the pass may add: calls of its own client, and, with the right to, the opening of one client where it has none.
     pub fn give(&self, pass: &mut Pass<S>, held: Held<S>)
         requires holding { IsHolding self.now pass.old }
         requires grows { MayGive (client pass.old) (opens pass.old)
             (taken pass.old) (S.history held) }
+        requires leads { IsLed S.leads (state_taken pass.old) (Some held) }
         ensures free { IsPassOf self.now pass.new }
         ensures seen { seen pass.new ≡ S.history held }
+        ensures last { last pass.new ≡ Some held }
         ensures client { client pass.new ≡ client_after (client pass.old)
             (added (taken pass.old) (S.history held)) }
         ensures right { opens pass.new ≡ opens pass.old }
@@ -166,6 +176,7 @@ impl<S: Growing> Keeper<S> {
         ensures pass { IsPassOf self.now pass.new }
         ensures same { (seen pass.new ≡ seen pass.old) × (client pass.new ≡ client pass.old) }
         ensures right { opens pass.new ≡ opens pass.old }
+        ensures last { (last pass.new ≡ last pass.old) × (last result ≡ last pass.old) }
         ensures new { IsPassOf self.now result }
         ensures as_seen { (seen result ≡ seen pass.old) × (client result ≡ None) }
         ensures opens_none { opens result ≡ Never }
@@ -181,6 +192,7 @@ impl<S: Growing> Keeper<S> {
         ensures pass { IsPassOf self.now pass.new }
         ensures same { (seen pass.new ≡ seen pass.old) × (client pass.new ≡ client pass.old) }
         ensures opens_none { opens pass.new ≡ Never }
+        ensures last { (last pass.new ≡ last pass.old) × (last result ≡ last pass.old) }
         ensures new { IsPassOf self.now result }
         ensures as_seen { (seen result ≡ seen pass.old) × (client result ≡ None) }
         ensures right { opens result ≡ opens pass.old }
@@ -197,6 +209,7 @@ impl<S: Growing> Keeper<S> {
         requires right { MayOpenClients (opens pass.old) }
         ensures pass { IsPassOf self.now pass.new }
         ensures same { (seen pass.new ≡ seen pass.old) × (client pass.new ≡ client pass.old) }
+        ensures last { (last pass.new ≡ last pass.old) × (last result ≡ last pass.old) }
         ensures new { IsPassOf self.now result }
         ensures as_seen { (seen result ≡ seen pass.old) × (client result ≡ None) }
         ensures shared { (opens pass.new ≡ AmongOthers) × (opens result ≡ AmongOthers) }
@@ -212,7 +225,11 @@ impl<S: Growing> Keeper<S> {
         requires { IsPassOf self.now first × IsPassOf self.now second }
         ensures free { IsPassOf self.now result.0 × IsPassOf self.now result.1 }
         ensures one { seen result.0 ≡ seen result.1 }
-        ensures known { (state : S) × (seen result.0 ≡ S.history state) }
+        ensures one_state { last result.0 ≡ last result.1 }
+        ensures known { (state : S) × (seen result.0 ≡ S.history state) ×
+            (last result.0 ≡ Some state) }
+        ensures led { IsLed S.leads (last first) (last result.0) ×
+            IsLed S.leads (last second) (last result.1) }
         ensures first { Extends (seen result.0) (seen first) × (client result.0 ≡ client first) }
         ensures second { Extends (seen result.1) (seen second) × (client result.1 ≡ client second) }
         ensures calls_of_first { mine result.0 ≡ mine first }
@@ -244,7 +261,10 @@ impl<S: Growing> Keeper<S> {
         ensures rights { ((view pass.new).own.opens ≡ (view pass.old).own.opens) ×
             ((view pass.new).guest.opens ≡ (view pass.old).guest.opens) }
         ensures one { (view pass.new).own.seen ≡ (view pass.new).guest.seen }
-        ensures known { (state : S) × ((view pass.new).own.seen ≡ S.history state) }
+        ensures one_state { (view pass.new).own.last ≡ (view pass.new).guest.last }
+        ensures known { (state : S) × ((view pass.new).own.seen ≡ S.history state) ×
+            ((view pass.new).own.last ≡ Some state) }
+        ensures led { AreLed S.leads (view pass.old) (view pass.new).own.last }
     {
         let state = self.get(rt, pass);
         self.put(pass, state);

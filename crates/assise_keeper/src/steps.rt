@@ -10,34 +10,34 @@ use atomic_table::{Join, Play, Split, TableRule};
 
 pub(crate) struct OneHistory;
 
-impl<S: Growing> TableRule<Option<S>, View, ()> for OneHistory {
-    ghost holds = { λ _. IsKept S.history };
+impl<S: Growing> TableRule<Option<S>, View<S>, ()> for OneHistory {
+    ghost holds = { λ _. IsKept S.history S.leads };
 
     ghost first = { λ _. newcomer };
 }
 
 pub(crate) struct Take;
 
-impl<S: Growing> Play<Option<S>, View> for Take {
-    ghost then = { taking S.history };
+impl<S: Growing> Play<Option<S>, View<S>> for Take {
+    ghost then = { taking S.history S.leads };
 }
 
 pub(crate) struct Release;
 
-impl<S: Growing> Play<Option<S>, View> for Release {
+impl<S: Growing> Play<Option<S>, View<S>> for Release {
     ghost then = { releasing S.history };
 }
 
 pub(crate) struct SetUp;
 
-impl<S: Growing> Play<Option<S>, View> for SetUp {
+impl<S: Growing> Play<Option<S>, View<S>> for SetUp {
     ghost then = { setting_up S.history };
 }
 
 // A pass is cut in two, and keeps its right.
 pub(crate) struct Cut;
 
-impl Split<View> for Cut {
+impl<S> Split<View<S>> for Cut {
     ghost left = { λ v. v };
 
     ghost right = { with_no_client Never };
@@ -46,7 +46,7 @@ impl Split<View> for Cut {
 // A pass is cut in two, and passes its right on.
 pub(crate) struct PassOn;
 
-impl Split<View> for PassOn {
+impl<S> Split<View<S>> for PassOn {
     ghost left = { with_right Never };
 
     ghost right = { λ v. with_no_client v.own.opens v };
@@ -55,7 +55,7 @@ impl Split<View> for PassOn {
 // A pass is cut in two, and both may open clients.
 pub(crate) struct Share;
 
-impl Split<View> for Share {
+impl<S> Split<View<S>> for Share {
     ghost left = { with_right AmongOthers };
 
     ghost right = { with_no_client AmongOthers };
@@ -64,7 +64,7 @@ impl Split<View> for Share {
 // One pass taking another in.
 pub(crate) struct Meet;
 
-impl Join<View> for Meet {
+impl<S> Join<View<S>> for Meet {
     ghost both = { together };
 
     ghost spent = { spent };
@@ -73,7 +73,7 @@ impl Join<View> for Meet {
 // Two passes that met part again.
 pub(crate) struct Part;
 
-impl Split<View> for Part {
+impl<S> Split<View<S>> for Part {
     ghost left = { own_of };
 
     ghost right = { guest_of };

@@ -18,7 +18,8 @@ pub struct WorkerPass<S> {
 impl<S: Growing> WorkerPass<S> {
     ghost use Rattle.std.specs.Prelude.{◌≡◌, None};
     ghost use Rattle.assise_keeper.specs.Clients.{Extends};
-    ghost use Rattle.assise_keeper.specs.Passes.{seen, client, taken, IsPassOf, IsHolding};
+    ghost use Rattle.assise_keeper.specs.Passes.{seen, last, client, taken, state_taken, IsPassOf, IsHolding};
+    ghost use Rattle.assise_keeper.specs.Rule.{IsLed};
     ghost use Rattle.assise_keeper.specs.Working.{pass_of};
 
     /// Makes a worker's pass of one that has no client.
@@ -34,19 +35,23 @@ impl<S: Growing> WorkerPass<S> {
         requires { IsPassOf keeper.now (pass_of self.old) }
         ensures holds { IsHolding keeper.now (pass_of self.new) }
         ensures taken { taken (pass_of self.new) ≡ S.history result }
+        ensures state { state_taken (pass_of self.new) ≡ Some result }
         ensures same { seen (pass_of self.new) ≡ seen (pass_of self.old) }
+        ensures led { IsLed S.leads (last (pass_of self.old)) (Some result) }
         ensures extends { Extends (S.history result) (seen (pass_of self.old)) }
     {
         keeper.take(rt, &mut self.pass)
     }
 
-    /// Gives the state back with the history that was taken, and the pass has seen it. It waits for nobody and takes no
-    /// memory.
+    /// Gives the state back with the history that was taken, and the pass has seen it. The state that was taken leads to it. It waits for
+    /// nobody and takes no memory.
     pub fn give(&mut self, keeper: &Keeper<S>, held: Held<S>)
         requires holding { IsHolding keeper.now (pass_of self.old) }
         requires nothing_added { S.history held ≡ taken (pass_of self.old) }
+        requires leads { IsLed S.leads (state_taken (pass_of self.old)) (Some held) }
         ensures free { IsPassOf keeper.now (pass_of self.new) }
         ensures seen { seen (pass_of self.new) ≡ S.history held }
+        ensures last { last (pass_of self.new) ≡ Some held }
     {
         keeper.give(&mut self.pass, held);
     }

@@ -26,7 +26,13 @@ pub struct Book {
 impl Growing for Book {
     ghost history = { λ b. b.history.events };
 
+    ghost leads = { λ old new. Unit {0} };
+
     ghost opens_once = { λ b. b.once };
+
+    ghost stays = { λ b. tt };
+
+    ghost goes_on = { λ s t u first more. tt };
 }
 
 impl Book {

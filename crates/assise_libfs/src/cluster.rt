@@ -1,6 +1,7 @@
 // A cluster serves clients.
 ghost use Rattle.std.proofs.Math.Logic.{∥∥₁_map};
 ghost use Rattle.assise_machine.specs.Clusters.{machine};
+ghost use Rattle.assise_machine.specs.Following.{led_by};
 ghost use Rattle.assise_model_events.specs.Happenings.{Happens};
 
 use crate::served::Served;
@@ -17,6 +18,8 @@ impl<C: Revokes + Drop> Served for ClusterOf<C> {
     type Stored = C;
 
     ghost acts = { λ s e a t. Happens (machine s) e a (machine t) };
+
+    ghost acts_lead = { λ s e a t happens. led_by (machine s) e a (machine t) happens };
 
     fn open(
         &mut self,

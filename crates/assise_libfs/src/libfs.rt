@@ -58,7 +58,7 @@ impl<'a, S: Served> LibFs<'a, S> {
     ghost use Rattle.assise_history.specs.Legal.{IsLegal, calls_made};
     ghost use Rattle.assise_keeper.specs.declared.view.Opens.TheVariants.{Alone, Never};
     ghost use Rattle.assise_keeper.specs.Clients.{Extends, MayOpenClients, openings_of};
-    ghost use Rattle.assise_keeper.specs.Passes.{AreOfOneKeeper, IsPassOf, client as client_of_pass, mine, opens, seen};
+    ghost use Rattle.assise_keeper.specs.Passes.{AreOfOneKeeper, HasGoneOn, IsPassOf, client as client_of_pass, last, mine, opens, seen};
     ghost use Rattle.assise_libfs.specs.Calling.{MayRefuse, MayRefuseTry, SeesCall, SeesTry};
     ghost use Rattle.assise_libfs.specs.Clients.{IsSameClient, client_of, keeper_of, limit_of, node_of, opens_of, pass_of, seen_by};
     ghost use Rattle.assise_libfs.specs.Lives.{EndsWithOpening, IsOpenedAs, OpensNoOther};
@@ -105,6 +105,10 @@ impl<'a, S: Served> LibFs<'a, S> {
         ensures alone_back { IfErr result (λ back. opens pass ≡ Alone →
             openings_of (seen back.1) ≡ openings_of (seen pass)) }
         ensures given_back { IfErr result (λ back. back.2 ≡ stored) }
+        ensures on { IfOk result (λ it.
+            HasGoneOn S.Growing.history S.Growing.leads pass (pass_of it)) }
+        ensures on_back { IfErr result (λ back.
+            HasGoneOn S.Growing.history S.Growing.leads pass back.1) }
     {
         let mut pass = pass;
         match open_turn(rt, alloc, keeper, &mut pass, node, stored, durability) {
@@ -392,6 +396,7 @@ impl<'a, S: Served> LibFs<'a, S> {
         ensures nobody { client_of_pass result ≡ None }
         ensures as_seen { seen result ≡ seen_by self.old }
         ensures right { opens result ≡ opens_of self.old }
+        ensures last { last result ≡ last (pass_of self.old) }
     {
         self.keeper.split_opener(&mut self.pass)
     }

@@ -55,4 +55,7 @@ pub trait Served: Growing {
         ensures acts { acts self.old (try_call client op.now) (tried_answer result) self.new };
 
     ghost legal: { (s : Self) → ∥ IsLegal (Self.Growing.history s) ∥₁ };
+
+    ghost acts_lead: { (s : Self) (e : ClusterEvent) (a : Answer) (t : Self) → acts s e a t
+        → Self.Growing.leads s t };
 }

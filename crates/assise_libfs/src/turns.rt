@@ -3,7 +3,7 @@ ghost use Rattle.std.specs.Prelude.{◌≡◌, IfErr, IfOk, None, OnErr, Some};
 ghost use Rattle.assise_history.specs.Legal.{IsLegal, calls_made};
 ghost use Rattle.assise_keeper.specs.declared.view.Opens.TheVariants.{Alone};
 ghost use Rattle.assise_keeper.specs.Clients.{Extends, MayOpenClients, openings_of};
-ghost use Rattle.assise_keeper.specs.Passes.{IsPassOf, client, opens, seen};
+ghost use Rattle.assise_keeper.specs.Passes.{HasGoneOn, IsPassOf, client, opens, seen};
 ghost use Rattle.assise_libfs.specs.Calling.{MayRefuseTry, SeesTry, answers};
 ghost use Rattle.assise_libfs.specs.Lives.{EndsWithOpening, IsOpenedAs, OpensNoOther};
 ghost use Rattle.assise_libfs.specs.Opening.{MayRefuseOpen};
@@ -75,6 +75,7 @@ pub(crate) fn open_turn<S: Served, R: Wait>(
     ensures given_back { IfErr result (λ back. back.1 ≡ stored) }
     ensures turn { InOneTurn S.Growing.history S.acts (open_client node durability)
         (opening_answer result) (seen pass.old) (seen pass.new) }
+    ensures on { HasGoneOn S.Growing.history S.Growing.leads pass.old pass.new }
 {
     let mut held = keeper.take(rt, pass);
     let opened = held.state().open(alloc, node, stored, durability);

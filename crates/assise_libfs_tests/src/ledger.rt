@@ -33,7 +33,13 @@ pub struct Ledger {
 impl Growing for Ledger {
     ghost history = { λ l. l.history.events };
 
+    ghost leads = { λ old new. Unit {0} };
+
     ghost opens_once = { λ l. opened_once l.clients l.history.events l.kept };
+
+    ghost stays = { λ l. tt };
+
+    ghost goes_on = { λ s t u first more. tt };
 }
 
 impl Ledger {
@@ -85,6 +91,8 @@ impl Served for Ledger {
     type Stored = u32;
 
     ghost acts = { λ s e a t. Unit {0} };
+
+    ghost acts_lead = { λ s e a t happens. tt };
 
     fn open(
         &mut self,

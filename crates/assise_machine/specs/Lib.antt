@@ -2,6 +2,7 @@ pub mod Answers
 pub mod Clusters
 pub mod Digesting
 pub mod EventNodes
+pub mod Following
 pub mod HandedOver
 pub mod Headline
 pub mod Running

@@ -41,7 +41,8 @@ pub trait Failing: Growing {
     /// Changes that node. It opens no client and answers no call, so that any pass may give what comes of it.
     fn change(&mut self, alloc: Global, change: Change) -> Result<(), Refusal>
         ensures gives { (client : Option ℕ) (right : Opens) → MayGive client right
-            (Self.Growing.history self.old) (Self.Growing.history self.new) };
+            (Self.Growing.history self.old) (Self.Growing.history self.new) }
+        ensures leads { Self.Growing.leads self.old self.new };
 }
 
 impl<C: Revokes + Drop> Failing for ClusterOf<C> {

@@ -13,6 +13,7 @@ use Rattle.assise_history.specs.Entries.{EntryValue}
 use Rattle.assise_fault_script.specs.declared.command.Command.{Command}
 use Rattle.assise_fault_script.specs.declared.command.Command.TheVariants.{Cluster, Manual, Open, Call, Carry, Link, Hot, Digest, Release, Crash, Fail, Back, Refill, Join, Raise, Tree, History, Check}
 use Rattle.assise_fault_script.specs.declared.parse.NumberedCommand.{NumberedCommand}
+use Rattle.assise_model_events.specs.Machine.{Machine}
 use Rattle.assise_console.specs.Lines.{line_text}
 use Rattle.assise_workers.specs.Told.{told_all}
 use Rattle.assise_workers.proofs.Lists.{told-append}
@@ -31,10 +32,10 @@ LeavesToTell c ss rest None (Some left) = ⊥
 LeavesToTell c ss rest (Some all) None = ⊥
 
 -- the calls so far were said, and so much is left to tell of the rest
-pub record AreSaidSoFar (done rest : List NumberedCommand) (seen : List EntryValue) (first now : Untold) (old new : Option (List ℕ)) : Type 0 where
+pub record AreSaidSoFar (turns : ℕ) (done rest : List NumberedCommand) (seen : Machine) (first now : Untold) (old new : Option (List ℕ)) : Type 0 where
   pub said : List Said
   pub each : commands_said said ≡ done
-  pub main : IsSaid seen said seen
+  pub main : IsSaid turns seen said seen
   pub appends : Appends old new (said_lines said)
   pub left : (c : ℕ) → LeavesToTell c said rest (outcomes_of c first) (outcomes_of c now)
 
@@ -44,8 +45,8 @@ all_left : (c : ℕ) (stretch : List NumberedCommand) (first : Option (List (Res
 all_left c stretch None h = ([], (refl, (refl, ((λ k. refl), tt))))
 all_left c stretch (Some all) h = ([], (refl, (refl, h)))
 
-pub none_said : (stretch : List NumberedCommand) (seen : List EntryValue) (first : Untold) (old : Option (List ℕ)) → HasAllOf stretch first → AreSaidSoFar [] stretch seen first first old old
-none_said stretch seen first old all = record {
+pub none_said : (turns : ℕ) (stretch : List NumberedCommand) (seen : Machine) (first : Untold) (old : Option (List ℕ)) → HasAllOf stretch first → AreSaidSoFar turns [] stretch seen first first old old
+none_said turns stretch seen first old all = record {
   said = [];
   each = refl;
   main = refl;
@@ -55,29 +56,29 @@ none_said stretch seen first old all = record {
 
 -- ---- one more
 
-abbrev said_now : NumberedCommand → List EntryValue → Option (Result Reply Refusal) → Said
-said_now l seen outcome = record { command = l; answer = outcome_answer (next_or_none outcome); history = seen }
+abbrev said_now : NumberedCommand → Machine → Option (Result Reply Refusal) → Said
+said_now l seen outcome = record { command = l; answer = outcome_answer (next_or_none outcome); machine = seen }
 
-is_answered : (command : Command) (seen : List EntryValue) (r : Result Reply Refusal) → IsClientCall command → AnswersCommand command (outcome_answer r) seen seen
-is_answered (Call c op) seen (Ok reply) is = is_replied reply refl refl
-is_answered (Call c op) seen (Err refusal) is = is_refused refusal refl refl
-is_answered (Cluster nodes log hot) seen r is = absurd is
-is_answered Manual seen r is = absurd is
-is_answered (Open node kind u) seen r is = absurd is
-is_answered (Carry node) seen r is = absurd is
-is_answered (Link node kind) seen r is = absurd is
-is_answered (Hot node capacity) seen r is = absurd is
-is_answered (Digest node) seen r is = absurd is
-is_answered Release seen r is = absurd is
-is_answered (Crash client) seen r is = absurd is
-is_answered (Fail node) seen r is = absurd is
-is_answered (Back node) seen r is = absurd is
-is_answered (Refill node) seen r is = absurd is
-is_answered (Join node) seen r is = absurd is
-is_answered (Raise node) seen r is = absurd is
-is_answered (Tree node) seen r is = absurd is
-is_answered History seen r is = absurd is
-is_answered Check seen r is = absurd is
+is_answered : (turns : ℕ) (command : Command) (seen : Machine) (r : Result Reply Refusal) → IsClientCall command → AnswersCommand turns command (outcome_answer r) seen seen
+is_answered turns (Call c op) seen (Ok reply) is = is_replied reply refl refl
+is_answered turns (Call c op) seen (Err refusal) is = is_refused refusal refl refl
+is_answered turns (Cluster nodes log hot) seen r is = absurd is
+is_answered turns Manual seen r is = absurd is
+is_answered turns (Open node kind u) seen r is = absurd is
+is_answered turns (Carry node) seen r is = absurd is
+is_answered turns (Link node kind) seen r is = absurd is
+is_answered turns (Hot node capacity) seen r is = absurd is
+is_answered turns (Digest node) seen r is = absurd is
+is_answered turns Release seen r is = absurd is
+is_answered turns (Crash client) seen r is = absurd is
+is_answered turns (Fail node) seen r is = absurd is
+is_answered turns (Back node) seen r is = absurd is
+is_answered turns (Refill node) seen r is = absurd is
+is_answered turns (Join node) seen r is = absurd is
+is_answered turns (Raise node) seen r is = absurd is
+is_answered turns (Tree node) seen r is = absurd is
+is_answered turns History seen r is = absurd is
+is_answered turns Check seen r is = absurd is
 
 line_same : (n : ℕ) (h : List EntryValue) (r : Result Reply Refusal) → line_text n [] (outcome_answer r) ≡ line_text n h (outcome_answer r)
 line_same n h (Ok reply) = refl
@@ -112,7 +113,7 @@ all-bad : (rs : List (Result Reply Refusal)) (r : Result Reply Refusal) → AllB
 all-bad [] r bad is = (is, tt)
 all-bad (x ∷ rs) r (first, rest) is = (first, all-bad rs r rest is)
 
-module _ (c : ℕ) (ss : List Said) (l : NumberedCommand) (seen : List EntryValue) (outcome : Option (Result Reply Refusal)) where
+module _ (c : ℕ) (ss : List Said) (l : NumberedCommand) (seen : Machine) (outcome : Option (Result Reply Refusal)) where
   abbrev s : Said
   s = said_now l seen outcome
 
@@ -160,7 +161,7 @@ module _ (c : ℕ) (ss : List Said) (l : NumberedCommand) (seen : List EntryValu
   is-told rest None (Some left) later op one takes e = absurd e
   is-told rest (Some all) None later op one takes e = absurd e
 
-module _ (done rest : List NumberedCommand) (l : NumberedCommand) (seen : List EntryValue) (first now later : Untold) (old mid new : Option (List ℕ)) where
+module _ (done rest : List NumberedCommand) (l : NumberedCommand) (seen : Machine) (first now later : Untold) (old mid new : Option (List ℕ)) where
   goes_on : (c : ℕ) (ss : List Said) (is : IsCallSaid l now later mid new) → LeavesToTell c ss (l ∷ rest) (outcomes_of c first) (outcomes_of c now)
       → LeavesToTell c (ss ++ said_now l seen is.outcome ∷ []) rest (outcomes_of c first) (outcomes_of c later)
   goes_on c ss is left = by_case (one_or_none c l.command)
@@ -169,14 +170,14 @@ module _ (done rest : List NumberedCommand) (l : NumberedCommand) (seen : List E
       by_case (inl none) = passes-by c ss l seen is.outcome rest (outcomes_of c first) (outcomes_of c later) none (subst (LeavesToTell c ss (l ∷ rest) (outcomes_of c first)) (sym (is.others c none)) left)
       by_case (inr (op, one)) = is-told c ss l seen is.outcome rest (outcomes_of c first) (outcomes_of c now) (outcomes_of c later) op one (is.next c op one) left
 
-  said_next : AreSaidSoFar done (l ∷ rest) seen first now old mid → IsClientCall l.command → IsCallSaid l now later mid new → AreSaidSoFar (done ++ l ∷ []) rest seen first later old new
-  said_next before call is =
+  said_next : (turns : ℕ) → AreSaidSoFar turns done (l ∷ rest) seen first now old mid → IsClientCall l.command → IsCallSaid l now later mid new → AreSaidSoFar turns (done ++ l ∷ []) rest seen first later old new
+  said_next turns before call is =
       let s = said_now l seen is.outcome in
-      let line : line_text l.line [] (outcome_answer (next_or_none is.outcome)) ≡ said_lines (s ∷ []) = line_same l.line seen (next_or_none is.outcome) ∙ sym (append-nil (said_line s)) in
+      let line : line_text l.line [] (outcome_answer (next_or_none is.outcome)) ≡ said_lines (s ∷ []) = line_same l.line seen.history (next_or_none is.outcome) ∙ sym (append-nil (said_line s)) in
       record {
         said = before.said ++ s ∷ [];
         each = map-append (λ x. x.command) before.said (s ∷ []) ∙ ap (λ z. z ++ l ∷ []) before.each;
-        main = said-append seen seen seen before.said (s ∷ []) before.main (is_answered l.command seen (next_or_none is.outcome) call, refl);
+        main = said-append turns seen seen seen before.said (s ∷ []) before.main (is_answered turns l.command seen (next_or_none is.outcome) call, refl);
         appends = subst (Appends old new) (ap (λ z. said_lines before.said ++ z) line ∙ sym (flat_map-append said_line before.said (s ∷ [])))
             (adds_more old mid new (said_lines before.said) (line_text l.line [] (outcome_answer (next_or_none is.outcome))) before.appends is.appends);
         left = λ c. goes_on c before.said is (before.left c);
@@ -191,11 +192,11 @@ module _ (stretch : List NumberedCommand) (i : ℕ) (l : NumberedCommand) (withi
   pub calls_left : AreCalls (drop i stretch) → IsClientCall l.command × AreCalls (drop (i + 1) stretch)
   calls_left calls = subst AreCalls left_is calls
 
-  pub line_said : (seen : List EntryValue) (first now later : Untold) (old mid new : Option (List ℕ)) → AreSaidSoFar (take i stretch) (drop i stretch) seen first now old mid → IsClientCall l.command → IsCallSaid l now later mid new
-      → AreSaidSoFar (take (i + 1) stretch) (drop (i + 1) stretch) seen first later old new
-  line_said seen first now later old mid new before call one =
-      subst (λ z. AreSaidSoFar z (drop (i + 1) stretch) seen first later old new) (ap (λ x. take i stretch ++ x ∷ []) is ∙ sym (take_more stretch i l within))
-      (said_next (take i stretch) (drop (i + 1) stretch) l seen first now later old mid new (subst (λ z. AreSaidSoFar (take i stretch) z seen first now old mid) left_is before) call one)
+  pub line_said : (turns : ℕ) (seen : Machine) (first now later : Untold) (old mid new : Option (List ℕ)) → AreSaidSoFar turns (take i stretch) (drop i stretch) seen first now old mid → IsClientCall l.command → IsCallSaid l now later mid new
+      → AreSaidSoFar turns (take (i + 1) stretch) (drop (i + 1) stretch) seen first later old new
+  line_said turns seen first now later old mid new before call one =
+      subst (λ z. AreSaidSoFar turns z (drop (i + 1) stretch) seen first later old new) (ap (λ x. take i stretch ++ x ∷ []) is ∙ sym (take_more stretch i l within))
+      (said_next (take i stretch) (drop (i + 1) stretch) l seen first now later old mid new turns (subst (λ z. AreSaidSoFar turns (take i stretch) z seen first now old mid) left_is before) call one)
 
 -- ---- behind the last
 
@@ -206,8 +207,8 @@ nothing_left c ss (Some all) (Some (x ∷ xs)) (rs, (tells, (is, count))) = absu
 nothing_left c ss None (Some left) e = absurd e
 nothing_left c ss (Some all) None e = absurd e
 
-all_said : (stretch : List NumberedCommand) (seen : List EntryValue) (first now : Untold) (old new : Option (List ℕ)) → AreSaidSoFar stretch [] seen first now old new → AreCallsSaid stretch seen first old new
-all_said stretch seen first now old new so_far = record {
+all_said : (turns : ℕ) (stretch : List NumberedCommand) (seen : Machine) (first now : Untold) (old new : Option (List ℕ)) → AreSaidSoFar turns stretch [] seen first now old new → AreCallsSaid turns stretch seen first old new
+all_said turns stretch seen first now old new so_far = record {
   said = so_far.said;
   each = so_far.each;
   main = so_far.main;
@@ -215,8 +216,8 @@ all_said stretch seen first now old new so_far = record {
   told = λ c. nothing_left c so_far.said (outcomes_of c first) (outcomes_of c now) (so_far.left c);
 }
 
-pub stretch_said : (stretch : List NumberedCommand) (i : ℕ) (seen : List EntryValue) (first now : Untold) (old new : Option (List ℕ)) → length stretch ≤ i → AreSaidSoFar (take i stretch) (drop i stretch) seen first now old new
-    → AreCallsSaid stretch seen first old new
-stretch_said stretch i seen first now old new done so_far =
-    all_said stretch seen first now old new
-    (subst (λ z. AreSaidSoFar z [] seen first now old new) (take_all i stretch done) (subst (λ z. AreSaidSoFar (take i stretch) z seen first now old new) (drop_all i stretch done) so_far))
+pub stretch_said : (turns : ℕ) (stretch : List NumberedCommand) (i : ℕ) (seen : Machine) (first now : Untold) (old new : Option (List ℕ)) → length stretch ≤ i → AreSaidSoFar turns (take i stretch) (drop i stretch) seen first now old new
+    → AreCallsSaid turns stretch seen first old new
+stretch_said turns stretch i seen first now old new done so_far =
+    all_said turns stretch seen first now old new
+    (subst (λ z. AreSaidSoFar turns z [] seen first now old new) (take_all i stretch done) (subst (λ z. AreSaidSoFar turns (take i stretch) z seen first now old new) (drop_all i stretch done) so_far))

@@ -55,55 +55,55 @@ pub calls_open_none : (ss : List Said) → AreCalls (commands_said ss) → openi
 calls_open_none [] are = refl
 calls_open_none (s ∷ ss) (first, rest) = rw (no_opening s.command.command s.answer first) (calls_open_none ss rest)
 
-passes : (c : ℕ) (s : Said) (p : Option (List EntryValue)) → IsClientCall s.command.command → call_in c s.command.command ≡ [] → HearsLine c s (call_in c s.command.command) p p
-passes c s p is none = rw (none, no_opening s.command.command s.answer is) refl
+passes : (turns c : ℕ) (s : Said) (p : Option (List EntryValue)) → IsClientCall s.command.command → call_in c s.command.command ≡ [] → HearsLine turns c s (call_in c s.command.command) p p
+passes turns c s p is none = rw (none, no_opening s.command.command s.answer is) refl
 
-module _ (c : ℕ) (s : Said) (ss : List Said) (is_call : IsClientCall s.command.command) where
+module _ (turns c : ℕ) (s : Said) (ss : List Said) (is_call : IsClientCall s.command.command) where
   none_hears : (now later rs : List (Result Reply Refusal)) → TellsCall (call_in c s.command.command) s.answer now → rs ≡ now ++ later → AllByRecursion (λ r. r ≡ Err BadClient) rs
-      → (AllByRecursion (λ r. r ≡ Err BadClient) later → HearsOn c None ss None) → HearsOn c None (s ∷ ss) None
+      → (AllByRecursion (λ r. r ≡ Err BadClient) later → HearsOn turns c None ss None) → HearsOn turns c None (s ∷ ss) None
   none_hears now later rs first is bad rest = by_case (one_or_none c s.command.command)
     where
-      by_case : (call_in c s.command.command ≡ []) ⊎ ((op : Op) × (call_in c s.command.command ≡ op ∷ [])) → HearsOn c None (s ∷ ss) None
+      by_case : (call_in c s.command.command ≡ []) ⊎ ((op : Op) × (call_in c s.command.command ≡ op ∷ [])) → HearsOn turns c None (s ∷ ss) None
       by_case (inl none) =
           let told : now ≡ [] = subst (λ z. TellsCall z s.answer now) none first in
           let same : rs ≡ later = is ∙ ap (λ z. z ++ later) told in
-          (None, (passes c s None is_call none, rest (subst (AllByRecursion (λ r. r ≡ Err BadClient)) same bad)))
+          (None, (passes turns c s None is_call none, rest (subst (AllByRecursion (λ r. r ≡ Err BadClient)) same bad)))
       by_case (inr (op, one)) =
           let told = subst (λ z. TellsCall z s.answer now) one first in
           let same : rs ≡ told.0 ∷ later = is ∙ ap (λ z. z ++ later) told.1.1 in
           let all = subst (AllByRecursion (λ r. r ≡ Err BadClient)) same bad in
-          (None, (subst (λ z. HearsLine c s z None None) (sym one) (told.1.0 ∙ ap outcome_answer all.0, refl), rest all.1))
+          (None, (subst (λ z. HearsLine turns c s z None None) (sym one) (told.1.0 ∙ ap outcome_answer all.0, refl), rest all.1))
 
-  some_hears : (now later rs : List (Result Reply Refusal)) (old new : List EntryValue) → TellsCall (call_in c s.command.command) s.answer now → rs ≡ now ++ later → AreCallsMade TurnedThere c (call_in c s.command.command ++ calls_in c (commands_said ss)) old rs new
-      → ((mid : List EntryValue) → AreCallsMade TurnedThere c (calls_in c (commands_said ss)) mid later new → HearsOn c (Some mid) ss (Some new)) → HearsOn c (Some old) (s ∷ ss) (Some new)
+  some_hears : (now later rs : List (Result Reply Refusal)) (old new : List EntryValue) → TellsCall (call_in c s.command.command) s.answer now → rs ≡ now ++ later → AreCallsMade (TurnedThere turns) c (call_in c s.command.command ++ calls_in c (commands_said ss)) old rs new
+      → ((mid : List EntryValue) → AreCallsMade (TurnedThere turns) c (calls_in c (commands_said ss)) mid later new → HearsOn turns c (Some mid) ss (Some new)) → HearsOn turns c (Some old) (s ∷ ss) (Some new)
   some_hears now later rs old new first is made rest = by_case (one_or_none c s.command.command)
     where
-      by_case : (call_in c s.command.command ≡ []) ⊎ ((op : Op) × (call_in c s.command.command ≡ op ∷ [])) → HearsOn c (Some old) (s ∷ ss) (Some new)
+      by_case : (call_in c s.command.command ≡ []) ⊎ ((op : Op) × (call_in c s.command.command ≡ op ∷ [])) → HearsOn turns c (Some old) (s ∷ ss) (Some new)
       by_case (inl none) =
           let told : now ≡ [] = subst (λ z. TellsCall z s.answer now) none first in
           let same : rs ≡ later = is ∙ ap (λ z. z ++ later) told in
-          let left = subst (λ z. AreCallsMade TurnedThere c (z ++ calls_in c (commands_said ss)) old rs new) none made in
-          (Some old, (passes c s (Some old) is_call none, rest old (subst (λ z. AreCallsMade TurnedThere c (calls_in c (commands_said ss)) old z new) same left)))
+          let left = subst (λ z. AreCallsMade (TurnedThere turns) c (z ++ calls_in c (commands_said ss)) old rs new) none made in
+          (Some old, (passes turns c s (Some old) is_call none, rest old (subst (λ z. AreCallsMade (TurnedThere turns) c (calls_in c (commands_said ss)) old z new) same left)))
       by_case (inr (op, one)) =
           let told = subst (λ z. TellsCall z s.answer now) one first in
           let same : rs ≡ told.0 ∷ later = is ∙ ap (λ z. z ++ later) told.1.1 in
-          let left = subst (λ z. AreCallsMade TurnedThere c (z ++ calls_in c (commands_said ss)) old rs new) one made in
-          let all = subst (λ z. AreCallsMade TurnedThere c (op ∷ calls_in c (commands_said ss)) old z new) same left in
-          (Some all.0, (subst (λ z. HearsLine c s z (Some old) (Some all.0)) (sym one) (told.0, (told.1.0, (all.0, (all.1.0, refl)))), rest all.0 all.1.1))
+          let left = subst (λ z. AreCallsMade (TurnedThere turns) c (z ++ calls_in c (commands_said ss)) old rs new) one made in
+          let all = subst (λ z. AreCallsMade (TurnedThere turns) c (op ∷ calls_in c (commands_said ss)) old z new) same left in
+          (Some all.0, (subst (λ z. HearsLine turns c s z (Some old) (Some all.0)) (sym one) (told.0, (told.1.0, (all.0, (all.1.0, refl)))), rest all.0 all.1.1))
 
-none_hear : (c : ℕ) (ss : List Said) (rs : List (Result Reply Refusal)) → AreCalls (commands_said ss) → TellsClient c ss rs → AllByRecursion (λ r. r ≡ Err BadClient) rs → HearsOn c None ss None
-none_hear c [] rs are tells bad = refl
-none_hear c (s ∷ ss) rs (is_call, are) (now, (later, (first, (rest, is)))) bad = none_hears c s ss is_call now later rs first is bad (λ b. none_hear c ss later are rest b)
+none_hear : (turns c : ℕ) (ss : List Said) (rs : List (Result Reply Refusal)) → AreCalls (commands_said ss) → TellsClient c ss rs → AllByRecursion (λ r. r ≡ Err BadClient) rs → HearsOn turns c None ss None
+none_hear turns c [] rs are tells bad = refl
+none_hear turns c (s ∷ ss) rs (is_call, are) (now, (later, (first, (rest, is)))) bad = none_hears turns c s ss is_call now later rs first is bad (λ b. none_hear turns c ss later are rest b)
 
-some_hear : (c : ℕ) (ss : List Said) (rs : List (Result Reply Refusal)) (old new : List EntryValue) → AreCalls (commands_said ss) → TellsClient c ss rs → AreCallsMade TurnedThere c (calls_in c (commands_said ss)) old rs new → HearsOn c (Some old) ss (Some new)
-some_hear c [] rs old new are tells made = ap Some (subst (λ z. AreCallsMade TurnedThere c [] old z new) tells made)
-some_hear c (s ∷ ss) rs old new (is_call, are) (now, (later, (first, (rest, is)))) made = some_hears c s ss is_call now later rs old new first is made (λ m b. some_hear c ss later m new are rest b)
+some_hear : (turns c : ℕ) (ss : List Said) (rs : List (Result Reply Refusal)) (old new : List EntryValue) → AreCalls (commands_said ss) → TellsClient c ss rs → AreCallsMade (TurnedThere turns) c (calls_in c (commands_said ss)) old rs new → HearsOn turns c (Some old) ss (Some new)
+some_hear turns c [] rs old new are tells made = ap Some (subst (λ z. AreCallsMade (TurnedThere turns) c [] old z new) tells made)
+some_hear turns c (s ∷ ss) rs old new (is_call, are) (now, (later, (first, (rest, is)))) made = some_hears turns c s ss is_call now later rs old new first is made (λ m b. some_hear turns c ss later m new are rest b)
 
-pub hears_on : (c : ℕ) (ss : List Said) (p q : Option (List EntryValue)) → AreCalls (commands_said ss) → HearsStretch c ss p q → HearsOn c p ss q
-hears_on c ss None None are (rs, (tells, (count, (none, bad)))) = none_hear c ss rs are tells bad
-hears_on c ss (Some old) (Some new) are (rs, (tells, sees)) = some_hear c ss rs old new are tells sees.each
-hears_on c ss None (Some new) are e = absurd e
-hears_on c ss (Some old) None are e = absurd e
+pub hears_on : (turns c : ℕ) (ss : List Said) (p q : Option (List EntryValue)) → AreCalls (commands_said ss) → HearsStretch turns c ss p q → HearsOn turns c p ss q
+hears_on turns c ss None None are (rs, (tells, (count, (none, bad)))) = none_hear turns c ss rs are tells bad
+hears_on turns c ss (Some old) (Some new) are (rs, (tells, sees)) = some_hear turns c ss rs old new are tells sees.each
+hears_on turns c ss None (Some new) are e = absurd e
+hears_on turns c ss (Some old) None are e = absurd e
 
 -- ---- a client more
 
@@ -143,13 +143,13 @@ opening_hears c (crashes d ∷ es) h us new = refl
 opening_hears c (fails n losses ∷ es) h us new = refl
 opening_hears c (returns n ∷ es) h us new = refl
 
-pub one_hears : (c : ℕ) (s : Said) (earlier later : Sights) → call_in c s.command.command ≡ [] → later ≡ with_opened earlier s.history (opening_in s.command.command s.answer) → AreNew earlier (opening_in s.command.command s.answer)
-    → HearsOn c (sight_of c earlier) (s ∷ []) (sight_of c later)
-one_hears c s earlier later none is new = (
+pub one_hears : (turns c : ℕ) (s : Said) (earlier later : Sights) → call_in c s.command.command ≡ [] → later ≡ with_opened earlier s.machine.history (opening_in s.command.command s.answer) → AreNew earlier (opening_in s.command.command s.answer)
+    → HearsOn turns c (sight_of c earlier) (s ∷ []) (sight_of c later)
+one_hears turns c s earlier later none is new = (
   sight_of c later,
   (
-    subst (λ z. HearsLine c s z (sight_of c earlier) (sight_of c later)) (sym none)
-        (subst (λ z. HearsOpening c (opening_in s.command.command s.answer) s.history (sight_of c earlier) (sight_of c z)) (sym is) (opening_hears c (opening_in s.command.command s.answer) s.history earlier new)),
+    subst (λ z. HearsLine turns c s z (sight_of c earlier) (sight_of c later)) (sym none)
+        (subst (λ z. HearsOpening c (opening_in s.command.command s.answer) s.machine.history (sight_of c earlier) (sight_of c z)) (sym is) (opening_hears c (opening_in s.command.command s.answer) s.machine.history earlier new)),
     refl,
   ),
 )
@@ -167,11 +167,11 @@ known_anyway : (c : ℕ) (x : Option (List EntryValue)) (seen : List EntryValue)
 known_anyway c None seen some_opening = tt
 known_anyway c (Some h) seen some_opening = some_opening
 
-pub known_then : (c : ℕ) (ss : List Said) (x y : Option (List EntryValue)) (seen : List EntryValue) → HearsStretch c ss x y → IfSome x (λ h. 0 < openings c seen) → IfSome y (λ h. 0 < openings c seen)
-known_then c ss None None seen hears known = tt
-known_then c ss (Some old) (Some new) seen hears known = known
-known_then c ss None (Some new) seen hears known = absurd hears
-known_then c ss (Some old) None seen hears known = absurd hears
+pub known_then : (turns c : ℕ) (ss : List Said) (x y : Option (List EntryValue)) (seen : List EntryValue) → HearsStretch turns c ss x y → IfSome x (λ h. 0 < openings c seen) → IfSome y (λ h. 0 < openings c seen)
+known_then turns c ss None None seen hears known = tt
+known_then turns c ss (Some old) (Some new) seen hears known = known
+known_then turns c ss None (Some new) seen hears known = absurd hears
+known_then turns c ss (Some old) None seen hears known = absurd hears
 
 -- what is seen ends with these openings, each of a client of its own
 abbrev pub EndsWith : List EntryValue → List EntryValue → List EntryValue → Type 0

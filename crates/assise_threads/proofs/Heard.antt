@@ -29,9 +29,9 @@ tells-append c [] ts rs came none more = subst (λ z. TellsClient c ts (z ++ cam
 tells-append c (s ∷ ss) ts rs came (now, (later, (first, (rest, is)))) more =
     (now, (later ++ came, (first, (tells-append c ss ts later came rest more, ap (λ z. z ++ came) is ∙ append_assoc now later came))))
 
-pub on-append : (c : ℕ) (p : Option (List EntryValue)) (ss : List Said) (q : Option (List EntryValue)) (ts : List Said) (r : Option (List EntryValue)) → HearsOn c p ss q → HearsOn c q ts r → HearsOn c p (ss ++ ts) r
-on-append c p [] q ts r same more = subst (λ z. HearsOn c z ts r) same more
-on-append c p (s ∷ ss) q ts r (mid, (line, rest)) more = (mid, (line, on-append c mid ss q ts r rest more))
+pub on-append : (turns c : ℕ) (p : Option (List EntryValue)) (ss : List Said) (q : Option (List EntryValue)) (ts : List Said) (r : Option (List EntryValue)) → HearsOn turns c p ss q → HearsOn turns c q ts r → HearsOn turns c p (ss ++ ts) r
+on-append turns c p [] q ts r same more = subst (λ z. HearsOn turns c z ts r) same more
+on-append turns c p (s ∷ ss) q ts r (mid, (line, rest)) more = (mid, (line, on-append turns c mid ss q ts r rest more))
 
 -- ---- a stretch of calls
 
@@ -52,24 +52,24 @@ module _ (c : ℕ) (ss ts : List Said) where
       let at : so_far ≡ 0 + so_far = omega arith in
       ap (λ (k : ℕ). told_all c 0 before rs ++ told_all c k behind came) at ∙ sym (told-append c 0 before rs behind came some) ∙ ap (λ z. told_all c 0 z (rs ++ came)) (sym (calls-said-append c ss ts))
 
-  pub heard_then : (sight now : Option (List EntryValue)) → HasHeard c ss sight → HearsStretch c ts sight now → HearsOn c sight ts now → HasHeard c (ss ++ ts) now
-  heard_then None None h (came, (tells, (count, (none, bad)))) on = record {
+  pub heard_then : (turns : ℕ) (sight now : Option (List EntryValue)) → HasHeard turns c ss sight → HearsStretch turns c ts sight now → HearsOn turns c sight ts now → HasHeard turns c (ss ++ ts) now
+  heard_then turns None None h (came, (tells, (count, (none, bad)))) on = record {
     outcomes = h.outcomes ++ came;
     count = counts h.outcomes came h.count count;
     tells = tells-append c ss ts h.outcomes came h.tells tells;
     calls = ap₂ (λ x y. x ++ y) h.calls (sym (none (length (told_all c 0 before h.outcomes)))) ∙ goes-on h.outcomes came h.count;
-    on = on-append c None ss None ts None h.on on;
+    on = on-append turns c None ss None ts None h.on on;
   }
-  heard_then (Some old) (Some new) h (came, (tells, sees)) on =
+  heard_then turns (Some old) (Some new) h (came, (tells, sees)) on =
       let told : told_all c (length (calls_by c old)) behind came ≡ told_all c (length (told_all c 0 before h.outcomes)) behind came = ap (λ (z : List EntryValue). told_all c (length z) behind came) h.calls in record {
         outcomes = h.outcomes ++ came;
         count = counts h.outcomes came h.count sees.count;
         tells = tells-append c ss ts h.outcomes came h.tells tells;
         calls = sees.told ∙ (ap₂ (λ x y. x ++ y) h.calls told ∙ goes-on h.outcomes came h.count);
-        on = on-append c None ss (Some old) ts (Some new) h.on on;
+        on = on-append turns c None ss (Some old) ts (Some new) h.on on;
       }
-  heard_then None (Some new) h e on = absurd e
-  heard_then (Some old) None h e on = absurd e
+  heard_then turns None (Some new) h e on = absurd e
+  heard_then turns (Some old) None h e on = absurd e
 
 -- ---- a command that is no call
 
@@ -135,12 +135,12 @@ module _ (c : ℕ) (ss : List Said) (s : Said) where
   pub calls_same : call_in c s.command.command ≡ [] → calls_in c (commands_said (ss ++ s ∷ [])) ≡ calls_in c (commands_said ss)
   calls_same none = calls_more ∙ (ap (λ z. calls_in c (commands_said ss) ++ z) none ∙ append-nil (calls_in c (commands_said ss)))
 
-  pub heard_one : (earlier later : Sights) → HasHeard c ss (sight_of c earlier) → later ≡ with_opened earlier s.history (opening_in s.command.command s.answer) → MadeNone (opening_in s.command.command s.answer) s.history
-      → call_in c s.command.command ≡ [] → HearsOn c (sight_of c earlier) (s ∷ []) (sight_of c later) → HasHeard c (ss ++ s ∷ []) (sight_of c later)
-  heard_one earlier later h is made none on = record {
+  pub heard_one : (turns : ℕ) (earlier later : Sights) → HasHeard turns c ss (sight_of c earlier) → later ≡ with_opened earlier s.machine.history (opening_in s.command.command s.answer) → MadeNone (opening_in s.command.command s.answer) s.machine.history
+      → call_in c s.command.command ≡ [] → HearsOn turns c (sight_of c earlier) (s ∷ []) (sight_of c later) → HasHeard turns c (ss ++ s ∷ []) (sight_of c later)
+  heard_one turns earlier later h is made none on = record {
     outcomes = h.outcomes;
     count = h.count ∙ ap length (sym (calls_same none));
     tells = tells_nothing h.outcomes none h.tells;
-    calls = ap (λ z. calls_of_sight c (sight_of c z)) is ∙ (calls_stay c earlier s.history (opening_in s.command.command s.answer) made ∙ (h.calls ∙ ap (λ z. told_all c 0 z h.outcomes) (sym (calls_same none))));
-    on = on-append c None ss (sight_of c earlier) (s ∷ []) (sight_of c later) h.on on;
+    calls = ap (λ z. calls_of_sight c (sight_of c z)) is ∙ (calls_stay c earlier s.machine.history (opening_in s.command.command s.answer) made ∙ (h.calls ∙ ap (λ z. told_all c 0 z h.outcomes) (sym (calls_same none))));
+    on = on-append turns c None ss (sight_of c earlier) (s ∷ []) (sight_of c later) h.on on;
   }

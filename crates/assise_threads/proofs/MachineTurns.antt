@@ -10,6 +10,7 @@ use Rattle.assise_libfs.specs.InTurns.{EndsBy, EndsUntried, HasWaited, InOneTurn
 use Rattle.assise_machine.specs.Clusters.{machine}
 use Rattle.assise_machine.specs.declared.cluster.ClusterOf.{ClusterOf}
 use Rattle.assise_model_events.specs.Events.{Answer, ClusterEvent}
+use Rattle.assise_model_events.specs.Machine.{Machine}
 use Rattle.assise_console.specs.declared.response.Response.TheVariants.{Carried, Refused}
 use Rattle.assise_record.specs.LogFrame.{LogFrame}
 use Rattle.assise_rounds.specs.Rounds.{deliveries}
@@ -64,13 +65,13 @@ module _ (C : Type 0) where
     turns_of limit (Err StaleMessage) old new t = ends_of limit _ old new t
     turns_of limit (Err LogFull) old new t = ends_of limit _ old new t
 
-  made_of : (limit c : ℕ) (ops : List Op) (old : List EntryValue) (rs : List (Result Reply Refusal)) (new : List EntryValue) → AreCallsMade (Turned there does limit) c ops old rs new → AreCallsMade TurnedThere c ops old rs new
+  made_of : (limit c : ℕ) (ops : List Op) (old : List EntryValue) (rs : List (Result Reply Refusal)) (new : List EntryValue) → AreCallsMade (Turned there does limit) c ops old rs new → AreCallsMade (TurnedThere limit) c ops old rs new
   made_of limit c [] old [] new same = same
   made_of limit c [] old (r ∷ rs) new e = absurd e
   made_of limit c (op ∷ ops) old [] new e = absurd e
-  made_of limit c (op ∷ ops) old (r ∷ rs) new (mid, ((sees, (may, turns)), rest)) = (mid, ((sees, (may, (limit, turns_of c op limit r old mid turns))), made_of limit c ops mid rs new rest))
+  made_of limit c (op ∷ ops) old (r ∷ rs) new (mid, ((sees, (may, turns)), rest)) = (mid, ((sees, (may, turns_of c op limit r old mid turns)), made_of limit c ops mid rs new rest))
 
-  pub sees_of : (limit c : ℕ) (ops : List Op) (old : List EntryValue) (rs : List (Result Reply Refusal)) (new : List EntryValue) → SeesAll (Turned there does limit) c ops old rs new → SeesAll TurnedThere c ops old rs new
+  pub sees_of : (limit c : ℕ) (ops : List Op) (old : List EntryValue) (rs : List (Result Reply Refusal)) (new : List EntryValue) → SeesAll (Turned there does limit) c ops old rs new → SeesAll (TurnedThere limit) c ops old rs new
   sees_of limit c ops old rs new s = record { count = s.count; extends = s.extends; told = s.told; each = made_of limit c ops old rs new s.each }
 
   -- ---- of workers
@@ -104,8 +105,8 @@ module _ (C : Type 0) where
         let three = subst (λ z. Replicates history_seen HappensSoundly ⊤ versions_read n z old later) e two in
         subst (λ z. Replicates history_seen HappensSoundly ⊤ versions_read n is z later) from three
 
-    pub carried_by : (count : ℕ) (end : TurnEnd) (seen old later now : List EntryValue) → k ≡ n → end ≡ Did count → old ≡ seen → now ≡ seen → Replicates there does F cluster_reads k end old later → CarriesSome n (Carried count) seen now
-    carried_by count end seen old later now same e from stays t = is_carried count later refl (there_of end (Did count) seen old later same e from t) stays
+    pub carried_by : (count : ℕ) (end : TurnEnd) (seen now : Machine) (old later : List EntryValue) → k ≡ n → end ≡ Did count → old ≡ seen.history → now ≡ seen → Replicates there does F cluster_reads k end old later → CarriesSome n (Carried count) seen now
+    carried_by count end seen now old later same e from stays t = is_carried count later refl (there_of end (Did count) seen.history old later same e from t) stays
 
-    pub refused_by : (r : Refusal) (end : TurnEnd) (seen old later now : List EntryValue) → k ≡ n → end ≡ NotDone r → old ≡ seen → now ≡ seen → Replicates there does F cluster_reads k end old later → CarriesSome n (Refused r) seen now
-    refused_by r end seen old later now same e from stays t = is_refused r later refl (there_of end (NotDone r) seen old later same e from t) stays
+    pub refused_by : (r : Refusal) (end : TurnEnd) (seen now : Machine) (old later : List EntryValue) → k ≡ n → end ≡ NotDone r → old ≡ seen.history → now ≡ seen → Replicates there does F cluster_reads k end old later → CarriesSome n (Refused r) seen now
+    refused_by r end seen now old later same e from stays t = is_refused r later refl (there_of end (NotDone r) seen.history old later same e from t) stays

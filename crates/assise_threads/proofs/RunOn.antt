@@ -20,6 +20,7 @@ use Rattle.assise_rounds.specs.Traces.{Told}
 use Rattle.assise_console.specs.Steps.{IsVerdict, SetsHot, Shows, is_verdict, is_made, is_out, is_shown, lacks_memory, lacks_room, is_refused as not_shown}
 use Rattle.assise_libfs.specs.declared.libfs.LibFs.{LibFs}
 use Rattle.assise_threads.specs.Answered.{AnswersCommand, joins, stops_filling, is_refused, is_busy, is_opened, is_carried, is_nowhere, is_replied, lacks_revoker}
+use Rattle.assise_threads.specs.Begun.{begun_by}
 use Rattle.assise_threads.specs.CallsAhead.{AreSaidNext, is_one, is_stretch}
 use Rattle.assise_threads.specs.Hearing.{sights}
 use Rattle.assise_threads.specs.Runs.{EndsRun, IsRunSaid, ThreadFault}
@@ -30,30 +31,30 @@ use Rattle.assise_threads.specs.Spoken.{AreAllSaid}
 use Rattle.assise_threads.proofs.Meetings.{met_none}
 use Rattle.assise_threads.proofs.AllSaid.{is_run, nothing_said, one_added, stretch_added}
 
-pub nothing_yet : (seen : List EntryValue) (clients : Sights) (old : Option (List ℕ)) → seen ≡ [] → clients ≡ [] → AreAllSaid [] seen clients old old
-nothing_yet seen clients old none nobody = rw (none, nobody) (nothing_said old)
+pub nothing_yet : (turns : ℕ) (first seen : Machine) (clients : Sights) (old : Option (List ℕ)) → first.history ≡ [] → seen ≡ first → clients ≡ [] → AreAllSaid turns first [] seen clients old old
+nothing_yet turns first seen clients old none is nobody = rw (is, nobody) (nothing_said turns first old none)
 
-said_then : (done next : List NumberedCommand) (seen now : List EntryValue) (before after : Sights) (old mid new : Option (List ℕ)) → AreAllSaid done seen before old mid → AreSaidNext next seen before now after mid new → AreAllSaid (done ++ next) now after old new
-said_then done next seen now before after old mid new all (is_stretch same more) = subst (λ z. AreAllSaid (done ++ next) z after old new) (sym same) (stretch_added done seen before old mid all next after new more)
-said_then done next seen now before after old mid new all (is_one l is none one) = subst (λ z. AreAllSaid (done ++ z) now after old new) (sym is) (one_added done seen before old mid all l now after new none one)
+said_then : (turns : ℕ) (first : Machine) (done next : List NumberedCommand) (seen now : Machine) (before after : Sights) (old mid new : Option (List ℕ)) → AreAllSaid turns first done seen before old mid → AreSaidNext turns next seen before now after mid new → AreAllSaid turns first (done ++ next) now after old new
+said_then turns first done next seen now before after old mid new all (is_stretch same more) = subst (λ z. AreAllSaid turns first (done ++ next) z after old new) (sym same) (stretch_added turns first done seen before old mid all next after new more)
+said_then turns first done next seen now before after old mid new all (is_one l is none one) = subst (λ z. AreAllSaid turns first (done ++ z) now after old new) (sym is) (one_added turns first done seen before old mid all l now after new none one)
 
 -- so many more of the commands
-pub goes_further : (ls rest : List NumberedCommand) (i count : ℕ) (seen now : List EntryValue) (before after : Sights) (old mid new : Option (List ℕ)) → rest ≡ drop i ls → AreAllSaid (take i ls) seen before old mid
-    → AreSaidNext (take count rest) seen before now after mid new → AreAllSaid (take (i + count) ls) now after old new
-goes_further ls rest i count seen now before after old mid new is all more =
-    subst (λ z. AreAllSaid z now after old new) (sym (take-add i count ls))
-    (said_then (take i ls) (take count (drop i ls)) seen now before after old mid new all (subst (λ z. AreSaidNext (take count z) seen before now after mid new) is more))
+pub goes_further : (turns : ℕ) (first : Machine) (ls rest : List NumberedCommand) (i count : ℕ) (seen now : Machine) (before after : Sights) (old mid new : Option (List ℕ)) → rest ≡ drop i ls → AreAllSaid turns first (take i ls) seen before old mid
+    → AreSaidNext turns (take count rest) seen before now after mid new → AreAllSaid turns first (take (i + count) ls) now after old new
+goes_further turns first ls rest i count seen now before after old mid new is all more =
+    subst (λ z. AreAllSaid turns first z now after old new) (sym (take-add i count ls))
+    (said_then turns first (take i ls) (take count (drop i ls)) seen now before after old mid new all (subst (λ z. AreSaidNext turns (take count z) seen before now after mid new) is more))
 
 -- where the clients met
-pub is_run_said : {S : Type 0} (commands : List NumberedCommand) (seen : List EntryValue) (ls : List (LibFs S)) (old new : Option (List ℕ)) (last : List EntryValue) → AreAllSaid commands seen (sights ls) old new → AreMet seen (sights ls) last → IsRunSaid commands old new
-is_run_said commands seen ls old new last all met = record { said = all.said; run = is_run commands seen (sights ls) old new all last met; appends = all.appends }
+pub is_run_said : (turns : ℕ) {S : Type 0} (commands : List NumberedCommand) (seen : Machine) (ls : List (LibFs S)) (old new : Option (List ℕ)) (last : List EntryValue) → AreAllSaid turns (begun_by commands) commands seen (sights ls) old new → AreMet seen.history (sights ls) last → IsRunSaid turns commands old new
+is_run_said turns commands seen ls old new last all met = record { said = all.said; run = is_run turns commands seen (sights ls) old new all last met; appends = all.appends }
 
 no_one_met : AreMet [] [] []
 no_one_met = met_none [] [] ([], refl) ∣ legal-nil ∣₁ refl
 
-pub nothing_run : (commands : List NumberedCommand) (old : Option (List ℕ)) → slice_get commands 0 ≡ None → IsRunSaid commands old old
-nothing_run [] old none = let all = nothing_said old in record { said = all.said; run = is_run [] [] [] old old all [] no_one_met; appends = all.appends }
-nothing_run (l ∷ ls) old none = absurd (cc)
+pub nothing_run : (turns : ℕ) (commands : List NumberedCommand) (old : Option (List ℕ)) → slice_get commands 0 ≡ None → IsRunSaid turns commands old old
+nothing_run turns [] old none = let all = nothing_said turns (begun_by []) old refl in record { said = all.said; run = is_run turns [] (begun_by []) [] old old all [] no_one_met; appends = all.appends }
+nothing_run turns (l ∷ ls) old none = absurd (cc)
 
 pub on_ok : {X E : Type 0} (r : Result X E) (P Q : Type 0) → OnOk r P → (P → Q) → OnOk r Q
 on_ok (Ok x) P Q p f = f p
@@ -71,8 +72,8 @@ appends_kept (Some xs) None w a x y = absurd x
 appends_kept (Some xs) (Some ys) None a x y = y
 appends_kept (Some xs) (Some ys) (Some zs) a x y = y ∙ x
 
-pub run_kept : (commands : List NumberedCommand) (old mid new : Option (List ℕ)) → IsRunSaid commands old mid → Keeps mid new → IsRunSaid commands old new
-run_kept commands old mid new h keeps = record { said = h.said; run = h.run; appends = appends_kept old mid new (said_lines h.said) h.appends keeps }
+pub run_kept : (turns : ℕ) (commands : List NumberedCommand) (old mid new : Option (List ℕ)) → IsRunSaid turns commands old mid → Keeps mid new → IsRunSaid turns commands old new
+run_kept turns commands old mid new h keeps = record { said = h.said; run = h.run; appends = appends_kept old mid new (said_lines h.said) h.appends keeps }
 
 -- ---- the history is printed by its own command alone
 
@@ -80,65 +81,65 @@ hot_not_whole : (n capacity : ℕ) (m : Machine) (es : Told) (m' : Machine) → 
 hot_not_whole n capacity m es m' (is_made least most h) = h.tells
 hot_not_whole n capacity m es m' (is_out out is h) = let x : Whole ≡ Quiet = is in cc
 
-not_whole : (command : Command) (old new : List EntryValue) → (command ≡ History → ⊥) → AnswersCommand command Whole old new → ⊥
-not_whole (Cluster nodes log hot) old new other h = let x : Whole ≡ Quiet = h.answer in cc
-not_whole Manual old new other h = let x : Whole ≡ Quiet = h.answer in cc
-not_whole (Open node kind u) old new other (is_opened c is last legal none) = let x : Whole ≡ Client c = is in cc
-not_whole (Open node kind u) old new other (is_refused r is e f) = let x : Whole ≡ Refused r = is in cc
-not_whole (Open node kind u) old new other (lacks_revoker r is e may) = let x : Whole ≡ Refused r = is in cc
-not_whole (Call c op) old new other (is_replied reply is e) = let x : Whole ≡ Replied reply = is in cc
-not_whole (Call c op) old new other (is_refused r is e) = let x : Whole ≡ Refused r = is in cc
-not_whole (Carry node) old new other (is_carried count later is done e) = let x : Whole ≡ Carried count = is in cc
-not_whole (Carry node) old new other (is_refused r later is done e) = let x : Whole ≡ Refused r = is in cc
-not_whole (Carry node) old new other (is_nowhere is e) = let x : Whole ≡ Refused BadNode = is in cc
-not_whole (Link node kind) old new other h = let x : Whole ≡ Quiet = h.answer in cc
-not_whole (Hot node capacity) old new other h = hot_not_whole node capacity h.before h.told h.after h.does
-not_whole (Digest node) old new other h = h.does.tells
-not_whole Release old new other h = h.does.tells
-not_whole (Crash client) old new other h = h.does.tells
-not_whole (Fail node) old new other h = h.does.tells
-not_whole (Back node) old new other (joins between e h) = h.does.tells
-not_whole (Back node) old new other (stops_filling r between is e h) = let x : Whole ≡ Refused r = is in cc
-not_whole (Back node) old new other (is_refused r is h) = let x : Whole ≡ Refused r = is in cc
-not_whole (Back node) old new other (is_busy is e legal) = let x : Whole ≡ Refused Busy = is in cc
-not_whole (Refill node) old new other h = h.does.tells
-not_whole (Join node) old new other h = h.does.tells
-not_whole (Raise node) old new other h = h.does.tells
-not_whole Check old new other h = no_check h.does.verdict
+not_whole : (turns : ℕ) (command : Command) (old new : Machine) → (command ≡ History → ⊥) → AnswersCommand turns command Whole old new → ⊥
+not_whole turns (Cluster nodes log hot) old new other h = let x : Whole ≡ Quiet = h.answer in cc
+not_whole turns Manual old new other h = let x : Whole ≡ Quiet = h.answer in cc
+not_whole turns (Open node kind u) old new other (is_opened c is led last legal none) = let x : Whole ≡ Client c = is in cc
+not_whole turns (Open node kind u) old new other (is_refused r is led e f) = let x : Whole ≡ Refused r = is in cc
+not_whole turns (Open node kind u) old new other (lacks_revoker r is led e may) = let x : Whole ≡ Refused r = is in cc
+not_whole turns (Call c op) old new other (is_replied reply is e) = let x : Whole ≡ Replied reply = is in cc
+not_whole turns (Call c op) old new other (is_refused r is e) = let x : Whole ≡ Refused r = is in cc
+not_whole turns (Carry node) old new other (is_carried count later is done e) = let x : Whole ≡ Carried count = is in cc
+not_whole turns (Carry node) old new other (is_refused r later is done e) = let x : Whole ≡ Refused r = is in cc
+not_whole turns (Carry node) old new other (is_nowhere is e) = let x : Whole ≡ Refused BadNode = is in cc
+not_whole turns (Link node kind) old new other h = let x : Whole ≡ Quiet = h.answer in cc
+not_whole turns (Hot node capacity) old new other h = hot_not_whole node capacity h.before h.told new h.does
+not_whole turns (Digest node) old new other h = h.does.tells
+not_whole turns Release old new other h = h.does.tells
+not_whole turns (Crash client) old new other h = h.does.tells
+not_whole turns (Fail node) old new other h = h.does.tells
+not_whole turns (Back node) old new other (joins k tried filled few before once no_more h) = h.does.tells
+not_whole turns (Back node) old new other (stops_filling r k tried few before is h) = let x : Whole ≡ Refused r = is in cc
+not_whole turns (Back node) old new other (is_refused r is h) = let x : Whole ≡ Refused r = is in cc
+not_whole turns (Back node) old new other (is_busy is before) = let x : Whole ≡ Refused Busy = is in cc
+not_whole turns (Refill node) old new other h = h.does.tells
+not_whole turns (Join node) old new other h = h.does.tells
+not_whole turns (Raise node) old new other h = h.does.tells
+not_whole turns Check old new other h = no_check h.does.verdict
   where
     no_check : {m : Machine} → IsVerdict Whole m → ⊥
     no_check (is_verdict found is legal) = let x : Whole ≡ Checked found = is in cc
     no_check (lacks_room is) = let x : Whole ≡ Refused OutOfMemory = is in cc
-not_whole (Tree node) old new other h = no_tree h.does.shows
+not_whole turns (Tree node) old new other h = no_tree h.does.shows
   where
     no_tree : {m : Machine} → Shows node Whole m → ⊥
     no_tree (is_shown tree fine is spells) = let x : Whole ≡ Shown tree = is in cc
     no_tree (lacks_memory fine is) = let x : Whole ≡ Refused OutOfMemory = is in cc
     no_tree (not_shown r fault is) = let x : Whole ≡ Refused r = is in cc
-not_whole History old new other h = other refl
+not_whole turns History old new other h = other refl
 
 -- so a line shows no history where another command was answered
-pub line_shows_none : (n : ℕ) (command : Command) (a : Response) (shown old new : List EntryValue) → (command ≡ History → ⊥) → AnswersCommand command a old new → line_text n shown a ≡ line_text n new a
-line_shows_none n command Whole shown old new other h = absurd (not_whole command old new other h)
-line_shows_none n command Quiet shown old new other h = refl
-line_shows_none n command (Client c) shown old new other h = refl
-line_shows_none n command (Replied reply) shown old new other h = refl
-line_shows_none n command Waits shown old new other h = refl
-line_shows_none n command (Refused r) shown old new other h = refl
-line_shows_none n command (Carried k) shown old new other h = refl
-line_shows_none n command (Linked k) shown old new other h = refl
-line_shows_none n command (HotSet k) shown old new other h = refl
-line_shows_none n command (Digested k) shown old new other h = refl
-line_shows_none n command (Released k) shown old new other h = refl
-line_shows_none n command (Crashed c) shown old new other h = refl
-line_shows_none n command (Failed node losses) shown old new other h = refl
-line_shows_none n command (Began node stale) shown old new other h = refl
-line_shows_none n command (Left stale) shown old new other h = refl
-line_shows_none n command (Returned node) shown old new other h = refl
-line_shows_none n command (Raised node) shown old new other h = refl
-line_shows_none n command (Shown tree) shown old new other h = refl
-line_shows_none n command (Checked true) shown old new other h = refl
-line_shows_none n command (Checked false) shown old new other h = refl
+pub line_shows_none : (turns n : ℕ) (command : Command) (a : Response) (shown : List EntryValue) (old new : Machine) → (command ≡ History → ⊥) → AnswersCommand turns command a old new → line_text n shown a ≡ line_text n new.history a
+line_shows_none turns n command Whole shown old new other h = absurd (not_whole turns command old new other h)
+line_shows_none turns n command Quiet shown old new other h = refl
+line_shows_none turns n command (Client c) shown old new other h = refl
+line_shows_none turns n command (Replied reply) shown old new other h = refl
+line_shows_none turns n command Waits shown old new other h = refl
+line_shows_none turns n command (Refused r) shown old new other h = refl
+line_shows_none turns n command (Carried k) shown old new other h = refl
+line_shows_none turns n command (Linked k) shown old new other h = refl
+line_shows_none turns n command (HotSet k) shown old new other h = refl
+line_shows_none turns n command (Digested k) shown old new other h = refl
+line_shows_none turns n command (Released k) shown old new other h = refl
+line_shows_none turns n command (Crashed c) shown old new other h = refl
+line_shows_none turns n command (Failed node losses) shown old new other h = refl
+line_shows_none turns n command (Began node stale) shown old new other h = refl
+line_shows_none turns n command (Left stale) shown old new other h = refl
+line_shows_none turns n command (Returned node) shown old new other h = refl
+line_shows_none turns n command (Raised node) shown old new other h = refl
+line_shows_none turns n command (Shown tree) shown old new other h = refl
+line_shows_none turns n command (Checked true) shown old new other h = refl
+line_shows_none turns n command (Checked false) shown old new other h = refl
 
 -- ---- what ends a run
 

@@ -1,7 +1,7 @@
 -- More is said and written behind what was.
 use Rattle.std.proofs.Common.{◌∙◌, ℕ, List, [], ◌∷◌, ◌++◌, Option, None, Some, sym, ap, subst, append_assoc, append-nil}
 use Rattle.std.specs.Io.KnownBytes.{Appends}
-use Rattle.assise_history.specs.Entries.{EntryValue}
+use Rattle.assise_model_events.specs.Machine.{Machine}
 use Rattle.assise_threads.specs.Runs.{IsSaid}
 use Rattle.assise_threads.specs.Said.{Said}
 
@@ -19,6 +19,6 @@ adds_more (Some xs) (Some ys) (Some zs) a b x y = y ∙ ap (λ (t : List ℕ). t
 
 -- ---- what is said
 
-pub said-append : (a b d : List EntryValue) (ss ts : List Said) → IsSaid a ss b → IsSaid b ts d → IsSaid a (ss ++ ts) d
-said-append a b d [] ts same more = subst (λ z. IsSaid z ts d) same more
-said-append a b d (s ∷ ss) ts (first, rest) more = (first, said-append s.history b d ss ts rest more)
+pub said-append : (turns : ℕ) (a b d : Machine) (ss ts : List Said) → IsSaid turns a ss b → IsSaid turns b ts d → IsSaid turns a (ss ++ ts) d
+said-append turns a b d [] ts same more = subst (λ z. IsSaid turns z ts d) same more
+said-append turns a b d (s ∷ ss) ts (first, rest) more = (first, said-append turns s.machine b d ss ts rest more)

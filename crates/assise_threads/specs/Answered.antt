@@ -1,6 +1,6 @@
--- What each command of a run with threads is answered, and what the main thread has seen then.
+-- What each command of a run with threads is answered, and which machine the main thread has seen last then.
 -- Assise (OSDI 2020), section 3.
-use Rattle.std.specs.Prelude.{◌≡◌, ℕ, List, ⊤}
+use Rattle.std.specs.Prelude.{◌≡◌, ◌<◌, ℕ, zero, suc, List, ⊤}
 use Rattle.assise_seq_tree.specs.Tree.{Tree}
 use Rattle.assise_names.specs.declared.durability.Durability.{Durability}
 use Rattle.assise_names.specs.declared.refusal.Refusal.{Refusal}
@@ -17,6 +17,7 @@ use Rattle.assise_model_events.specs.Events.{back, crash, digest, fail, join, ra
 use Rattle.assise_model_events.specs.Machine.{Machine}
 use Rattle.assise_console.specs.declared.response.Response.{Response}
 use Rattle.assise_console.specs.declared.response.Response.TheVariants.{Quiet, Client, Replied, Refused, Carried, Tree as Shown, History as Whole}
+use Rattle.assise_machine.specs.Following.{IsLedTo}
 use Rattle.assise_rounds.specs.Traces.{Told}
 use Rattle.assise_console.specs.Steps.{IsVerdict, SetsHot, Shows}
 use Rattle.assise_console.specs.OneEvent.{IsOne, IsOneAt}
@@ -28,27 +29,27 @@ use Rattle.assise_threads.specs.Takes.{InOneTake}
 use Rattle.assise_threads.specs.Trees.{IsReplicatedTree}
 
 -- nothing is printed
-pub record IsSilent (a : Response) (old new : List EntryValue) : Type 0 where
+pub record IsSilent (a : Response) (old new : Machine) : Type 0 where
   pub answer : a ≡ Quiet
   pub stays : new ≡ old
 
 -- A client is opened on node n, and so, which is the last that is seen then, and it made no call. Or the open is refused for what is seen
 -- then; or there is no revoker for it, or no node of this number.
-pub data OpensOne (n : ℕ) (u : Durability) (a : Response) (old new : List EntryValue) : Type 0 where
-  is_opened : (c : ℕ) → a ≡ Client c → EndsWithOpening c n u old new → ∥ IsLegal new ∥₁ → calls_made c new ≡ 0 → OpensOne n u a old new
-  is_refused : (r : Refusal) → a ≡ Refused r → Extends new old → MayRefuseOpen n new r → OpensOne n u a old new
-  lacks_revoker : (r : Refusal) → a ≡ Refused r → Extends new old → MayLack n new r → OpensOne n u a old new
+pub data OpensOne (n : ℕ) (u : Durability) (a : Response) (old new : Machine) : Type 0 where
+  is_opened : (c : ℕ) → a ≡ Client c → IsLedTo old new → EndsWithOpening c n u old.history new.history → ∥ IsLegal new.history ∥₁ → calls_made c new.history ≡ 0 → OpensOne n u a old new
+  is_refused : (r : Refusal) → a ≡ Refused r → IsLedTo old new → Extends new.history old.history → MayRefuseOpen n new.history r → OpensOne n u a old new
+  lacks_revoker : (r : Refusal) → a ≡ Refused r → IsLedTo old new → Extends new.history old.history → MayLack n new.history r → OpensOne n u a old new
 
 -- a call is answered with a reply or a refusal, which its client's thread has seen
-pub data IsCallAnswered (a : Response) (old new : List EntryValue) : Type 0 where
+pub data IsCallAnswered (a : Response) (old new : Machine) : Type 0 where
   is_replied : (reply : Reply) → a ≡ Replied reply → new ≡ old → IsCallAnswered a old new
   is_refused : (r : Refusal) → a ≡ Refused r → new ≡ old → IsCallAnswered a old new
 
 -- Node n's frames went over a perfect link, each to the node that it is for, in a version that this one reads, by takes of machines; and so
 -- many were taken in. Or that is refused. What the main thread has seen stays.
-pub data CarriesSome (n : ℕ) (a : Response) (old new : List EntryValue) : Type 0 where
-  is_carried : (count : ℕ) (later : List EntryValue) → a ≡ Carried count → Replicates history_seen HappensSoundly ⊤ versions_read n (Did count) old later → new ≡ old → CarriesSome n a old new
-  is_refused : (r : Refusal) (later : List EntryValue) → a ≡ Refused r → Replicates history_seen HappensSoundly ⊤ versions_read n (NotDone r) old later → new ≡ old → CarriesSome n a old new
+pub data CarriesSome (n : ℕ) (a : Response) (old new : Machine) : Type 0 where
+  is_carried : (count : ℕ) (later : List EntryValue) → a ≡ Carried count → Replicates history_seen HappensSoundly ⊤ versions_read n (Did count) old.history later → new ≡ old → CarriesSome n a old new
+  is_refused : (r : Refusal) (later : List EntryValue) → a ≡ Refused r → Replicates history_seen HappensSoundly ⊤ versions_read n (NotDone r) old.history later → new ≡ old → CarriesSome n a old new
   is_nowhere : a ≡ Refused BadNode → new ≡ old → CarriesSome n a old new
 
 -- the tree that node n's region alone spells, which is that of the replicated calls, in a machine that stays as it is
@@ -62,36 +63,67 @@ pub record ChecksHistory (a : Response) (m : Machine) (es : Told) (m' : Machine)
   pub verdict : IsVerdict a m
   pub stays : m' ≡ m
 
--- node n joined, behind takes in which it began to come back and was filled; or one of these is refused; or its turns are spent
-pub data ComesBackInTakes (n : ℕ) (a : Response) (old new : List EntryValue) : Type 0 where
-  joins : (between : List EntryValue) → Extends between old → InOneTake (IsOneAt join n a) between new → ComesBackInTakes n a old new
-  stops_filling : (r : Refusal) (between : List EntryValue) → a ≡ Refused r → Extends between old → InOneTake (IsOneAt refill n a) between new → ComesBackInTakes n a old new
-  is_refused : (r : Refusal) → a ≡ Refused r → InOneTake (IsOneAt back n a) old new → ComesBackInTakes n a old new
-  is_busy : a ≡ Refused Busy → Extends new old → ∥ IsLegal new ∥₁ → ComesBackInTakes n a old new
+-- ---- a node comes back
+
+-- it is no refusal
+abbrev pub IsDone : Response → Type 0
+IsDone a = (r : Refusal) → a ≡ Refused r → ⊥
+
+-- in one take node n begins to come back
+pub record BeginsReturn (n : ℕ) (old new : Machine) : Type 0 where
+  pub answer : Response
+  pub done : IsDone answer
+  pub take : InOneTake (IsOneAt back n answer) old new
+
+-- in one take node n gets an inode that it lacks, if it lacks one
+pub record IsFilledOnce (n : ℕ) (old new : Machine) : Type 0 where
+  pub answer : Response
+  pub done : IsDone answer
+  pub take : InOneTake (IsOneAt refill n answer) old new
+
+-- node n was filled and tried to join, so many times, and each time it was to try again
+abbrev pub HasFilled : ℕ → ℕ → Machine → Machine → Type 0
+HasFilled n zero old new = new ≡ old
+HasFilled n (suc k) old new = (mid : Machine) × (HasFilled n k old mid × ((filled : Machine) × (IsFilledOnce n mid filled × InOneTake (IsOneAt join n (Refused Busy)) filled new)))
+
+-- node n began to come back, and was filled and tried to join so many times
+pub record HasTried (n k : ℕ) (old new : Machine) : Type 0 where
+  pub begun : Machine
+  pub begins : BeginsReturn n old begun
+  pub tries : HasFilled n k begun new
+
+-- Node n begins to come back, and then is filled and tries to join, at most so many times, until it has joined. That is the answer; or which
+-- of these takes is refused, where a join that is to be tried again refuses none but the last.
+pub data ComesBackInTakes (turns n : ℕ) (a : Response) (old new : Machine) : Type 0 where
+  is_refused : (r : Refusal) → a ≡ Refused r → InOneTake (IsOneAt back n a) old new → ComesBackInTakes turns n a old new
+  stops_filling : (r : Refusal) (k : ℕ) (tried : Machine) → k < turns → HasTried n k old tried → a ≡ Refused r → InOneTake (IsOneAt refill n a) tried new → ComesBackInTakes turns n a old new
+  joins : (k : ℕ) (tried filled : Machine) → k < turns → HasTried n k old tried → IsFilledOnce n tried filled → (a ≡ Refused Busy → ⊥) → InOneTake (IsOneAt join n a) filled new → ComesBackInTakes turns n a old new
+  is_busy : a ≡ Refused Busy → HasTried n turns old new → ComesBackInTakes turns n a old new
 
 -- the history that was seen is printed, and it is legal
-pub record PrintsHistory (a : Response) (old new : List EntryValue) : Type 0 where
+pub record PrintsHistory (a : Response) (old new : Machine) : Type 0 where
   pub answer : a ≡ Whole
-  pub extends : Extends new old
-  pub legal : ∥ IsLegal new ∥₁
+  pub led : IsLedTo old new
+  pub extends : Extends new.history old.history
+  pub legal : ∥ IsLegal new.history ∥₁
 
--- the command is answered so, where the main thread had seen the first history before and has seen the second then
-abbrev pub AnswersCommand : Command → Response → List EntryValue → List EntryValue → Type 0
-AnswersCommand (Cluster nodes log hot) a old new = IsSilent a old new
-AnswersCommand Manual a old new = IsSilent a old new
-AnswersCommand (Open n kind u) a old new = OpensOne n u a old new
-AnswersCommand (Call c op) a old new = IsCallAnswered a old new
-AnswersCommand (Carry n) a old new = CarriesSome n a old new
-AnswersCommand (Link n kind) a old new = IsSilent a old new
-AnswersCommand (Hot n capacity) a old new = InOneTake (SetsHot n capacity a) old new
-AnswersCommand (Digest n) a old new = InOneTake (IsOne (digest n) a) old new
-AnswersCommand Release a old new = InOneTake (IsOne release_ready a) old new
-AnswersCommand (Crash c) a old new = InOneTake (IsOneAt crash c a) old new
-AnswersCommand (Fail n) a old new = InOneTake (IsOneAt fail n a) old new
-AnswersCommand (Back n) a old new = ComesBackInTakes n a old new
-AnswersCommand (Refill n) a old new = InOneTake (IsOneAt refill n a) old new
-AnswersCommand (Join n) a old new = InOneTake (IsOneAt join n a) old new
-AnswersCommand (Raise n) a old new = InOneTake (IsOneAt raise n a) old new
-AnswersCommand (TreeOf n) a old new = InOneTake (ShowsTree n a) old new
-AnswersCommand History a old new = PrintsHistory a old new
-AnswersCommand Check a old new = InOneTake (ChecksHistory a) old new
+-- the command is answered so, with so many turns for a call or a return, where the main thread had seen the first machine last before and has seen the second last then
+abbrev pub AnswersCommand : ℕ → Command → Response → Machine → Machine → Type 0
+AnswersCommand turns (Cluster nodes log hot) a old new = IsSilent a old new
+AnswersCommand turns Manual a old new = IsSilent a old new
+AnswersCommand turns (Open n kind u) a old new = OpensOne n u a old new
+AnswersCommand turns (Call c op) a old new = IsCallAnswered a old new
+AnswersCommand turns (Carry n) a old new = CarriesSome n a old new
+AnswersCommand turns (Link n kind) a old new = IsSilent a old new
+AnswersCommand turns (Hot n capacity) a old new = InOneTake (SetsHot n capacity a) old new
+AnswersCommand turns (Digest n) a old new = InOneTake (IsOne (digest n) a) old new
+AnswersCommand turns Release a old new = InOneTake (IsOne release_ready a) old new
+AnswersCommand turns (Crash c) a old new = InOneTake (IsOneAt crash c a) old new
+AnswersCommand turns (Fail n) a old new = InOneTake (IsOneAt fail n a) old new
+AnswersCommand turns (Back n) a old new = ComesBackInTakes turns n a old new
+AnswersCommand turns (Refill n) a old new = InOneTake (IsOneAt refill n a) old new
+AnswersCommand turns (Join n) a old new = InOneTake (IsOneAt join n a) old new
+AnswersCommand turns (Raise n) a old new = InOneTake (IsOneAt raise n a) old new
+AnswersCommand turns (TreeOf n) a old new = InOneTake (ShowsTree n a) old new
+AnswersCommand turns History a old new = PrintsHistory a old new
+AnswersCommand turns Check a old new = InOneTake (ChecksHistory a) old new

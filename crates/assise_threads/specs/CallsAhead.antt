@@ -1,6 +1,6 @@
 -- How many commands in front are calls, and what is said next.
 use Rattle.std.specs.Prelude.{◌≡◌, ℕ, suc, List, [], ◌∷◌, Option}
-use Rattle.assise_history.specs.Entries.{EntryValue}
+use Rattle.assise_model_events.specs.Machine.{Machine}
 use Rattle.assise_fault_script.specs.declared.command.Command.{Command}
 use Rattle.assise_fault_script.specs.declared.command.Command.TheVariants.{Call}
 use Rattle.assise_fault_script.specs.declared.parse.NumberedCommand.{NumberedCommand}
@@ -18,6 +18,6 @@ calls_ahead [] = 0
 calls_ahead (l ∷ ls) = counts_call l.command (calls_ahead ls)
 
 -- a stretch of calls was served, or one command that is no call was answered
-pub data AreSaidNext (ls : List NumberedCommand) (seen : List EntryValue) (before : Sights) (now : List EntryValue) (after : Sights) (old new : Option (List ℕ)) : Type 0 where
-  is_stretch : now ≡ seen → IsStretchSaid ls seen before after old new → AreSaidNext ls seen before now after old new
-  is_one : (l : NumberedCommand) → ls ≡ l ∷ [] → (IsClientCall l.command → ⊥) → IsOneSaid l seen before now after old new → AreSaidNext ls seen before now after old new
+pub data AreSaidNext (turns : ℕ) (ls : List NumberedCommand) (seen : Machine) (before : Sights) (now : Machine) (after : Sights) (old new : Option (List ℕ)) : Type 0 where
+  is_stretch : now ≡ seen → IsStretchSaid turns ls seen before after old new → AreSaidNext turns ls seen before now after old new
+  is_one : (l : NumberedCommand) → ls ≡ l ∷ [] → (IsClientCall l.command → ⊥) → IsOneSaid turns l seen before now after old new → AreSaidNext turns ls seen before now after old new

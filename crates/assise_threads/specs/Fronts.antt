@@ -14,9 +14,9 @@ use Rattle.assise_threads.specs.Openings.{opening_in}
 use Rattle.assise_threads.specs.Said.{Said, call_in, outcome_answer}
 
 -- a call is told what came of it, from one front of the history to another; who wasn't opened yet is told that there is no such client
-abbrev pub HearsCall : ℕ → Op → Response → Option (List EntryValue) → Option (List EntryValue) → Type 0
-HearsCall c op a None now = (a ≡ Refused BadClient) × (now ≡ None)
-HearsCall c op a (Some old) now = (r : Result Reply Refusal) × ((a ≡ outcome_answer r) × ((new : List EntryValue) × (IsCallMade TurnedThere c op old r new × (now ≡ Some new))))
+abbrev pub HearsCall : ℕ → ℕ → Op → Response → Option (List EntryValue) → Option (List EntryValue) → Type 0
+HearsCall turns c op a None now = (a ≡ Refused BadClient) × (now ≡ None)
+HearsCall turns c op a (Some old) now = (r : Result Reply Refusal) × ((a ≡ outcome_answer r) × ((new : List EntryValue) × (IsCallMade (TurnedThere turns) c op old r new × (now ≡ Some new))))
 
 -- it is this client that is opened, who wasn't before; or another
 abbrev pub IsOpenedThen : Bool → List EntryValue → Option (List EntryValue) → Option (List EntryValue) → Type 0
@@ -33,11 +33,11 @@ HearsOpening c (fails n losses ∷ es) h old new = new ≡ old
 HearsOpening c (returns n ∷ es) h old new = new ≡ old
 
 -- one line, for the calls of the client in it
-abbrev pub HearsLine : ℕ → Said → List Op → Option (List EntryValue) → Option (List EntryValue) → Type 0
-HearsLine c s [] old new = HearsOpening c (opening_in s.command.command s.answer) s.history old new
-HearsLine c s (op ∷ ops) old new = HearsCall c op s.answer old new
+abbrev pub HearsLine : ℕ → ℕ → Said → List Op → Option (List EntryValue) → Option (List EntryValue) → Type 0
+HearsLine turns c s [] old new = HearsOpening c (opening_in s.command.command s.answer) s.machine.history old new
+HearsLine turns c s (op ∷ ops) old new = HearsCall turns c op s.answer old new
 
 -- line after line
-abbrev pub HearsOn : ℕ → Option (List EntryValue) → List Said → Option (List EntryValue) → Type 0
-HearsOn c old [] new = new ≡ old
-HearsOn c old (s ∷ ss) new = (mid : Option (List EntryValue)) × (HearsLine c s (call_in c s.command.command) old mid × HearsOn c mid ss new)
+abbrev pub HearsOn : ℕ → ℕ → Option (List EntryValue) → List Said → Option (List EntryValue) → Type 0
+HearsOn turns c old [] new = new ≡ old
+HearsOn turns c old (s ∷ ss) new = (mid : Option (List EntryValue)) × (HearsLine turns c s (call_in c s.command.command) old mid × HearsOn turns c mid ss new)

@@ -26,11 +26,11 @@ sight_of c (x ∷ xs) = if x.0 == c then Some x.1 else sight_of c xs
 -- ---- one stretch
 
 -- a client that isn't there is told that there is none; another made its calls of the stretch, and was told what came of them
-abbrev pub HearsStretch : ℕ → List Said → Option (List EntryValue) → Option (List EntryValue) → Type 0
-HearsStretch c ss None None = (rs : List (Result Reply Refusal)) × (TellsClient c ss rs × ((length rs ≡ length (calls_in c (commands_said ss))) × (((k : ℕ) → told_all c k (calls_in c (commands_said ss)) rs ≡ []) × AllByRecursion (λ r. r ≡ Err BadClient) rs)))
-HearsStretch c ss (Some old) (Some new) = (rs : List (Result Reply Refusal)) × (TellsClient c ss rs × SeesAll TurnedThere c (calls_in c (commands_said ss)) old rs new)
-HearsStretch c ss None (Some new) = ⊥
-HearsStretch c ss (Some old) None = ⊥
+abbrev pub HearsStretch : ℕ → ℕ → List Said → Option (List EntryValue) → Option (List EntryValue) → Type 0
+HearsStretch turns c ss None None = (rs : List (Result Reply Refusal)) × (TellsClient c ss rs × ((length rs ≡ length (calls_in c (commands_said ss))) × (((k : ℕ) → told_all c k (calls_in c (commands_said ss)) rs ≡ []) × AllByRecursion (λ r. r ≡ Err BadClient) rs)))
+HearsStretch turns c ss (Some old) (Some new) = (rs : List (Result Reply Refusal)) × (TellsClient c ss rs × SeesAll (TurnedThere turns) c (calls_in c (commands_said ss)) old rs new)
+HearsStretch turns c ss None (Some new) = ⊥
+HearsStretch turns c ss (Some old) None = ⊥
 
 -- ---- all so far
 
@@ -40,9 +40,9 @@ calls_of_sight c None = []
 calls_of_sight c (Some h) = calls_by c h
 
 -- the calls of client c so far, in what its thread has seen, are those that it was told; where it isn't there it was told of none
-pub record HasHeard (c : ℕ) (ss : List Said) (sight : Option (List EntryValue)) : Type 0 where
+pub record HasHeard (turns c : ℕ) (ss : List Said) (sight : Option (List EntryValue)) : Type 0 where
   pub outcomes : List (Result Reply Refusal)
   pub count : length outcomes ≡ length (calls_in c (commands_said ss))
   pub tells : TellsClient c ss outcomes
   pub calls : calls_of_sight c sight ≡ told_all c 0 (calls_in c (commands_said ss)) outcomes
-  pub on : HearsOn c None ss sight
+  pub on : HearsOn turns c None ss sight

@@ -3,6 +3,7 @@ pub mod Openings
 pub mod ClientTurns
 pub mod Lacking
 pub mod Begun
+pub mod LastSeen
 pub mod Fronts
 pub mod AtKeeper
 pub mod OneHistory

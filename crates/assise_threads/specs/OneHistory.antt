@@ -38,9 +38,9 @@ HasToldCalls c ss h rs (Some seen) = calls_by c h ≡ told_all c 0 (calls_in c (
 
 -- Client c was told, in the order of the lines, what came of its calls by fronts of the history: where it was opened, its calls in the
 -- history are exactly those that it was told are answered.
-pub record IsHeard (c : ℕ) (ss : List Said) (h : List EntryValue) : Type 0 where
+pub record IsHeard (turns c : ℕ) (ss : List Said) (h : List EntryValue) : Type 0 where
   pub seen : Option (List EntryValue)
-  pub on : HearsOn c None ss seen
+  pub on : HearsOn turns c None ss seen
   pub covers : CoversSight c h seen
   pub outcomes : List (Result Reply Refusal)
   pub count : length outcomes ≡ length (calls_in c (commands_said ss))
@@ -49,8 +49,8 @@ pub record IsHeard (c : ℕ) (ss : List Said) (h : List EntryValue) : Type 0 whe
 
 -- The run has one legal history: what the main thread saw at each line is a front of it, its openings are those that the lines tell of,
 -- in order, and each client was told what came of its calls in it.
-pub record HasOneHistory (ss : List Said) (h : List EntryValue) : Type 0 where
+pub record HasOneHistory (turns : ℕ) (ss : List Said) (h : List EntryValue) : Type 0 where
   pub legal : ∥ IsLegal h ∥₁
-  pub fronts : AllByRecursion (λ s. Extends h s.history) ss
+  pub fronts : AllByRecursion (λ s. Extends h s.machine.history) ss
   pub openings : openings_of h ≡ openings_said ss
-  pub clients : (c : ℕ) → IsHeard c ss h
+  pub clients : (c : ℕ) → IsHeard turns c ss h

@@ -10,27 +10,31 @@ use Rattle.assise_console.specs.declared.fault.EngineFault.{EngineFault}
 use Rattle.assise_console.specs.declared.fault.EngineFault.TheVariants.{Read, Script, Memory, Write, NeedsSerial, NoThread}
 use Rattle.assise_console.specs.declared.fault.SerialCommand.{SerialCommand}
 use Rattle.assise_console.specs.declared.fault.SerialCommand.TheVariants.{Manual as manual, Link as link}
+use Rattle.assise_workers.specs.declared.running.RunFault.{RunFault}
+use Rattle.assise_workers.specs.declared.running.RunFault.TheVariants.{Memory as TooLittle, NoThread as TooFew}
+use Rattle.assise_model_events.specs.Machine.{Machine}
 use Rattle.assise_threads.specs.Answered.{AnswersCommand}
+use Rattle.assise_threads.specs.Begun.{begun_by}
 use Rattle.assise_threads.specs.OneHistory.{HasOneHistory}
 use Rattle.assise_threads.specs.Said.{Said, commands_said, said_lines}
 
--- each command is answered behind those before it: what the main thread has seen goes on from command to command
-abbrev pub IsSaid : List EntryValue → List Said → List EntryValue → Type 0
-IsSaid old [] new = new ≡ old
-IsSaid old (s ∷ ss) new = AnswersCommand s.command.command s.answer old s.history × IsSaid s.history ss new
+-- each command is answered behind those before it, calls and returns in so many turns: the machine goes on from command to command
+abbrev pub IsSaid : ℕ → Machine → List Said → Machine → Type 0
+IsSaid turns old [] new = new ≡ old
+IsSaid turns old (s ∷ ss) new = AnswersCommand turns s.command.command s.answer old s.machine × IsSaid turns s.machine ss new
 
--- these commands were run with threads, this was said, and it has one history
-pub record IsThreadRun (commands : List NumberedCommand) (ss : List Said) : Type 0 where
+-- these commands were run with threads, with so many turns for a call or a return, and from the machine that the first makes on this was said; and it has one history
+pub record IsThreadRun (turns : ℕ) (commands : List NumberedCommand) (ss : List Said) : Type 0 where
   pub each : commands_said ss ≡ commands
-  pub seen : List EntryValue
-  pub main : IsSaid [] ss seen
+  pub seen : Machine
+  pub main : IsSaid turns (begun_by commands) ss seen
   pub history : List EntryValue
-  pub one : HasOneHistory ss history
+  pub one : HasOneHistory turns ss history
 
 -- they were run, and the lines of what was said were written, and nothing else
-pub record IsRunSaid (commands : List NumberedCommand) (old new : Option (List ℕ)) : Type 0 where
+pub record IsRunSaid (turns : ℕ) (commands : List NumberedCommand) (old new : Option (List ℕ)) : Type 0 where
   pub said : List Said
-  pub run : IsThreadRun commands said
+  pub run : IsThreadRun turns commands said
   pub appends : Appends old new (said_lines said)
 
 -- what a command is that only a run on one thread serves
@@ -49,13 +53,13 @@ serial_line [] = None
 serial_line (l ∷ ls) = or_later l.line (serial_command l.command) (serial_line ls)
 
 -- the reader gave a script that threads can serve, and it was run
-pub record PrintsByThreads (known old new : Option (List ℕ)) : Type 0 where
+pub record PrintsByThreads (turns : ℕ) (known old new : Option (List ℕ)) : Type 0 where
   pub input : List ℕ
   pub commands : List NumberedCommand
   pub given : IsInput known input
   pub script : IsScript input commands
   pub served : serial_line commands ≡ None
-  pub run : IsRunSaid commands old new
+  pub run : IsRunSaid turns commands old new
 
 -- the reader gave these bytes, with a first fault of the script, or with a line that only the serial mode runs; nothing was written
 abbrev pub ThreadFault : EngineFault → Option (List ℕ) → Option (List ℕ) → Option (List ℕ) → Type 0
@@ -65,6 +69,11 @@ ThreadFault (NeedsSerial line command) known old new = (input : List ℕ) × (Is
 ThreadFault Memory known old new = Unit {0}
 ThreadFault Write known old new = Unit {0}
 ThreadFault NoThread known old new = Unit {0}
+
+-- what the engine ends with where the run of a stretch isn't whole
+abbrev pub fault_of_run : RunFault → EngineFault
+fault_of_run TooLittle = Memory
+fault_of_run TooFew = NoThread
 
 -- what may end a run in its midst
 abbrev pub EndsRun : EngineFault → Type 0

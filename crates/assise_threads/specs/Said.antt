@@ -5,7 +5,7 @@ use Rattle.std.specs.List.{flat_map}
 use Rattle.assise_names.specs.declared.call.Op.{Op}
 use Rattle.assise_names.specs.declared.refusal.Refusal.{Refusal}
 use Rattle.assise_names.specs.declared.reply.Reply.{Reply}
-use Rattle.assise_history.specs.Entries.{EntryValue}
+use Rattle.assise_model_events.specs.Machine.{Machine}
 use Rattle.assise_fault_script.specs.declared.command.Command.{Command}
 use Rattle.assise_fault_script.specs.declared.command.Command.TheVariants.{Cluster, Manual, Open, Call, Carry, Link, Hot, Digest, Release, Crash, Fail, Back, Refill, Join, Raise, Tree, History, Check}
 use Rattle.assise_fault_script.specs.declared.parse.NumberedCommand.{NumberedCommand}
@@ -13,15 +13,15 @@ use Rattle.assise_console.specs.declared.response.Response.{Response}
 use Rattle.assise_console.specs.declared.response.Response.TheVariants.{Replied, Refused}
 use Rattle.assise_console.specs.Lines.{line_text}
 
--- a command, its answer, and the history that was seen when it was answered
+-- a command, its answer, and the machine that was seen last when it was answered
 pub record Said : Type 0 where
   pub command : NumberedCommand
   pub answer : Response
-  pub history : List EntryValue
+  pub machine : Machine
 
 -- the lines that are written, in the order of the commands
 abbrev pub said_line : Said → List ℕ
-said_line s = line_text s.command.line s.history s.answer
+said_line s = line_text s.command.line s.machine.history s.answer
 
 abbrev pub said_lines : List Said → List ℕ
 said_lines ss = flat_map said_line ss

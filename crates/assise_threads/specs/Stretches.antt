@@ -11,8 +11,9 @@ use Rattle.assise_history.specs.Entries.{EntryValue}
 use Rattle.assise_fault_script.specs.declared.command.Command.{Command}
 use Rattle.assise_fault_script.specs.declared.command.Command.TheVariants.{Cluster, Manual, Open, Call, Carry, Link, Hot, Digest, Release, Crash, Fail, Back, Refill, Join, Raise, Tree, History, Check}
 use Rattle.assise_fault_script.specs.declared.parse.NumberedCommand.{NumberedCommand}
+use Rattle.assise_model_events.specs.Machine.{Machine}
 use Rattle.assise_console.specs.Lines.{line_text}
-use Rattle.assise_libfs.specs.Clients.{IsSameClient, client_of, seen_by}
+use Rattle.assise_libfs.specs.Clients.{IsSameClient, client_of, limit_of, seen_by}
 use Rattle.assise_libfs.specs.declared.libfs.LibFs.{LibFs}
 use Rattle.assise_workers.specs.declared.serving.ClientEnd.{ClientEnd}
 use Rattle.assise_workers.specs.declared.serving.ClientList.{ClientList}
@@ -52,10 +53,10 @@ pub record HasCalls {S : Type 0} (stretch : List NumberedCommand) (libfs : LibFs
   pub same : list.libfs ≡ libfs
   pub calls : list.calls.items ≡ calls_in (client_of libfs) stretch
 
--- the client made its calls of the stretch, in order, and the end has what came of each
+-- the client made its calls of the stretch, in order, each in the turns that it has, and the end has what came of each
 pub record MakesCalls {S : Type 0} (stretch : List NumberedCommand) (libfs : LibFs S) (end : ClientEnd S) : Type 0 where
   pub client : IsSameClient libfs end.libfs
-  pub sees : SeesAll TurnedThere (client_of libfs) (calls_in (client_of libfs) stretch) (seen_by libfs) end.replies.items (seen_by end.libfs)
+  pub sees : SeesAll (TurnedThere (limit_of libfs)) (client_of libfs) (calls_in (client_of libfs) stretch) (seen_by libfs) end.replies.items (seen_by end.libfs)
 
 -- ---- what came of the clients' calls
 
@@ -104,10 +105,10 @@ abbrev pub AreTold : ℕ → List Said → Option (List (Result Reply Refusal)) 
 AreTold c ss None = (rs : List (Result Reply Refusal)) × (TellsClient c ss rs × ((length rs ≡ length (calls_in c (commands_said ss))) × (((k : ℕ) → told_all c k (calls_in c (commands_said ss)) rs ≡ []) × AllByRecursion (λ r. r ≡ Err BadClient) rs)))
 AreTold c ss (Some all) = TellsClient c ss all
 
-pub record AreCallsSaid (stretch : List NumberedCommand) (seen : List EntryValue) (first : Untold) (old new : Option (List ℕ)) : Type 0 where
+pub record AreCallsSaid (turns : ℕ) (stretch : List NumberedCommand) (seen : Machine) (first : Untold) (old new : Option (List ℕ)) : Type 0 where
   pub said : List Said
   pub each : commands_said said ≡ stretch
-  pub main : IsSaid seen said seen
+  pub main : IsSaid turns seen said seen
   pub appends : Appends old new (said_lines said)
   pub told : (c : ℕ) → AreTold c said (outcomes_of c first)
 

@@ -5,20 +5,19 @@ use Rattle.assise_history.specs.Entries.{EntryValue, opens, calls, crashes, fail
 use Rattle.assise_history.specs.Legal.{IsLegal}
 use Rattle.assise_keeper.specs.Clients.{Extends}
 use Rattle.assise_model_events.specs.Machine.{Machine, MachineInvariant}
+use Rattle.assise_machine.specs.Following.{IsLedTo}
 use Rattle.assise_rounds.specs.Traces.{Told}
 
--- In one take this was done to a machine with the invariant, whose history extends what was seen; and this history was given back, which
--- is legal.
-pub record InOneTake (Does : Machine → Told → Machine → Type 0) (old new : List EntryValue) : Type 0 where
+-- In one take this was done to a machine with the invariant, to which what was seen last leads by events; and what that came to was given
+-- back, with a legal history that extends the one that was seen.
+pub record InOneTake (Does : Machine → Told → Machine → Type 0) (old new : Machine) : Type 0 where
   pub before : Machine
-  pub after : Machine
   pub told : Told
   pub lawful : ∥ MachineInvariant before ∥₁
-  pub extends : Extends before.history old
-  pub does : Does before told after
-  pub given : new ≡ after.history
-  pub legal : ∥ IsLegal new ∥₁
-  pub grows : Extends new old
+  pub led : IsLedTo old before
+  pub does : Does before told new
+  pub legal : ∥ IsLegal new.history ∥₁
+  pub grows : Extends new.history old.history
 
 -- no client is opened and no call answered by these entries
 abbrev pub AreNobodys : List EntryValue → Type 0

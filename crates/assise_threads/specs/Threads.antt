@@ -1,9 +1,7 @@
 -- What is seen of the main thread, and what it does in one take.
 -- Assise (OSDI 2020), section 3 (digests, process crash, fail-over, recovery).
-use Rattle.std.specs.Prelude.{List}
-use Rattle.assise_history.specs.Entries.{EntryValue}
 use Rattle.assise_keeper.specs.declared.keeper.Keeper.{Keeper}
-use Rattle.assise_keeper.specs.Passes.{seen}
+use Rattle.assise_keeper.specs.Passes.{last}
 use Rattle.assise_machine.specs.declared.cluster.ClusterOf.{ClusterOf}
 use Rattle.assise_model_events.specs.Events.{back, crash, digest, fail, join, raise, refill, release_ready}
 use Rattle.assise_model_events.specs.Machine.{Machine}
@@ -12,13 +10,14 @@ use Rattle.assise_rounds.specs.Traces.{Told}
 use Rattle.assise_console.specs.OneEvent.{IsOne, IsOneAt}
 use Rattle.assise_console.specs.Steps.{SetsHot}
 use Rattle.assise_threads.specs.Answered.{ChecksHistory, ShowsTree}
+use Rattle.assise_threads.specs.LastSeen.{machine_seen}
 use Rattle.assise_threads.specs.declared.main_thread.MainThreadOf.{MainThreadOf}
 use Rattle.assise_threads.specs.declared.takes.Take.{Take}
 use Rattle.assise_threads.specs.declared.takes.Take.TheVariants.{Digest, Release, SetHot, Crash, Fail, BeginReturn, Refill, Join, Raise, Tree, Check}
 
--- what the main thread's pass has seen
-abbrev pub main_seen : {C : Type 0} → MainThreadOf C → List EntryValue
-main_seen t = seen t.pass
+-- the machine that the main thread's pass has seen last
+abbrev pub main_seen : {C : Type 0} → MainThreadOf C → Machine
+main_seen t = machine_seen (last t.pass)
 
 -- the keeper that it is lent
 abbrev pub main_keeper : {C : Type 0} → MainThreadOf C → Keeper (ClusterOf C)

@@ -68,7 +68,7 @@ fn write_answer<W: Write>(
 }
 
 impl<'a> Crew<'a> {
-    ghost use Rattle.std.specs.Prelude.{◌≡◌, ◌≤◌, [], IfErr, IfOk, List, OnOk, length, take};
+    ghost use Rattle.std.specs.Prelude.{◌≡◌, ◌≤◌, [], ℕ, IfErr, IfOk, List, OnOk, length, take};
     ghost use Rattle.std.specs.Io.KnownBytes.{Appends};
     ghost use Rattle.assise_fault_script.specs.declared.command.Command.TheVariants.{History as WholeHistory};
     ghost use Rattle.assise_history.specs.Legal.{IsLegal};
@@ -77,14 +77,17 @@ impl<'a> Crew<'a> {
     ghost use Rattle.assise_console.specs.Lines.{numbered_line};
     ghost use Rattle.assise_console.specs.Stored.{revokers_left};
     ghost use Rattle.assise_fault_script.specs.declared.command.RevokerKind.{RevokerKind as Kind};
+    ghost use Rattle.assise_console.specs.declared.response.Response.TheVariants.{Client};
+    ghost use Rattle.assise_machine.specs.Following.{IsLedTo};
     ghost use Rattle.assise_threads.specs.Answered.{AnswersCommand, OpensOne};
+    ghost use Rattle.assise_threads.specs.Begun.{begun_by};
     ghost use Rattle.assise_threads.specs.CallsAhead.{AreSaidNext};
     ghost use Rattle.assise_threads.specs.Hearing.{sights};
     ghost use Rattle.assise_threads.specs.Runs.{EndsRun, IsRunSaid};
     ghost use Rattle.assise_threads.specs.Openings.{OpensJust, OpensNone, opened_by, opening_in, with_opened};
     ghost use Rattle.assise_threads.specs.Spoken.{AreAllSaid, IsOneSaid, IsStretchSaid};
     ghost use Rattle.assise_threads.specs.Stretches.{AreCalls, IsClientCall};
-    ghost use Rattle.assise_threads.specs.AtKeeper.{AreAt};
+    ghost use Rattle.assise_threads.specs.AtKeeper.{AreClients};
     ghost use Rattle.assise_threads.specs.Threads.{main_keeper, main_seen};
 
     /// A main thread of a cluster of so many nodes, with revokers for clients, each call of which is tried so many times at most.
@@ -98,6 +101,7 @@ impl<'a> Crew<'a> {
         requires some_turns { 1 ≤ turns }
         requires few_turns { turns ≤ 1000000 }
         ensures seen { main_seen result.main ≡ main_seen main.entry }
+        ensures turns { result.turns ≡ turns }
     {
         Crew {
             main,
@@ -116,8 +120,8 @@ impl<'a> Crew<'a> {
         commands: &[NumberedCommand],
         writer: &mut W,
     ) -> Result<(), EngineFault>
-        requires { main_seen self.main ≡ [] }
-        ensures done { OnOk result (IsRunSaid commands.now
+        requires { main_seen self.main ≡ begun_by commands.now }
+        ensures done { OnOk result (IsRunSaid self.entry.turns commands.now
             (W.contents writer.old) (W.contents writer.new)) }
         ensures fault { IfErr result EndsRun }
     {
@@ -143,10 +147,13 @@ impl<'a> Crew<'a> {
         commands: &[NumberedCommand],
         writer: &mut W,
     ) -> Result<(), EngineFault>
-        requires nothing_seen { main_seen self.old.main ≡ [] }
+        requires nothing_seen { (main_seen self.old.main).history ≡ [] }
         requires no_clients { clients.old.items ≡ [] }
-        ensures at { OnOk result (AreAt (main_keeper self.new.main) clients.new.items) }
-        ensures done { OnOk result (AreAllSaid commands.now
+        ensures at { OnOk result (AreClients (main_keeper self.new.main) self.new.turns
+            clients.new.items) }
+        ensures turns { self.new.turns ≡ self.old.turns }
+        ensures done { OnOk result (AreAllSaid self.old.turns
+            (main_seen self.old.main) commands.now
             (main_seen self.new.main) (sights clients.new.items)
             (W.contents writer.old) (W.contents writer.new)) }
         ensures fault { IfErr result EndsRun }
@@ -169,10 +176,13 @@ impl<'a> Crew<'a> {
         writer: &mut W,
     ) -> Result<usize, EngineFault>
         requires some { 1 ≤ length commands.now }
-        requires at { AreAt (main_keeper self.old.main) clients.old.items }
-        ensures at { OnOk result (AreAt (main_keeper self.new.main) clients.new.items) }
+        requires at { AreClients (main_keeper self.old.main) self.old.turns clients.old.items }
+        ensures at { OnOk result (AreClients (main_keeper self.new.main) self.new.turns
+            clients.new.items) }
+        ensures turns { self.new.turns ≡ self.old.turns }
         ensures some { IfOk result (λ count. (1 ≤ count) × (count ≤ length commands.now)) }
-        ensures said { IfOk result (λ count. AreSaidNext (take count commands.now)
+        ensures said { IfOk result (λ count. AreSaidNext self.old.turns
+            (take count commands.now)
             (main_seen self.old.main) (sights clients.old.items)
             (main_seen self.new.main) (sights clients.new.items)
             (W.contents writer.old) (W.contents writer.new)) }
@@ -198,10 +208,13 @@ impl<'a> Crew<'a> {
         writer: &mut W,
     ) -> Result<(), EngineFault>
         requires calls { AreCalls stretch.now }
-        requires at { AreAt (main_keeper self.old.main) clients.old.items }
-        ensures at { OnOk result (AreAt (main_keeper self.new.main) clients.new.items) }
+        requires at { AreClients (main_keeper self.old.main) self.old.turns clients.old.items }
+        ensures at { OnOk result (AreClients (main_keeper self.new.main) self.new.turns
+            clients.new.items) }
+        ensures turns { self.new.turns ≡ self.old.turns }
         ensures seen { main_seen self.new.main ≡ main_seen self.old.main }
-        ensures said { OnOk result (IsStretchSaid stretch.now (main_seen self.old.main)
+        ensures said { OnOk result (IsStretchSaid self.old.turns stretch.now
+            (main_seen self.old.main)
             (sights clients.old.items) (sights clients.new.items)
             (W.contents writer.old) (W.contents writer.new)) }
         ensures fault { IfErr result EndsRun }
@@ -224,9 +237,11 @@ impl<'a> Crew<'a> {
         writer: &mut W,
     ) -> Result<(), EngineFault>
         requires no_call { IsClientCall line.now.command → ⊥ }
-        requires at { AreAt (main_keeper self.old.main) clients.old.items }
-        ensures at { OnOk result (AreAt (main_keeper self.new.main) clients.new.items) }
-        ensures said { OnOk result (IsOneSaid line.now
+        requires at { AreClients (main_keeper self.old.main) self.old.turns clients.old.items }
+        ensures at { OnOk result (AreClients (main_keeper self.new.main) self.new.turns
+            clients.new.items) }
+        ensures turns { self.new.turns ≡ self.old.turns }
+        ensures said { OnOk result (IsOneSaid self.old.turns line.now
             (main_seen self.old.main) (sights clients.old.items)
             (main_seen self.new.main) (sights clients.new.items)
             (W.contents writer.old) (W.contents writer.new)) }
@@ -248,11 +263,15 @@ impl<'a> Crew<'a> {
         writer: &mut W,
     ) -> Result<(), EngineFault>
         ensures keeper { main_keeper self.new.main ≡ main_keeper self.old.main }
-        ensures extends { Extends (main_seen self.new.main) (main_seen self.old.main) }
-        ensures legal { ∥ IsLegal (main_seen self.new.main) ∥₁ }
-        ensures none_opened { OpensNone (main_seen self.old.main) (main_seen self.new.main) }
+        ensures turns { self.new.turns ≡ self.old.turns }
+        ensures extends { Extends (main_seen self.new.main).history
+            (main_seen self.old.main).history }
+        ensures led { IsLedTo (main_seen self.old.main) (main_seen self.new.main) }
+        ensures legal { ∥ IsLegal (main_seen self.new.main).history ∥₁ }
+        ensures none_opened { OpensNone (main_seen self.old.main).history
+            (main_seen self.new.main).history }
         ensures text { OnOk result (Appends (W.contents writer.old) (W.contents writer.new)
-            (numbered_line line (history_text (main_seen self.new.main)))) }
+            (numbered_line line (history_text (main_seen self.new.main).history))) }
         ensures fault { IfErr result EndsRun }
     {
         let Ok(text) = self.main.history(rt, alloc) else {
@@ -274,14 +293,17 @@ impl<'a> Crew<'a> {
     ) -> Result<Response, EngineFault>
         requires no_call { IsClientCall command.now → ⊥ }
         requires no_history { command.now ≡ WholeHistory → ⊥ }
-        requires at { AreAt (main_keeper self.old.main) clients.old.items }
-        ensures at { OnOk result (AreAt (main_keeper self.new.main) clients.new.items) }
-        ensures answered { IfOk result (λ answer. AnswersCommand command.now answer
+        requires at { AreClients (main_keeper self.old.main) self.old.turns clients.old.items }
+        ensures at { OnOk result (AreClients (main_keeper self.new.main) self.new.turns
+            clients.new.items) }
+        ensures turns { self.new.turns ≡ self.old.turns }
+        ensures answered { IfOk result (λ answer. AnswersCommand self.old.turns command.now answer
             (main_seen self.old.main) (main_seen self.new.main)) }
         ensures opened { IfOk result (λ answer. OpensJust (opening_in command.now answer)
-            (main_seen self.old.main) (main_seen self.new.main)) }
+            (main_seen self.old.main).history (main_seen self.new.main).history) }
         ensures clients { IfOk result (λ answer. sights clients.new.items ≡ with_opened
-            (sights clients.old.items) (main_seen self.new.main) (opening_in command.now answer)) }
+            (sights clients.old.items) (main_seen self.new.main).history
+            (opening_in command.now answer)) }
         ensures fault { IfErr result EndsRun }
     {
         let main = &mut self.main;
@@ -323,16 +345,20 @@ impl<'a> Crew<'a> {
         kind: RevokerKind,
         durability: Durability,
     ) -> Result<Response, EngineFault>
-        requires at { AreAt (main_keeper self.old.main) clients.old.items }
+        requires at { AreClients (main_keeper self.old.main) self.old.turns clients.old.items }
         ensures kinds { (k : Kind) → (k ≡ kind → ⊥) →
             revokers_left k self.new.stock ≡ revokers_left k self.old.stock }
-        ensures at { OnOk result (AreAt (main_keeper self.new.main) clients.new.items) }
+        ensures at { OnOk result (AreClients (main_keeper self.new.main) self.new.turns
+            clients.new.items) }
+        ensures turns { self.new.turns ≡ self.old.turns }
         ensures opens { IfOk result (λ answer. OpensOne node durability answer
             (main_seen self.old.main) (main_seen self.new.main)) }
+        ensures kept { IfOk result (λ answer. ((c : ℕ) → answer ≡ Client c → ⊥) →
+            revokers_left kind self.new.stock ≡ revokers_left kind self.old.stock) }
         ensures opened { IfOk result (λ answer. OpensJust (opened_by answer node durability)
-            (main_seen self.old.main) (main_seen self.new.main)) }
+            (main_seen self.old.main).history (main_seen self.new.main).history) }
         ensures clients { IfOk result (λ answer. sights clients.new.items ≡ with_opened
-            (sights clients.old.items) (main_seen self.new.main)
+            (sights clients.old.items) (main_seen self.new.main).history
             (opened_by answer node durability)) }
         ensures fault { IfErr result EndsRun }
     {

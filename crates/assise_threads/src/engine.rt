@@ -40,8 +40,8 @@ pub fn engine_threads<I: Read, W: Write, R: Threads + Wait + Sync>(
 ) -> Result<(), EngineFault>
     requires some_turns { 1 ≤ command_line.now.turns }
     requires few_turns { command_line.now.turns ≤ 1000000 }
-    ensures done { OnOk result (PrintsByThreads (I.remaining reader.old)
-        (W.contents writer.old) (W.contents writer.new)) }
+    ensures done { OnOk result (PrintsByThreads command_line.now.turns
+        (I.remaining reader.old) (W.contents writer.old) (W.contents writer.new)) }
     ensures faulty { IfErr result (λ e. ThreadFault e (I.remaining reader.old)
         (W.contents writer.old) (W.contents writer.new)) }
 {
@@ -99,7 +99,7 @@ fn run_commands<W: Write, R: Threads + Wait + Sync>(
     requires cluster_first { ClusterFirst commands.now }
     requires some_turns { 1 ≤ turns }
     requires few_turns { turns ≤ 1000000 }
-    ensures done { OnOk result (IsRunSaid commands.now
+    ensures done { OnOk result (IsRunSaid turns commands.now
         (W.contents writer.old) (W.contents writer.new)) }
     ensures fault { IfErr result EndsRun }
 {

@@ -1,9 +1,12 @@
 // The main thread: what it does with a pass of its own.
-ghost use Rattle.std.specs.Prelude.{◌≡◌, IfOk, None, string_bytes};
+ghost use Rattle.std.specs.Prelude.{◌≡◌, ◌↔◌, IfOk, IsTrue, None, is_some, string_bytes, true};
+ghost use Rattle.assise_console.specs.declared.response.Response.TheVariants.{Refused};
+ghost use Rattle.assise_names.specs.declared.refusal.Refusal.TheVariants.{Busy};
 ghost use Rattle.assise_history.specs.Text.{history_text};
 ghost use Rattle.assise_keeper.specs.declared.view.Opens.TheVariants.{Alone};
-ghost use Rattle.assise_keeper.specs.Passes.{IsPassOf, client as client_of_pass, opens, seen};
+ghost use Rattle.assise_keeper.specs.Passes.{IsPassOf, client as client_of_pass, last, opens, seen};
 ghost use Rattle.assise_machine.specs.Clusters.{machine};
+ghost use Rattle.assise_threads.specs.LastSeen.{machine_seen};
 ghost use Rattle.assise_threads.specs.Lacking.{MayLack};
 
 use crate::meeting::meet_all;
@@ -32,20 +35,26 @@ pub(crate) struct MainThreadOf<'a, C> {
     ghost ours: { IsPassOf keeper.now pass },
     ghost nobody: { client_of_pass pass ≡ None },
     ghost alone: { opens pass ≡ Alone },
+    ghost met: { is_some (last pass) ≡ true },
+    ghost known: { seen pass ≡ (machine_seen (last pass)).history },
 }
 
 /// The main thread of a cluster whose clients store a [`Revoker`].
 pub(crate) type MainThread<'a> = MainThreadOf<'a, Revoker>;
 
 impl<'a, C: Revokes + Drop> MainThreadOf<'a, C> {
-    ghost use Rattle.std.specs.Prelude.{◌≡◌, ◌≤◌, IfErr, IfOk, List, None, OnErr, string_bytes};
+    ghost use Rattle.std.specs.Prelude.{◌≡◌, ◌≤◌, IfErr, IfOk, List, None, OnErr, Some, string_bytes};
     ghost use Rattle.assise_history.specs.Entries.{EntryValue};
     ghost use Rattle.assise_history.specs.Legal.{IsLegal, calls_made};
     ghost use Rattle.assise_history.specs.Text.{history_text};
     ghost use Rattle.assise_keeper.specs.declared.view.Opens.TheVariants.{Alone};
     ghost use Rattle.assise_keeper.specs.Clients.{Extends};
-    ghost use Rattle.assise_keeper.specs.Passes.{IsPassOf, client as client_of_pass, opens, seen};
-    ghost use Rattle.assise_libfs.specs.Clients.{client_of, keeper_of, seen_by};
+    ghost use Rattle.assise_keeper.specs.Passes.{IsPassOf, client as client_of_pass, last as last_of, opens, seen};
+    ghost use Rattle.assise_machine.specs.Clusters.{machine};
+    ghost use Rattle.assise_machine.specs.Following.{IsLedTo};
+    ghost use Rattle.assise_machine.specs.declared.cluster.ClusterOf.{ClusterOf};
+    ghost use Rattle.assise_threads.specs.LastSeen.{machine_seen};
+    ghost use Rattle.assise_libfs.specs.Clients.{client_of, keeper_of, limit_of, seen_by};
     ghost use Rattle.assise_libfs.specs.Lives.{EndsWithOpening, OpensNoOther};
     ghost use Rattle.assise_libfs.specs.Opening.{MayRefuseOpen};
     ghost use Rattle.assise_threads.specs.Answered.{CarriesSome, ComesBackInTakes};
@@ -64,7 +73,9 @@ impl<'a, C: Revokes + Drop> MainThreadOf<'a, C> {
     ) -> MainThreadOf<'a, C>
         requires pass { IsPassOf keeper.now pass × (client_of_pass pass ≡ None) }
         requires alone { opens pass ≡ Alone }
-        ensures seen { main_seen result ≡ seen pass }
+        requires known { (cluster : ClusterOf C) × (last_of pass ≡ Some cluster) ×
+            (seen pass ≡ (machine cluster).history) }
+        ensures seen { main_seen result ≡ machine_seen (last_of pass) }
         ensures keeper { main_keeper result ≡ keeper.now }
     {
         MainThreadOf { keeper, pass }
@@ -96,15 +107,20 @@ impl<'a, C: Revokes + Drop> MainThreadOf<'a, C> {
         requires few_turns { turns ≤ 1000000 }
         ensures keeper { main_keeper self.new ≡ main_keeper self.old }
         ensures at_keeper { IfOk result (λ it. keeper_of it ≡ main_keeper self.old) }
-        ensures seen { IfOk result (λ it. seen_by it ≡ main_seen self.new) }
+        ensures limit { IfOk result (λ it. limit_of it ≡ turns) }
+        ensures led { IsLedTo (main_seen self.old) (main_seen self.new) }
+        ensures seen { IfOk result (λ it. seen_by it ≡ (main_seen self.new).history) }
         ensures last { IfOk result (λ it. EndsWithOpening (client_of it) node durability
-            (main_seen self.old) (main_seen self.new)) }
+            (main_seen self.old).history (main_seen self.new).history) }
         ensures opened { IfOk result (λ it. OpensNoOther (client_of it) node durability
-            (main_seen self.old) (main_seen self.new)) }
-        ensures none_opened { OnErr result (OpensNone (main_seen self.old) (main_seen self.new)) }
+            (main_seen self.old).history (main_seen self.new).history) }
+        ensures none_opened { OnErr result (OpensNone
+            (main_seen self.old).history (main_seen self.new).history) }
         ensures no_calls { IfOk result (λ it. calls_made (client_of it) (seen_by it) ≡ 0) }
-        ensures refused { IfErr result (λ back. MayRefuseOpen node (main_seen self.new) back.0) }
-        ensures extends { Extends (main_seen self.new) (main_seen self.old) }
+        ensures refused { IfErr result (λ back.
+            MayRefuseOpen node (main_seen self.new).history back.0) }
+        ensures given_back { IfErr result (λ back. back.1 ≡ revoker) }
+        ensures extends { Extends (main_seen self.new).history (main_seen self.old).history }
     {
         let pass = self.keeper.split_opener(&mut self.pass);
         match LibFs::open(
@@ -130,10 +146,12 @@ impl<'a, C: Revokes + Drop> MainThreadOf<'a, C> {
 
     /// Why no client can be opened on a node where there is no revoker for one.
     pub(crate) fn refuse_open<R: Wait>(&mut self, rt: &R, node: u32) -> Refusal
-        ensures extends { Extends (main_seen self.new) (main_seen self.old) }
+        ensures extends { Extends (main_seen self.new).history (main_seen self.old).history }
         ensures keeper { main_keeper self.new ≡ main_keeper self.old }
-        ensures lacks { MayLack node (main_seen self.new) result }
-        ensures none_opened { OpensNone (main_seen self.old) (main_seen self.new) }
+        ensures led { IsLedTo (main_seen self.old) (main_seen self.new) }
+        ensures lacks { MayLack node (main_seen self.new).history result }
+        ensures none_opened { OpensNone
+            (main_seen self.old).history (main_seen self.new).history }
     {
         let mut held = self.keeper.take(rt, &mut self.pass);
         let refusal = refusal_without_revoker(held.state(), node);
@@ -162,7 +180,8 @@ impl<'a, C: Revokes + Drop> MainThreadOf<'a, C> {
     /// Does something in one take.
     pub(crate) fn in_one_take<R: Wait>(&mut self, rt: &R, alloc: Global, take: Take) -> Response
         ensures does { InOneTake (DoesTake take result) (main_seen self.old) (main_seen self.new) }
-        ensures none_opened { OpensNone (main_seen self.old) (main_seen self.new) }
+        ensures none_opened { OpensNone
+            (main_seen self.old).history (main_seen self.new).history }
         ensures keeper { main_keeper self.new ≡ main_keeper self.old }
     {
         let mut held = self.keeper.take(rt, &mut self.pass);
@@ -171,7 +190,8 @@ impl<'a, C: Revokes + Drop> MainThreadOf<'a, C> {
         answer
     }
 
-    /// A node comes back: it begins to, and then gets an inode and tries to join until it is full, so many times at most.
+    /// A node comes back: it begins to, and then gets an inode and tries to join until it is full, so many times at most. Behind the last of
+    /// these it is refused with [`Refusal::Busy`].
     pub(crate) fn bring_back<R: Wait>(
         &mut self,
         rt: &R,
@@ -179,8 +199,10 @@ impl<'a, C: Revokes + Drop> MainThreadOf<'a, C> {
         node: u64,
         turns: u32,
     ) -> Response
-        ensures comes { ComesBackInTakes node result (main_seen self.old) (main_seen self.new) }
-        ensures none_opened { OpensNone (main_seen self.old) (main_seen self.new) }
+        ensures comes { ComesBackInTakes turns node result
+            (main_seen self.old) (main_seen self.new) }
+        ensures none_opened { OpensNone
+            (main_seen self.old).history (main_seen self.new).history }
         ensures keeper { main_keeper self.new ≡ main_keeper self.old }
     {
         let begun = self.in_one_take(rt, alloc, Take::BeginReturn(node));
@@ -203,7 +225,7 @@ impl<'a, C: Revokes + Drop> MainThreadOf<'a, C> {
     /// All clients are told apart no more: there is one history with the calls of all.
     pub(crate) fn end<R: Wait>(self, rt: &R, clients: Vec<LibFs<'a, ClusterOf<C>>>)
         requires at { AreAt (main_keeper self) clients.items }
-        ensures { (seen_last : List EntryValue) × AreMet (main_seen self.entry)
+        ensures { (seen_last : List EntryValue) × AreMet (main_seen self.entry).history
             (sights clients.entry.items) seen_last }
     {
         let MainThreadOf { keeper, pass } = self;
@@ -212,11 +234,14 @@ impl<'a, C: Revokes + Drop> MainThreadOf<'a, C> {
 
     /// The text of the history so far.
     pub(crate) fn history<R: Wait>(&mut self, rt: &R, alloc: Global) -> Result<String, AllocError>
-        ensures extends { Extends (main_seen self.new) (main_seen self.old) }
+        ensures extends { Extends (main_seen self.new).history (main_seen self.old).history }
         ensures keeper { main_keeper self.new ≡ main_keeper self.old }
-        ensures legal { ∥ IsLegal (main_seen self.new) ∥₁ }
-        ensures none_opened { OpensNone (main_seen self.old) (main_seen self.new) }
-        ensures text { IfOk result (λ text. string_bytes text ≡ history_text (main_seen self.new)) }
+        ensures led { IsLedTo (main_seen self.old) (main_seen self.new) }
+        ensures legal { ∥ IsLegal (main_seen self.new).history ∥₁ }
+        ensures none_opened { OpensNone
+            (main_seen self.old).history (main_seen self.new).history }
+        ensures text { IfOk result (λ text.
+            string_bytes text ≡ history_text (main_seen self.new).history) }
     {
         let mut held = self.keeper.take(rt, &mut self.pass);
         let text = written(alloc, held.state().history());
@@ -226,7 +251,9 @@ impl<'a, C: Revokes + Drop> MainThreadOf<'a, C> {
 }
 
 /// Whether something is to be tried again.
-fn is_busy(answer: &Response) -> bool {
+fn is_busy(answer: &Response) -> bool
+    ensures { IsTrue result ↔ (answer.now ≡ Refused Busy) }
+{
     matches!(answer, Response::Refused(Refusal::Busy))
 }
 

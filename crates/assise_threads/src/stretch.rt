@@ -1,12 +1,12 @@
 // Calls that stand together: each client's are made in a thread of its own, and the lines are written in order.
-ghost use Rattle.std.specs.Prelude.{◌≡◌, IfErr, IfOk, List, OnOk};
-ghost use Rattle.assise_history.specs.Entries.{EntryValue};
+ghost use Rattle.std.specs.Prelude.{◌≡◌, ℕ, IfErr, IfOk, OnOk};
+ghost use Rattle.assise_model_events.specs.Machine.{Machine};
 ghost use Rattle.assise_threads.specs.Hearing.{sights};
-ghost use Rattle.assise_threads.specs.Runs.{EndsRun};
+ghost use Rattle.assise_threads.specs.Runs.{EndsRun, fault_of_run};
 ghost use Rattle.assise_threads.specs.Spoken.{IsStretchSaid};
 ghost use Rattle.assise_threads.specs.Said.{outcome_answer};
 ghost use Rattle.assise_threads.specs.Stretches.{AreCalls, AreCallsSaid, HasAllOf, IsClientCall, IsCallSaid, next_or_none, untold};
-ghost use Rattle.assise_threads.specs.AtKeeper.{AreAt};
+ghost use Rattle.assise_threads.specs.AtKeeper.{AreAt, HaveTurns};
 ghost use Rattle.assise_threads.specs.Threads.{main_keeper, main_seen};
 
 use crate::lists::lists_of;
@@ -68,7 +68,8 @@ fn write_calls<W: Write>(
 ) -> Result<(), EngineFault>
     requires calls { AreCalls stretch.now }
     requires all { HasAllOf stretch.now (untold outcomes.old) }
-    ensures said { (seen : List EntryValue) → OnOk result (AreCallsSaid stretch.now seen
+    ensures said { (turns : ℕ) (seen : Machine) → OnOk result
+        (AreCallsSaid turns stretch.now seen
         (untold outcomes.old) (W.contents writer.old) (W.contents writer.new)) }
     ensures fault { IfErr result EndsRun }
 {
@@ -94,7 +95,10 @@ pub(crate) fn serve<'a, W: Write, R: Threads + Wait + Sync>(
     ensures keeper { main_keeper main.new ≡ main_keeper main.old }
     ensures at { IfOk result (λ after. AreAt (main_keeper main.old) after.items) }
     ensures seen { main_seen main.new ≡ main_seen main.old }
-    ensures said { IfOk result (λ after. IsStretchSaid stretch.now (main_seen main.old)
+    ensures turns { IfOk result (λ after. (turns : ℕ) → HaveTurns turns clients.entry.items →
+        HaveTurns turns after.items) }
+    ensures said { IfOk result (λ after. (turns : ℕ) → HaveTurns turns clients.entry.items →
+        IsStretchSaid turns stretch.now (main_seen main.old)
         (sights clients.entry.items) (sights after.items)
         (W.contents writer.old) (W.contents writer.new)) }
     ensures fault { IfErr result EndsRun }
@@ -118,7 +122,8 @@ pub(crate) fn serve<'a, W: Write, R: Threads + Wait + Sync>(
 
 /// Why the engine ends where a run isn't whole.
 fn fault_of(fault: RunFault) -> EngineFault
-    ensures { EndsRun result }
+    ensures which { result ≡ fault_of_run fault }
+    ensures ends { EndsRun result }
 {
     match fault {
         RunFault::Memory => EngineFault::Memory,

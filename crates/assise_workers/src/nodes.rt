@@ -1,6 +1,6 @@
 // The workers of nodes.
 ghost use Rattle.std.specs.Prelude.{◌≡◌};
-ghost use Rattle.assise_keeper.specs.Passes.{IsPassOf, client, opens, seen};
+ghost use Rattle.assise_keeper.specs.Passes.{IsPassOf, client, last as last_of, opens, seen};
 
 use crate::gate::{Gate, Point};
 use crate::idle::Idle;
@@ -25,7 +25,7 @@ pub struct NodeWorkers<'a, S: Growing> {
 
 impl<'a, S: Replicated> NodeWorkers<'a, S> {
     ghost use Rattle.std.specs.Prelude.{◌≡◌};
-    ghost use Rattle.assise_keeper.specs.Passes.{IsPassOf, client, opens, seen};
+    ghost use Rattle.assise_keeper.specs.Passes.{IsPassOf, client, last, opens, seen};
 
     /// The workers of a node, whose passes are split from another.
     pub fn new(keeper: &'a Keeper<S>, pass: &mut Pass<S>, node: u32) -> NodeWorkers<'a, S>
@@ -33,6 +33,7 @@ impl<'a, S: Replicated> NodeWorkers<'a, S> {
         ensures free { IsPassOf keeper.now pass.new }
         ensures same { (seen pass.new ≡ seen pass.old) × (client pass.new ≡ client pass.old) }
         ensures right { opens pass.new ≡ opens pass.old }
+        ensures last { last pass.new ≡ last pass.old }
     {
         let replicator = Worker::new(keeper, pass);
         let digester = Worker::new(keeper, pass);
@@ -70,6 +71,7 @@ pub fn workers_up_to<'a, S: Replicated>(
     ensures free { IsPassOf keeper.now pass.new }
     ensures same { (seen pass.new ≡ seen pass.old) × (client pass.new ≡ client pass.old) }
     ensures right { opens pass.new ≡ opens pass.old }
+    ensures kept { last_of pass.new ≡ last_of pass.old }
 {
     let mut nodes = Vec::new(alloc);
     for node in 1..=last {

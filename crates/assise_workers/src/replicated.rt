@@ -3,6 +3,7 @@ ghost use Rattle.std.specs.Prelude.{◌≡◌, ◌≤◌, ℕ, IfOk};
 ghost use Rattle.assise_manager.specs.NodeLevels.{level_of, newest};
 ghost use Rattle.assise_machine.specs.Answers.{delivery_answer, digesting_answer, sending_answer};
 ghost use Rattle.assise_machine.specs.Clusters.{machine};
+ghost use Rattle.assise_machine.specs.Following.{led_by};
 ghost use Rattle.assise_model_events.specs.Events.{Answer, ClusterEvent, deliver, digest, outgoing, release_ready, released};
 ghost use Rattle.assise_model_events.specs.Happenings.{Happens};
 
@@ -44,10 +45,15 @@ pub trait Replicated: Growing {
     fn release_ready(&mut self) -> usize
         ensures unchanged { Self.Growing.history self.new ≡ Self.Growing.history self.old }
         ensures acts { acts self.old release_ready (released result) self.new };
+
+    ghost acts_lead: { (s : Self) (e : ClusterEvent) (a : Answer) (t : Self) → acts s e a t
+        → Self.Growing.leads s t };
 }
 
 impl<C: Revokes + Drop> Replicated for ClusterOf<C> {
     ghost acts = { λ s e a t. Happens (machine s) e a (machine t) };
+
+    ghost acts_lead = { λ s e a t happens. led_by (machine s) e a (machine t) happens };
 
     ghost reads = { λ s n. newest (level_of (machine s).members.levels n) };
 

@@ -44,7 +44,7 @@ pub struct Worker<'a, S: Growing> {
 
 impl<'a, S: Replicated> Worker<'a, S> {
     ghost use Rattle.std.specs.Prelude.{◌≡◌};
-    ghost use Rattle.assise_keeper.specs.Passes.{IsPassOf, client, opens, seen};
+    ghost use Rattle.assise_keeper.specs.Passes.{IsPassOf, client, last, opens, seen};
     ghost use Rattle.assise_workers.specs.Working.{keeper_at, seen_at};
 
     /// A worker with a pass that is split from another.
@@ -53,6 +53,7 @@ impl<'a, S: Replicated> Worker<'a, S> {
         ensures free { IsPassOf keeper.now pass.new }
         ensures same { (seen pass.new ≡ seen pass.old) × (client pass.new ≡ client pass.old) }
         ensures right { opens pass.new ≡ opens pass.old }
+        ensures last { last pass.new ≡ last pass.old }
         ensures keeper { keeper_at result ≡ keeper.now }
         ensures seen { seen_at result ≡ seen pass.old }
     {

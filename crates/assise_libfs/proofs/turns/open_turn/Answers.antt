@@ -1,7 +1,8 @@
 use Rattle.std.proofs.Common.{rules, ◌≡◌, sym, subst}
 use Rattle.std.specs.Prelude.{IfOk}
 use Rattle.assise_history.specs.Legal.{calls_made}
-use Rattle.assise_keeper.specs.Passes.{seen}
+use Rattle.assise_keeper.specs.Passes.{last, seen}
+use Rattle.assise_keeper.proofs.Following.{led_from, led_further}
 use Rattle.assise_libfs.proofs.Openings.{no_other_opened, none_opened}
 use Rattle.assise_libfs.proofs.Tries.{none_of_opened}
 use Rattle.assise_libfs.proofs.turns.open_turn.Goals as goal
@@ -23,3 +24,17 @@ returns-clause-no_opening g c =
     let given : seen c.give.new.pass ≡ g.S.Growing.history c.open-opened.new.self = search rules in
     let unchanged = rw c.state.ensures.value at c.open-opened.ensures.unchanged in
     none_opened (seen c.args.pass.now) (g.S.Growing.history c.take-held.result) (g.S.Growing.history c.open-opened.new.self) (seen c.give.new.pass) c.open-opened.result c.take-held.ensures.alone unchanged given
+
+pub give-requires-clause-leads : goal.give-requires-clause-leads
+give-requires-clause-leads g c =
+    let acts = rw c.state.ensures.value at c.open-opened.ensures.acts in
+    led_from g.S.Growing.leads _ c.take-held.result c.open-opened.new.self c.take-held.ensures.state (g.met.S.Served.acts_lead _ _ _ _ acts)
+
+pub returns-clause-on : goal.returns-clause-on
+returns-clause-on g c =
+    let acts = rw c.state.ensures.value at c.open-opened.ensures.acts in record {
+      state = c.open-opened.new.self;
+      is_last = search rules;
+      is_seen = search rules;
+      led = led_further g.S.Growing.leads g.S.Growing.goes_on (last c.args.pass.now) c.take-held.result c.open-opened.new.self (g.met.S.Served.acts_lead _ _ _ _ acts) c.take-held.ensures.led;
+    }

@@ -1,5 +1,6 @@
 use Rattle.std.proofs.Common.{rules, ◌≡◌, sym, subst}
 use Rattle.assise_keeper.specs.Passes.{client, seen}
+use Rattle.assise_keeper.proofs.Following.{led_from}
 use Rattle.assise_libfs.specs.Calling.{SeesTry}
 use Rattle.assise_libfs.proofs.Sights.{refused-given, sees}
 use Rattle.assise_libfs.proofs.turns.try_turn.Goals as goal
@@ -17,3 +18,8 @@ pub returns-clause-refused : goal.returns-clause-refused
 returns-clause-refused g c =
     let given : seen c.give.new.pass ≡ g.S.Growing.history c.try_call-tried.new.self = search rules in
     refused-given c.args.caller c.args.op.now _ c.try_call-tried.result _ _ c.try_call-tried.ensures.tries given c.try_call-tried.ensures.refused
+
+pub give-requires-clause-leads : goal.give-requires-clause-leads
+give-requires-clause-leads g c =
+    let acts = rw c.state.ensures.value at c.try_call-tried.ensures.acts in
+    led_from g.S.Growing.leads _ c.take-held.result c.try_call-tried.new.self c.take-held.ensures.state (g.met.S.Served.acts_lead _ _ _ _ acts)

@@ -6,7 +6,7 @@ use Rattle.assise_threads.proofs.stretch.write_calls.Goals as goal
 pub loop-line-init : goal.loop-line-init
 loop-line-init g c = record {
   calls = c.requires.calls;
-  said = λ seen. none_said c.args.stretch.now seen (untold c.args.outcomes.now) (g.W.Write.contents c.args.writer.now) c.requires.all;
+  said = λ turns seen. none_said turns c.args.stretch.now seen (untold c.args.outcomes.now) (g.W.Write.contents c.args.writer.now) c.requires.all;
 }
 
 pub write_call-requires : goal.write_call-requires
@@ -23,10 +23,10 @@ loop-line-preserved g c =
     let calls = calls_left stretch c.loop-line.line-index line within c.line-item.is before.calls in
     record {
       calls = calls.1;
-      said = λ seen. line_said stretch c.loop-line.line-index line within c.line-item.is seen _ _ _ _ _ _ (before.said seen) calls.0 c.in_ok-write_call.ensures.said;
+      said = λ turns seen. line_said stretch c.loop-line.line-index line within c.line-item.is turns seen _ _ _ _ _ _ (before.said turns seen) calls.0 c.in_ok-write_call.ensures.said;
     }
 
 pub returns-clause-said : goal.returns-clause-said
 returns-clause-said g c =
     let done : length c.args.stretch.now ≤ c.loop-line.line-index = c.loop-line-test.false in
-    λ seen. stretch_said c.args.stretch.now c.loop-line.line-index seen _ _ _ _ done (c.loop-line.invariant.said seen)
+    λ turns seen. stretch_said turns c.args.stretch.now c.loop-line.line-index seen _ _ _ _ done (c.loop-line.invariant.said turns seen)

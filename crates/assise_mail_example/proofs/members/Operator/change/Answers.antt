@@ -1,4 +1,5 @@
 use Rattle.std.proofs.Common.{rules, ◌≡◌}
+use Rattle.assise_keeper.proofs.Following.{led_from}
 use Rattle.assise_keeper.specs.Passes.{taken}
 use Rattle.assise_mail_example.proofs.Changes.{may_give}
 use Rattle.assise_mail_example.proofs.members.Operator.change.Goals as goal
@@ -7,3 +8,8 @@ pub give-requires-clause-grows : goal.give-requires-clause-grows
 give-requires-clause-grows g c =
     let is : taken c.take-held.new.pass ≡ g.S.Growing.history c.state.result.now = search rules in
     may_give _ _ _ _ _ is c.change-changed.ensures.gives
+
+pub give-requires-clause-leads : goal.give-requires-clause-leads
+give-requires-clause-leads g c =
+    let leads = rw c.state.ensures.value at c.change-changed.ensures.leads in
+    led_from g.S.Growing.leads _ c.take-held.result c.change-changed.new.self c.take-held.ensures.state leads

@@ -1,6 +1,7 @@
 use Rattle.std.proofs.Common.{rules, ◌≡◌, ap, refl, subst}
 use Rattle.assise_history.specs.Legal.{IsLegal, calls_made}
 use Rattle.assise_keeper.proofs.PassAdds.{extends-same}
+use Rattle.assise_machine.specs.Following.{led_to_itself}
 use Rattle.assise_console.specs.declared.response.Response.TheVariants.{Client}
 use Rattle.assise_libfs.specs.Clients.{client_of, seen_by}
 use Rattle.assise_libfs.specs.Lives.{EndsWithOpening}
@@ -11,22 +12,25 @@ use Rattle.assise_threads.specs.Threads.{main_seen}
 use Rattle.assise_threads.proofs.crew.Crew.open.Goals as goal
 
 pub returns-in_default-clause-opens : goal.returns-in_default-clause-opens
-returns-in_default-clause-opens g c = is_refused _ refl (extends-same (main_seen c.args.self.now.main)) tt
+returns-in_default-clause-opens g c = is_refused _ refl (led_to_itself (main_seen c.args.self.now.main)) (extends-same (main_seen c.args.self.now.main).history) tt
 
 pub returns-in_default-take-clause-opens : goal.returns-in_default-take-clause-opens
-returns-in_default-take-clause-opens g c = lacks_revoker c.refuse_open.result refl c.refuse_open.ensures.extends (subst (λ n. MayLack n (main_seen c.refuse_open.new.self) c.refuse_open.result) (search rules) c.refuse_open.ensures.lacks)
+returns-in_default-take-clause-opens g c = lacks_revoker c.refuse_open.result refl c.refuse_open.ensures.led c.refuse_open.ensures.extends (subst (λ n. MayLack n (main_seen c.refuse_open.new.self).history c.refuse_open.result) (search rules) c.refuse_open.ensures.lacks)
 
 pub returns-in-Ok-open-clause-opens : goal.returns-in-Ok-open-clause-opens
 returns-in-Ok-open-clause-opens g c =
     let it = c.in-Ok-open.libfs in
     let told = c.in-Ok-open.ensures in
     let same : c.in-Ok.node ≡ c.args.node = search rules in
-    is_opened (client_of it) (ap Client c.client-client.ensures)
-    (subst (λ n. EndsWithOpening (client_of it) n c.args.durability (main_seen c.args.self.now.main) (main_seen c.open.new.self)) same told.last)
+    is_opened (client_of it) (ap Client c.client-client.ensures) c.open.ensures.led
+    (subst (λ n. EndsWithOpening (client_of it) n c.args.durability (main_seen c.args.self.now.main).history (main_seen c.open.new.self).history) same told.last)
     (subst (λ h. ∥ IsLegal h ∥₁) told.seen it.legal)
     (subst (λ h. calls_made (client_of it) h ≡ 0) told.seen told.no_calls)
 
 pub returns-in-Err-clause-opens : goal.returns-in-Err-clause-opens
 returns-in-Err-clause-opens g c =
     let same : c.in-Ok.node ≡ c.args.node = search rules in
-    is_refused c.in-Err.refusal refl c.in-Err.ensures.extends (subst (λ n. MayRefuseOpen n (main_seen c.open.new.self) c.in-Err.refusal) same c.in-Err.ensures.refused)
+    is_refused c.in-Err.refusal refl c.open.ensures.led c.open.ensures.extends (subst (λ n. MayRefuseOpen n (main_seen c.open.new.self).history c.in-Err.refusal) same c.in-Err.ensures.refused)
+
+pub returns-in-Ok-open-clause-kept : goal.returns-in-Ok-open-clause-kept
+returns-in-Ok-open-clause-kept g c = λ other. absurd (other c.client-client.result refl)

@@ -1,7 +1,7 @@
-use Rattle.std.proofs.Common.{◌≤◌, ◌-◌, length, take}
+use Rattle.std.proofs.Common.{◌≡◌, ◌≤◌, ◌-◌, length, take}
 use Rattle.assise_threads.specs.Hearing.{sights}
 use Rattle.assise_threads.specs.Spoken.{AreAllSaid}
-use Rattle.assise_threads.specs.AtKeeper.{AreAt}
+use Rattle.assise_threads.specs.AtKeeper.{AreClients}
 use Rattle.assise_threads.specs.Threads.{main_keeper, main_seen}
 use Rattle.assise_threads.proofs.crew.Crew.run_all.Given as goal
 
@@ -9,8 +9,9 @@ use Rattle.assise_threads.proofs.crew.Crew.run_all.Given as goal
 abbrev pub invariant-loop-done : goal.invariant-loop-done
 invariant-loop-done g l = record {
   few : l.done ≤ length l.commands;
-  at : AreAt (main_keeper l.self.main) l.clients.items;
-  said : AreAllSaid (take l.done l.commands) (main_seen l.self.main) (sights l.clients.items) (g.W.Write.contents l.fn.writer) (g.W.Write.contents l.writer);
+  turns : l.self.turns ≡ l.fn.self.turns;
+  at : AreClients (main_keeper l.self.main) l.self.turns l.clients.items;
+  said : AreAllSaid l.fn.self.turns (main_seen l.fn.self.main) (take l.done l.commands) (main_seen l.self.main) (sights l.clients.items) (g.W.Write.contents l.fn.writer) (g.W.Write.contents l.writer);
 }
 
 abbrev pub decreases-loop-done : goal.decreases-loop-done

@@ -10,7 +10,7 @@ returns-in-History-clause-said g c =
     let wrote = c.write_history.ensures in
     on_ok c.write_history.result _ _ wrote.text (λ text. record {
       answer = Whole;
-      answered = rw c.in-History.is (record { answer = refl; extends = wrote.extends; legal = wrote.legal });
+      answered = rw c.in-History.is (record { answer = refl; led = wrote.led; extends = wrote.extends; legal = wrote.legal });
       opened = rw c.in-History.is wrote.none_opened;
       appends = text;
       clients = rw c.in-History.is refl;
@@ -24,6 +24,6 @@ returns-clause-said g c =
       answer = answer;
       answered = c.in_ok-answer.ensures.answered;
       opened = c.in_ok-answer.ensures.opened;
-      appends = subst (Appends (g.W.Write.contents c.args.writer.now) (g.W.Write.contents c.write_answer.new.writer)) (line_shows_none line.line line.command answer [] (main_seen c.args.self.now.main) (main_seen c.answer.new.self.main) c.in_default.not-History c.in_ok-answer.ensures.answered) text;
+      appends = subst (Appends (g.W.Write.contents c.args.writer.now) (g.W.Write.contents c.write_answer.new.writer)) (line_shows_none c.args.self.now.turns line.line line.command answer [] (main_seen c.args.self.now.main) (main_seen c.answer.new.self.main) c.in_default.not-History c.in_ok-answer.ensures.answered) text;
       clients = c.in_ok-answer.ensures.clients;
     })

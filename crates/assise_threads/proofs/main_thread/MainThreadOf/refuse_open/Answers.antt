@@ -1,8 +1,13 @@
-use Rattle.std.proofs.Common.{rules, ◌≡◌, ◌∙◌, ap, sym}
-use Rattle.assise_keeper.specs.Clients.{openings_of}
-use Rattle.assise_keeper.specs.Passes.{seen, taken}
+use Rattle.std.proofs.Common.{rules, ◌≡◌, ◌∙◌, ap, is_some, subst, sym}
+use Rattle.assise_keeper.proofs.Following.{led_from}
+use Rattle.assise_keeper.specs.Clients.{Extends, openings_of}
+use Rattle.assise_keeper.specs.Passes.{last, seen, taken}
 use Rattle.assise_machine.specs.Clusters.{machine}
+use Rattle.assise_machine.specs.Following.{IsLedTo, led_to_itself}
+use Rattle.assise_threads.specs.LastSeen.{machine_seen}
+use Rattle.assise_threads.specs.Openings.{OpensNone}
 use Rattle.assise_threads.specs.Threads.{main_seen}
+use Rattle.assise_threads.proofs.Leading.{between, cluster_leads, leads_on}
 use Rattle.assise_threads.proofs.Nobodys.{may_give_same, same_opens_none, stays_nobody_same}
 use Rattle.assise_threads.proofs.main_thread.MainThreadOf.refuse_open.Goals as goal
 
@@ -11,6 +16,10 @@ give-requires-clause-grows g c =
     let is : taken c.take-held.new.pass ≡ (machine c.state.result.now).history = search rules in
     may_give_same _ _ _ _ is
 
+pub give-requires-clause-leads : goal.give-requires-clause-leads
+give-requires-clause-leads g c =
+    led_from cluster_leads _ c.take-held.result c.state.result.now c.take-held.ensures.state (subst (λ z. IsLedTo (machine c.take-held.result) (machine z)) (sym c.state.ensures.value) (led_to_itself (machine c.take-held.result)))
+
 pub invariant_of-self : goal.invariant_of-self
 invariant_of-self g c =
     let is : taken c.take-held.new.pass ≡ (machine c.state.result.now).history = search rules in
@@ -18,10 +27,24 @@ invariant_of-self g c =
       ours = c.give.ensures.free;
       nobody = c.give.ensures.client ∙ stays_nobody_same _ _ _ (c.take-held.ensures.same.1 ∙ c.args.self.now.nobody) is;
       alone = c.give.ensures.right ∙ (c.take-held.ensures.right ∙ c.args.self.now.alone);
+      met = ap is_some c.give.ensures.last;
+      known = c.give.ensures.seen ∙ sym (ap (λ z. (machine_seen z).history) c.give.ensures.last);
     }
+
+pub returns-clause-led : goal.returns-clause-led
+returns-clause-led g c = leads_on (last c.args.self.now.pass) (last c.give.new.pass) c.take-held.result c.args.self.now.met (c.give.ensures.last ∙ search rules) c.take-held.ensures.led
+
+pub returns-clause-extends : goal.returns-clause-extends
+returns-clause-extends g c =
+    let old = c.args.self.now.pass in
+    let new = c.give.new.pass in
+    let extends : Extends (seen new) (seen old) = search rules in
+    between (λ a b. Extends b a) (seen old) (seen new) c.args.self.now.known (c.give.ensures.seen ∙ sym (ap (λ z. (machine_seen z).history) c.give.ensures.last)) extends
 
 pub returns-clause-none_opened : goal.returns-clause-none_opened
 returns-clause-none_opened g c =
+    let old = c.args.self.now.pass in
+    let new = c.give.new.pass in
     let is : taken c.take-held.new.pass ≡ (machine c.state.result.now).history = search rules in
-    let known : openings_of (machine c.state.result.now).history ≡ openings_of (main_seen c.args.self.now) = ap openings_of (sym is ∙ c.take-held.ensures.taken) ∙ c.take-held.ensures.alone c.args.self.now.alone in
-    same_opens_none (main_seen c.args.self.now) (machine c.state.result.now).history (seen c.give.new.pass) known c.give.ensures.seen
+    let opened : openings_of (machine c.state.result.now).history ≡ openings_of (seen old) = ap openings_of (sym is ∙ c.take-held.ensures.taken) ∙ c.take-held.ensures.alone c.args.self.now.alone in
+    between OpensNone (seen old) (seen new) c.args.self.now.known (c.give.ensures.seen ∙ sym (ap (λ z. (machine_seen z).history) c.give.ensures.last)) (same_opens_none (seen old) (machine c.state.result.now).history (seen new) opened c.give.ensures.seen)

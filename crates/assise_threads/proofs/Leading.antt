@@ -1,0 +1,79 @@
+-- What the main thread does in one take leads on.
+use Rattle.std.proofs.Common.{◌≡◌, Option, None, Some, List, [], ◌∷◌, refl, sym, subst, is_some, true, false}
+use Rattle.assise_fault_script.specs.declared.command.Command.{Command}
+use Rattle.assise_fault_script.specs.declared.command.Command.TheVariants.{Cluster, Manual, Open, Call, Carry, Link, Hot, Digest as DigestOf, Release as ReleaseAll, Crash as CrashOf, Fail as FailOf, Back, Refill as RefillOf, Join as JoinOf, Raise as RaiseOf, Tree as TreeOf, History, Check as CheckAll}
+use Rattle.assise_fault_script.specs.declared.parse.NumberedCommand.{NumberedCommand}
+use Rattle.assise_keeper.specs.Rule.{IsLed}
+use Rattle.assise_machine.specs.Clusters.{machine}
+use Rattle.assise_machine.specs.Following.{IsLedTo, led_by, led_to_itself}
+use Rattle.assise_machine.specs.declared.cluster.ClusterOf.{ClusterOf}
+use Rattle.assise_model_events.specs.Events.{back, crash, digest, fail, join, raise, refill, release_ready, set_hot}
+use Rattle.assise_model_events.specs.Machine.{Machine}
+use Rattle.assise_console.specs.declared.response.Response.{Response}
+use Rattle.assise_console.specs.Steps.{is_made, is_out}
+use Rattle.assise_rounds.specs.Traces.{Told}
+use Rattle.assise_threads.specs.Begun.{begun_by, machine_of}
+use Rattle.assise_threads.specs.LastSeen.{machine_seen}
+use Rattle.assise_threads.specs.Threads.{DoesTake}
+use Rattle.assise_threads.specs.declared.takes.Take.{Take}
+use Rattle.assise_threads.specs.declared.takes.Take.TheVariants.{Digest, Release, SetHot, Crash, Fail, BeginReturn, Refill, Join, Raise, Tree, Check}
+
+stays_led : (m m' : Machine) → m' ≡ m → IsLedTo m m'
+stays_led m m' same = subst (IsLedTo m) (sym same) (led_to_itself m)
+
+pub take_leads : (take : Take) (a : Response) (m : Machine) (es : Told) (m' : Machine) → DoesTake take a m es m' → IsLedTo m m'
+take_leads (Digest n) a m es m' h = led_by m (digest n) h.answer m' h.event.happens
+take_leads Release a m es m' h = led_by m release_ready h.answer m' h.event.happens
+take_leads (SetHot n capacity) a m es m' (is_made least most h) = led_by m (set_hot n capacity) h.answer m' h.event.happens
+take_leads (SetHot n capacity) a m es m' (is_out out is h) = stays_led m m' h.stays
+take_leads (Crash c) a m es m' h = led_by m (crash c) h.answer m' h.event.happens
+take_leads (Fail n) a m es m' h = led_by m (fail n) h.answer m' h.event.happens
+take_leads (BeginReturn n) a m es m' h = led_by m (back n) h.answer m' h.event.happens
+take_leads (Refill n) a m es m' h = led_by m (refill n) h.answer m' h.event.happens
+take_leads (Join n) a m es m' h = led_by m (join n) h.answer m' h.event.happens
+take_leads (Raise n) a m es m' h = led_by m (raise n) h.answer m' h.event.happens
+take_leads (Tree n) a m es m' h = stays_led m m' h.stays
+take_leads Check a m es m' h = stays_led m m' h.stays
+
+-- ---- from what the pass has seen last
+
+-- a fact of two values is one of two that are the same
+pub between : {X : Type 0} (P : X → X → Type 0) (a b : X) {c d : X} → a ≡ c → b ≡ d → P a b → P c d
+between P a b {c} {d} left right h = subst (λ z. P z d) left (subst (P a) right h)
+
+abbrev pub cluster_leads : {C : Type 0} → ClusterOf C → ClusterOf C → Type 0
+cluster_leads s t = IsLedTo (machine s) (machine t)
+
+module _ {C : Type 0} where
+  pub seen_leads : (last : Option (ClusterOf C)) (cluster : ClusterOf C) → is_some last ≡ true → IsLed cluster_leads last (Some cluster) → IsLedTo (machine_seen last) (machine cluster)
+  seen_leads None cluster met led = absurd (let x : false ≡ true = met in cc)
+  seen_leads (Some before) cluster met led = led
+
+  pub leads_on : (last now : Option (ClusterOf C)) (cluster : ClusterOf C) → is_some last ≡ true → now ≡ Some cluster → IsLed cluster_leads last (Some cluster) → IsLedTo (machine_seen last) (machine_seen now)
+  leads_on last now cluster met is led = subst (λ z. IsLedTo (machine_seen last) (machine_seen z)) (sym is) (seen_leads last cluster met led)
+
+-- ---- the first machine
+
+first_history : (command : Command) → (machine_of command).history ≡ []
+first_history (Cluster nodes log hot) = refl
+first_history Manual = refl
+first_history (Open n kind u) = refl
+first_history (Call c op) = refl
+first_history (Carry n) = refl
+first_history (Link n kind) = refl
+first_history (Hot n capacity) = refl
+first_history (DigestOf n) = refl
+first_history ReleaseAll = refl
+first_history (CrashOf c) = refl
+first_history (FailOf n) = refl
+first_history (Back n) = refl
+first_history (RefillOf n) = refl
+first_history (JoinOf n) = refl
+first_history (RaiseOf n) = refl
+first_history (TreeOf n) = refl
+first_history History = refl
+first_history CheckAll = refl
+
+pub begun_history : (ls : List NumberedCommand) → (begun_by ls).history ≡ []
+begun_history [] = refl
+begun_history (l ∷ ls) = first_history l.command

@@ -1,0 +1,40 @@
+-- How often a node that comes back was filled and tried to join.
+use Rattle.std.proofs.Common.{◌≡◌, ◌≤◌, ◌<◌, ℕ, zero, suc, ◌+◌, List, refl, sym, subst, arith}
+use Rattle.assise_names.specs.declared.refusal.Refusal.TheVariants.{Busy}
+use Rattle.assise_keeper.specs.Clients.{Extends}
+use Rattle.assise_console.specs.OneEvent.{IsOneAt}
+use Rattle.assise_console.specs.declared.response.Response.{Response}
+use Rattle.assise_console.specs.declared.response.Response.TheVariants.{Refused}
+use Rattle.assise_keeper.proofs.PassAdds.{extends-same}
+use Rattle.assise_model_events.specs.Events.{back, join, refill}
+use Rattle.assise_model_events.specs.Machine.{Machine}
+use Rattle.assise_workers.proofs.Lists.{extends-on}
+use Rattle.assise_threads.specs.Answered.{BeginsReturn, HasFilled, HasTried, IsDone, IsFilledOnce}
+use Rattle.assise_threads.specs.Takes.{InOneTake}
+
+-- before the first time
+pub tried_none : (n : ℕ) (a : Response) (old begun : Machine) → IsDone a → InOneTake (IsOneAt back n a) old begun → HasTried n 0 old begun
+tried_none n a old begun done take = record { begun = begun; begins = record { answer = a; done = done; take = take }; tries = refl }
+
+-- once more
+pub tried_more : (n k : ℕ) (a : Response) (old tried filled new : Machine) → HasTried n k old tried → IsDone a → InOneTake (IsOneAt refill n a) tried filled → InOneTake (IsOneAt join n (Refused Busy)) filled new → HasTried n (k + 1) old new
+tried_more n k a old tried filled new before done take joins =
+    let next : suc k ≡ k + 1 = omega arith in
+    record {
+      begun = before.begun;
+      begins = before.begins;
+      tries = subst (λ j. HasFilled n j before.begun new) next (tried, (before.tries, (filled, (record { answer = a; done = done; take = take }, joins))));
+    }
+
+-- so many times in all
+pub tried_all : (n k turns : ℕ) (old new : Machine) → HasTried n k old new → k ≤ turns → turns ≤ k → HasTried n turns old new
+tried_all n k turns old new tried few many = let same : k ≡ turns = omega (arith, few, many) in subst (λ j. HasTried n j old new) same tried
+
+-- ---- what is seen goes on
+
+filled_on : (n k : ℕ) (old new : Machine) → HasFilled n k old new → Extends new.history old.history
+filled_on n zero old new same = subst (λ z. Extends z.history old.history) (sym same) (extends-same old.history)
+filled_on n (suc k) old new (mid, (before, (filled, (once, last)))) = extends-on new.history mid.history old.history (extends-on new.history filled.history mid.history last.grows once.take.grows) (filled_on n k old mid before)
+
+pub tried_on : (n k : ℕ) (old new : Machine) → HasTried n k old new → Extends new.history old.history
+tried_on n k old new t = extends-on new.history t.begun.history old.history (filled_on n k t.begun new t.tries) t.begins.take.grows

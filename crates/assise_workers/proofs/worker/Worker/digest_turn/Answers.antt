@@ -1,0 +1,9 @@
+use Rattle.assise_keeper.proofs.Following.{led_from}
+use Rattle.assise_workers.proofs.worker.Worker.digest_turn.Goals as goal
+
+pub give-requires-clause-leads : goal.give-requires-clause-leads
+give-requires-clause-leads g c =
+    let digests = rw c.state.ensures.value at c.digest.ensures.acts in
+    let releases = rw c.state-2.ensures.value at c.release_ready-released.ensures.acts in
+    led_from g.S.Growing.leads _ c.take-held.result c.release_ready-released.new.self c.take-held.ensures.state
+    (g.S.Growing.goes_on _ _ _ (g.met.S.Replicated.acts_lead _ _ _ _ digests) (g.met.S.Replicated.acts_lead _ _ _ _ releases))
