@@ -11,7 +11,7 @@ use crate::fault::EngineFault;
 use crate::options::CommandLine;
 use crate::response::Response;
 use crate::stock::Stock;
-use crate::text::AnswerText;
+use crate::text::{AnswerLine, AnswerText};
 use assise_fault_script::command::Command;
 use assise_fault_script::parse::{NumberedCommand, parse};
 use assise_history::history::History;
@@ -232,7 +232,8 @@ fn print_line<W: Write>(
     ensures only_write { IsOkUnless result EngineFault.Write }
 {
     let text = AnswerText { history, answer };
-    match writeln!(writer, "{number}: {text}") {
+    let line = AnswerLine { number, text };
+    match write!(writer, "{line}") {
         Ok(()) => Ok(()),
         Err(_) => Err(EngineFault::Write),
     }

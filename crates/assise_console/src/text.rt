@@ -1,7 +1,7 @@
 // What answers look like.
 ghost use Rattle.std.specs.Prelude.{◌++◌, Some, codes};
 ghost use Rattle.std.specs.Fmt.{WritesOnOk, decimal};
-ghost use Rattle.assise_console.specs.Lines.{answer_text, lost_text};
+ghost use Rattle.assise_console.specs.Lines.{answer_text, lost_text, numbered_line};
 
 use crate::response::Response;
 use assise_history::history::History;
@@ -44,6 +44,25 @@ impl Display for AnswerText<'_> {
             Response::Checked(true) => f.write_str("legal"),
             Response::Checked(false) => f.write_str("illegal"),
         }
+    }
+}
+
+/// The line of an answer with its number, where the history so far is this.
+#[derive(Drop)]
+pub(crate) struct AnswerLine<'a> {
+    pub(crate) number: u64,
+    pub(crate) text: AnswerText<'a>,
+}
+
+impl Display for AnswerLine<'_> {
+    ghost output = { λ l. Some (numbered_line l.number
+        (answer_text l.text.history.now.events l.text.answer.now)) };
+
+    fn fmt<W: fmt::Write>(&self, f: &mut Formatter<W>) -> fmt::Result {
+        self.number.fmt(f)?;
+        f.write_str(": ")?;
+        self.text.fmt(f)?;
+        f.write_str("\n")
     }
 }
 

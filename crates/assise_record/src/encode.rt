@@ -48,6 +48,14 @@ fn put(out: &mut Vec<u8>, bytes: &[u8])
     }
 }
 
+/// Appends a byte for which there is room.
+fn put_byte(out: &mut Vec<u8>, byte: u8)
+    requires { BytesFit out.old (byte ∷ []) }
+    ensures { Appends out.old out.new (byte ∷ []) }
+{
+    out.push_reserved(byte);
+}
+
 fn put_u16(out: &mut Vec<u8>, number: u16)
     requires { BytesFit out.old (big_bytes 2 number) }
     ensures { Appends out.old out.new (big_bytes 2 number) }
@@ -92,7 +100,7 @@ fn put_name(out: &mut Vec<u8>, name: &Name)
     ensures lawful { IsTrue (is_name name.now) }
 {
     let bytes = name.as_str().as_bytes();
-    put(out, &[bytes.len() as u8]);
+    put_byte(out, bytes.len() as u8);
     put(out, bytes);
 }
 
@@ -172,7 +180,7 @@ fn put_effect(out: &mut Vec<u8>, effect: &Effect)
     ensures appended { Appends out.old out.new (effect_spelling effect.now) }
     ensures lawful { IsEffect effect.now }
 {
-    put(out, &[tag_of(effect)]);
+    put_byte(out, tag_of(effect));
     put_fields(out, effect);
 }
 
@@ -191,8 +199,8 @@ fn put_mark(out: &mut Vec<u8>, mark: Option<bool>)
     ensures { Appends out.old out.new (mark_spelling mark) }
 {
     match mark {
-        Some(true) => put(out, &[LAST]),
-        Some(false) => put(out, &[NOT_LAST]),
+        Some(true) => put_byte(out, LAST),
+        Some(false) => put_byte(out, NOT_LAST),
         None => (),
     }
 }
@@ -205,7 +213,7 @@ fn put_record(out: &mut Vec<u8>, mark: Option<bool>, logged: &Record)
     let effects = logged.effects();
     put_u64(out, logged.call());
     put_mark(out, mark);
-    put(out, &[effects.len() as u8]);
+    put_byte(out, effects.len() as u8);
     put_effects(out, effects);
 }
 

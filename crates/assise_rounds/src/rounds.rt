@@ -1,5 +1,5 @@
 // What a cluster does between the tries of a call: replicate turns, and rounds.
-ghost use Rattle.std.specs.Prelude.{◌≡◌, ◌≤◌, IfErr, IfOk, Some, false, is_none, length, map, true};
+ghost use Rattle.std.specs.Prelude.{◌≡◌, ◌≤◌, IfErr, IfNone, IfOk, IfSome, Some, is_none, length, map};
 ghost use Rattle.assise_names.specs.declared.refusal.Refusal.TheVariants.{BadNode};
 ghost use Rattle.assise_names.specs.declared.limits.TheConstants.{MOST_NODES};
 ghost use Rattle.assise_model_events.specs.Events.{refused, released};
@@ -124,10 +124,10 @@ fn replicate_all<C: Revokes + Drop, L: Link>(
 {
     let mut busy = false;
     for node in 1..=MOST_NODES {
-        if !is_there(cluster, node) {
+        let Some(full) = is_full(cluster, node) else {
             return busy;
-        }
-        if is_full(cluster, node) {
+        };
+        if full {
             busy |= take_turn(alloc, cluster, &mut links[node as usize - 1], node);
         }
     }
@@ -162,10 +162,10 @@ fn digest_all<C: Revokes + Drop>(alloc: Global, cluster: &mut ClusterOf<C>) -> b
 {
     let mut busy = false;
     for node in 1..=MOST_NODES {
-        if !is_there(cluster, node) {
+        let Some(full) = is_full(cluster, node) else {
             return busy;
-        }
-        if is_full(cluster, node) {
+        };
+        if full {
             busy |= digest(alloc, cluster, node);
         }
     }
@@ -190,15 +190,14 @@ fn release<C: Revokes + Drop>(cluster: &mut ClusterOf<C>) -> usize
     cluster.release_ready()
 }
 
-/// Whether there is such a node. Where there isn't, there is none of a greater number.
-fn is_there<C: Revokes + Drop>(cluster: &ClusterOf<C>, node: u32) -> bool
-    ensures { result ≡ false → node_fault (machine cluster.now) node ≡ Some BadNode }
+/// Whether a node is full. `None` where there is no such node, and so none of a greater number.
+fn is_full<C: Revokes + Drop>(cluster: &ClusterOf<C>, node: u32) -> Option<bool>
+    ensures full { IfSome result (λ full. full ≡ is_none (node_fault (machine cluster.now) node)) }
+    ensures none { IfNone result (node_fault (machine cluster.now) node ≡ Some BadNode) }
 {
-    !matches!(cluster.region(node), Err(Refusal::BadNode))
-}
-
-fn is_full<C: Revokes + Drop>(cluster: &ClusterOf<C>, node: u32) -> bool
-    ensures { result ≡ is_none (node_fault (machine cluster.now) node) }
-{
-    cluster.region(node).is_ok()
+    match cluster.region(node) {
+        Ok(_) => Some(true),
+        Err(Refusal::BadNode) => None,
+        Err(_) => Some(false),
+    }
 }

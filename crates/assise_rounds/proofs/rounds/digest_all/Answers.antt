@@ -7,7 +7,7 @@ use Rattle.assise_rounds.specs.Rounds.{EachFull, DigestsOnce, WithWork}
 use Rattle.assise_rounds.proofs.LastNode.{none_there}
 use Rattle.assise_rounds.proofs.RoundSteps.{faulty_next, full_next, none_behind}
 use Rattle.assise_rounds.proofs.rounds.digest_all.Goals as goal
-use Rattle.assise_rounds.proofs.rounds.digest_all.Goals.{else-is_full, then-is_full}
+use Rattle.assise_rounds.proofs.rounds.digest_all.Goals.{else-full, then-full}
 
 pub loop-node-init : goal.loop-node-init
 loop-node-init g c = ([], record { does = record { told = refl; stays = refl }; work = refl })
@@ -17,22 +17,22 @@ loop-node-preserved g c =
     let m = machine c.args.cluster.now in
     let v = machine c.loop-node.cluster in
     let k = c.loop-node.node in
-    elim c.if-is_full.branch [
-      | then-is_full w ↦
+    elim c.if-full.branch [
+      | then-full w ↦
           let u = machine w.digest-busy.new.cluster in
-          let full = sym c.is_full.ensures ∙ w.if-is_full.true in
+          let full = sym c.in-Some.ensures.full ∙ w.if-full.true in
           rw w.cluster-is (rw w.busy-is (full_next DigestsOnce k m v u c.loop-node.busy w.digest-busy.result c.loop-node.auto.node full c.loop-node.invariant w.digest-busy.ensures))
-      | else-is_full w ↦
-          let faulty = sym c.is_full.ensures ∙ w.if-is_full.false in
+      | else-full w ↦
+          let faulty = sym c.in-Some.ensures.full ∙ w.if-full.false in
           rw w.cluster-is (rw w.busy-is (faulty_next DigestsOnce k m v c.loop-node.busy c.loop-node.auto.node faulty c.loop-node.invariant))
     ]
 
-pub returns-then-not-is_there : goal.returns-then-not-is_there
-returns-then-not-is_there g c =
+pub returns-in_default : goal.returns-in_default
+returns-in_default g c =
     let v = machine c.loop-node.cluster in
     let k = c.loop-node.node in
     let some = c.loop-node.auto.node in
-    let none : (j : ℕ) → k ≤ j → is_none (node_fault v j) ≡ false = λ j far. none_there v k j some (c.is_there.ensures c.if-not-is_there.true) far in
+    let none : (j : ℕ) → k ≤ j → is_none (node_fault v j) ≡ false = λ j far. none_there v k j some c.in_default.ensures.none far in
     none_behind DigestsOnce k MOST_NODES (machine c.args.cluster.now) v c.loop-node.busy some (omega (arith, c.loop-node.auto.node-end)) none c.loop-node.invariant
 
 pub returns : goal.returns
