@@ -47,3 +47,9 @@ pub adds_none : (who : Opener) (from at : Owner) (o : Opens) (c : Option ℕ) (x
 adds_none who from at Never c xs has own other is = no_openings c xs own
 adds_none who from at Alone c xs has own other is = absurd (other (ap (lone at) (sym is ∙ has)))
 adds_none who from at AmongOthers c xs has own other is = absurd (let e : alone at ≡ anyone = sym is ∙ has in (cc))
+
+-- where another half may open alone, this one may open none
+pub opens_none : (who : Opener) (from at : Owner) (o : Opens) → HasRight who from o → (at ≡ from → ⊥) → HasRight who at Alone → o ≡ Never
+opens_none who from at Never has other is = refl
+opens_none who from at Alone has other is = absurd (other (ap (lone at) (sym is ∙ has)))
+opens_none who from at AmongOthers has other is = absurd (let e : alone at ≡ anyone = sym is ∙ has in (cc))

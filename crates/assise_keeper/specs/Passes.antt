@@ -8,7 +8,6 @@ use Rattle.assise_keeper.specs.declared.view.Stage.TheVariants.{Fresh, Idle, Hol
 use Rattle.assise_keeper.specs.declared.pass.Pass.{Pass}
 use Rattle.assise_keeper.specs.declared.keeper.Keeper.{Keeper}
 use Rattle.assise_keeper.specs.Clients.{calls_of}
-use Rattle.assise_keeper.specs.Rule.{IsLed}
 
 abbrev pub taken_at : {S : Type 0} → Stage S → List EntryValue
 taken_at Fresh = []
@@ -75,10 +74,3 @@ module _ {S : Type 0} where
   -- it is the first pass of this keeper, before the state is in
   abbrev pub IsFirst : Keeper S → Pass S → Type 0
   IsFirst k p = (p.seat.table_id ≡ k.table.shared.table_id) × (p.seat.me.1 ≡ []) × (p.seat.me.0.stage ≡ Fresh)
-
-  -- It has seen a state last, with its history, to which what it had seen last before leads.
-  pub record HasGoneOn (history : S → List EntryValue) (leads : S → S → Type 0) (old new : Pass S) : Type 0 where
-    pub state : S
-    pub is_last : last new ≡ Some state
-    pub is_seen : seen new ≡ history state
-    pub led : IsLed leads (last old) (Some state)

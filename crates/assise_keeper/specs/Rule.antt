@@ -41,10 +41,15 @@ IsLed leads None now = Unit {0}
 IsLed leads (Some s) None = ⊥
 IsLed leads (Some s) (Some t) = leads s t
 
+-- what a half noted leads to the state, and by work alone where the half alone may open
+pub record IsHalfLed {S : Type 0} (leads works : S → S → Type 0) (v : Half S) (now : Option S) : Type 0 where
+  pub led : IsLed leads v.last now
+  pub worked : v.opens ≡ Alone → IsLed works v.last now
+
 -- so does what both halves noted
-pub record AreLed {S : Type 0} (leads : S → S → Type 0) (v : View S) (now : Option S) : Type 0 where
-  pub own : IsLed leads v.own.last now
-  pub guest : IsLed leads v.guest.last now
+pub record AreLed {S : Type 0} (leads works : S → S → Type 0) (v : View S) (now : Option S) : Type 0 where
+  pub own : IsHalfLed leads works v.own now
+  pub guest : IsHalfLed leads works v.guest now
 
 -- The history extends what was seen. It has no call of the client that wasn't seen, and no opening where the half alone may open.
 abbrev pub CoversHalf : {S : Type 0} → List EntryValue → Half S → Type 0
@@ -69,16 +74,16 @@ HasRight who at AmongOthers = who ≡ anyone
 abbrev pub HalfFits : {S : Type 0} → List EntryValue → (ℕ → Owner) → Opener → ℕ → Bool → Half S → Type 0
 HalfFits h owner who pass side v = CoversHalf h v × ((c : ℕ) → v.client ≡ Some c → (0 < openings c v.seen) × (owner c ≡ (pass, side))) × HasRight who (pass, side) v.opens
 
-abbrev pub IsPassAt : {S : Type 0} → (S → S → Type 0) → StatePlace → List EntryValue → Option S → (ℕ → Owner) → Opener → ℕ → View S → Type 0
-IsPassAt leads p h now owner who j v = HalfFits h owner who j true v.own × HalfFits h owner who j false v.guest × IsStage p h now j v.stage × AreLed leads v now
+abbrev pub IsPassAt : {S : Type 0} → (leads works : S → S → Type 0) → StatePlace → List EntryValue → Option S → (ℕ → Owner) → Opener → ℕ → View S → Type 0
+IsPassAt leads works p h now owner who j v = HalfFits h owner who j true v.own × HalfFits h owner who j false v.guest × IsStage p h now j v.stage × AreLed leads works v now
 
 -- There is one state, with one history: the state at home, or as it was when it was taken. The history covers what every pass knows, and
--- what every pass noted leads to the state.
-pub record IsKept {S : Type 0} (history : S → List EntryValue) (leads : S → S → Type 0) (s : State (Option S) (View S)) : Type 0 where
+-- what every pass noted leads to the state: by work alone, where the pass alone may open clients.
+pub record IsKept {S : Type 0} (history : S → List EntryValue) (leads works : S → S → Type 0) (s : State (Option S) (View S)) : Type 0 where
   pub h : List EntryValue
   pub now : Option S
   pub place : StatePlace
   pub owner : ℕ → Owner
   pub who : Opener
   pub is_at : IsAt history s.words s.homes s.views h now place
-  pub each : (j : ℕ) (v : View S) → get_elem? s.views j ≡ some v → IsPassAt leads place h now owner who j v
+  pub each : (j : ℕ) (v : View S) → get_elem? s.views j ≡ some v → IsPassAt leads works place h now owner who j v

@@ -14,9 +14,9 @@ Sitting S = Me (Option S) (View S)
 
 module _ {S : Type 0} (history : S → List EntryValue) where
   -- from 0 to 1: the pass carries the slot and notes the state, whose history covers what it knows, and to which what it had noted leads
-  abbrev pub taking : (S → S → Type 0) → Step (Option S) → Sitting S → ℕ → Sitting S → Type 0
-  taking leads st m found m' =
-      (found ≡ 0 → (x : S) × (m' ≡ (holding m.0 (history x) x, (0, Some x) ∷ m.1)) × CoversHalf (history x) m.0.own × CoversHalf (history x) m.0.guest × AreLed leads m.0 (Some x))
+  abbrev pub taking : (leads works : S → S → Type 0) → Step (Option S) → Sitting S → ℕ → Sitting S → Type 0
+  taking leads works st m found m' =
+      (found ≡ 0 → (x : S) × (m' ≡ (holding m.0 (history x) x, (0, Some x) ∷ m.1)) × CoversHalf (history x) m.0.own × CoversHalf (history x) m.0.guest × AreLed leads works m.0 (Some x))
       × (found ≢ 0 → m' ≡ m)
 
   -- from 1 to 0: the slot goes home, and the pass has seen the state in it

@@ -79,6 +79,8 @@ impl<S: Growing> Keeper<S> {
         requires grows { MayGive (client pass.old) (opens pass.old)
             (taken pass.old) (S.history state) }
         requires leads { IsLed S.leads (state_taken pass.old) (Some state) }
+        requires works { opens pass.old ≡ Never →
+            IsLed S.works (state_taken pass.old) (Some state) }
         ensures free { IsPassOf self.now pass.new }
         ensures view { view pass.new ≡ given (view pass.old) (taken pass.old)
             (S.history state) state }
@@ -95,7 +97,7 @@ impl<S: Growing> Keeper<S> {
             (view pass.new ≡ holding (view pass.old) (S.history t) t) ×
             CoversHalf (S.history t) (view pass.old).own ×
             CoversHalf (S.history t) (view pass.old).guest ×
-            AreLed S.leads (view pass.old) (Some t)) }
+            AreLed S.leads S.works (view pass.old) (Some t)) }
         ensures none { IfNone result (IsPassOf self.now pass.new ×
             (view pass.new ≡ view pass.old)) }
     {
@@ -116,7 +118,7 @@ impl<S: Growing> Keeper<S> {
         ensures view { view pass.new ≡ holding (view pass.old) (S.history result) result }
         ensures own { CoversHalf (S.history result) (view pass.old).own }
         ensures guest { CoversHalf (S.history result) (view pass.old).guest }
-        ensures led { AreLed S.leads (view pass.old) (Some result) }
+        ensures led { AreLed S.leads S.works (view pass.old) (Some result) }
     {
         let nap = Duration::from_micros(NAP_MICROS);
         let mut tries = 0;
@@ -135,7 +137,8 @@ impl<S: Growing> Keeper<S> {
     }
 
     /// Waits until the state is there, and takes it. What the pass has seen last leads to it, and its history extends what the pass has
-    /// seen. It has no call of the pass's client that the pass hadn't seen, and no opening where the pass alone may open clients.
+    /// seen. It has no call of the pass's client that the pass hadn't seen. Where the pass alone may open clients, no other opened one, and
+    /// all that was done since is work.
     pub fn take<R: Wait>(&self, rt: &R, pass: &mut Pass<S>) -> Held<S>
         requires { IsPassOf self.now pass.old }
         ensures holds { IsHolding self.now pass.new }
@@ -145,6 +148,7 @@ impl<S: Growing> Keeper<S> {
         ensures last { last pass.new ≡ last pass.old }
         ensures right { opens pass.new ≡ opens pass.old }
         ensures led { IsLed S.leads (last pass.old) (Some result) }
+        ensures worked { opens pass.old ≡ Alone → IsLed S.works (last pass.old) (Some result) }
         ensures extends { Extends (S.history result) (seen pass.old) }
         ensures mine { calls_of (client pass.old) (S.history result) ≡ mine pass.old }
         ensures alone { opens pass.old ≡ Alone →
@@ -153,13 +157,16 @@ impl<S: Growing> Keeper<S> {
         Held::of(self.get(rt, pass))
     }
 
-    /// Gives the state back, and the pass has seen it. It waits for nobody and takes no memory. The state that was taken leads to it, and
-    /// what was added to the history is what the pass may add: calls of its own client, and, with the right to, the opening of one client where it has none.
+    /// Gives the state back, and the pass has seen it. It waits for nobody and takes no memory. The state that was taken leads to it, by
+    /// work alone where the pass may open no clients, and what was added to the history is what the pass may add: calls of its own client,
+    /// and, with the right to, the opening of one client where it has none.
     pub fn give(&self, pass: &mut Pass<S>, held: Held<S>)
         requires holding { IsHolding self.now pass.old }
         requires grows { MayGive (client pass.old) (opens pass.old)
             (taken pass.old) (S.history held) }
         requires leads { IsLed S.leads (state_taken pass.old) (Some held) }
+        requires works { opens pass.old ≡ Never →
+            IsLed S.works (state_taken pass.old) (Some held) }
         ensures free { IsPassOf self.now pass.new }
         ensures seen { seen pass.new ≡ S.history held }
         ensures last { last pass.new ≡ Some held }
@@ -235,6 +242,10 @@ impl<S: Growing> Keeper<S> {
         ensures calls_of_first { mine result.0 ≡ mine first }
         ensures calls_of_second { mine result.1 ≡ mine second }
         ensures rights { (opens result.0 ≡ opens first) × (opens result.1 ≡ opens second) }
+        ensures first_worked { opens first ≡ Alone →
+            IsLed S.works (last first) (last result.0) }
+        ensures second_worked { opens second ≡ Alone →
+            IsLed S.works (last second) (last result.1) }
         ensures first_alone { opens first ≡ Alone →
             openings_of (seen result.0) ≡ openings_of (seen first) }
         ensures second_alone { opens second ≡ Alone →
@@ -264,7 +275,7 @@ impl<S: Growing> Keeper<S> {
         ensures one_state { (view pass.new).own.last ≡ (view pass.new).guest.last }
         ensures known { (state : S) × ((view pass.new).own.seen ≡ S.history state) ×
             ((view pass.new).own.last ≡ Some state) }
-        ensures led { AreLed S.leads (view pass.old) (view pass.new).own.last }
+        ensures led { AreLed S.leads S.works (view pass.old) (view pass.new).own.last }
     {
         let state = self.get(rt, pass);
         self.put(pass, state);

@@ -11,7 +11,7 @@ use atomic_table::{Join, Play, Split, TableRule};
 pub(crate) struct OneHistory;
 
 impl<S: Growing> TableRule<Option<S>, View<S>, ()> for OneHistory {
-    ghost holds = { λ _. IsKept S.history S.leads };
+    ghost holds = { λ _. IsKept S.history S.leads S.works };
 
     ghost first = { λ _. newcomer };
 }
@@ -19,7 +19,7 @@ impl<S: Growing> TableRule<Option<S>, View<S>, ()> for OneHistory {
 pub(crate) struct Take;
 
 impl<S: Growing> Play<Option<S>, View<S>> for Take {
-    ghost then = { taking S.history S.leads };
+    ghost then = { taking S.history S.leads S.works };
 }
 
 pub(crate) struct Release;

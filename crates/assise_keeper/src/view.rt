@@ -2,11 +2,11 @@
 use assise_history::entry::Entry;
 use std::collections::LinkedList;
 
-/// Whether a pass may open clients.
+/// Whether a pass may open clients, and do what else is no work.
 pub enum Opens {
     /// It may not.
     Never,
-    /// It may, and no other pass may: so it has seen all openings.
+    /// It may, and no other pass may: so it has seen all openings, and what it hasn't seen is work.
     Alone,
     /// It may, and so may others.
     AmongOthers,

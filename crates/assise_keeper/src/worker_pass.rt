@@ -43,12 +43,13 @@ impl<S: Growing> WorkerPass<S> {
         keeper.take(rt, &mut self.pass)
     }
 
-    /// Gives the state back with the history that was taken, and the pass has seen it. The state that was taken leads to it. It waits for
-    /// nobody and takes no memory.
+    /// Gives the state back with the history that was taken, and the pass has seen it. The state that was taken leads to it by work
+    /// alone. It waits for nobody and takes no memory.
     pub fn give(&mut self, keeper: &Keeper<S>, held: Held<S>)
         requires holding { IsHolding keeper.now (pass_of self.old) }
         requires nothing_added { S.history held ≡ taken (pass_of self.old) }
         requires leads { IsLed S.leads (state_taken (pass_of self.old)) (Some held) }
+        requires works { IsLed S.works (state_taken (pass_of self.old)) (Some held) }
         ensures free { IsPassOf keeper.now (pass_of self.new) }
         ensures seen { seen (pass_of self.new) ≡ S.history held }
         ensures last { last (pass_of self.new) ≡ Some held }

@@ -28,11 +28,17 @@ impl Growing for Book {
 
     ghost leads = { λ old new. Unit {0} };
 
+    ghost works = { λ old new. Unit {0} };
+
     ghost opens_once = { λ b. b.once };
 
     ghost stays = { λ b. tt };
 
     ghost goes_on = { λ s t u first more. tt };
+
+    ghost rests = { λ b. tt };
+
+    ghost works_on = { λ s t u first more. tt };
 }
 
 impl Book {

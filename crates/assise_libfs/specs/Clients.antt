@@ -34,9 +34,10 @@ module _ {S : Type 0} where
   abbrev pub opens_of : LibFs S → Opens
   opens_of l = opens l.pass
 
-  -- it is the same client, at the same node and keeper
+  -- it is the same client, at the same node and keeper, with the same turns and right
   pub record IsSameClient (old new : LibFs S) : Type 0 where
     pub client : client_of new ≡ client_of old
     pub node : node_of new ≡ node_of old
     pub keeper : keeper_of new ≡ keeper_of old
     pub limit : limit_of new ≡ limit_of old
+    pub right : opens_of new ≡ opens_of old

@@ -7,7 +7,11 @@ use Rattle.assise_names.specs.declared.refusal.Refusal.TheVariants.{OutOfMemory,
 use Rattle.assise_names.specs.declared.reply.Reply.{Reply}
 use Rattle.assise_history.specs.Entries.{EntryValue}
 use Rattle.assise_history.specs.Legal.{calls_made}
+use Rattle.assise_keeper.specs.declared.pass.Pass.{Pass}
+use Rattle.assise_keeper.specs.declared.view.Opens.TheVariants.{Alone}
 use Rattle.assise_keeper.specs.Clients.{Extends}
+use Rattle.assise_keeper.specs.Passes.{last, opens, seen}
+use Rattle.assise_keeper.specs.Rule.{IsLed}
 use Rattle.assise_model_events.specs.Events.{Answer, ClusterEvent, not_yet, refused, replied, try_call}
 
 -- what one try is answered
@@ -23,6 +27,18 @@ pub record InOneTurn {S : Type 0} (history : S → List EntryValue) (acts : S �
   pub extends : Extends (history before) old
   pub does : acts before e a after
   pub seen : new ≡ history after
+
+-- A turn of a pass: what the pass had seen last led to the state that was taken, by work alone where it alone may open clients; the event
+-- happened to that state, with this answer; and the pass has seen what came of it.
+pub record IsPassTurn {S : Type 0} (history : S → List EntryValue) (leads works : S → S → Type 0) (acts : S → ClusterEvent → Answer → S → Type 0) (e : ClusterEvent) (a : Answer) (old new : Pass S) : Type 0 where
+  pub before : S
+  pub after : S
+  pub led : IsLed leads (last old) (Some before)
+  pub worked : opens old ≡ Alone → IsLed works (last old) (Some before)
+  pub extends : Extends (history before) (seen old)
+  pub does : acts before e a after
+  pub is_last : last new ≡ Some after
+  pub is_seen : seen new ≡ history after
 
 -- the client has made as many calls as a count of 64 bits can tell
 abbrev pub IsFullOf : ℕ → List EntryValue → Type 0

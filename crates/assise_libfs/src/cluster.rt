@@ -1,7 +1,7 @@
 // A cluster serves clients.
 ghost use Rattle.std.proofs.Math.Logic.{∥∥₁_map};
 ghost use Rattle.assise_machine.specs.Clusters.{machine};
-ghost use Rattle.assise_machine.specs.Following.{led_by};
+ghost use Rattle.assise_machine.specs.Following.{led_by, worked_by};
 ghost use Rattle.assise_model_events.specs.Happenings.{Happens};
 
 use crate::served::Served;
@@ -20,6 +20,9 @@ impl<C: Revokes + Drop> Served for ClusterOf<C> {
     ghost acts = { λ s e a t. Happens (machine s) e a (machine t) };
 
     ghost acts_lead = { λ s e a t happens. led_by (machine s) e a (machine t) happens };
+
+    ghost acts_work = { λ s e a t work happens.
+        worked_by (machine s) e a (machine t) work happens };
 
     fn open(
         &mut self,

@@ -58,12 +58,13 @@ impl<'a, S: Served> LibFs<'a, S> {
     ghost use Rattle.assise_history.specs.Legal.{IsLegal, calls_made};
     ghost use Rattle.assise_keeper.specs.declared.view.Opens.TheVariants.{Alone, Never};
     ghost use Rattle.assise_keeper.specs.Clients.{Extends, MayOpenClients, openings_of};
-    ghost use Rattle.assise_keeper.specs.Passes.{AreOfOneKeeper, HasGoneOn, IsPassOf, client as client_of_pass, last, mine, opens, seen};
+    ghost use Rattle.assise_keeper.specs.Passes.{AreOfOneKeeper, IsPassOf, client as client_of_pass, last, mine, opens, seen};
     ghost use Rattle.assise_libfs.specs.Calling.{MayRefuse, MayRefuseTry, SeesCall, SeesTry};
     ghost use Rattle.assise_libfs.specs.Clients.{IsSameClient, client_of, keeper_of, limit_of, node_of, opens_of, pass_of, seen_by};
     ghost use Rattle.assise_libfs.specs.Lives.{EndsWithOpening, IsOpenedAs, OpensNoOther};
     ghost use Rattle.assise_libfs.specs.Opening.{MayRefuseOpen};
-    ghost use Rattle.assise_libfs.specs.InTurns.{TurnsOnce, TurnsTo};
+    ghost use Rattle.assise_libfs.specs.InTurns.{IsPassTurn, TurnsOnce, TurnsTo};
+    ghost use Rattle.assise_model_events.specs.Events.{open_client, opened, refused};
 
     /// Opens a client on a node, whose fsyncs are served so, for calls of 1 to 1,000,000 turns. The client is the pass's from
     /// then on, beside its right to open clients; what is stored with it serves the state, as a revoker does.
@@ -105,10 +106,12 @@ impl<'a, S: Served> LibFs<'a, S> {
         ensures alone_back { IfErr result (λ back. opens pass ≡ Alone →
             openings_of (seen back.1) ≡ openings_of (seen pass)) }
         ensures given_back { IfErr result (λ back. back.2 ≡ stored) }
-        ensures on { IfOk result (λ it.
-            HasGoneOn S.Growing.history S.Growing.leads pass (pass_of it)) }
-        ensures on_back { IfErr result (λ back.
-            HasGoneOn S.Growing.history S.Growing.leads pass back.1) }
+        ensures turn { IfOk result (λ it. IsPassTurn S.Growing.history S.Growing.leads
+            S.Growing.works S.acts (open_client node durability) (opened (client_of it))
+            pass (pass_of it)) }
+        ensures turn_back { IfErr result (λ back. IsPassTurn S.Growing.history
+            S.Growing.leads S.Growing.works S.acts (open_client node durability)
+            (refused back.0) pass back.1) }
     {
         let mut pass = pass;
         match open_turn(rt, alloc, keeper, &mut pass, node, stored, durability) {
@@ -132,6 +135,8 @@ impl<'a, S: Served> LibFs<'a, S> {
         ensures legal { ∥ IsLegal (seen_by self.new) ∥₁ }
         ensures refused { IfErr result (λ r. MayRefuse (client_of self.old) (Create path)
             (seen_by self.new) r) }
+        ensures turns { TurnsTo S.Growing.history S.acts (client_of self.old) (Create path)
+            (limit_of self.old) result (seen_by self.old) (seen_by self.new) }
     {
         self.call(rt, alloc, &Op::Create(path))
     }
@@ -144,6 +149,8 @@ impl<'a, S: Served> LibFs<'a, S> {
         ensures legal { ∥ IsLegal (seen_by self.new) ∥₁ }
         ensures refused { IfErr result (λ r. MayRefuse (client_of self.old) (Mkdir path)
             (seen_by self.new) r) }
+        ensures turns { TurnsTo S.Growing.history S.acts (client_of self.old) (Mkdir path)
+            (limit_of self.old) result (seen_by self.old) (seen_by self.new) }
     {
         self.call(rt, alloc, &Op::Mkdir(path))
     }
@@ -163,6 +170,8 @@ impl<'a, S: Served> LibFs<'a, S> {
         ensures legal { ∥ IsLegal (seen_by self.new) ∥₁ }
         ensures refused { IfErr result (λ r. MayRefuse (client_of self.old) (Read path offset most)
             (seen_by self.new) r) }
+        ensures turns { TurnsTo S.Growing.history S.acts (client_of self.old) (Read path offset most)
+            (limit_of self.old) result (seen_by self.old) (seen_by self.new) }
     {
         self.call(rt, alloc, &Op::Read(path, offset, most))
     }
@@ -182,6 +191,8 @@ impl<'a, S: Served> LibFs<'a, S> {
         ensures legal { ∥ IsLegal (seen_by self.new) ∥₁ }
         ensures refused { IfErr result (λ r. MayRefuse
             (client_of self.old) (Write path offset bytes) (seen_by self.new) r) }
+        ensures turns { TurnsTo S.Growing.history S.acts (client_of self.old) (Write path offset bytes)
+            (limit_of self.old) result (seen_by self.old) (seen_by self.new) }
     {
         self.call(rt, alloc, &Op::Write(path, offset, bytes))
     }
@@ -200,6 +211,8 @@ impl<'a, S: Served> LibFs<'a, S> {
         ensures legal { ∥ IsLegal (seen_by self.new) ∥₁ }
         ensures refused { IfErr result (λ r. MayRefuse (client_of self.old) (Truncate path size)
             (seen_by self.new) r) }
+        ensures turns { TurnsTo S.Growing.history S.acts (client_of self.old) (Truncate path size)
+            (limit_of self.old) result (seen_by self.old) (seen_by self.new) }
     {
         self.call(rt, alloc, &Op::Truncate(path, size))
     }
@@ -218,6 +231,8 @@ impl<'a, S: Served> LibFs<'a, S> {
         ensures legal { ∥ IsLegal (seen_by self.new) ∥₁ }
         ensures refused { IfErr result (λ r. MayRefuse (client_of self.old) (Rename from to)
             (seen_by self.new) r) }
+        ensures turns { TurnsTo S.Growing.history S.acts (client_of self.old) (Rename from to)
+            (limit_of self.old) result (seen_by self.old) (seen_by self.new) }
     {
         self.call(rt, alloc, &Op::Rename(from, to))
     }
@@ -230,6 +245,8 @@ impl<'a, S: Served> LibFs<'a, S> {
         ensures legal { ∥ IsLegal (seen_by self.new) ∥₁ }
         ensures refused { IfErr result (λ r. MayRefuse (client_of self.old) (Unlink path)
             (seen_by self.new) r) }
+        ensures turns { TurnsTo S.Growing.history S.acts (client_of self.old) (Unlink path)
+            (limit_of self.old) result (seen_by self.old) (seen_by self.new) }
     {
         self.call(rt, alloc, &Op::Unlink(path))
     }
@@ -242,6 +259,8 @@ impl<'a, S: Served> LibFs<'a, S> {
         ensures legal { ∥ IsLegal (seen_by self.new) ∥₁ }
         ensures refused { IfErr result (λ r. MayRefuse (client_of self.old) (Rmdir path)
             (seen_by self.new) r) }
+        ensures turns { TurnsTo S.Growing.history S.acts (client_of self.old) (Rmdir path)
+            (limit_of self.old) result (seen_by self.old) (seen_by self.new) }
     {
         self.call(rt, alloc, &Op::Rmdir(path))
     }
@@ -254,6 +273,8 @@ impl<'a, S: Served> LibFs<'a, S> {
         ensures legal { ∥ IsLegal (seen_by self.new) ∥₁ }
         ensures refused { IfErr result (λ r. MayRefuse (client_of self.old) (Lists path)
             (seen_by self.new) r) }
+        ensures turns { TurnsTo S.Growing.history S.acts (client_of self.old) (Lists path)
+            (limit_of self.old) result (seen_by self.old) (seen_by self.new) }
     {
         self.call(rt, alloc, &Op::List(path))
     }
@@ -266,6 +287,8 @@ impl<'a, S: Served> LibFs<'a, S> {
         ensures legal { ∥ IsLegal (seen_by self.new) ∥₁ }
         ensures refused { IfErr result (λ r. MayRefuse (client_of self.old) (Stat path)
             (seen_by self.new) r) }
+        ensures turns { TurnsTo S.Growing.history S.acts (client_of self.old) (Stat path)
+            (limit_of self.old) result (seen_by self.old) (seen_by self.new) }
     {
         self.call(rt, alloc, &Op::Stat(path))
     }
@@ -279,6 +302,8 @@ impl<'a, S: Served> LibFs<'a, S> {
         ensures legal { ∥ IsLegal (seen_by self.new) ∥₁ }
         ensures refused { IfErr result (λ r. MayRefuse (client_of self.old) Fsync
             (seen_by self.new) r) }
+        ensures turns { TurnsTo S.Growing.history S.acts (client_of self.old) Fsync
+            (limit_of self.old) result (seen_by self.old) (seen_by self.new) }
     {
         self.call(rt, alloc, &Op::Fsync)
     }
@@ -291,6 +316,8 @@ impl<'a, S: Served> LibFs<'a, S> {
         ensures legal { ∥ IsLegal (seen_by self.new) ∥₁ }
         ensures refused { IfErr result (λ r. MayRefuse (client_of self.old) Dsync
             (seen_by self.new) r) }
+        ensures turns { TurnsTo S.Growing.history S.acts (client_of self.old) Dsync
+            (limit_of self.old) result (seen_by self.old) (seen_by self.new) }
     {
         self.call(rt, alloc, &Op::Dsync)
     }
@@ -389,7 +416,10 @@ impl<'a, S: Served> LibFs<'a, S> {
     /// A pass that has seen the same, has no client, and has the right to open clients that the client's pass had. The client's has none
     /// from then on.
     pub fn split_opener(&mut self) -> Pass<S>
-        ensures same { IsSameClient self.old self.new }
+        ensures client { client_of self.new ≡ client_of self.old }
+        ensures node { node_of self.new ≡ node_of self.old }
+        ensures keeper { keeper_of self.new ≡ keeper_of self.old }
+        ensures limit { limit_of self.new ≡ limit_of self.old }
         ensures seen { seen_by self.new ≡ seen_by self.old }
         ensures opens_none { opens_of self.new ≡ Never }
         ensures pass { IsPassOf (keeper_of self.old) result }

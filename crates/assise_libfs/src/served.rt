@@ -5,6 +5,7 @@ ghost use Rattle.assise_history.specs.Legal.{IsLegal};
 ghost use Rattle.assise_libfs.specs.Calling.{MayRefuseTry, Tries};
 ghost use Rattle.assise_libfs.specs.Opening.{MayRefuseOpen};
 ghost use Rattle.assise_libfs.specs.InTurns.{tried_answer};
+ghost use Rattle.assise_machine.specs.Following.{IsWork};
 ghost use Rattle.assise_machine_calls.specs.Answers.{opening_answer};
 ghost use Rattle.assise_model_events.specs.Events.{Answer, ClusterEvent, open_client, try_call};
 
@@ -58,4 +59,7 @@ pub trait Served: Growing {
 
     ghost acts_lead: { (s : Self) (e : ClusterEvent) (a : Answer) (t : Self) → acts s e a t
         → Self.Growing.leads s t };
+
+    ghost acts_work: { (s : Self) (e : ClusterEvent) (a : Answer) (t : Self) → IsWork e
+        → acts s e a t → Self.Growing.works s t };
 }

@@ -3,11 +3,11 @@ ghost use Rattle.std.specs.Prelude.{◌≡◌, IfErr, IfOk, None, OnErr, Some};
 ghost use Rattle.assise_history.specs.Legal.{IsLegal, calls_made};
 ghost use Rattle.assise_keeper.specs.declared.view.Opens.TheVariants.{Alone};
 ghost use Rattle.assise_keeper.specs.Clients.{Extends, MayOpenClients, openings_of};
-ghost use Rattle.assise_keeper.specs.Passes.{HasGoneOn, IsPassOf, client, opens, seen};
+ghost use Rattle.assise_keeper.specs.Passes.{IsPassOf, client, opens, seen};
 ghost use Rattle.assise_libfs.specs.Calling.{MayRefuseTry, SeesTry, answers};
 ghost use Rattle.assise_libfs.specs.Lives.{EndsWithOpening, IsOpenedAs, OpensNoOther};
 ghost use Rattle.assise_libfs.specs.Opening.{MayRefuseOpen};
-ghost use Rattle.assise_libfs.specs.InTurns.{InOneTurn, tried_answer};
+ghost use Rattle.assise_libfs.specs.InTurns.{InOneTurn, IsPassTurn, tried_answer};
 ghost use Rattle.assise_machine_calls.specs.Answers.{opening_answer};
 ghost use Rattle.assise_model_events.specs.Events.{open_client, try_call};
 
@@ -33,6 +33,7 @@ pub(crate) fn try_turn<S: Served, R: Wait>(
     requires { IsPassOf keeper.now pass.old × (client pass.old ≡ Some caller) }
     ensures free { IsPassOf keeper.now pass.new }
     ensures client { client pass.new ≡ Some caller }
+    ensures right { opens pass.new ≡ opens pass.old }
     ensures sees { SeesTry caller op.now (seen pass.old) result (seen pass.new) }
     ensures legal { ∥ IsLegal (seen pass.new) ∥₁ }
     ensures refused { IfErr result (λ r. MayRefuseTry caller op.now (seen pass.new) r) }
@@ -73,9 +74,8 @@ pub(crate) fn open_turn<S: Served, R: Wait>(
         openings_of (seen pass.new) ≡ openings_of (seen pass.old)) }
     ensures refused { IfErr result (λ back. MayRefuseOpen node (seen pass.new) back.0) }
     ensures given_back { IfErr result (λ back. back.1 ≡ stored) }
-    ensures turn { InOneTurn S.Growing.history S.acts (open_client node durability)
-        (opening_answer result) (seen pass.old) (seen pass.new) }
-    ensures on { HasGoneOn S.Growing.history S.Growing.leads pass.old pass.new }
+    ensures turn { IsPassTurn S.Growing.history S.Growing.leads S.Growing.works S.acts
+        (open_client node durability) (opening_answer result) pass.old pass.new }
 {
     let mut held = keeper.take(rt, pass);
     let opened = held.state().open(alloc, node, stored, durability);

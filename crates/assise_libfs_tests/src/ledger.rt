@@ -35,11 +35,17 @@ impl Growing for Ledger {
 
     ghost leads = { λ old new. Unit {0} };
 
+    ghost works = { λ old new. Unit {0} };
+
     ghost opens_once = { λ l. opened_once l.clients l.history.events l.kept };
 
     ghost stays = { λ l. tt };
 
     ghost goes_on = { λ s t u first more. tt };
+
+    ghost rests = { λ l. tt };
+
+    ghost works_on = { λ s t u first more. tt };
 }
 
 impl Ledger {
@@ -93,6 +99,8 @@ impl Served for Ledger {
     ghost acts = { λ s e a t. Unit {0} };
 
     ghost acts_lead = { λ s e a t happens. tt };
+
+    ghost acts_work = { λ s e a t work happens. tt };
 
     fn open(
         &mut self,

@@ -335,15 +335,22 @@ impl<C: Revokes + Drop> ClusterOf<C> {
 
 impl<C> Growing for ClusterOf<C> {
     ghost use Rattle.assise_machine.specs.Clusters.{machine, opened_once};
-    ghost use Rattle.assise_machine.specs.Following.{IsLedTo, led_on, led_to_itself};
+    ghost use Rattle.assise_machine.specs.Following.{IsLedTo, IsWorkedTo, led_on, led_to_itself, worked_on, worked_to_itself};
 
     ghost history = { λ cluster. (machine cluster).history };
 
     ghost leads = { λ old new. IsLedTo (machine old) (machine new) };
+
+    ghost works = { λ old new. IsWorkedTo (machine old) (machine new) };
 
     ghost opens_once = { λ cluster. opened_once cluster };
 
     ghost stays = { λ cluster. led_to_itself (machine cluster) };
 
     ghost goes_on = { λ s t u first more. led_on (machine s) (machine t) (machine u) first more };
+
+    ghost rests = { λ cluster. worked_to_itself (machine cluster) };
+
+    ghost works_on = { λ s t u first more.
+        worked_on (machine s) (machine t) (machine u) first more };
 }

@@ -3,7 +3,8 @@ ghost use Rattle.std.specs.Prelude.{◌≡◌, ℕ, List, Option};
 ghost use Rattle.assise_history.specs.Entries.{EntryValue};
 ghost use Rattle.assise_keeper.specs.declared.view.Opens.{Opens};
 ghost use Rattle.assise_keeper.specs.Clients.{MayGive};
-ghost use Rattle.assise_keeper.specs.Passes.{IsPassOf};
+ghost use Rattle.assise_keeper.specs.declared.view.Opens.TheVariants.{AmongOthers};
+ghost use Rattle.assise_keeper.specs.Passes.{IsPassOf, opens};
 
 use crate::tally::Tally;
 use assise_history::growing::Growing;
@@ -38,7 +39,7 @@ pub enum Change {
 
 /// A state one of whose nodes fails and comes back. A cluster is one.
 pub trait Failing: Growing {
-    /// Changes that node. It opens no client and answers no call, so that any pass may give what comes of it.
+    /// Changes that node. It opens no client and answers no call.
     fn change(&mut self, alloc: Global, change: Change) -> Result<(), Refusal>
         ensures gives { (client : Option ℕ) (right : Opens) → MayGive client right
             (Self.Growing.history self.old) (Self.Growing.history self.new) }
@@ -62,19 +63,20 @@ pub struct Operator<'a, S: Failing> {
     keeper: &'a Keeper<S>,
     pass: Pass<S>,
     ghost ours: { IsPassOf keeper.now pass },
+    ghost right: { opens pass ≡ AmongOthers },
 }
 
 impl<'a, S: Failing> Operator<'a, S> {
     ghost use Rattle.std.specs.Prelude.{◌≡◌};
+    ghost use Rattle.assise_keeper.specs.Clients.{MayOpenClients};
     ghost use Rattle.assise_keeper.specs.Passes.{IsPassOf, opens};
 
-    /// With a pass of its own.
+    /// With a pass of its own, which may do what is no work.
     pub fn new(keeper: &'a Keeper<S>, main: &mut Pass<S>) -> Operator<'a, S>
-        requires { IsPassOf keeper.now main.old }
-        ensures free { IsPassOf keeper.now main.new }
-        ensures right { opens main.new ≡ opens main.old }
+        requires { IsPassOf keeper.now main.old × MayOpenClients (opens main.old) }
+        ensures { IsPassOf keeper.now main.new × MayOpenClients (opens main.new) }
     {
-        let pass = keeper.split(main);
+        let pass = keeper.split_sharing(main);
         Operator { keeper, pass }
     }
 

@@ -11,7 +11,7 @@ use Rattle.assise_fault_script.specs.declared.command.Command.TheVariants.{Clust
 use Rattle.assise_console.specs.declared.response.Response.{Response}
 use Rattle.assise_fault_script.specs.declared.parse.NumberedCommand.{NumberedCommand}
 use Rattle.assise_console.specs.Lines.{line_text}
-use Rattle.assise_threads.specs.Answered.{AnswersCommand, OpensOne, is_opened, is_refused, lacks_revoker}
+use Rattle.assise_threads.specs.Answered.{AnswersCommand, OpensOne, is_nowhere, is_opened, is_refused, lacks_revoker}
 use Rattle.assise_model_events.specs.Machine.{Machine}
 use Rattle.assise_threads.specs.Begun.{begun_by}
 use Rattle.assise_threads.specs.Hearing.{HasHeard, sight_of}
@@ -44,9 +44,10 @@ openings-said (s ∷ ss) ts = ap (λ z. opening_in s.command.command s.answer ++
 
 -- who is opened is the last that is seen, and made no call
 open_ends : (n : ℕ) (u : Durability) (a : Response) (old new : Machine) → OpensOne n u a old new → EndsWith (opened_by a n u) old.history new.history × MadeNone (opened_by a n u) new.history
-open_ends n u a old new (is_opened c is led last legal none) = rw is ((last, legal), nil_from_length (calls_by c new.history) none)
-open_ends n u a old new (is_refused r is led more fits) = rw is (tt, tt)
-open_ends n u a old new (lacks_revoker r is led more may) = rw is (tt, tt)
+open_ends n u a old new (is_opened c is h last none) = rw is ((last, h.legal), nil_from_length (calls_by c new.history) none)
+open_ends n u a old new (is_refused r is h fits) = rw is (tt, tt)
+open_ends n u a old new (lacks_revoker r is h) = rw is (tt, tt)
+open_ends n u a old new (is_nowhere is far same) = rw is (tt, tt)
 
 answer_ends : (turns : ℕ) (command : Command) (a : Response) (old new : Machine) → AnswersCommand turns command a old new → EndsWith (opening_in command a) old.history new.history × MadeNone (opening_in command a) new.history
 answer_ends turns (Open n kind u) a old new h = open_ends n u a old new h
@@ -109,16 +110,17 @@ is_heard : (turns c : ℕ) (ss : List Said) (h : List EntryValue) (sight : Optio
 is_heard turns c ss h sight heard covers = record { seen = sight; on = heard.on; covers = covers; outcomes = heard.outcomes; count = heard.count; tells = heard.tells; calls = has_told turns c ss h sight heard covers }
 
 -- where the clients met
-pub is_run : (turns : ℕ) (commands : List NumberedCommand) (seen : Machine) (us : Sights) (old new : Option (List ℕ)) (all : AreAllSaid turns (begun_by commands) commands seen us old new) (last : List EntryValue) → AreMet seen.history us last → IsThreadRun turns commands all.said
+pub is_run : (turns : ℕ) (commands : List NumberedCommand) (seen : Machine) (us : Sights) (old new : Option (List ℕ)) (all : AreAllSaid turns (begun_by commands) commands seen us old new) (last : List EntryValue) → AreMet seen us last → IsThreadRun turns commands all.said
 is_run turns commands seen us old new all last met = record {
   each = all.each;
   seen = seen;
   main = all.main;
-  history = met.history;
+  last = met.between;
+  worked = met.worked;
   one = record {
     legal = met.legal;
-    fronts = all_fronts turns met.history (begun_by commands) all.said seen met.since all.main;
+    fronts = all_fronts turns met.between.history (begun_by commands) all.said seen met.since all.main;
     openings = met.openings ∙ all.opened;
-    clients = λ c. is_heard turns c all.said met.history (sight_of c us) (all.heard c) (covers_each c met.history us met.clients);
+    clients = λ c. is_heard turns c all.said met.between.history (sight_of c us) (all.heard c) (covers_each c met.between.history us met.clients);
   };
 }

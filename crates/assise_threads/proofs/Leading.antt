@@ -1,13 +1,23 @@
 -- What the main thread does in one take leads on.
-use Rattle.std.proofs.Common.{◌≡◌, Option, None, Some, List, [], ◌∷◌, refl, sym, subst, is_some, true, false}
+use Rattle.std.proofs.Common.{◌≡◌, ◌∙◌, ap, Option, None, Some, List, [], ◌∷◌, refl, sym, subst, is_some, true, false}
+use Rattle.std.proofs.Math.Logic.{∥∥₁_map}
+use Rattle.assise_history.specs.Legal.{IsLegal}
+use Rattle.assise_keeper.specs.declared.pass.Pass.{Pass}
+use Rattle.assise_keeper.specs.declared.view.Opens.{Opens}
+use Rattle.assise_keeper.specs.declared.view.Opens.TheVariants.{Alone, Never}
+use Rattle.assise_keeper.specs.Clients.{Extends}
+use Rattle.assise_keeper.specs.Passes.{last, opens, seen}
+use Rattle.assise_libfs.specs.InTurns.{IsPassTurn}
+use Rattle.assise_model_events.specs.Happenings.{Happens}
+use Rattle.assise_threads.specs.Takes.{Happened, InOneTake}
 use Rattle.assise_fault_script.specs.declared.command.Command.{Command}
 use Rattle.assise_fault_script.specs.declared.command.Command.TheVariants.{Cluster, Manual, Open, Call, Carry, Link, Hot, Digest as DigestOf, Release as ReleaseAll, Crash as CrashOf, Fail as FailOf, Back, Refill as RefillOf, Join as JoinOf, Raise as RaiseOf, Tree as TreeOf, History, Check as CheckAll}
 use Rattle.assise_fault_script.specs.declared.parse.NumberedCommand.{NumberedCommand}
 use Rattle.assise_keeper.specs.Rule.{IsLed}
 use Rattle.assise_machine.specs.Clusters.{machine}
-use Rattle.assise_machine.specs.Following.{IsLedTo, led_by, led_to_itself}
+use Rattle.assise_machine.specs.Following.{IsLedTo, IsWorkedTo, led_by, led_to_itself, worked_to_itself}
 use Rattle.assise_machine.specs.declared.cluster.ClusterOf.{ClusterOf}
-use Rattle.assise_model_events.specs.Events.{back, crash, digest, fail, join, raise, refill, release_ready, set_hot}
+use Rattle.assise_model_events.specs.Events.{Answer, ClusterEvent, back, crash, digest, fail, join, raise, refill, release_ready, set_hot}
 use Rattle.assise_model_events.specs.Machine.{Machine}
 use Rattle.assise_console.specs.declared.response.Response.{Response}
 use Rattle.assise_console.specs.Steps.{is_made, is_out}
@@ -44,13 +54,38 @@ between P a b {c} {d} left right h = subst (λ z. P z d) left (subst (P a) right
 abbrev pub cluster_leads : {C : Type 0} → ClusterOf C → ClusterOf C → Type 0
 cluster_leads s t = IsLedTo (machine s) (machine t)
 
-module _ {C : Type 0} where
-  pub seen_leads : (last : Option (ClusterOf C)) (cluster : ClusterOf C) → is_some last ≡ true → IsLed cluster_leads last (Some cluster) → IsLedTo (machine_seen last) (machine cluster)
-  seen_leads None cluster met led = absurd (let x : false ≡ true = met in cc)
-  seen_leads (Some before) cluster met led = led
+abbrev pub cluster_works : {C : Type 0} → ClusterOf C → ClusterOf C → Type 0
+cluster_works s t = IsWorkedTo (machine s) (machine t)
 
-  pub leads_on : (last now : Option (ClusterOf C)) (cluster : ClusterOf C) → is_some last ≡ true → now ≡ Some cluster → IsLed cluster_leads last (Some cluster) → IsLedTo (machine_seen last) (machine_seen now)
-  leads_on last now cluster met is led = subst (λ z. IsLedTo (machine_seen last) (machine_seen z)) (sym is) (seen_leads last cluster met led)
+pub same_worked : (m m' : Machine) → m' ≡ m → IsWorkedTo m m'
+same_worked m m' same = subst (IsWorkedTo m) (sym same) (worked_to_itself m)
+
+pub not_never : (o : Opens) → o ≡ Alone → o ≡ Never → ⊥
+not_never o alone never = let x : Alone ≡ Never = sym alone ∙ never in cc
+
+module _ {C : Type 0} where
+  pub seen_works : (last : Option (ClusterOf C)) (cluster : ClusterOf C) → is_some last ≡ true → IsLed cluster_works last (Some cluster) → IsWorkedTo (machine_seen last) (machine cluster)
+  seen_works None cluster met led = absurd (let x : false ≡ true = met in cc)
+  seen_works (Some before) cluster met led = led
+
+  pub works_seen : (last now : Option (ClusterOf C)) (cluster : ClusterOf C) → is_some last ≡ true → now ≡ Some cluster → IsLed cluster_works last (Some cluster) → IsWorkedTo (machine_seen last) (machine_seen now)
+  works_seen last now cluster met is led = subst (λ z. IsWorkedTo (machine_seen last) (machine_seen z)) (sym is) (seen_works last cluster met led)
+
+  -- the turn of a pass that alone may open clients is a take
+  pub turn_taken : (e : ClusterEvent) (a : Answer) (old split mid new : Pass (ClusterOf C)) → is_some (last old) ≡ true → seen old ≡ (machine_seen (last old)).history → opens split ≡ Alone → last split ≡ last old → seen split ≡ seen old → last new ≡ last mid
+      → Extends (seen mid) (seen split) → IsPassTurn (λ s. (machine s).history) cluster_leads cluster_works (λ s e a t. Happens (machine s) e a (machine t)) e a split mid → InOneTake (Happened e a) (machine_seen (last old)) (machine_seen (last new))
+  turn_taken e a old split mid new met known alone same_last same_seen is_last more t =
+      let now : last new ≡ Some t.after = is_last ∙ t.is_last in
+      let after : machine_seen (last new) ≡ machine t.after = ap machine_seen now in
+      record {
+        before = machine t.before;
+        told = [];
+        lawful = t.before.sound.invariant.holds;
+        worked = seen_works (last old) t.before met (subst (λ z. IsLed cluster_works z (Some t.before)) same_last (t.worked alone));
+        does = subst (Happens (machine t.before) e a) (sym after) t.does;
+        legal = subst (λ z. ∥ IsLegal z.history ∥₁) (sym after) (∥∥₁_map t.after.sound.invariant.holds (λ holds. holds.recorded.legal));
+        grows = subst (λ z. Extends z.history (machine_seen (last old)).history) (sym after) (between (λ x y. Extends y x) (seen split) (seen mid) (same_seen ∙ known) t.is_seen more);
+      }
 
 -- ---- the first machine
 

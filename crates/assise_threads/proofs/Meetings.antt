@@ -1,5 +1,5 @@
 -- Where clients meet with a pass of nobody, each twice, there is one history with the calls of all.
-use Rattle.std.proofs.Common.{◌≡◌, ◌≢◌, ◌∙◌, ℕ, true, false, List, [], ◌∷◌, ◌++◌, Option, None, Some, refl, sym, ap, subst, append_assoc, append-nil, ◌==◌, if◌then◌else◌, ◌⊎◌, inl, inr}
+use Rattle.std.proofs.Common.{is_some, ◌≡◌, ◌≢◌, ◌∙◌, ℕ, true, false, List, [], ◌∷◌, ◌++◌, Option, None, Some, refl, sym, ap, subst, append_assoc, append-nil, ◌==◌, if◌then◌else◌, ◌⊎◌, inl, inr}
 use Rattle.std.specs.List.{AllByRecursion}
 use Rattle.std.proofs.lemmas.Bool.Decides.{eqb_tells}
 use Rattle.assise_history.specs.Entries.{EntryValue}
@@ -11,7 +11,12 @@ use Rattle.assise_threads.specs.Hearing.{sight_of}
 use Rattle.assise_threads.specs.OneHistory.{AreMet, Covers, CoversSight}
 use Rattle.assise_threads.specs.Openings.{Sights}
 use Rattle.assise_keeper.specs.declared.pass.Pass.{Pass}
-use Rattle.assise_keeper.specs.Passes.{client, mine, seen}
+use Rattle.assise_keeper.specs.Passes.{client, last, mine, seen}
+use Rattle.assise_machine.specs.Clusters.{machine}
+use Rattle.assise_machine.specs.Following.{IsWorkedTo, worked_on}
+use Rattle.assise_machine.specs.declared.cluster.ClusterOf.{ClusterOf}
+use Rattle.assise_model_events.specs.Machine.{Machine}
+use Rattle.assise_threads.specs.LastSeen.{machine_seen}
 use Rattle.assise_libfs.specs.Clients.{client_of, pass_of, seen_by}
 use Rattle.assise_libfs.specs.declared.libfs.LibFs.{LibFs}
 
@@ -35,21 +40,23 @@ same_between c a b d more behind same =
 pub mine_same : (c : ℕ) (o p : Option ℕ) (h g : List EntryValue) → o ≡ p → p ≡ Some c → calls_of o h ≡ calls_of p g → calls_by c h ≡ calls_by c g
 mine_same c o p h g same is calls = subst (λ (z : Option ℕ). calls_of z h ≡ calls_of z g) is (subst (λ (z : Option ℕ). calls_of z h ≡ calls_of p g) same calls)
 
-pub met_one : (c : ℕ) (s0 g s1 : List EntryValue) (us : Sights) (s2 s3 : List EntryValue) → Extends s1 s0 → openings_of s1 ≡ openings_of s0 → Extends s1 g → calls_by c s1 ≡ calls_by c g → AreMet s1 us s2 → Extends s3 s2 → calls_by c s3 ≡ calls_by c s1 → AreMet s0 ((c, g) ∷ us) s3
-met_one c s0 g s1 us s2 s3 from none own first met behind second = record {
-  history = met.history;
+pub met_one : (c : ℕ) (m0 m1 : Machine) (g : List EntryValue) (us : Sights) (s2 s3 : List EntryValue) → IsWorkedTo m0 m1 → Extends m1.history m0.history → openings_of m1.history ≡ openings_of m0.history → Extends m1.history g → calls_by c m1.history ≡ calls_by c g → AreMet m1 us s2 → Extends s3 s2 → calls_by c s3 ≡ calls_by c m1.history
+    → AreMet m0 ((c, g) ∷ us) s3
+met_one c m0 m1 g us s2 s3 worked from none own first met behind second = let h = met.between.history in record {
+  between = met.between;
   legal = met.legal;
-  since = extends-on met.history s1 s0 met.since from;
-  until = extends-on s3 s2 met.history behind met.until;
+  worked = worked_on m0 m1 met.between worked met.worked;
+  since = extends-on h m1.history m0.history met.since from;
+  until = extends-on s3 s2 h behind met.until;
   clients = (
-    (extends-on met.history s1 g met.since own, same_between c s1 met.history s3 met.since (extends-on s3 s2 met.history behind met.until) second ∙ first),
+    (extends-on h m1.history g met.since own, same_between c m1.history h s3 met.since (extends-on s3 s2 h behind met.until) second ∙ first),
     met.clients,
   );
   openings = met.openings ∙ none;
 }
 
-pub met_none : (s0 s1 : List EntryValue) → Extends s1 s0 → ∥ IsLegal s1 ∥₁ → openings_of s1 ≡ openings_of s0 → AreMet s0 [] s1
-met_none s0 s1 on legal none = record { history = s1; legal = legal; since = on; until = extends-same s1; clients = tt; openings = none }
+pub met_none : (m0 m1 : Machine) → IsWorkedTo m0 m1 → Extends m1.history m0.history → ∥ IsLegal m1.history ∥₁ → openings_of m1.history ≡ openings_of m0.history → AreMet m0 [] m1.history
+met_none m0 m1 worked on legal none = record { between = m1; legal = legal; worked = worked; since = on; until = extends-same m1.history; clients = tt; openings = none }
 
 first_or_later : (c : ℕ) (h : List EntryValue) (a : ℕ) (g : List EntryValue) (later : Option (List EntryValue)) → Covers h (a, g) → CoversSight c h later → CoversSight c h (if a == c then Some g else later)
 first_or_later c h a g later first rest = by_case (eqb_tells a c)
@@ -65,16 +72,27 @@ covers_each c h (x ∷ xs) (first, rest) = first_or_later c h x.0 x.1 (sight_of 
 
 -- ---- of a pass
 
-module _ {S : Type 0} (l : LibFs S) (p0 p a b d e f : Pass S) (us : Sights) where
+-- it has seen a machine last, whose history it has seen
+abbrev pub IsKnown : {C : Type 0} → Pass (ClusterOf C) → Type 0
+IsKnown p = (is_some (last p) ≡ true) × (seen p ≡ (machine_seen (last p)).history)
+
+pub is_known : {C : Type 0} (p : Pass (ClusterOf C)) (x : ClusterOf C) → seen p ≡ (machine x).history → last p ≡ Some x → IsKnown p
+is_known p x seen_is last_is = (ap is_some last_is, seen_is ∙ sym (ap (λ z. (machine_seen z).history) last_is))
+
+module _ {C : Type 0} (l : LibFs (ClusterOf C)) (p0 p a b d e f : Pass (ClusterOf C)) (us : Sights) where
   -- a client meets with the pass, what follows is met, and it meets with the pass again
-  pub met_client : p ≡ pass_of l → seen a ≡ seen b → Extends (seen a) (seen p0) → openings_of (seen a) ≡ openings_of (seen p0) → Extends (seen b) (seen p) → client b ≡ client p → mine b ≡ mine p → AreMet (seen a) us (seen d)
-      → Extends (seen e) (seen d) → seen e ≡ seen f → client f ≡ client b → mine f ≡ mine b → AreMet (seen p0) ((client_of l, seen_by l) ∷ us) (seen e)
-  met_client is one first none second same own met first2 one2 same2 own2 =
+  pub met_client : p ≡ pass_of l → IsKnown p0 → IsKnown a → IsWorkedTo (machine_seen (last p0)) (machine_seen (last a)) → seen a ≡ seen b → Extends (seen a) (seen p0) → openings_of (seen a) ≡ openings_of (seen p0) → Extends (seen b) (seen p) → client b ≡ client p → mine b ≡ mine p → AreMet (machine_seen (last a)) us (seen d)
+      → Extends (seen e) (seen d) → seen e ≡ seen f → client f ≡ client b → mine f ≡ mine b → AreMet (machine_seen (last p0)) ((client_of l, seen_by l) ∷ us) (seen e)
+  met_client is known0 known1 worked one first none second same own met first2 one2 same2 own2 =
       let its : client p ≡ Some (client_of l) = ap (λ z. client z) is ∙ l.its in
       let here : client b ≡ Some (client_of l) = same ∙ its in
       let known : seen p ≡ seen_by l = ap (λ z. seen z) is in
-      met_one (client_of l) (seen p0) (seen_by l) (seen a) us (seen d) (seen e) first none
-      (subst (λ z. Extends z (seen_by l)) (sym one) (subst (Extends (seen b)) known second))
-      (ap (calls_by (client_of l)) one ∙ (mine_same (client_of l) (client b) (client p) (seen b) (seen p) same its own ∙ ap (calls_by (client_of l)) known))
+      let m0 = machine_seen (last p0) in
+      let m1 = machine_seen (last a) in
+      let at0 : seen p0 ≡ m0.history = known0.1 in
+      let at1 : seen a ≡ m1.history = known1.1 in
+      met_one (client_of l) m0 m1 (seen_by l) us (seen d) (seen e) worked (subst (λ z. Extends m1.history z) at0 (subst (λ z. Extends z (seen p0)) at1 first)) (subst (λ z. openings_of m1.history ≡ openings_of z) at0 (subst (λ z. openings_of z ≡ openings_of (seen p0)) at1 none))
+      (subst (λ z. Extends z (seen_by l)) at1 (subst (λ z. Extends z (seen_by l)) (sym one) (subst (Extends (seen b)) known second)))
+      (ap (calls_by (client_of l)) (sym at1 ∙ one) ∙ (mine_same (client_of l) (client b) (client p) (seen b) (seen p) same its own ∙ ap (calls_by (client_of l)) known))
       met first2
-      (ap (calls_by (client_of l)) one2 ∙ (mine_same (client_of l) (client f) (client b) (seen f) (seen b) same2 here own2 ∙ ap (calls_by (client_of l)) (sym one)))
+      (ap (calls_by (client_of l)) one2 ∙ (mine_same (client_of l) (client f) (client b) (seen f) (seen b) same2 here own2 ∙ ap (calls_by (client_of l)) (sym one ∙ at1)))

@@ -22,9 +22,10 @@ extends_same_as new old is = ([], ap (λ m. m.history) is ∙ sym (append-nil ol
 -- ---- each answer goes on
 
 pub opens_on : (n : ℕ) (u : Durability) (a : Response) (old new : Machine) → OpensOne n u a old new → Extends new.history old.history
-opens_on n u a old new (is_opened c is led last legal none) = (last.0 ++ opens c n u ∷ [], last.1 ∙ append_assoc old.history last.0 (opens c n u ∷ []))
-opens_on n u a old new (is_refused r is led more fits) = more
-opens_on n u a old new (lacks_revoker r is led more may) = more
+opens_on n u a old new (is_opened c is h last none) = h.grows
+opens_on n u a old new (is_refused r is h fits) = h.grows
+opens_on n u a old new (lacks_revoker r is h) = h.grows
+opens_on n u a old new (is_nowhere is far same) = extends_same_as new old same
 
 call_on : (a : Response) (old new : Machine) → IsCallAnswered a old new → Extends new.history old.history
 call_on a old new (is_replied reply is same) = extends_same_as new old same
@@ -33,7 +34,7 @@ call_on a old new (is_refused r is same) = extends_same_as new old same
 carry_on : (n : ℕ) (a : Response) (old new : Machine) → CarriesSome n a old new → Extends new.history old.history
 carry_on n a old new (is_carried count later is done same) = extends_same_as new old same
 carry_on n a old new (is_refused r later is done same) = extends_same_as new old same
-carry_on n a old new (is_nowhere is same) = extends_same_as new old same
+carry_on n a old new (is_nowhere is far same) = extends_same_as new old same
 
 back_on : (turns n : ℕ) (a : Response) (old new : Machine) → ComesBackInTakes turns n a old new → Extends new.history old.history
 back_on turns n a old new (is_refused r is h) = h.grows

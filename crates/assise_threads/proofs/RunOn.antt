@@ -3,7 +3,10 @@ use Rattle.std.proofs.Common.{◌≡◌, ◌∙◌, ℕ, ◌+◌, ◌<◌, ◌�
 use Rattle.std.proofs.lemmas.List.{length-map, map-append}
 use Rattle.std.specs.Io.KnownBytes.{Appends, Keeps}
 use Rattle.assise_history.specs.Entries.{EntryValue}
+use Rattle.assise_history.specs.Legal.{IsLegal}
 use Rattle.assise_history.proofs.Legality.{legal-nil}
+use Rattle.assise_keeper.proofs.PassAdds.{extends-same}
+use Rattle.assise_machine.specs.Following.{worked_to_itself}
 use Rattle.assise_libfs.specs.Clients.{client_of, seen_by}
 use Rattle.assise_fault_script.specs.declared.command.Command.{Command}
 use Rattle.assise_fault_script.specs.declared.command.Command.TheVariants.{Cluster, Manual, Open, Call, Carry, Link, Hot, Digest, Release, Crash, Fail, Back, Refill, Join, Raise, Tree, History, Check}
@@ -46,14 +49,14 @@ goes_further turns first ls rest i count seen now before after old mid new is al
     (said_then turns first (take i ls) (take count (drop i ls)) seen now before after old mid new all (subst (λ z. AreSaidNext turns (take count z) seen before now after mid new) is more))
 
 -- where the clients met
-pub is_run_said : (turns : ℕ) {S : Type 0} (commands : List NumberedCommand) (seen : Machine) (ls : List (LibFs S)) (old new : Option (List ℕ)) (last : List EntryValue) → AreAllSaid turns (begun_by commands) commands seen (sights ls) old new → AreMet seen.history (sights ls) last → IsRunSaid turns commands old new
+pub is_run_said : (turns : ℕ) {S : Type 0} (commands : List NumberedCommand) (seen : Machine) (ls : List (LibFs S)) (old new : Option (List ℕ)) (last : List EntryValue) → AreAllSaid turns (begun_by commands) commands seen (sights ls) old new → AreMet seen (sights ls) last → IsRunSaid turns commands old new
 is_run_said turns commands seen ls old new last all met = record { said = all.said; run = is_run turns commands seen (sights ls) old new all last met; appends = all.appends }
 
-no_one_met : AreMet [] [] []
-no_one_met = met_none [] [] ([], refl) ∣ legal-nil ∣₁ refl
+no_one_met : (m : Machine) → m.history ≡ [] → AreMet m [] m.history
+no_one_met m none = met_none m m (worked_to_itself m) (extends-same m.history) (subst (λ h. ∥ IsLegal h ∥₁) (sym none) ∣ legal-nil ∣₁) refl
 
 pub nothing_run : (turns : ℕ) (commands : List NumberedCommand) (old : Option (List ℕ)) → slice_get commands 0 ≡ None → IsRunSaid turns commands old old
-nothing_run turns [] old none = let all = nothing_said turns (begun_by []) old refl in record { said = all.said; run = is_run turns [] (begun_by []) [] old old all [] no_one_met; appends = all.appends }
+nothing_run turns [] old none = let all = nothing_said turns (begun_by []) old refl in record { said = all.said; run = is_run turns [] (begun_by []) [] old old all (begun_by []).history (no_one_met (begun_by []) refl); appends = all.appends }
 nothing_run turns (l ∷ ls) old none = absurd (cc)
 
 pub on_ok : {X E : Type 0} (r : Result X E) (P Q : Type 0) → OnOk r P → (P → Q) → OnOk r Q
@@ -84,14 +87,15 @@ hot_not_whole n capacity m es m' (is_out out is h) = let x : Whole ≡ Quiet = i
 not_whole : (turns : ℕ) (command : Command) (old new : Machine) → (command ≡ History → ⊥) → AnswersCommand turns command Whole old new → ⊥
 not_whole turns (Cluster nodes log hot) old new other h = let x : Whole ≡ Quiet = h.answer in cc
 not_whole turns Manual old new other h = let x : Whole ≡ Quiet = h.answer in cc
-not_whole turns (Open node kind u) old new other (is_opened c is led last legal none) = let x : Whole ≡ Client c = is in cc
-not_whole turns (Open node kind u) old new other (is_refused r is led e f) = let x : Whole ≡ Refused r = is in cc
-not_whole turns (Open node kind u) old new other (lacks_revoker r is led e may) = let x : Whole ≡ Refused r = is in cc
+not_whole turns (Open node kind u) old new other (is_opened c is h last none) = let x : Whole ≡ Client c = is in cc
+not_whole turns (Open node kind u) old new other (is_refused r is h f) = let x : Whole ≡ Refused r = is in cc
+not_whole turns (Open node kind u) old new other (lacks_revoker r is h) = let x : Whole ≡ Refused r = is in cc
+not_whole turns (Open node kind u) old new other (is_nowhere is far e) = let x : Whole ≡ Refused BadNode = is in cc
 not_whole turns (Call c op) old new other (is_replied reply is e) = let x : Whole ≡ Replied reply = is in cc
 not_whole turns (Call c op) old new other (is_refused r is e) = let x : Whole ≡ Refused r = is in cc
 not_whole turns (Carry node) old new other (is_carried count later is done e) = let x : Whole ≡ Carried count = is in cc
 not_whole turns (Carry node) old new other (is_refused r later is done e) = let x : Whole ≡ Refused r = is in cc
-not_whole turns (Carry node) old new other (is_nowhere is e) = let x : Whole ≡ Refused BadNode = is in cc
+not_whole turns (Carry node) old new other (is_nowhere is far e) = let x : Whole ≡ Refused BadNode = is in cc
 not_whole turns (Link node kind) old new other h = let x : Whole ≡ Quiet = h.answer in cc
 not_whole turns (Hot node capacity) old new other h = hot_not_whole node capacity h.before h.told new h.does
 not_whole turns (Digest node) old new other h = h.does.tells

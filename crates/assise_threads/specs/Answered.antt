@@ -3,6 +3,7 @@
 use Rattle.std.specs.Prelude.{◌≡◌, ◌<◌, ℕ, zero, suc, List, ⊤}
 use Rattle.assise_seq_tree.specs.Tree.{Tree}
 use Rattle.assise_names.specs.declared.durability.Durability.{Durability}
+use Rattle.assise_names.specs.declared.limits.TheConstants.{MOST_NODES}
 use Rattle.assise_names.specs.declared.refusal.Refusal.{Refusal}
 use Rattle.assise_names.specs.declared.refusal.Refusal.TheVariants.{BadNode, Busy}
 use Rattle.assise_names.specs.declared.reply.Reply.{Reply}
@@ -13,19 +14,19 @@ use Rattle.assise_libfs.specs.Lives.{EndsWithOpening}
 use Rattle.assise_libfs.specs.Opening.{MayRefuseOpen}
 use Rattle.assise_fault_script.specs.declared.command.Command.{Command}
 use Rattle.assise_fault_script.specs.declared.command.Command.TheVariants.{Cluster, Manual, Open, Call, Carry, Link, Hot, Digest, Release, Crash, Fail, Back, Refill, Join, Raise, Tree as TreeOf, History, Check}
-use Rattle.assise_model_events.specs.Events.{back, crash, digest, fail, join, raise, refill, release_ready}
+use Rattle.assise_model_events.specs.Events.{back, crash, digest, fail, join, open_client, opened, raise, refill, refused, release_ready}
 use Rattle.assise_model_events.specs.Machine.{Machine}
 use Rattle.assise_console.specs.declared.response.Response.{Response}
 use Rattle.assise_console.specs.declared.response.Response.TheVariants.{Quiet, Client, Replied, Refused, Carried, Tree as Shown, History as Whole}
-use Rattle.assise_machine.specs.Following.{IsLedTo}
+use Rattle.assise_machine.specs.Following.{IsWorkedTo}
 use Rattle.assise_rounds.specs.Traces.{Told}
 use Rattle.assise_console.specs.Steps.{IsVerdict, SetsHot, Shows}
 use Rattle.assise_console.specs.OneEvent.{IsOne, IsOneAt}
 use Rattle.assise_workers.specs.Acting.{Replicates}
 use Rattle.assise_workers.specs.declared.worker.TurnEnd.TheVariants.{Did, Refused as NotDone}
 use Rattle.assise_threads.specs.ClientTurns.{HappensSoundly, history_seen, versions_read}
-use Rattle.assise_threads.specs.Lacking.{MayLack}
-use Rattle.assise_threads.specs.Takes.{InOneTake}
+use Rattle.assise_threads.specs.Lacking.{LacksRevoker}
+use Rattle.assise_threads.specs.Takes.{Happened, InOneTake}
 use Rattle.assise_threads.specs.Trees.{IsReplicatedTree}
 
 -- nothing is printed
@@ -34,11 +35,12 @@ pub record IsSilent (a : Response) (old new : Machine) : Type 0 where
   pub stays : new ≡ old
 
 -- A client is opened on node n, and so, which is the last that is seen then, and it made no call. Or the open is refused for what is seen
--- then; or there is no revoker for it, or no node of this number.
+-- then; or there is no revoker for it, or no node of so great a number.
 pub data OpensOne (n : ℕ) (u : Durability) (a : Response) (old new : Machine) : Type 0 where
-  is_opened : (c : ℕ) → a ≡ Client c → IsLedTo old new → EndsWithOpening c n u old.history new.history → ∥ IsLegal new.history ∥₁ → calls_made c new.history ≡ 0 → OpensOne n u a old new
-  is_refused : (r : Refusal) → a ≡ Refused r → IsLedTo old new → Extends new.history old.history → MayRefuseOpen n new.history r → OpensOne n u a old new
-  lacks_revoker : (r : Refusal) → a ≡ Refused r → IsLedTo old new → Extends new.history old.history → MayLack n new.history r → OpensOne n u a old new
+  is_opened : (c : ℕ) → a ≡ Client c → InOneTake (Happened (open_client n u) (opened c)) old new → EndsWithOpening c n u old.history new.history → calls_made c new.history ≡ 0 → OpensOne n u a old new
+  is_refused : (r : Refusal) → a ≡ Refused r → InOneTake (Happened (open_client n u) (refused r)) old new → MayRefuseOpen n new.history r → OpensOne n u a old new
+  lacks_revoker : (r : Refusal) → a ≡ Refused r → InOneTake (LacksRevoker n r) old new → OpensOne n u a old new
+  is_nowhere : a ≡ Refused BadNode → MOST_NODES < n → new ≡ old → OpensOne n u a old new
 
 -- a call is answered with a reply or a refusal, which its client's thread has seen
 pub data IsCallAnswered (a : Response) (old new : Machine) : Type 0 where
@@ -50,7 +52,7 @@ pub data IsCallAnswered (a : Response) (old new : Machine) : Type 0 where
 pub data CarriesSome (n : ℕ) (a : Response) (old new : Machine) : Type 0 where
   is_carried : (count : ℕ) (later : List EntryValue) → a ≡ Carried count → Replicates history_seen HappensSoundly ⊤ versions_read n (Did count) old.history later → new ≡ old → CarriesSome n a old new
   is_refused : (r : Refusal) (later : List EntryValue) → a ≡ Refused r → Replicates history_seen HappensSoundly ⊤ versions_read n (NotDone r) old.history later → new ≡ old → CarriesSome n a old new
-  is_nowhere : a ≡ Refused BadNode → new ≡ old → CarriesSome n a old new
+  is_nowhere : a ≡ Refused BadNode → MOST_NODES < n → new ≡ old → CarriesSome n a old new
 
 -- the tree that node n's region alone spells, which is that of the replicated calls, in a machine that stays as it is
 pub record ShowsTree (n : ℕ) (a : Response) (m : Machine) (es : Told) (m' : Machine) : Type 0 where
@@ -103,7 +105,7 @@ pub data ComesBackInTakes (turns n : ℕ) (a : Response) (old new : Machine) : T
 -- the history that was seen is printed, and it is legal
 pub record PrintsHistory (a : Response) (old new : Machine) : Type 0 where
   pub answer : a ≡ Whole
-  pub led : IsLedTo old new
+  pub worked : IsWorkedTo old new
   pub extends : Extends new.history old.history
   pub legal : ∥ IsLegal new.history ∥₁
 

@@ -1,13 +1,18 @@
 -- Why no client is opened where there is no revoker for one.
-use Rattle.std.specs.Prelude.{ℕ, List}
+use Rattle.std.specs.Prelude.{◌≡◌, ℕ, Option, None, Some}
 use Rattle.assise_names.specs.declared.refusal.Refusal.{Refusal}
-use Rattle.assise_names.specs.declared.refusal.Refusal.TheVariants.{BadClient, BadNode, NodeDown}
-use Rattle.assise_history.specs.Entries.{EntryValue}
-use Rattle.assise_history.specs.Legal.{IsDown}
+use Rattle.assise_names.specs.declared.refusal.Refusal.TheVariants.{BadClient, NodeDown, WrongPhase}
+use Rattle.assise_model_events.specs.Faults.{node_fault}
+use Rattle.assise_model_events.specs.Machine.{Machine}
+use Rattle.assise_rounds.specs.Traces.{Told}
 
--- where there is no revoker, an open on the node may be refused so after this history
-abbrev pub MayLack : ℕ → List EntryValue → Refusal → Type 0
-MayLack n h BadClient = IsDown h n → ⊥
-MayLack n h NodeDown = ∥ IsDown h n ∥₁
-MayLack n h BadNode = Unit {0}
-MayLack n h r = ⊥
+-- by the fault of the node
+abbrev pub lacking : Option Refusal → Refusal
+lacking None = BadClient
+lacking (Some WrongPhase) = NodeDown
+lacking (Some fault) = fault
+
+-- an open on node n is refused so, and nothing changes
+pub record LacksRevoker (n : ℕ) (r : Refusal) (m : Machine) (es : Told) (m' : Machine) : Type 0 where
+  pub refusal : r ≡ lacking (node_fault m n)
+  pub stays : m' ≡ m

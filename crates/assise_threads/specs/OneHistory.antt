@@ -7,6 +7,8 @@ use Rattle.assise_names.specs.declared.reply.Reply.{Reply}
 use Rattle.assise_history.specs.Entries.{EntryValue}
 use Rattle.assise_history.specs.Legal.{IsLegal}
 use Rattle.assise_keeper.specs.Clients.{Extends, calls_by, openings_of}
+use Rattle.assise_machine.specs.Following.{IsWorkedTo}
+use Rattle.assise_model_events.specs.Machine.{Machine}
 use Rattle.assise_workers.specs.Told.{told_all}
 use Rattle.assise_threads.specs.Fronts.{HearsOn}
 use Rattle.assise_threads.specs.Openings.{Sights, openings_said}
@@ -21,15 +23,16 @@ abbrev pub CoversSight : ℕ → List EntryValue → Option (List EntryValue) �
 CoversSight c h None = Unit {0}
 CoversSight c h (Some seen) = Covers h (c, seen)
 
--- There was a legal history between the two that goes on from what all clients have seen, without a call of theirs; and it has no opening
--- that the first doesn't have.
-pub record AreMet (old : List EntryValue) (us : Sights) (new : List EntryValue) : Type 0 where
-  pub history : List EntryValue
-  pub legal : ∥ IsLegal history ∥₁
-  pub since : Extends history old
-  pub until : Extends new history
-  pub clients : AllByRecursion (Covers history) us
-  pub openings : openings_of history ≡ openings_of old
+-- There was a machine, to which clients' calls and what nodes do of themselves lead from the first one; its history is legal, goes on from
+-- what all clients have seen, without a call of theirs, and has no opening that the first one's doesn't have.
+pub record AreMet (old : Machine) (us : Sights) (new : List EntryValue) : Type 0 where
+  pub between : Machine
+  pub legal : ∥ IsLegal between.history ∥₁
+  pub worked : IsWorkedTo old between
+  pub since : Extends between.history old.history
+  pub until : Extends new between.history
+  pub clients : AllByRecursion (Covers between.history) us
+  pub openings : openings_of between.history ≡ openings_of old.history
 
 -- the calls of client c in the history are those that it was told, in the order of the lines
 abbrev pub HasToldCalls : ℕ → List Said → List EntryValue → List (Result Reply Refusal) → Option (List EntryValue) → Type 0

@@ -1,7 +1,6 @@
 -- What a run with threads writes for a script, and what its faults say.
 use Rattle.std.specs.Prelude.{◌≡◌, ℕ, List, [], ◌∷◌, Option, None, Some}
 use Rattle.std.specs.Io.KnownBytes.{Appends}
-use Rattle.assise_history.specs.Entries.{EntryValue}
 use Rattle.assise_fault_script.specs.declared.command.Command.{Command}
 use Rattle.assise_fault_script.specs.declared.command.Command.TheVariants.{Manual, Link}
 use Rattle.assise_fault_script.specs.declared.parse.NumberedCommand.{NumberedCommand}
@@ -12,6 +11,7 @@ use Rattle.assise_console.specs.declared.fault.SerialCommand.{SerialCommand}
 use Rattle.assise_console.specs.declared.fault.SerialCommand.TheVariants.{Manual as manual, Link as link}
 use Rattle.assise_workers.specs.declared.running.RunFault.{RunFault}
 use Rattle.assise_workers.specs.declared.running.RunFault.TheVariants.{Memory as TooLittle, NoThread as TooFew}
+use Rattle.assise_machine.specs.Following.{IsWorkedTo}
 use Rattle.assise_model_events.specs.Machine.{Machine}
 use Rattle.assise_threads.specs.Answered.{AnswersCommand}
 use Rattle.assise_threads.specs.Begun.{begun_by}
@@ -23,13 +23,15 @@ abbrev pub IsSaid : ℕ → Machine → List Said → Machine → Type 0
 IsSaid turns old [] new = new ≡ old
 IsSaid turns old (s ∷ ss) new = AnswersCommand turns s.command.command s.answer old s.machine × IsSaid turns s.machine ss new
 
--- these commands were run with threads, with so many turns for a call or a return, and from the machine that the first makes on this was said; and it has one history
+-- These commands were run with threads, with so many turns for a call or a return, and from the machine that the first makes on this was
+-- said. It has one history: that of a last machine, to which calls and what nodes do of themselves lead.
 pub record IsThreadRun (turns : ℕ) (commands : List NumberedCommand) (ss : List Said) : Type 0 where
   pub each : commands_said ss ≡ commands
   pub seen : Machine
   pub main : IsSaid turns (begun_by commands) ss seen
-  pub history : List EntryValue
-  pub one : HasOneHistory turns ss history
+  pub last : Machine
+  pub worked : IsWorkedTo seen last
+  pub one : HasOneHistory turns ss last.history
 
 -- they were run, and the lines of what was said were written, and nothing else
 pub record IsRunSaid (turns : ℕ) (commands : List NumberedCommand) (old new : Option (List ℕ)) : Type 0 where

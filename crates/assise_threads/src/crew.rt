@@ -78,7 +78,7 @@ impl<'a> Crew<'a> {
     ghost use Rattle.assise_console.specs.Stored.{revokers_left};
     ghost use Rattle.assise_fault_script.specs.declared.command.RevokerKind.{RevokerKind as Kind};
     ghost use Rattle.assise_console.specs.declared.response.Response.TheVariants.{Client};
-    ghost use Rattle.assise_machine.specs.Following.{IsLedTo};
+    ghost use Rattle.assise_machine.specs.Following.{IsWorkedTo};
     ghost use Rattle.assise_threads.specs.Answered.{AnswersCommand, OpensOne};
     ghost use Rattle.assise_threads.specs.Begun.{begun_by};
     ghost use Rattle.assise_threads.specs.CallsAhead.{AreSaidNext};
@@ -266,7 +266,7 @@ impl<'a> Crew<'a> {
         ensures turns { self.new.turns ≡ self.old.turns }
         ensures extends { Extends (main_seen self.new.main).history
             (main_seen self.old.main).history }
-        ensures led { IsLedTo (main_seen self.old.main) (main_seen self.new.main) }
+        ensures worked { IsWorkedTo (main_seen self.old.main) (main_seen self.new.main) }
         ensures legal { ∥ IsLegal (main_seen self.new.main).history ∥₁ }
         ensures none_opened { OpensNone (main_seen self.old.main).history
             (main_seen self.new.main).history }

@@ -7,7 +7,8 @@ ghost use Rattle.assise_keeper.specs.declared.view.Opens.TheVariants.{Alone};
 ghost use Rattle.assise_keeper.specs.Passes.{IsPassOf, client as client_of_pass, last, opens, seen};
 ghost use Rattle.assise_machine.specs.Clusters.{machine};
 ghost use Rattle.assise_threads.specs.LastSeen.{machine_seen};
-ghost use Rattle.assise_threads.specs.Lacking.{MayLack};
+ghost use Rattle.assise_model_events.specs.Faults.{node_fault};
+ghost use Rattle.assise_threads.specs.Lacking.{lacking};
 
 use crate::meeting::meet_all;
 use crate::takes::{Take, apply};
@@ -43,7 +44,7 @@ pub(crate) struct MainThreadOf<'a, C> {
 pub(crate) type MainThread<'a> = MainThreadOf<'a, Revoker>;
 
 impl<'a, C: Revokes + Drop> MainThreadOf<'a, C> {
-    ghost use Rattle.std.specs.Prelude.{◌≡◌, ◌≤◌, IfErr, IfOk, List, None, OnErr, Some, string_bytes};
+    ghost use Rattle.std.specs.Prelude.{◌≡◌, ◌≤◌, IfErr, IfOk, List, None, OnErr, Some, map, string_bytes};
     ghost use Rattle.assise_history.specs.Entries.{EntryValue};
     ghost use Rattle.assise_history.specs.Legal.{IsLegal, calls_made};
     ghost use Rattle.assise_history.specs.Text.{history_text};
@@ -51,18 +52,20 @@ impl<'a, C: Revokes + Drop> MainThreadOf<'a, C> {
     ghost use Rattle.assise_keeper.specs.Clients.{Extends};
     ghost use Rattle.assise_keeper.specs.Passes.{IsPassOf, client as client_of_pass, last as last_of, opens, seen};
     ghost use Rattle.assise_machine.specs.Clusters.{machine};
-    ghost use Rattle.assise_machine.specs.Following.{IsLedTo};
+    ghost use Rattle.assise_machine.specs.Following.{IsWorkedTo};
     ghost use Rattle.assise_machine.specs.declared.cluster.ClusterOf.{ClusterOf};
     ghost use Rattle.assise_threads.specs.LastSeen.{machine_seen};
     ghost use Rattle.assise_libfs.specs.Clients.{client_of, keeper_of, limit_of, seen_by};
     ghost use Rattle.assise_libfs.specs.Lives.{EndsWithOpening, OpensNoOther};
     ghost use Rattle.assise_libfs.specs.Opening.{MayRefuseOpen};
     ghost use Rattle.assise_threads.specs.Answered.{CarriesSome, ComesBackInTakes};
-    ghost use Rattle.assise_threads.specs.Lacking.{MayLack};
+    ghost use Rattle.assise_threads.specs.Lacking.{LacksRevoker};
     ghost use Rattle.assise_threads.specs.Hearing.{sights};
     ghost use Rattle.assise_threads.specs.OneHistory.{AreMet};
     ghost use Rattle.assise_threads.specs.Openings.{OpensNone};
-    ghost use Rattle.assise_threads.specs.Takes.{InOneTake};
+    ghost use Rattle.assise_model_events.specs.Events.{open_client, opened, refused};
+    ghost use Rattle.assise_threads.specs.Takes.{Happened, InOneTake};
+    ghost use Rattle.assise_workers.specs.Working.{node_at, nodes_up_to};
     ghost use Rattle.assise_threads.specs.AtKeeper.{AreAt};
     ghost use Rattle.assise_threads.specs.Threads.{DoesTake, main_keeper, main_seen};
 
@@ -89,6 +92,7 @@ impl<'a, C: Revokes + Drop> MainThreadOf<'a, C> {
     ) -> Result<Vec<NodeWorkers<'a, ClusterOf<C>>>, Refusal>
         ensures seen { main_seen self.new ≡ main_seen self.old }
         ensures keeper { main_keeper self.new ≡ main_keeper self.old }
+        ensures nodes { IfOk result (λ nodes. map node_at nodes.items ≡ nodes_up_to last) }
     {
         workers_up_to(alloc, self.keeper, &mut self.pass, last)
     }
@@ -108,7 +112,12 @@ impl<'a, C: Revokes + Drop> MainThreadOf<'a, C> {
         ensures keeper { main_keeper self.new ≡ main_keeper self.old }
         ensures at_keeper { IfOk result (λ it. keeper_of it ≡ main_keeper self.old) }
         ensures limit { IfOk result (λ it. limit_of it ≡ turns) }
-        ensures led { IsLedTo (main_seen self.old) (main_seen self.new) }
+        ensures opens { IfOk result (λ it. InOneTake
+            (Happened (open_client node durability) (opened (client_of it)))
+            (main_seen self.old) (main_seen self.new)) }
+        ensures refuses { IfErr result (λ back. InOneTake
+            (Happened (open_client node durability) (refused back.0))
+            (main_seen self.old) (main_seen self.new)) }
         ensures seen { IfOk result (λ it. seen_by it ≡ (main_seen self.new).history) }
         ensures last { IfOk result (λ it. EndsWithOpening (client_of it) node durability
             (main_seen self.old).history (main_seen self.new).history) }
@@ -146,10 +155,9 @@ impl<'a, C: Revokes + Drop> MainThreadOf<'a, C> {
 
     /// Why no client can be opened on a node where there is no revoker for one.
     pub(crate) fn refuse_open<R: Wait>(&mut self, rt: &R, node: u32) -> Refusal
-        ensures extends { Extends (main_seen self.new).history (main_seen self.old).history }
         ensures keeper { main_keeper self.new ≡ main_keeper self.old }
-        ensures led { IsLedTo (main_seen self.old) (main_seen self.new) }
-        ensures lacks { MayLack node (main_seen self.new).history result }
+        ensures lacks { InOneTake (LacksRevoker node result)
+            (main_seen self.old) (main_seen self.new) }
         ensures none_opened { OpensNone
             (main_seen self.old).history (main_seen self.new).history }
     {
@@ -225,7 +233,7 @@ impl<'a, C: Revokes + Drop> MainThreadOf<'a, C> {
     /// All clients are told apart no more: there is one history with the calls of all.
     pub(crate) fn end<R: Wait>(self, rt: &R, clients: Vec<LibFs<'a, ClusterOf<C>>>)
         requires at { AreAt (main_keeper self) clients.items }
-        ensures { (seen_last : List EntryValue) × AreMet (main_seen self.entry).history
+        ensures { (seen_last : List EntryValue) × AreMet (main_seen self.entry)
             (sights clients.entry.items) seen_last }
     {
         let MainThreadOf { keeper, pass } = self;
@@ -236,7 +244,7 @@ impl<'a, C: Revokes + Drop> MainThreadOf<'a, C> {
     pub(crate) fn history<R: Wait>(&mut self, rt: &R, alloc: Global) -> Result<String, AllocError>
         ensures extends { Extends (main_seen self.new).history (main_seen self.old).history }
         ensures keeper { main_keeper self.new ≡ main_keeper self.old }
-        ensures led { IsLedTo (main_seen self.old) (main_seen self.new) }
+        ensures worked { IsWorkedTo (main_seen self.old) (main_seen self.new) }
         ensures legal { ∥ IsLegal (main_seen self.new).history ∥₁ }
         ensures none_opened { OpensNone
             (main_seen self.old).history (main_seen self.new).history }
@@ -259,7 +267,7 @@ fn is_busy(answer: &Response) -> bool
 
 /// Why no client is opened on a node where all revokers are taken.
 fn refusal_without_revoker<C: Revokes + Drop>(cluster: &ClusterOf<C>, node: u32) -> Refusal
-    ensures { MayLack node (machine cluster.now).history result }
+    ensures { result ≡ lacking (node_fault (machine cluster.now) node) }
 {
     match cluster.region(node) {
         Ok(_) => Refusal::BadClient,

@@ -1,9 +1,10 @@
 // Clients meet with a pass of nobody.
-ghost use Rattle.std.specs.Prelude.{◌≡◌, [], None};
+ghost use Rattle.std.specs.Prelude.{◌≡◌, [], None, is_some, true};
 ghost use Rattle.assise_keeper.specs.declared.view.Opens.TheVariants.{Alone};
-ghost use Rattle.assise_keeper.specs.Passes.{IsPassOf, client as client_of_pass, opens, seen};
+ghost use Rattle.assise_keeper.specs.Passes.{IsPassOf, client as client_of_pass, last, opens, seen};
 ghost use Rattle.assise_threads.specs.AtKeeper.{AreAt};
 ghost use Rattle.assise_threads.specs.Hearing.{sights};
+ghost use Rattle.assise_threads.specs.LastSeen.{machine_seen};
 ghost use Rattle.assise_threads.specs.OneHistory.{AreMet};
 
 use assise_keeper::keeper::Keeper;
@@ -25,11 +26,14 @@ pub(crate) fn meet_all<'a, C: Revokes + Drop, R: Wait>(
     requires pass { IsPassOf keeper.now pass }
     requires nobody { client_of_pass pass ≡ None }
     requires alone { opens pass ≡ Alone }
+    requires known { (is_some (last pass) ≡ true) ×
+        (seen pass ≡ (machine_seen (last pass)).history) }
     requires at { AreAt keeper.now clients.rest.items }
     ensures pass { IsPassOf keeper.now result }
     ensures nobody { client_of_pass result ≡ None }
     ensures alone { opens result ≡ Alone }
-    ensures met { AreMet (seen pass) (sights clients.entry.rest.items) (seen result) }
+    ensures met { AreMet (machine_seen (last pass)) (sights clients.entry.rest.items)
+        (seen result) }
 {
     let Some(client) = clients.next() else {
         return look(rt, keeper, pass);
@@ -49,10 +53,12 @@ fn look<C: Revokes + Drop, R: Wait>(
     requires pass { IsPassOf keeper.now pass }
     requires nobody { client_of_pass pass ≡ None }
     requires alone { opens pass ≡ Alone }
+    requires known { (is_some (last pass) ≡ true) ×
+        (seen pass ≡ (machine_seen (last pass)).history) }
     ensures pass { IsPassOf keeper.now result }
     ensures nobody { client_of_pass result ≡ None }
     ensures alone { opens result ≡ Alone }
-    ensures met { AreMet (seen pass) [] (seen result) }
+    ensures met { AreMet (machine_seen (last pass)) [] (seen result) }
 {
     let mut pass = pass;
     let held = keeper.take(rt, &mut pass);

@@ -87,6 +87,16 @@ module _ {S : Type 0} (history : S → List EntryValue) (acts : S → ClusterEve
   DigestsSome n (Refused r) old new = ⊥
   DigestsSome n Stopped old new = new ≡ old
 
+-- what two turns came to, one after the other: a refusal hides nothing that the other did
+abbrev pub both_ends : TurnEnd → TurnEnd → TurnEnd
+both_ends Stopped next = Stopped
+both_ends (Did m) Stopped = Stopped
+both_ends (Did m) (Did n) = Did (min (m + n) 18446744073709551615)
+both_ends (Did m) (Refused r) = Did m
+both_ends (Refused r) Stopped = Stopped
+both_ends (Refused r) (Did n) = Did n
+both_ends (Refused r) (Refused q) = Refused q
+
 -- so many turns, each behind the other: what each came to, the last one first
 abbrev pub TurnAfterTurn : (turn : TurnEnd → List EntryValue → List EntryValue → Type 0) → List TurnEnd → List EntryValue → List EntryValue → Type 0
 TurnAfterTurn turn [] old new = new ≡ old

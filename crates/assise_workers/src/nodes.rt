@@ -1,6 +1,7 @@
 // The workers of nodes.
-ghost use Rattle.std.specs.Prelude.{◌≡◌};
+ghost use Rattle.std.specs.Prelude.{◌≡◌, IfOk, map};
 ghost use Rattle.assise_keeper.specs.Passes.{IsPassOf, client, last as last_of, opens, seen};
+ghost use Rattle.assise_workers.specs.Working.{node_at, nodes_up_to};
 
 use crate::gate::{Gate, Point};
 use crate::idle::Idle;
@@ -26,6 +27,7 @@ pub struct NodeWorkers<'a, S: Growing> {
 impl<'a, S: Replicated> NodeWorkers<'a, S> {
     ghost use Rattle.std.specs.Prelude.{◌≡◌};
     ghost use Rattle.assise_keeper.specs.Passes.{IsPassOf, client, last, opens, seen};
+    ghost use Rattle.assise_workers.specs.Working.{node_at};
 
     /// The workers of a node, whose passes are split from another.
     pub fn new(keeper: &'a Keeper<S>, pass: &mut Pass<S>, node: u32) -> NodeWorkers<'a, S>
@@ -34,6 +36,7 @@ impl<'a, S: Replicated> NodeWorkers<'a, S> {
         ensures same { (seen pass.new ≡ seen pass.old) × (client pass.new ≡ client pass.old) }
         ensures right { opens pass.new ≡ opens pass.old }
         ensures last { last pass.new ≡ last pass.old }
+        ensures node { node_at result ≡ node }
     {
         let replicator = Worker::new(keeper, pass);
         let digester = Worker::new(keeper, pass);
@@ -72,6 +75,7 @@ pub fn workers_up_to<'a, S: Replicated>(
     ensures same { (seen pass.new ≡ seen pass.old) × (client pass.new ≡ client pass.old) }
     ensures right { opens pass.new ≡ opens pass.old }
     ensures kept { last_of pass.new ≡ last_of pass.old }
+    ensures nodes { IfOk result (λ nodes. map node_at nodes.items ≡ nodes_up_to last) }
 {
     let mut nodes = Vec::new(alloc);
     for node in 1..=last {

@@ -3,7 +3,7 @@ ghost use Rattle.std.specs.Prelude.{◌≡◌, ◌≤◌, ℕ, IfOk};
 ghost use Rattle.assise_manager.specs.NodeLevels.{level_of, newest};
 ghost use Rattle.assise_machine.specs.Answers.{delivery_answer, digesting_answer, sending_answer};
 ghost use Rattle.assise_machine.specs.Clusters.{machine};
-ghost use Rattle.assise_machine.specs.Following.{led_by};
+ghost use Rattle.assise_machine.specs.Following.{IsWork, led_by, worked_by};
 ghost use Rattle.assise_model_events.specs.Events.{Answer, ClusterEvent, deliver, digest, outgoing, release_ready, released};
 ghost use Rattle.assise_model_events.specs.Happenings.{Happens};
 
@@ -48,12 +48,18 @@ pub trait Replicated: Growing {
 
     ghost acts_lead: { (s : Self) (e : ClusterEvent) (a : Answer) (t : Self) → acts s e a t
         → Self.Growing.leads s t };
+
+    ghost acts_work: { (s : Self) (e : ClusterEvent) (a : Answer) (t : Self) → IsWork e
+        → acts s e a t → Self.Growing.works s t };
 }
 
 impl<C: Revokes + Drop> Replicated for ClusterOf<C> {
     ghost acts = { λ s e a t. Happens (machine s) e a (machine t) };
 
     ghost acts_lead = { λ s e a t happens. led_by (machine s) e a (machine t) happens };
+
+    ghost acts_work = { λ s e a t work happens.
+        worked_by (machine s) e a (machine t) work happens };
 
     ghost reads = { λ s n. newest (level_of (machine s).members.levels n) };
 

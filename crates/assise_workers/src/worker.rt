@@ -1,5 +1,7 @@
 // A worker: a lent keeper, and a pass through which no entry is added.
+ghost use Rattle.std.specs.Prelude.{◌≡◌};
 ghost use Rattle.assise_keeper.specs.Passes.{IsPassOf};
+ghost use Rattle.assise_workers.specs.Acting.{both_ends};
 ghost use Rattle.assise_keeper.specs.Working.{pass_of};
 
 use crate::replicated::Replicated;
@@ -22,7 +24,9 @@ pub enum TurnEnd {
 
 impl TurnEnd {
     /// What two turns came to, one after the other.
-    pub(crate) fn and(self, next: TurnEnd) -> TurnEnd {
+    pub(crate) fn and(self, next: TurnEnd) -> TurnEnd
+        ensures { result ≡ both_ends self next }
+    {
         match (self, next) {
             (TurnEnd::Stopped, _) | (_, TurnEnd::Stopped) => TurnEnd::Stopped,
             (TurnEnd::Refused(_), _) => next,

@@ -1,8 +1,9 @@
-use Rattle.std.proofs.Common.{rules, ◌≡◌, sym, subst}
+use Rattle.std.proofs.Common.{rules, ◌≡◌, ◌∙◌, sym, subst}
 use Rattle.std.specs.Prelude.{IfOk}
 use Rattle.assise_history.specs.Legal.{calls_made}
-use Rattle.assise_keeper.specs.Passes.{last, seen}
-use Rattle.assise_keeper.proofs.Following.{led_from, led_further}
+use Rattle.assise_keeper.specs.Clients.{MayOpenClients}
+use Rattle.assise_keeper.specs.Passes.{seen}
+use Rattle.assise_keeper.proofs.Following.{led_from}
 use Rattle.assise_libfs.proofs.Openings.{no_other_opened, none_opened}
 use Rattle.assise_libfs.proofs.Tries.{none_of_opened}
 use Rattle.assise_libfs.proofs.turns.open_turn.Goals as goal
@@ -30,11 +31,17 @@ give-requires-clause-leads g c =
     let acts = rw c.state.ensures.value at c.open-opened.ensures.acts in
     led_from g.S.Growing.leads _ c.take-held.result c.open-opened.new.self c.take-held.ensures.state (g.met.S.Served.acts_lead _ _ _ _ acts)
 
-pub returns-clause-on : goal.returns-clause-on
-returns-clause-on g c =
-    let acts = rw c.state.ensures.value at c.open-opened.ensures.acts in record {
-      state = c.open-opened.new.self;
-      is_last = search rules;
-      is_seen = search rules;
-      led = led_further g.S.Growing.leads g.S.Growing.goes_on (last c.args.pass.now) c.take-held.result c.open-opened.new.self (g.met.S.Served.acts_lead _ _ _ _ acts) c.take-held.ensures.led;
-    }
+pub give-requires-clause-works : goal.give-requires-clause-works
+give-requires-clause-works g c = λ never. absurd (subst MayOpenClients (sym c.take-held.ensures.right ∙ never) c.requires.right)
+
+pub returns-clause-turn : goal.returns-clause-turn
+returns-clause-turn g c = record {
+  before = c.take-held.result;
+  after = c.open-opened.new.self;
+  led = c.take-held.ensures.led;
+  worked = c.take-held.ensures.worked;
+  extends = c.take-held.ensures.extends;
+  does = rw c.state.ensures.value at c.open-opened.ensures.acts;
+  is_last = search rules;
+  is_seen = search rules;
+}

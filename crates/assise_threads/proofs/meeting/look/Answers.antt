@@ -1,10 +1,12 @@
-use Rattle.std.proofs.Common.{◌∙◌, ap, sym, subst}
+use Rattle.std.proofs.Common.{◌∙◌, [], ap, refl, sym, subst}
 use Rattle.assise_keeper.specs.Clients.{Extends, openings_of}
 use Rattle.assise_keeper.proofs.Following.{led_from}
-use Rattle.assise_keeper.specs.Passes.{seen}
+use Rattle.assise_keeper.specs.Passes.{last}
 use Rattle.assise_machine.specs.Clusters.{machine}
 use Rattle.assise_machine.specs.Following.{led_to_itself}
-use Rattle.assise_threads.proofs.Leading.{cluster_leads}
+use Rattle.assise_threads.specs.LastSeen.{machine_seen}
+use Rattle.assise_threads.specs.OneHistory.{AreMet}
+use Rattle.assise_threads.proofs.Leading.{cluster_leads, not_never, seen_works}
 use Rattle.assise_threads.proofs.Meetings.{met_none}
 use Rattle.assise_threads.proofs.Nobodys.{is_legal, may_give_same}
 use Rattle.assise_threads.proofs.meeting.look.Goals as goal
@@ -14,8 +16,14 @@ give-requires-clause-grows g c = may_give_same _ _ _ _ c.take-held.ensures.taken
 
 pub returns-clause-met : goal.returns-clause-met
 returns-clause-met g c =
-    let is = c.give.ensures.seen in
-    met_none (seen c.args.pass) (seen c.give.new.pass) (subst (λ h. Extends h (seen c.args.pass)) (sym is) c.take-held.ensures.extends) (is_legal c.take-held.result _ is) (ap openings_of is ∙ c.take-held.ensures.alone c.requires.alone)
+    let old = c.args.pass in
+    let m = machine c.take-held.result in
+    let known = c.requires.known in
+    subst (AreMet (machine_seen (last old)) []) (sym c.give.ensures.seen)
+    (met_none (machine_seen (last old)) m (seen_works (last old) c.take-held.result known.0 (c.take-held.ensures.worked c.requires.alone)) (subst (λ h. Extends m.history h) known.1 c.take-held.ensures.extends) (is_legal c.take-held.result m.history refl) (c.take-held.ensures.alone c.requires.alone ∙ ap openings_of known.1))
+
+pub give-requires-clause-works : goal.give-requires-clause-works
+give-requires-clause-works g c = λ never. absurd (not_never _ (c.take-held.ensures.right ∙ c.requires.alone) never)
 
 pub give-requires-clause-leads : goal.give-requires-clause-leads
 give-requires-clause-leads g c = led_from cluster_leads _ c.take-held.result c.take-held.result c.take-held.ensures.state (led_to_itself (machine c.take-held.result))

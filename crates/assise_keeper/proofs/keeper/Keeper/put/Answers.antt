@@ -13,7 +13,8 @@ store-requires g c = let x = c.args.state in let now = c.exchange-before.ensures
     let view = ap (λ m. m.0) now in (
       search rules,
       search rules,
-      gives_for g.S.Growing.history g.S.Growing.leads g.S.Growing.stays g.S.Growing.goes_on _ _ _ x h holds.0 carried (ap (λ v. v.stage) view ∙ holds.1.2) (subst (λ z. IsLed g.S.Growing.leads (state_at z) (Some x)) holds.1.2 c.requires.leads)
+      gives_for g.S.Growing.history g.S.Growing.leads g.S.Growing.works g.S.Growing.stays g.S.Growing.goes_on g.S.Growing.rests g.S.Growing.works_on _ _ _ x h holds.0 carried (ap (λ v. v.stage) view ∙ holds.1.2) (subst (λ z. IsLed g.S.Growing.leads (state_at z) (Some x)) holds.1.2 c.requires.leads)
+          (λ never. subst (λ z. IsLed g.S.Growing.works (state_at z) (Some x)) holds.1.2 (c.requires.works (sym (ap (λ v. v.own.opens) view) ∙ never)))
           (subst (λ v. MayGive v.own.client v.own.opens h (g.S.Growing.history x)) (sym view) c.requires.grows) (g.S.Growing.opens_once x),
     )
 

@@ -1,5 +1,6 @@
-use Rattle.std.proofs.Common.{rules, ◌≡◌}
+use Rattle.std.proofs.Common.{rules, ◌≡◌, ◌∙◌, sym}
 use Rattle.assise_keeper.proofs.Following.{led_from}
+use Rattle.assise_keeper.specs.declared.view.Opens.TheVariants.{AmongOthers, Never}
 use Rattle.assise_keeper.specs.Passes.{taken}
 use Rattle.assise_mail_example.proofs.Changes.{may_give}
 use Rattle.assise_mail_example.proofs.members.Operator.change.Goals as goal
@@ -13,3 +14,6 @@ pub give-requires-clause-leads : goal.give-requires-clause-leads
 give-requires-clause-leads g c =
     let leads = rw c.state.ensures.value at c.change-changed.ensures.leads in
     led_from g.S.Growing.leads _ c.take-held.result c.change-changed.new.self c.take-held.ensures.state leads
+
+pub give-requires-clause-works : goal.give-requires-clause-works
+give-requires-clause-works g c = λ never. absurd (let x : AmongOthers ≡ Never = sym (c.take-held.ensures.right ∙ c.args.self.now.right) ∙ never in cc)

@@ -10,7 +10,7 @@ returns-in-History-clause-said g c =
     let wrote = c.write_history.ensures in
     on_ok c.write_history.result _ _ wrote.text (λ text. record {
       answer = Whole;
-      answered = rw c.in-History.is (record { answer = refl; led = wrote.led; extends = wrote.extends; legal = wrote.legal });
+      answered = rw c.in-History.is (record { answer = refl; worked = wrote.worked; extends = wrote.extends; legal = wrote.legal });
       opened = rw c.in-History.is wrote.none_opened;
       appends = text;
       clients = rw c.in-History.is refl;

@@ -1,4 +1,5 @@
-use Rattle.std.proofs.Common.{rules, ◌≡◌, ◌∙◌, ap, refl}
+use Rattle.std.proofs.Common.{rules, ◌≡◌, ◌<◌, ◌∙◌, ap, refl}
+use Rattle.assise_names.specs.declared.limits.TheConstants.{MOST_NODES}
 use Rattle.assise_threads.specs.Answered.{is_nowhere}
 use Rattle.assise_threads.specs.LastSeen.{machine_seen}
 use Rattle.assise_threads.specs.Threads.{main_seen}
@@ -7,7 +8,7 @@ use Rattle.assise_threads.proofs.MachineTurns.{carried_by, refused_by}
 use Rattle.assise_threads.proofs.main_thread.MainThreadOf.carry.Goals as goal
 
 pub returns-in_default-clause-carries : goal.returns-in_default-clause-carries
-returns-in_default-clause-carries g c = is_nowhere refl refl
+returns-in_default-clause-carries g c = let far : MOST_NODES < c.args.node = search rules in is_nowhere refl far refl
 
 pub returns-in-Did-clause-carries : goal.returns-in-Did-clause-carries
 returns-in-Did-clause-carries g c =

@@ -7,7 +7,7 @@ use Rattle.assise_machine.specs.Following.{IsLedTo, led_to_itself}
 use Rattle.assise_threads.specs.LastSeen.{machine_seen}
 use Rattle.assise_threads.specs.Openings.{OpensNone}
 use Rattle.assise_threads.specs.Threads.{main_seen}
-use Rattle.assise_threads.proofs.Leading.{between, cluster_leads, leads_on}
+use Rattle.assise_threads.proofs.Leading.{between, cluster_leads, not_never, works_seen}
 use Rattle.assise_threads.proofs.Nobodys.{may_give_same, same_opens_none, stays_nobody_same}
 use Rattle.assise_threads.proofs.main_thread.MainThreadOf.history.Goals as goal
 
@@ -31,8 +31,8 @@ invariant_of-self g c =
       known = c.give.ensures.seen ∙ sym (ap (λ z. (machine_seen z).history) c.give.ensures.last);
     }
 
-pub returns-clause-led : goal.returns-clause-led
-returns-clause-led g c = leads_on (last c.args.self.now.pass) (last c.give.new.pass) c.take-held.result c.args.self.now.met (c.give.ensures.last ∙ search rules) c.take-held.ensures.led
+pub returns-clause-worked : goal.returns-clause-worked
+returns-clause-worked g c = works_seen (last c.args.self.now.pass) (last c.give.new.pass) c.take-held.result c.args.self.now.met (c.give.ensures.last ∙ search rules) (c.take-held.ensures.worked c.args.self.now.alone)
 
 pub returns-clause-extends : goal.returns-clause-extends
 returns-clause-extends g c =
@@ -48,3 +48,6 @@ returns-clause-none_opened g c =
     let is : taken c.take-held.new.pass ≡ (machine c.state.result.now).history = search rules in
     let opened : openings_of (machine c.state.result.now).history ≡ openings_of (seen old) = ap openings_of (sym is ∙ c.take-held.ensures.taken) ∙ c.take-held.ensures.alone c.args.self.now.alone in
     between OpensNone (seen old) (seen new) c.args.self.now.known (c.give.ensures.seen ∙ sym (ap (λ z. (machine_seen z).history) c.give.ensures.last)) (same_opens_none (seen old) (machine c.state.result.now).history (seen new) opened c.give.ensures.seen)
+
+pub give-requires-clause-works : goal.give-requires-clause-works
+give-requires-clause-works g c = λ never. absurd (not_never _ (c.take-held.ensures.right ∙ c.args.self.now.alone) never)

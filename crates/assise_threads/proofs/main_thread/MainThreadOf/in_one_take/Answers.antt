@@ -3,11 +3,11 @@ use Rattle.assise_keeper.proofs.Following.{led_from}
 use Rattle.assise_keeper.specs.Clients.{Extends, openings_of}
 use Rattle.assise_keeper.specs.Passes.{last, seen, taken}
 use Rattle.assise_machine.specs.Clusters.{machine}
-use Rattle.assise_machine.specs.Following.{IsLedTo}
+use Rattle.assise_machine.specs.Following.{IsLedTo, IsWorkedTo}
 use Rattle.assise_threads.specs.LastSeen.{machine_seen}
 use Rattle.assise_threads.specs.Openings.{OpensNone}
 use Rattle.assise_threads.specs.Threads.{DoesTake, main_seen}
-use Rattle.assise_threads.proofs.Leading.{between, cluster_leads, seen_leads, take_leads}
+use Rattle.assise_threads.proofs.Leading.{between, cluster_leads, not_never, seen_works, take_leads}
 use Rattle.assise_threads.proofs.Nobodys.{given_extends, given_opens_none, is_legal, may_give, stays_nobody}
 use Rattle.assise_threads.proofs.main_thread.MainThreadOf.in_one_take.Goals as goal
 
@@ -38,12 +38,12 @@ returns-clause-does g c =
     let new = c.give.new.pass in
     let extends : Extends (machine c.state.result.now).history (seen old) = search rules in
     let known : seen new ≡ (machine_seen (last new)).history = c.give.ensures.seen ∙ sym (ap (λ z. (machine_seen z).history) c.give.ensures.last) in
-    let led = seen_leads (last old) c.take-held.result c.args.self.now.met c.take-held.ensures.led in
+    let worked = seen_works (last old) c.take-held.result c.args.self.now.met (c.take-held.ensures.worked c.args.self.now.alone) in
     record {
       before = machine c.state.result.now;
       told = c.apply-answer.ensures.does.0;
       lawful = c.state.result.now.sound.invariant.holds;
-      led = subst (λ z. IsLedTo (machine_seen (last old)) (machine z)) (sym c.state.ensures.value) led;
+      worked = subst (λ z. IsWorkedTo (machine_seen (last old)) (machine z)) (sym c.state.ensures.value) worked;
       does = subst (λ z. DoesTake c.args.take c.apply-answer.result (machine c.state.result.now) c.apply-answer.ensures.does.0 (machine_seen z)) (sym c.give.ensures.last) c.apply-answer.ensures.does.1;
       legal = is_legal c.apply-answer.new.cluster _ (sym known ∙ c.give.ensures.seen);
       grows = between (λ a b. Extends b a) (seen old) (seen new) c.args.self.now.known known (given_extends _ _ _ _ extends c.apply-answer.ensures.nobodys c.give.ensures.seen);
@@ -57,3 +57,6 @@ returns-clause-none_opened g c =
     let opened : openings_of (machine c.state.result.now).history ≡ openings_of (seen old) = ap openings_of (sym is ∙ c.take-held.ensures.taken) ∙ c.take-held.ensures.alone c.args.self.now.alone in
     let known : seen new ≡ (machine_seen (last new)).history = c.give.ensures.seen ∙ sym (ap (λ z. (machine_seen z).history) c.give.ensures.last) in
     between OpensNone (seen old) (seen new) c.args.self.now.known known (given_opens_none (seen old) (machine c.state.result.now).history (machine c.apply-answer.new.cluster).history (seen new) opened c.apply-answer.ensures.nobodys c.give.ensures.seen)
+
+pub give-requires-clause-works : goal.give-requires-clause-works
+give-requires-clause-works g c = λ never. absurd (not_never _ (c.take-held.ensures.right ∙ c.args.self.now.alone) never)

@@ -1,14 +1,14 @@
-use Rattle.std.proofs.Common.{rules, ◌≡◌, ◌∙◌, ap, is_some, subst, sym}
+use Rattle.std.proofs.Common.{rules, [], ◌≡◌, ◌∙◌, ap, is_some, subst, sym}
 use Rattle.assise_keeper.proofs.Following.{led_from}
 use Rattle.assise_keeper.specs.Clients.{Extends, openings_of}
 use Rattle.assise_keeper.specs.Passes.{last, seen, taken}
 use Rattle.assise_machine.specs.Clusters.{machine}
-use Rattle.assise_machine.specs.Following.{IsLedTo, led_to_itself}
+use Rattle.assise_machine.specs.Following.{IsLedTo, IsWorkedTo, led_to_itself}
 use Rattle.assise_threads.specs.LastSeen.{machine_seen}
 use Rattle.assise_threads.specs.Openings.{OpensNone}
 use Rattle.assise_threads.specs.Threads.{main_seen}
-use Rattle.assise_threads.proofs.Leading.{between, cluster_leads, leads_on}
-use Rattle.assise_threads.proofs.Nobodys.{may_give_same, same_opens_none, stays_nobody_same}
+use Rattle.assise_threads.proofs.Leading.{between, cluster_leads, not_never, seen_works}
+use Rattle.assise_threads.proofs.Nobodys.{is_legal, may_give_same, same_opens_none, stays_nobody_same}
 use Rattle.assise_threads.proofs.main_thread.MainThreadOf.refuse_open.Goals as goal
 
 pub give-requires-clause-grows : goal.give-requires-clause-grows
@@ -31,15 +31,23 @@ invariant_of-self g c =
       known = c.give.ensures.seen ∙ sym (ap (λ z. (machine_seen z).history) c.give.ensures.last);
     }
 
-pub returns-clause-led : goal.returns-clause-led
-returns-clause-led g c = leads_on (last c.args.self.now.pass) (last c.give.new.pass) c.take-held.result c.args.self.now.met (c.give.ensures.last ∙ search rules) c.take-held.ensures.led
-
-pub returns-clause-extends : goal.returns-clause-extends
-returns-clause-extends g c =
+pub returns-clause-lacks : goal.returns-clause-lacks
+returns-clause-lacks g c =
     let old = c.args.self.now.pass in
     let new = c.give.new.pass in
     let extends : Extends (seen new) (seen old) = search rules in
-    between (λ a b. Extends b a) (seen old) (seen new) c.args.self.now.known (c.give.ensures.seen ∙ sym (ap (λ z. (machine_seen z).history) c.give.ensures.last)) extends
+    let after : machine_seen (last new) ≡ machine c.state.result.now = ap machine_seen c.give.ensures.last in
+    let known : seen new ≡ (machine_seen (last new)).history = c.give.ensures.seen ∙ sym (ap (λ z. (machine_seen z).history) c.give.ensures.last) in
+    let worked = seen_works (last old) c.take-held.result c.args.self.now.met (c.take-held.ensures.worked c.args.self.now.alone) in
+    record {
+      before = machine c.state.result.now;
+      told = [];
+      lawful = c.state.result.now.sound.invariant.holds;
+      worked = subst (λ z. IsWorkedTo (machine_seen (last old)) (machine z)) (sym c.state.ensures.value) worked;
+      does = record { refusal = c.refusal_without_revoker-refusal.ensures; stays = after };
+      legal = is_legal c.state.result.now _ (sym known ∙ c.give.ensures.seen);
+      grows = between (λ a b. Extends b a) (seen old) (seen new) c.args.self.now.known known extends;
+    }
 
 pub returns-clause-none_opened : goal.returns-clause-none_opened
 returns-clause-none_opened g c =
@@ -48,3 +56,6 @@ returns-clause-none_opened g c =
     let is : taken c.take-held.new.pass ≡ (machine c.state.result.now).history = search rules in
     let opened : openings_of (machine c.state.result.now).history ≡ openings_of (seen old) = ap openings_of (sym is ∙ c.take-held.ensures.taken) ∙ c.take-held.ensures.alone c.args.self.now.alone in
     between OpensNone (seen old) (seen new) c.args.self.now.known (c.give.ensures.seen ∙ sym (ap (λ z. (machine_seen z).history) c.give.ensures.last)) (same_opens_none (seen old) (machine c.state.result.now).history (seen new) opened c.give.ensures.seen)
+
+pub give-requires-clause-works : goal.give-requires-clause-works
+give-requires-clause-works g c = λ never. absurd (not_never _ (c.take-held.ensures.right ∙ c.args.self.now.alone) never)

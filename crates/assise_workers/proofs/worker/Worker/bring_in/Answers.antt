@@ -14,3 +14,8 @@ pub give-requires-clause-leads : goal.give-requires-clause-leads
 give-requires-clause-leads g c =
     let acts = rw c.state.ensures.value at c.deliver-delivered.ensures.acts in
     led_from g.S.Growing.leads _ c.take-held.result c.deliver-delivered.new.self c.take-held.ensures.state (g.met.S.Replicated.acts_lead _ _ _ _ acts)
+
+pub give-requires-clause-works : goal.give-requires-clause-works
+give-requires-clause-works g c =
+    let acts = rw c.state.ensures.value at c.deliver-delivered.ensures.acts in
+    led_from g.S.Growing.works _ c.take-held.result c.deliver-delivered.new.self c.take-held.ensures.state (g.met.S.Replicated.acts_work _ _ _ _ tt acts)
