@@ -2,5 +2,5 @@ pub mod PassAdds
 pub mod Rights
 pub mod ClientOwners
 pub mod StepsKeepRule
-pub mod Following
+pub mod LedStates
 pub mod Stages

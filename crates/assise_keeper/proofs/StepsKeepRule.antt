@@ -21,7 +21,7 @@ use Rattle.assise_keeper.specs.Steps.{Sitting, taking, releasing, setting_up}
 use Rattle.assise_keeper.proofs.PassAdds.{was_or_opened, openings-append, opened-in, extends-same, drop-prefix}
 use Rattle.assise_keeper.proofs.ClientOwners.{half_of, owns, owns_mine, fits_still, fits_on, at_snoc_place, no_side, no_side', same_seat}
 use Rattle.assise_keeper.proofs.Rights.{CanPart, opens_none, passes_on}
-use Rattle.assise_keeper.proofs.Following.{led_further, led_from}
+use Rattle.assise_keeper.proofs.LedStates.{led_further, led_from}
 
 -- the fact holds of each seat after one view was set
 seats : {S : Type 0} (K : ℕ → View S → Type 0) (vs : List (View S)) (me : ℕ) (w : View S) → K me w → ((j : ℕ) (d : View S) → j ≢ me → get_elem? vs j ≡ some d → K j d)

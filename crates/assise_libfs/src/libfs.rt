@@ -170,8 +170,9 @@ impl<'a, S: Served> LibFs<'a, S> {
         ensures legal { ∥ IsLegal (seen_by self.new) ∥₁ }
         ensures refused { IfErr result (λ r. MayRefuse (client_of self.old) (Read path offset most)
             (seen_by self.new) r) }
-        ensures turns { TurnsTo S.Growing.history S.acts (client_of self.old) (Read path offset most)
-            (limit_of self.old) result (seen_by self.old) (seen_by self.new) }
+        ensures turns { TurnsTo S.Growing.history S.acts (client_of self.old)
+            (Read path offset most) (limit_of self.old) result
+            (seen_by self.old) (seen_by self.new) }
     {
         self.call(rt, alloc, &Op::Read(path, offset, most))
     }
@@ -191,8 +192,9 @@ impl<'a, S: Served> LibFs<'a, S> {
         ensures legal { ∥ IsLegal (seen_by self.new) ∥₁ }
         ensures refused { IfErr result (λ r. MayRefuse
             (client_of self.old) (Write path offset bytes) (seen_by self.new) r) }
-        ensures turns { TurnsTo S.Growing.history S.acts (client_of self.old) (Write path offset bytes)
-            (limit_of self.old) result (seen_by self.old) (seen_by self.new) }
+        ensures turns { TurnsTo S.Growing.history S.acts (client_of self.old)
+            (Write path offset bytes) (limit_of self.old) result
+            (seen_by self.old) (seen_by self.new) }
     {
         self.call(rt, alloc, &Op::Write(path, offset, bytes))
     }

@@ -13,7 +13,7 @@ use Rattle.assise_fault_script.specs.declared.parse.NumberedCommand.{NumberedCom
 use Rattle.assise_console.specs.Lines.{line_text}
 use Rattle.assise_threads.specs.Answered.{AnswersCommand, OpensOne, is_nowhere, is_opened, is_refused, lacks_revoker}
 use Rattle.assise_model_events.specs.Machine.{Machine}
-use Rattle.assise_threads.specs.Begun.{begun_by}
+use Rattle.assise_threads.specs.Begun.{machine_begun}
 use Rattle.assise_threads.specs.Hearing.{HasHeard, sight_of}
 use Rattle.assise_threads.specs.OneHistory.{AreMet, CoversSight, HasToldCalls, IsHeard}
 use Rattle.assise_threads.specs.Openings.{Sights, opened_by, opening_in, openings_said, with_opened}
@@ -110,7 +110,7 @@ is_heard : (turns c : ℕ) (ss : List Said) (h : List EntryValue) (sight : Optio
 is_heard turns c ss h sight heard covers = record { seen = sight; on = heard.on; covers = covers; outcomes = heard.outcomes; count = heard.count; tells = heard.tells; calls = has_told turns c ss h sight heard covers }
 
 -- where the clients met
-pub is_run : (turns : ℕ) (commands : List NumberedCommand) (seen : Machine) (us : Sights) (old new : Option (List ℕ)) (all : AreAllSaid turns (begun_by commands) commands seen us old new) (last : List EntryValue) → AreMet seen us last → IsThreadRun turns commands all.said
+pub is_run : (turns : ℕ) (commands : List NumberedCommand) (seen : Machine) (us : Sights) (old new : Option (List ℕ)) (all : AreAllSaid turns (machine_begun commands) commands seen us old new) (last : List EntryValue) → AreMet seen us last → IsThreadRun turns commands all.said
 is_run turns commands seen us old new all last met = record {
   each = all.each;
   seen = seen;
@@ -119,7 +119,7 @@ is_run turns commands seen us old new all last met = record {
   worked = met.worked;
   one = record {
     legal = met.legal;
-    fronts = all_fronts turns met.between.history (begun_by commands) all.said seen met.since all.main;
+    fronts = all_fronts turns met.between.history (machine_begun commands) all.said seen met.since all.main;
     openings = met.openings ∙ all.opened;
     clients = λ c. is_heard turns c all.said met.between.history (sight_of c us) (all.heard c) (covers_each c met.between.history us met.clients);
   };

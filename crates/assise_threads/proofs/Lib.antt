@@ -5,11 +5,11 @@ pub mod CallLines
 pub mod Ends
 pub mod AllSaid
 pub mod Nobodys
-pub mod Leading
+pub mod LedTakes
 pub mod Ahead
 pub mod RunOn
 pub mod ShownTrees
-pub mod Returning
+pub mod ReturnTries
 pub mod Openings
 pub mod Fronts
 pub mod Meetings

@@ -13,7 +13,7 @@ use Rattle.assise_model_events.specs.Machine.{Machine}
 use Rattle.assise_workers.proofs.Lists.{extends-on}
 use Rattle.assise_threads.specs.Answered.{AnswersCommand, CarriesSome, ComesBackInTakes, IsCallAnswered, OpensOne, is_busy, is_carried, is_nowhere, is_opened, is_refused, is_replied, joins, lacks_revoker, stops_filling}
 use Rattle.assise_threads.specs.Runs.{IsSaid}
-use Rattle.assise_threads.proofs.Returning.{tried_on}
+use Rattle.assise_threads.proofs.ReturnTries.{tried_on}
 use Rattle.assise_threads.specs.Said.{Said}
 
 extends_same_as : (new old : Machine) → new ≡ old → Extends new.history old.history

@@ -23,7 +23,7 @@ use Rattle.assise_rounds.specs.Traces.{Told}
 use Rattle.assise_console.specs.Steps.{IsVerdict, SetsHot, Shows, is_verdict, is_made, is_out, is_shown, lacks_memory, lacks_room, is_refused as not_shown}
 use Rattle.assise_libfs.specs.declared.libfs.LibFs.{LibFs}
 use Rattle.assise_threads.specs.Answered.{AnswersCommand, joins, stops_filling, is_refused, is_busy, is_opened, is_carried, is_nowhere, is_replied, lacks_revoker}
-use Rattle.assise_threads.specs.Begun.{begun_by}
+use Rattle.assise_threads.specs.Begun.{machine_begun}
 use Rattle.assise_threads.specs.CallsAhead.{AreSaidNext, is_one, is_stretch}
 use Rattle.assise_threads.specs.Hearing.{sights}
 use Rattle.assise_threads.specs.Runs.{EndsRun, IsRunSaid, ThreadFault}
@@ -49,14 +49,14 @@ goes_further turns first ls rest i count seen now before after old mid new is al
     (said_then turns first (take i ls) (take count (drop i ls)) seen now before after old mid new all (subst (λ z. AreSaidNext turns (take count z) seen before now after mid new) is more))
 
 -- where the clients met
-pub is_run_said : (turns : ℕ) {S : Type 0} (commands : List NumberedCommand) (seen : Machine) (ls : List (LibFs S)) (old new : Option (List ℕ)) (last : List EntryValue) → AreAllSaid turns (begun_by commands) commands seen (sights ls) old new → AreMet seen (sights ls) last → IsRunSaid turns commands old new
+pub is_run_said : (turns : ℕ) {S : Type 0} (commands : List NumberedCommand) (seen : Machine) (ls : List (LibFs S)) (old new : Option (List ℕ)) (last : List EntryValue) → AreAllSaid turns (machine_begun commands) commands seen (sights ls) old new → AreMet seen (sights ls) last → IsRunSaid turns commands old new
 is_run_said turns commands seen ls old new last all met = record { said = all.said; run = is_run turns commands seen (sights ls) old new all last met; appends = all.appends }
 
 no_one_met : (m : Machine) → m.history ≡ [] → AreMet m [] m.history
 no_one_met m none = met_none m m (worked_to_itself m) (extends-same m.history) (subst (λ h. ∥ IsLegal h ∥₁) (sym none) ∣ legal-nil ∣₁) refl
 
 pub nothing_run : (turns : ℕ) (commands : List NumberedCommand) (old : Option (List ℕ)) → slice_get commands 0 ≡ None → IsRunSaid turns commands old old
-nothing_run turns [] old none = let all = nothing_said turns (begun_by []) old refl in record { said = all.said; run = is_run turns [] (begun_by []) [] old old all (begun_by []).history (no_one_met (begun_by []) refl); appends = all.appends }
+nothing_run turns [] old none = let all = nothing_said turns (machine_begun []) old refl in record { said = all.said; run = is_run turns [] (machine_begun []) [] old old all (machine_begun []).history (no_one_met (machine_begun []) refl); appends = all.appends }
 nothing_run turns (l ∷ ls) old none = absurd (cc)
 
 pub on_ok : {X E : Type 0} (r : Result X E) (P Q : Type 0) → OnOk r P → (P → Q) → OnOk r Q

@@ -3,7 +3,7 @@ use Rattle.std.proofs.Common.{◌≡◌, ◌∙◌, true, Option, None, Some, re
 use Rattle.std.specs.Prelude.{IsOk, is_ok, Result, Ok, Err}
 use Rattle.assise_names.specs.declared.refusal.Refusal.{Refusal}
 use Rattle.assise_names.specs.declared.refusal.Refusal.TheVariants.{OutOfMemory, Busy, NodeDown, ClientGone, InodesSpent, TooLarge, LastNode, BadNode, BadClient, WrongPhase, StaleMessage, LogFull}
-use Rattle.assise_threads.specs.Lacking.{lacking}
+use Rattle.assise_threads.specs.Lacking.{without_revoker}
 
 -- the fault is what the region is refused with
 of_refused : {X : Type 0} (fault : Option Refusal) (r : Result X Refusal) (q : Refusal) → r ≡ Err q → ((e : Refusal) → fault ≡ Some e → r ≡ Err e) → (fault ≡ None → IsOk r) → fault ≡ Some q
@@ -11,7 +11,7 @@ of_refused None r q is faults fine = absurd (let y : is_ok r ≡ true = fine ref
 of_refused (Some e) r q is faults fine = let y : Err e ≡ Err q = sym (faults e refl) ∙ is in cc
 
 -- any fault but that the node isn't full is told as it is
-as_it_is : (q : Refusal) → (q ≡ WrongPhase → ⊥) → lacking (Some q) ≡ q
+as_it_is : (q : Refusal) → (q ≡ WrongPhase → ⊥) → without_revoker (Some q) ≡ q
 as_it_is OutOfMemory other = refl
 as_it_is Busy other = refl
 as_it_is NodeDown other = refl
@@ -26,11 +26,11 @@ as_it_is StaleMessage other = refl
 as_it_is LogFull other = refl
 
 module _ {X : Type 0} (fault : Option Refusal) (r : Result X Refusal) where
-  pub lacks_one : (x : X) → r ≡ Ok x → (IsOk r → fault ≡ None) → BadClient ≡ lacking fault
-  lacks_one x is fine = sym (ap lacking (fine (subst IsOk (sym is) refl)))
+  pub lacks_one : (x : X) → r ≡ Ok x → (IsOk r → fault ≡ None) → BadClient ≡ without_revoker fault
+  lacks_one x is fine = sym (ap without_revoker (fine (subst IsOk (sym is) refl)))
 
-  pub lacks_node : r ≡ Err WrongPhase → ((e : Refusal) → fault ≡ Some e → r ≡ Err e) → (fault ≡ None → IsOk r) → NodeDown ≡ lacking fault
-  lacks_node is faults fine = sym (ap lacking (of_refused fault r WrongPhase is faults fine))
+  pub lacks_node : r ≡ Err WrongPhase → ((e : Refusal) → fault ≡ Some e → r ≡ Err e) → (fault ≡ None → IsOk r) → NodeDown ≡ without_revoker fault
+  lacks_node is faults fine = sym (ap without_revoker (of_refused fault r WrongPhase is faults fine))
 
-  pub lacks_other : (q : Refusal) → r ≡ Err q → (q ≡ WrongPhase → ⊥) → ((e : Refusal) → fault ≡ Some e → r ≡ Err e) → (fault ≡ None → IsOk r) → q ≡ lacking fault
-  lacks_other q is other faults fine = sym (ap lacking (of_refused fault r q is faults fine) ∙ as_it_is q other)
+  pub lacks_other : (q : Refusal) → r ≡ Err q → (q ≡ WrongPhase → ⊥) → ((e : Refusal) → fault ≡ Some e → r ≡ Err e) → (fault ≡ None → IsOk r) → q ≡ without_revoker fault
+  lacks_other q is other faults fine = sym (ap without_revoker (of_refused fault r q is faults fine) ∙ as_it_is q other)

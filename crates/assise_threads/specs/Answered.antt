@@ -68,19 +68,19 @@ pub record ChecksHistory (a : Response) (m : Machine) (es : Told) (m' : Machine)
 -- ---- a node comes back
 
 -- it is no refusal
-abbrev pub IsDone : Response → Type 0
-IsDone a = (r : Refusal) → a ≡ Refused r → ⊥
+abbrev pub IsNoRefusal : Response → Type 0
+IsNoRefusal a = (r : Refusal) → a ≡ Refused r → ⊥
 
 -- in one take node n begins to come back
-pub record BeginsReturn (n : ℕ) (old new : Machine) : Type 0 where
+pub record IsReturnBegun (n : ℕ) (old new : Machine) : Type 0 where
   pub answer : Response
-  pub done : IsDone answer
+  pub done : IsNoRefusal answer
   pub take : InOneTake (IsOneAt back n answer) old new
 
 -- in one take node n gets an inode that it lacks, if it lacks one
 pub record IsFilledOnce (n : ℕ) (old new : Machine) : Type 0 where
   pub answer : Response
-  pub done : IsDone answer
+  pub done : IsNoRefusal answer
   pub take : InOneTake (IsOneAt refill n answer) old new
 
 -- node n was filled and tried to join, so many times, and each time it was to try again
@@ -91,7 +91,7 @@ HasFilled n (suc k) old new = (mid : Machine) × (HasFilled n k old mid × ((fil
 -- node n began to come back, and was filled and tried to join so many times
 pub record HasTried (n k : ℕ) (old new : Machine) : Type 0 where
   pub begun : Machine
-  pub begins : BeginsReturn n old begun
+  pub begins : IsReturnBegun n old begun
   pub tries : HasFilled n k begun new
 
 -- Node n begins to come back, and then is filled and tries to join, at most so many times, until it has joined. That is the answer; or which

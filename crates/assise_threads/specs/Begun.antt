@@ -13,15 +13,15 @@ pub record IsClusterOf {C : Type 0} (nodes log hot : ℕ) (cluster : ClusterOf C
   pub all : count ≡ nodes
 
 -- the machine that the command makes; a script's first command makes one
-abbrev pub machine_of : Command → Machine
-machine_of (Cluster nodes log hot) = begun_as nodes log hot
-machine_of command = begun_as 1 1 1
+abbrev pub machine_made : Command → Machine
+machine_made (Cluster nodes log hot) = begun_as nodes log hot
+machine_made command = begun_as 1 1 1
 
 abbrev pub IsBegunAs : {C : Type 0} → Command → ClusterOf C → ℕ → Type 0
 IsBegunAs (Cluster nodes log hot) cluster count = IsClusterOf nodes log hot cluster count
 IsBegunAs command cluster count = ⊥
 
 -- the machine that the first command makes
-abbrev pub begun_by : List NumberedCommand → Machine
-begun_by [] = begun_as 1 1 1
-begun_by (l ∷ ls) = machine_of l.command
+abbrev pub machine_begun : List NumberedCommand → Machine
+machine_begun [] = begun_as 1 1 1
+machine_begun (l ∷ ls) = machine_made l.command

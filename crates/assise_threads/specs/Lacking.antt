@@ -7,12 +7,12 @@ use Rattle.assise_model_events.specs.Machine.{Machine}
 use Rattle.assise_rounds.specs.Traces.{Told}
 
 -- by the fault of the node
-abbrev pub lacking : Option Refusal → Refusal
-lacking None = BadClient
-lacking (Some WrongPhase) = NodeDown
-lacking (Some fault) = fault
+abbrev pub without_revoker : Option Refusal → Refusal
+without_revoker None = BadClient
+without_revoker (Some WrongPhase) = NodeDown
+without_revoker (Some fault) = fault
 
 -- an open on node n is refused so, and nothing changes
 pub record LacksRevoker (n : ℕ) (r : Refusal) (m : Machine) (es : Told) (m' : Machine) : Type 0 where
-  pub refusal : r ≡ lacking (node_fault m n)
+  pub refusal : r ≡ without_revoker (node_fault m n)
   pub stays : m' ≡ m

@@ -14,7 +14,7 @@ use Rattle.assise_workers.specs.declared.running.RunFault.TheVariants.{Memory as
 use Rattle.assise_machine.specs.Following.{IsWorkedTo}
 use Rattle.assise_model_events.specs.Machine.{Machine}
 use Rattle.assise_threads.specs.Answered.{AnswersCommand}
-use Rattle.assise_threads.specs.Begun.{begun_by}
+use Rattle.assise_threads.specs.Begun.{machine_begun}
 use Rattle.assise_threads.specs.OneHistory.{HasOneHistory}
 use Rattle.assise_threads.specs.Said.{Said, commands_said, said_lines}
 
@@ -28,7 +28,7 @@ IsSaid turns old (s ∷ ss) new = AnswersCommand turns s.command.command s.answe
 pub record IsThreadRun (turns : ℕ) (commands : List NumberedCommand) (ss : List Said) : Type 0 where
   pub each : commands_said ss ≡ commands
   pub seen : Machine
-  pub main : IsSaid turns (begun_by commands) ss seen
+  pub main : IsSaid turns (machine_begun commands) ss seen
   pub last : Machine
   pub worked : IsWorkedTo seen last
   pub one : HasOneHistory turns ss last.history

@@ -80,7 +80,7 @@ impl<'a> Crew<'a> {
     ghost use Rattle.assise_console.specs.declared.response.Response.TheVariants.{Client};
     ghost use Rattle.assise_machine.specs.Following.{IsWorkedTo};
     ghost use Rattle.assise_threads.specs.Answered.{AnswersCommand, OpensOne};
-    ghost use Rattle.assise_threads.specs.Begun.{begun_by};
+    ghost use Rattle.assise_threads.specs.Begun.{machine_begun};
     ghost use Rattle.assise_threads.specs.CallsAhead.{AreSaidNext};
     ghost use Rattle.assise_threads.specs.Hearing.{sights};
     ghost use Rattle.assise_threads.specs.Runs.{EndsRun, IsRunSaid};
@@ -120,7 +120,7 @@ impl<'a> Crew<'a> {
         commands: &[NumberedCommand],
         writer: &mut W,
     ) -> Result<(), EngineFault>
-        requires { main_seen self.main ≡ begun_by commands.now }
+        requires { main_seen self.main ≡ machine_begun commands.now }
         ensures done { OnOk result (IsRunSaid self.entry.turns commands.now
             (W.contents writer.old) (W.contents writer.new)) }
         ensures fault { IfErr result EndsRun }

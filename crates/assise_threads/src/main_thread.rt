@@ -8,7 +8,7 @@ ghost use Rattle.assise_keeper.specs.Passes.{IsPassOf, client as client_of_pass,
 ghost use Rattle.assise_machine.specs.Clusters.{machine};
 ghost use Rattle.assise_threads.specs.LastSeen.{machine_seen};
 ghost use Rattle.assise_model_events.specs.Faults.{node_fault};
-ghost use Rattle.assise_threads.specs.Lacking.{lacking};
+ghost use Rattle.assise_threads.specs.Lacking.{without_revoker};
 
 use crate::meeting::meet_all;
 use crate::takes::{Take, apply};
@@ -267,7 +267,7 @@ fn is_busy(answer: &Response) -> bool
 
 /// Why no client is opened on a node where all revokers are taken.
 fn refusal_without_revoker<C: Revokes + Drop>(cluster: &ClusterOf<C>, node: u32) -> Refusal
-    ensures { result ≡ lacking (node_fault (machine cluster.now) node) }
+    ensures { result ≡ without_revoker (node_fault (machine cluster.now) node) }
 {
     match cluster.region(node) {
         Ok(_) => Refusal::BadClient,

@@ -3,7 +3,7 @@ use Rattle.std.specs.Prelude.{IfOk}
 use Rattle.assise_history.specs.Legal.{calls_made}
 use Rattle.assise_keeper.specs.Clients.{MayOpenClients}
 use Rattle.assise_keeper.specs.Passes.{seen}
-use Rattle.assise_keeper.proofs.Following.{led_from}
+use Rattle.assise_keeper.proofs.LedStates.{led_from}
 use Rattle.assise_libfs.proofs.Openings.{no_other_opened, none_opened}
 use Rattle.assise_libfs.proofs.Tries.{none_of_opened}
 use Rattle.assise_libfs.proofs.turns.open_turn.Goals as goal

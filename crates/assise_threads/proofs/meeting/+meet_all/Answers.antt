@@ -4,7 +4,7 @@ use Rattle.assise_keeper.specs.Rule.{IsLed}
 use Rattle.assise_threads.specs.Hearing.{sights}
 use Rattle.assise_threads.specs.LastSeen.{machine_seen}
 use Rattle.assise_threads.specs.OneHistory.{AreMet}
-use Rattle.assise_threads.proofs.Leading.{cluster_works, works_seen}
+use Rattle.assise_threads.proofs.LedTakes.{cluster_works, works_seen}
 use Rattle.assise_threads.proofs.Meetings.{is_known, met_client}
 use Rattle.assise_threads.proofs.meeting.+meet_all.Goals as goal
 

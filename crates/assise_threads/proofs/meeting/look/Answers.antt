@@ -1,12 +1,12 @@
 use Rattle.std.proofs.Common.{◌∙◌, [], ap, refl, sym, subst}
 use Rattle.assise_keeper.specs.Clients.{Extends, openings_of}
-use Rattle.assise_keeper.proofs.Following.{led_from}
+use Rattle.assise_keeper.proofs.LedStates.{led_from}
 use Rattle.assise_keeper.specs.Passes.{last}
 use Rattle.assise_machine.specs.Clusters.{machine}
 use Rattle.assise_machine.specs.Following.{led_to_itself}
 use Rattle.assise_threads.specs.LastSeen.{machine_seen}
 use Rattle.assise_threads.specs.OneHistory.{AreMet}
-use Rattle.assise_threads.proofs.Leading.{cluster_leads, not_never, seen_works}
+use Rattle.assise_threads.proofs.LedTakes.{cluster_leads, not_never, seen_works}
 use Rattle.assise_threads.proofs.Meetings.{met_none}
 use Rattle.assise_threads.proofs.Nobodys.{is_legal, may_give_same}
 use Rattle.assise_threads.proofs.meeting.look.Goals as goal

@@ -1,7 +1,7 @@
 use Rattle.std.proofs.Common.{ap, subst, ◌∙◌}
 use Rattle.assise_threads.specs.Hearing.{sights}
 use Rattle.assise_threads.specs.Spoken.{AreAllSaid}
-use Rattle.assise_threads.proofs.Leading.{begun_history}
+use Rattle.assise_threads.proofs.LedTakes.{begun_history}
 use Rattle.assise_threads.specs.Threads.{main_seen}
 use Rattle.assise_threads.proofs.RunOn.{is_run_said}
 use Rattle.assise_threads.proofs.crew.Crew.run.Goals as goal

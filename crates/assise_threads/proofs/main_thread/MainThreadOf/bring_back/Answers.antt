@@ -7,7 +7,7 @@ use Rattle.assise_threads.specs.Answered.{is_refused, joins, stops_filling}
 use Rattle.assise_threads.specs.Takes.{InOneTake}
 use Rattle.assise_threads.specs.Threads.{main_seen}
 use Rattle.assise_threads.proofs.Nobodys.{none_then_none}
-use Rattle.assise_threads.proofs.Returning.{tried_more}
+use Rattle.assise_threads.proofs.ReturnTries.{tried_more}
 use Rattle.assise_threads.proofs.main_thread.MainThreadOf.bring_back.Goals as goal
 
 pub returns-in-Refused-clause-comes : goal.returns-in-Refused-clause-comes

@@ -4,7 +4,7 @@ use Rattle.assise_libfs.specs.Clients.{client_of, pass_of}
 use Rattle.assise_keeper.specs.Passes.{last}
 use Rattle.assise_threads.specs.LastSeen.{machine_seen}
 use Rattle.assise_threads.specs.Takes.{Happened, InOneTake}
-use Rattle.assise_threads.proofs.Leading.{turn_taken}
+use Rattle.assise_threads.proofs.LedTakes.{turn_taken}
 use Rattle.assise_threads.proofs.main_thread.MainThreadOf.open.Goals as goal
 
 pub returns-in-Ok-clause-opens : goal.returns-in-Ok-clause-opens

@@ -1,5 +1,5 @@
 use Rattle.std.proofs.Common.{rules, [], ◌≡◌, ◌∙◌, ap, is_some, subst, sym}
-use Rattle.assise_keeper.proofs.Following.{led_from}
+use Rattle.assise_keeper.proofs.LedStates.{led_from}
 use Rattle.assise_keeper.specs.Clients.{Extends, openings_of}
 use Rattle.assise_keeper.specs.Passes.{last, seen, taken}
 use Rattle.assise_machine.specs.Clusters.{machine}
@@ -7,7 +7,7 @@ use Rattle.assise_machine.specs.Following.{IsLedTo, IsWorkedTo, led_to_itself}
 use Rattle.assise_threads.specs.LastSeen.{machine_seen}
 use Rattle.assise_threads.specs.Openings.{OpensNone}
 use Rattle.assise_threads.specs.Threads.{main_seen}
-use Rattle.assise_threads.proofs.Leading.{between, cluster_leads, not_never, seen_works}
+use Rattle.assise_threads.proofs.LedTakes.{between, cluster_leads, not_never, seen_works}
 use Rattle.assise_threads.proofs.Nobodys.{is_legal, may_give_same, same_opens_none, stays_nobody_same}
 use Rattle.assise_threads.proofs.main_thread.MainThreadOf.refuse_open.Goals as goal
 

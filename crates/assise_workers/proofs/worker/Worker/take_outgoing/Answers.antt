@@ -1,6 +1,6 @@
 use Rattle.std.proofs.Common.{rules, ◌≡◌}
 use Rattle.assise_keeper.specs.Clients.{Extends}
-use Rattle.assise_keeper.proofs.Following.{led_from}
+use Rattle.assise_keeper.proofs.LedStates.{led_from}
 use Rattle.assise_keeper.specs.Passes.{seen}
 use Rattle.assise_keeper.specs.Working.{pass_of}
 use Rattle.assise_workers.specs.Working.{seen_at}

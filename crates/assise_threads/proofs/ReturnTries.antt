@@ -9,15 +9,15 @@ use Rattle.assise_keeper.proofs.PassAdds.{extends-same}
 use Rattle.assise_model_events.specs.Events.{back, join, refill}
 use Rattle.assise_model_events.specs.Machine.{Machine}
 use Rattle.assise_workers.proofs.Lists.{extends-on}
-use Rattle.assise_threads.specs.Answered.{BeginsReturn, HasFilled, HasTried, IsDone, IsFilledOnce}
+use Rattle.assise_threads.specs.Answered.{IsReturnBegun, HasFilled, HasTried, IsNoRefusal, IsFilledOnce}
 use Rattle.assise_threads.specs.Takes.{InOneTake}
 
 -- before the first time
-pub tried_none : (n : ℕ) (a : Response) (old begun : Machine) → IsDone a → InOneTake (IsOneAt back n a) old begun → HasTried n 0 old begun
+pub tried_none : (n : ℕ) (a : Response) (old begun : Machine) → IsNoRefusal a → InOneTake (IsOneAt back n a) old begun → HasTried n 0 old begun
 tried_none n a old begun done take = record { begun = begun; begins = record { answer = a; done = done; take = take }; tries = refl }
 
 -- once more
-pub tried_more : (n k : ℕ) (a : Response) (old tried filled new : Machine) → HasTried n k old tried → IsDone a → InOneTake (IsOneAt refill n a) tried filled → InOneTake (IsOneAt join n (Refused Busy)) filled new → HasTried n (k + 1) old new
+pub tried_more : (n k : ℕ) (a : Response) (old tried filled new : Machine) → HasTried n k old tried → IsNoRefusal a → InOneTake (IsOneAt refill n a) tried filled → InOneTake (IsOneAt join n (Refused Busy)) filled new → HasTried n (k + 1) old new
 tried_more n k a old tried filled new before done take joins =
     let next : suc k ≡ k + 1 = omega arith in
     record {

@@ -15,14 +15,14 @@ use Rattle.assise_fault_script.specs.declared.command.Command.TheVariants.{Clust
 use Rattle.assise_fault_script.specs.declared.parse.NumberedCommand.{NumberedCommand}
 use Rattle.assise_keeper.specs.Rule.{IsLed}
 use Rattle.assise_machine.specs.Clusters.{machine}
-use Rattle.assise_machine.specs.Following.{IsLedTo, IsWorkedTo, led_by, led_to_itself, worked_to_itself}
+use Rattle.assise_machine.specs.Following.{IsLedTo, IsWorkedTo, led_by, led_to_itself}
 use Rattle.assise_machine.specs.declared.cluster.ClusterOf.{ClusterOf}
 use Rattle.assise_model_events.specs.Events.{Answer, ClusterEvent, back, crash, digest, fail, join, raise, refill, release_ready, set_hot}
 use Rattle.assise_model_events.specs.Machine.{Machine}
 use Rattle.assise_console.specs.declared.response.Response.{Response}
 use Rattle.assise_console.specs.Steps.{is_made, is_out}
 use Rattle.assise_rounds.specs.Traces.{Told}
-use Rattle.assise_threads.specs.Begun.{begun_by, machine_of}
+use Rattle.assise_threads.specs.Begun.{machine_begun, machine_made}
 use Rattle.assise_threads.specs.LastSeen.{machine_seen}
 use Rattle.assise_threads.specs.Threads.{DoesTake}
 use Rattle.assise_threads.specs.declared.takes.Take.{Take}
@@ -57,9 +57,6 @@ cluster_leads s t = IsLedTo (machine s) (machine t)
 abbrev pub cluster_works : {C : Type 0} → ClusterOf C → ClusterOf C → Type 0
 cluster_works s t = IsWorkedTo (machine s) (machine t)
 
-pub same_worked : (m m' : Machine) → m' ≡ m → IsWorkedTo m m'
-same_worked m m' same = subst (IsWorkedTo m) (sym same) (worked_to_itself m)
-
 pub not_never : (o : Opens) → o ≡ Alone → o ≡ Never → ⊥
 not_never o alone never = let x : Alone ≡ Never = sym alone ∙ never in cc
 
@@ -89,7 +86,7 @@ module _ {C : Type 0} where
 
 -- ---- the first machine
 
-first_history : (command : Command) → (machine_of command).history ≡ []
+first_history : (command : Command) → (machine_made command).history ≡ []
 first_history (Cluster nodes log hot) = refl
 first_history Manual = refl
 first_history (Open n kind u) = refl
@@ -109,6 +106,6 @@ first_history (TreeOf n) = refl
 first_history History = refl
 first_history CheckAll = refl
 
-pub begun_history : (ls : List NumberedCommand) → (begun_by ls).history ≡ []
+pub begun_history : (ls : List NumberedCommand) → (machine_begun ls).history ≡ []
 begun_history [] = refl
 begun_history (l ∷ ls) = first_history l.command
