@@ -65,8 +65,9 @@ early_more h (calls x) legal fits before c late =
       | inl own ↦
           let next : IsNextCall h x = fits.follows in
           let m = next.ready in
+          let o = m.opened in
           let same = eqb-true c x.client own in
-          let within = opened_within h m.before m.since x.client m.node m.durability legal m.split in
+          let within = opened_within h o.before o.since x.client m.node o.durability legal o.split in
           absurd (omega arith)
       | inr other ↦ let still = rw other at made in omega arith
     ]

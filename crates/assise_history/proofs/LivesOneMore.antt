@@ -8,7 +8,7 @@ use Rattle.assise_names.specs.declared.durability.Durability.{Durability}
 use Rattle.assise_history.specs.declared.call.Call.{Call}
 use Rattle.assise_history.specs.declared.call.Loss.{Loss}
 use Rattle.assise_history.specs.Entries.{EntryValue, opens, calls, fails}
-use Rattle.assise_history.specs.Legal.{IsLegal, Fits, IsAlive, IsDown, IsOn, IsPastSyncs, MayCall, calls_made, clients_opened, is_call_of, is_crash_of, is_failure_of, is_opening, is_return_of, syncs}
+use Rattle.assise_history.specs.Legal.{IsLegal, Fits, IsAlive, IsDown, IsOn, IsOpenedOn, IsPastSyncs, MayCall, calls_made, clients_opened, is_call_of, is_crash_of, is_failure_of, is_opening, is_return_of, syncs}
 use Rattle.assise_history.proofs.TestedElements.{cut_end, not_nil}
 use Rattle.assise_history.proofs.Legality.{along}
 use Rattle.assise_history.proofs.ClientCounts.{made_append, next_opened, opened_append, opened_within}
@@ -26,20 +26,30 @@ none_before p xs x none =
 further : (h before since : List EntryValue) (x e : EntryValue) → h ≡ before ++ x ∷ since → h ++ e ∷ [] ≡ before ++ x ∷ (since ++ e ∷ [])
 further h before since x e split = ap (λ g. g ++ e ∷ []) split ∙ append_assoc before (x ∷ since) (e ∷ [])
 
+-- ---- a client's opening
+
+abbrev opened_last : (h : List EntryValue) (c n : ℕ) (u : Durability) → IsOpenedOn (h ++ opens c n u ∷ []) c n
+opened_last h c n u = record { durability = u; before = h; since = []; split = refl }
+
+abbrev opened_further : (h : List EntryValue) (e : EntryValue) (c n : ℕ) → IsOpenedOn h c n → IsOpenedOn (h ++ e ∷ []) c n
+opened_further h e c n o = record {
+  durability = o.durability;
+  before = o.before;
+  since = o.since ++ e ∷ [];
+  split = further h o.before o.since (opens c n o.durability) e o.split;
+}
+
 -- ---- a client that may call
 
 pub may_call-opened : (h : List EntryValue) (c n : ℕ) (u : Durability) → MayCall (h ++ opens c n u ∷ []) c
-may_call-opened h c n u = record { node = n; durability = u; before = h; since = []; split = refl; no_crash = refl; no_failure = refl }
+may_call-opened h c n u = record { node = n; opened = opened_last h c n u; no_crash = refl; no_failure = refl }
 
 pub may_call-push : (h : List EntryValue) (e : EntryValue) (c : ℕ) (m : MayCall h c) → is_crash_of c e ≡ false → is_failure_of m.node e ≡ false → MayCall (h ++ e ∷ []) c
 may_call-push h e c m crash failure = record {
   node = m.node;
-  durability = m.durability;
-  before = m.before;
-  since = m.since ++ e ∷ [];
-  split = further h m.before m.since (opens c m.node m.durability) e m.split;
-  no_crash = none_more (is_crash_of c) m.since e m.no_crash crash;
-  no_failure = none_more (is_failure_of m.node) m.since e m.no_failure failure;
+  opened = opened_further h e c m.node m.opened;
+  no_crash = none_more (is_crash_of c) m.opened.since e m.no_crash crash;
+  no_failure = none_more (is_failure_of m.node) m.opened.since e m.no_failure failure;
 }
 
 -- it might call before the entry, which is neither its crash nor its node's failure
@@ -50,13 +60,14 @@ pub record StillCalls (h : List EntryValue) (e : EntryValue) (c : ℕ) : Type 0 
 
 pub may_call-last : (h : List EntryValue) (e : EntryValue) (c : ℕ) → MayCall (h ++ e ∷ []) c → ((n : ℕ) × ((u : Durability) × (e ≡ opens c n u))) ⊎ StillCalls h e c
 may_call-last h e c m =
-    elim (cut_end h e m.before (opens c m.node m.durability) m.since m.split) [
-      | inl last ↦ inl (m.node, (m.durability, last.last_is))
+    let o = m.opened in
+    elim (cut_end h e o.before (opens c m.node o.durability) o.since o.split) [
+      | inl last ↦ inl (m.node, (o.durability, last.last_is))
       | inr earlier ↦
           let crash = none_before (is_crash_of c) earlier.rest e (subst (λ es. list_any (is_crash_of c) es ≡ false) earlier.more_is m.no_crash) in
           let failure = none_before (is_failure_of m.node) earlier.rest e (subst (λ es. list_any (is_failure_of m.node) es ≡ false) earlier.more_is m.no_failure) in
           inr record {
-            could = record { node = m.node; durability = m.durability; before = m.before; since = earlier.rest; split = earlier.split; no_crash = crash.0; no_failure = failure.0 };
+            could = record { node = m.node; opened = record { durability = o.durability; before = o.before; since = earlier.rest; split = earlier.split }; no_crash = crash.0; no_failure = failure.0 };
             no_crash = crash.1;
             no_failure = failure.1;
           }
@@ -65,48 +76,44 @@ may_call-last h e c m =
 -- ---- a client that is alive
 
 pub alive-opened : (h : List EntryValue) (c n : ℕ) (u : Durability) → IsAlive (h ++ opens c n u ∷ []) c
-alive-opened h c n u = record { node = n; durability = u; before = h; since = []; split = refl; no_crash = refl }
+alive-opened h c n u = record { node = n; opened = opened_last h c n u; no_crash = refl }
 
 pub alive-push : (h : List EntryValue) (e : EntryValue) (c : ℕ) → IsAlive h c → is_crash_of c e ≡ false → IsAlive (h ++ e ∷ []) c
 alive-push h e c a crash = record {
   node = a.node;
-  durability = a.durability;
-  before = a.before;
-  since = a.since ++ e ∷ [];
-  split = further h a.before a.since (opens c a.node a.durability) e a.split;
-  no_crash = none_more (is_crash_of c) a.since e a.no_crash crash;
+  opened = opened_further h e c a.node a.opened;
+  no_crash = none_more (is_crash_of c) a.opened.since e a.no_crash crash;
 }
 
 pub alive-last : (h : List EntryValue) (e : EntryValue) (c : ℕ) → IsAlive (h ++ e ∷ []) c → ((n : ℕ) × ((u : Durability) × (e ≡ opens c n u))) ⊎ (IsAlive h c × (is_crash_of c e ≡ false))
 alive-last h e c a =
-    elim (cut_end h e a.before (opens c a.node a.durability) a.since a.split) [
-      | inl last ↦ inl (a.node, (a.durability, last.last_is))
+    let o = a.opened in
+    elim (cut_end h e o.before (opens c a.node o.durability) o.since o.split) [
+      | inl last ↦ inl (a.node, (o.durability, last.last_is))
       | inr earlier ↦
           let crash = none_before (is_crash_of c) earlier.rest e (subst (λ es. list_any (is_crash_of c) es ≡ false) earlier.more_is a.no_crash) in
-          inr (record { node = a.node; durability = a.durability; before = a.before; since = earlier.rest; split = earlier.split; no_crash = crash.0 }, crash.1)
+          inr (record { node = a.node; opened = record { durability = o.durability; before = o.before; since = earlier.rest; split = earlier.split }; no_crash = crash.0 }, crash.1)
     ]
 
 -- ---- a client on a node that hasn't failed since
 
 pub on-opened : (h : List EntryValue) (c n : ℕ) (u : Durability) → IsOn (h ++ opens c n u ∷ []) c n
-on-opened h c n u = record { durability = u; before = h; since = []; split = refl; no_failure = refl }
+on-opened h c n u = record { opened = opened_last h c n u; no_failure = refl }
 
 pub on-push : (h : List EntryValue) (e : EntryValue) (c n : ℕ) → IsOn h c n → is_failure_of n e ≡ false → IsOn (h ++ e ∷ []) c n
-on-push h e c n o failure = record {
-  durability = o.durability;
-  before = o.before;
-  since = o.since ++ e ∷ [];
-  split = further h o.before o.since (opens c n o.durability) e o.split;
-  no_failure = none_more (is_failure_of n) o.since e o.no_failure failure;
+on-push h e c n on failure = record {
+  opened = opened_further h e c n on.opened;
+  no_failure = none_more (is_failure_of n) on.opened.since e on.no_failure failure;
 }
 
 pub on-last : (h : List EntryValue) (e : EntryValue) (c n : ℕ) → IsOn (h ++ e ∷ []) c n → ((u : Durability) × (e ≡ opens c n u)) ⊎ (IsOn h c n × (is_failure_of n e ≡ false))
-on-last h e c n o =
+on-last h e c n on =
+    let o = on.opened in
     elim (cut_end h e o.before (opens c n o.durability) o.since o.split) [
       | inl last ↦ inl (o.durability, last.last_is)
       | inr earlier ↦
-          let failure = none_before (is_failure_of n) earlier.rest e (subst (λ es. list_any (is_failure_of n) es ≡ false) earlier.more_is o.no_failure) in
-          inr (record { durability = o.durability; before = o.before; since = earlier.rest; split = earlier.split; no_failure = failure.0 }, failure.1)
+          let failure = none_before (is_failure_of n) earlier.rest e (subst (λ es. list_any (is_failure_of n) es ≡ false) earlier.more_is on.no_failure) in
+          inr (record { opened = record { durability = o.durability; before = o.before; since = earlier.rest; split = earlier.split }; no_failure = failure.0 }, failure.1)
     ]
 
 -- ---- a node that is down
@@ -134,14 +141,17 @@ down-last h e n d =
 
 -- ---- where nothing happened
 
+opened_nil : (c n : ℕ) → IsOpenedOn [] c n → ⊥
+opened_nil c n o = not_nil o.before o.since (opens c n o.durability) o.split
+
 pub may_call-nil : (c : ℕ) → MayCall [] c → ⊥
-may_call-nil c m = not_nil m.before m.since (opens c m.node m.durability) m.split
+may_call-nil c m = opened_nil c m.node m.opened
 
 pub alive-nil : (c : ℕ) → IsAlive [] c → ⊥
-alive-nil c a = not_nil a.before a.since (opens c a.node a.durability) a.split
+alive-nil c a = opened_nil c a.node a.opened
 
 pub on-nil : (c n : ℕ) → IsOn [] c n → ⊥
-on-nil c n o = not_nil o.before o.since (opens c n o.durability) o.split
+on-nil c n on = opened_nil c n on.opened
 
 pub down-nil : (n : ℕ) → IsDown [] n → ⊥
 down-nil n d = not_nil d.before d.since (fails n d.losses) d.split
@@ -218,12 +228,14 @@ one_place = along OnePlace (λ c n n2 u u2 before since before2 since2 split spl
 
 -- a client may call that is alive, and whose node hasn't failed
 pub may_call-from : (h : List EntryValue) (c n : ℕ) → IsLegal h → IsAlive h c → IsOn h c n → MayCall h c
-may_call-from h c n legal a o =
-    let same = one_place h legal c n a.node o.durability a.durability o.before o.since a.before a.since o.split a.split in
-    record { node = n; durability = o.durability; before = o.before; since = o.since; split = o.split; no_crash = subst (λ es. list_any (is_crash_of c) es ≡ false) (sym same.rest) a.no_crash; no_failure = o.no_failure }
+may_call-from h c n legal alive on =
+    let a = alive.opened in
+    let o = on.opened in
+    let same = one_place h legal c n alive.node o.durability a.durability o.before o.since a.before a.since o.split a.split in
+    record { node = n; opened = o; no_crash = subst (λ es. list_any (is_crash_of c) es ≡ false) (sym same.rest) alive.no_crash; no_failure = on.no_failure }
 
 pub alive_from : (h : List EntryValue) (c : ℕ) → MayCall h c → IsAlive h c
-alive_from h c m = record { node = m.node; durability = m.durability; before = m.before; since = m.since; split = m.split; no_crash = m.no_crash }
+alive_from h c m = record { node = m.node; opened = m.opened; no_crash = m.no_crash }
 
 pub on_from : (h : List EntryValue) (c : ℕ) (m : MayCall h c) → IsOn h c m.node
-on_from h c m = record { durability = m.durability; before = m.before; since = m.since; split = m.split; no_failure = m.no_failure }
+on_from h c m = record { opened = m.opened; no_failure = m.no_failure }

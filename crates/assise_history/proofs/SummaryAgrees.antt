@@ -129,10 +129,7 @@ call_allowed h x legal rule =
     record {
       ready = record {
         node = f.node;
-        durability = f.durability;
-        before = f.before;
-        since = f.since;
-        split = subst (λ c. h ≡ f.before ++ opens c f.node f.durability ∷ f.since) who f.split;
+        opened = record { durability = f.durability; before = f.before; since = f.since; split = subst (λ c. h ≡ f.before ++ opens c f.node f.durability ∷ f.since) who f.split };
         no_crash = subst (λ c. list_any (is_crash_of c) f.since ≡ false) who crash;
         no_failure = sym (failed_since f.since f.client f.node f.durability) ∙ m.no_failure;
       };
@@ -142,11 +139,12 @@ call_allowed h x legal rule =
 call_follows : (h : List EntryValue) (x : Call) → IsLegal h → IsNextCall h x → list_any (makes_next_call x) (summary h).clients ≡ true
 call_follows h x legal is =
     let r = is.ready in
-    let count = numbered h legal x.client r.node r.durability r.before r.since r.split in
-    seen (makes_next_call x) h r.before r.since x.client r.node r.durability r.split (makes_from x (through r.since (newly_opened x.client r.node r.durability)) record {
-      client = through_client r.since (newly_opened x.client r.node r.durability);
-      no_crash = crashed_since r.since x.client r.node r.durability ∙ r.no_crash;
-      no_failure = failed_since r.since x.client r.node r.durability ∙ r.no_failure;
+    let o = r.opened in
+    let count = numbered h legal x.client r.node o.durability o.before o.since o.split in
+    seen (makes_next_call x) h o.before o.since x.client r.node o.durability o.split (makes_from x (through o.since (newly_opened x.client r.node o.durability)) record {
+      client = through_client o.since (newly_opened x.client r.node o.durability);
+      no_crash = crashed_since o.since x.client r.node o.durability ∙ r.no_crash;
+      no_failure = failed_since o.since x.client r.node o.durability ∙ r.no_failure;
       number = is.number ∙ sym count;
     })
 
@@ -174,17 +172,15 @@ crash_allowed h c rule =
     let crash : list_any (is_crash_of f.client) f.since ≡ false = sym (crashed_since f.since f.client f.node f.durability) ∙ not-true k.crashed parts.1 in
     record {
       node = f.node;
-      durability = f.durability;
-      before = f.before;
-      since = f.since;
-      split = subst (λ d. h ≡ f.before ++ opens d f.node f.durability ∷ f.since) who f.split;
+      opened = record { durability = f.durability; before = f.before; since = f.since; split = subst (λ d. h ≡ f.before ++ opens d f.node f.durability ∷ f.since) who f.split };
       no_crash = subst (λ d. list_any (is_crash_of d) f.since ≡ false) who crash;
     }
 
 crash_follows : (h : List EntryValue) (c : ℕ) → IsAlive h c → list_any (λ k. (k.client == c) && not k.crashed) (summary h).clients ≡ true
 crash_follows h c a =
-    let k = through a.since (newly_opened c a.node a.durability) in
-    seen (λ k. (k.client == c) && not k.crashed) h a.before a.since c a.node a.durability a.split (two_from (k.client == c) (not k.crashed) (eq-eqb k.client c (through_client a.since (newly_opened c a.node a.durability))) (not_from_false k.crashed (crashed_since a.since c a.node a.durability ∙ a.no_crash)))
+    let o = a.opened in
+    let k = through o.since (newly_opened c a.node o.durability) in
+    seen (λ k. (k.client == c) && not k.crashed) h o.before o.since c a.node o.durability o.split (two_from (k.client == c) (not k.crashed) (eq-eqb k.client c (through_client o.since (newly_opened c a.node o.durability))) (not_from_false k.crashed (crashed_since o.since c a.node o.durability ∙ a.no_crash)))
 
 -- a failure: its clients ascend
 past_more : (o : Option ℕ) (i j : ℕ) → is_past o i ≡ true → i < j → is_past o j ≡ true
@@ -353,10 +349,7 @@ fair_pair h n l legal is =
     let placed : h ≡ f.before ++ opens l.client f.node f.durability ∷ f.since = subst (λ c. h ≡ f.before ++ opens c f.node f.durability ∷ f.since) who f.split in
     record {
       on = record {
-        durability = f.durability;
-        before = f.before;
-        since = f.since;
-        split = subst (λ m. h ≡ f.before ++ opens l.client m f.durability ∷ f.since) there placed;
+        opened = record { durability = f.durability; before = f.before; since = f.since; split = subst (λ m. h ≡ f.before ++ opens l.client m f.durability ∷ f.since) there placed };
         no_failure = subst (λ m. list_any (is_failure_of m) f.since ≡ false) there failed;
       };
       past = subst (λ c. UpTo h c l.first) who ((synced h legal f.client f.node f.durability f.before f.since f.split l.first).0 parts.3);
@@ -364,14 +357,14 @@ fair_pair h n l legal is =
 
 pair_from : (h : List EntryValue) (n : ℕ) (l : Loss) → IsLegal h → MayLose h n l → list_any (may_lose n l) (summary h).clients ≡ true
 pair_from h n l legal m =
-    let o = m.on in
+    let o = m.on.opened in
     let k = through o.since (newly_opened l.client n o.durability) in
     let both = synced h legal l.client n o.durability o.before o.since o.split l.first in
     seen (may_lose n l) h o.before o.since l.client n o.durability o.split
     (four_from (k.client == l.client) (k.node == n) (not k.failed) (is_past k.synced l.first)
     (eq-eqb k.client l.client (through_client o.since (newly_opened l.client n o.durability)))
     (eq-eqb k.node n (through_node o.since (newly_opened l.client n o.durability)))
-    (not_from_false k.failed (failed_since o.since l.client n o.durability ∙ o.no_failure))
+    (not_from_false k.failed (failed_since o.since l.client n o.durability ∙ m.on.no_failure))
     (both.1 m.past))
 
 failure_allowed : (h : List EntryValue) (n : ℕ) (losses : List Loss) → IsLegal h → follows (summary h) (fails n losses) ≡ true → IsFair h n losses

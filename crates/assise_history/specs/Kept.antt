@@ -17,19 +17,13 @@ loses losses x = list_any (λ l. (l.client == x.client) && nat_le l.first x.numb
 abbrev pub is_lost : List EntryValue → Call → Bool
 is_lost [] x = false
 is_lost (fails n losses ∷ es) x = if loses losses x then true else is_lost es x
-is_lost (opens c n u ∷ es) x = is_lost es x
-is_lost (calls other ∷ es) x = is_lost es x
-is_lost (crashes c ∷ es) x = is_lost es x
-is_lost (returns n ∷ es) x = is_lost es x
+is_lost (_ ∷ es) x = is_lost es x
 
 -- the calls that no later failure loses, in order
 abbrev pub kept : List EntryValue → List Call
 kept [] = []
 kept (calls x ∷ es) = if is_lost es x then kept es else x ∷ kept es
-kept (opens c n u ∷ es) = kept es
-kept (crashes c ∷ es) = kept es
-kept (fails n losses ∷ es) = kept es
-kept (returns n ∷ es) = kept es
+kept (_ ∷ es) = kept es
 
 -- ---- the same by what stands in a history
 
@@ -60,9 +54,7 @@ pub record Stays (h : List EntryValue) (x : Call) : Type 0 where
 abbrev pub kept_more : List Call → EntryValue → List Call
 kept_more cs (calls x) = cs ++ x ∷ []
 kept_more cs (fails n losses) = filter (λ x. not (loses losses x)) cs
-kept_more cs (opens c n u) = cs
-kept_more cs (crashes c) = cs
-kept_more cs (returns n) = cs
+kept_more cs _ = cs
 
 -- what a call asked, and what it was answered
 abbrev pub exchange : Call → Op × Reply

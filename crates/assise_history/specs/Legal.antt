@@ -3,9 +3,9 @@
 use Rattle.std.specs.Prelude.{◌≡◌, ℕ, ◌+◌, ◌<◌, Bool, true, false, if◌then◌else◌, ◌==◌, List, [], ◌∷◌, ◌++◌, filter, length}
 use Rattle.std.specs.List.{list_any}
 use Rattle.assise_names.specs.declared.call.Op.{Op}
-use Rattle.assise_names.specs.declared.call.Op.TheVariants.{Create, Mkdir, Read, Write, Truncate, Rename, Unlink, Rmdir, List as ListCall, Stat, Fsync, Dsync}
+use Rattle.assise_names.specs.declared.call.Op.TheVariants.{Fsync, Dsync}
 use Rattle.assise_names.specs.declared.durability.Durability.{Durability}
-use Rattle.assise_names.specs.declared.durability.Durability.TheVariants.{Pessimistic, Optimistic}
+use Rattle.assise_names.specs.declared.durability.Durability.TheVariants.{Pessimistic}
 use Rattle.assise_seq_tree.specs.Tree.{opening}
 use Rattle.assise_history.specs.declared.call.Call.{Call}
 use Rattle.assise_history.specs.declared.call.Loss.{Loss}
@@ -16,47 +16,29 @@ use Rattle.assise_history.specs.Kept.{kept, IsRun}
 
 abbrev pub is_opening : EntryValue → Bool
 is_opening (opens c n u) = true
-is_opening (calls x) = false
-is_opening (crashes c) = false
-is_opening (fails n losses) = false
-is_opening (returns n) = false
+is_opening _ = false
 
 abbrev pub is_call_of : ℕ → EntryValue → Bool
 is_call_of c (calls x) = c == x.client
-is_call_of c (opens d n u) = false
-is_call_of c (crashes d) = false
-is_call_of c (fails n losses) = false
-is_call_of c (returns n) = false
+is_call_of _ _ = false
 
 abbrev pub is_crash_of : ℕ → EntryValue → Bool
 is_crash_of c (crashes d) = c == d
-is_crash_of c (opens d n u) = false
-is_crash_of c (calls x) = false
-is_crash_of c (fails n losses) = false
-is_crash_of c (returns n) = false
+is_crash_of _ _ = false
 
 abbrev pub is_failure_of : ℕ → EntryValue → Bool
 is_failure_of n (fails m losses) = n == m
-is_failure_of n (opens c m u) = false
-is_failure_of n (calls x) = false
-is_failure_of n (crashes c) = false
-is_failure_of n (returns m) = false
+is_failure_of _ _ = false
 
 abbrev pub is_return_of : ℕ → EntryValue → Bool
 is_return_of n (returns m) = n == m
-is_return_of n (opens c m u) = false
-is_return_of n (calls x) = false
-is_return_of n (crashes c) = false
-is_return_of n (fails m losses) = false
+is_return_of _ _ = false
 
 -- how the client was opened, and last where that was more than once
 abbrev pub opened_as : ℕ → Durability → List EntryValue → Durability
 opened_as c u [] = u
 opened_as c u (opens d n v ∷ es) = opened_as c (if d == c then v else u) es
-opened_as c u (calls x ∷ es) = opened_as c u es
-opened_as c u (crashes d ∷ es) = opened_as c u es
-opened_as c u (fails n losses ∷ es) = opened_as c u es
-opened_as c u (returns n ∷ es) = opened_as c u es
+opened_as c u (_ ∷ es) = opened_as c u es
 
 -- pessimistic where it wasn't
 abbrev pub durability_of : ℕ → List EntryValue → Durability
@@ -65,19 +47,9 @@ durability_of c h = opened_as c Pessimistic h
 -- the call of a client that was opened so is answered once all calls of the client before it are replicated: a dsync, and
 -- a pessimistic fsync (POSIX.1-2017, fsync(); Assise, section 3: optimistic mode)
 abbrev pub is_sync : Op → Durability → Bool
-is_sync (Create p) u = false
-is_sync (Mkdir p) u = false
-is_sync (Read p o n) u = false
-is_sync (Write p o d) u = false
-is_sync (Truncate p n) u = false
-is_sync (Rename p q) u = false
-is_sync (Unlink p) u = false
-is_sync (Rmdir p) u = false
-is_sync (ListCall p) u = false
-is_sync (Stat p) u = false
+is_sync Dsync _ = true
 is_sync Fsync Pessimistic = true
-is_sync Fsync Optimistic = false
-is_sync Dsync u = true
+is_sync _ _ = false
 
 -- the call, behind these entries, is a sync of its client
 abbrev pub syncs : List EntryValue → Call → Bool
@@ -93,32 +65,30 @@ clients_opened h = length (filter is_opening h)
 abbrev pub calls_made : ℕ → List EntryValue → ℕ
 calls_made c h = length (filter (is_call_of c) h)
 
--- the client was opened, and hasn't crashed since
-pub record IsAlive (h : List EntryValue) (c : ℕ) : Type 0 where
-  pub node : ℕ
-  pub durability : Durability
-  pub before : List EntryValue
-  pub since : List EntryValue
-  pub split : h ≡ before ++ opens c node durability ∷ since
-  pub no_crash : list_any (is_crash_of c) since ≡ false
-
--- the client was opened on the node, and the node hasn't failed since
-pub record IsOn (h : List EntryValue) (c n : ℕ) : Type 0 where
+-- the client was opened on the node
+pub record IsOpenedOn (h : List EntryValue) (c n : ℕ) : Type 0 where
   pub durability : Durability
   pub before : List EntryValue
   pub since : List EntryValue
   pub split : h ≡ before ++ opens c n durability ∷ since
-  pub no_failure : list_any (is_failure_of n) since ≡ false
 
--- the client was opened, and neither has it crashed nor has its node failed since
+-- and hasn't crashed since
+pub record IsAlive (h : List EntryValue) (c : ℕ) : Type 0 where
+  pub node : ℕ
+  pub opened : IsOpenedOn h c node
+  pub no_crash : list_any (is_crash_of c) opened.since ≡ false
+
+-- and the node hasn't failed since
+pub record IsOn (h : List EntryValue) (c n : ℕ) : Type 0 where
+  pub opened : IsOpenedOn h c n
+  pub no_failure : list_any (is_failure_of n) opened.since ≡ false
+
+-- and neither has the client crashed nor its node failed since
 pub record MayCall (h : List EntryValue) (c : ℕ) : Type 0 where
   pub node : ℕ
-  pub durability : Durability
-  pub before : List EntryValue
-  pub since : List EntryValue
-  pub split : h ≡ before ++ opens c node durability ∷ since
-  pub no_crash : list_any (is_crash_of c) since ≡ false
-  pub no_failure : list_any (is_failure_of node) since ≡ false
+  pub opened : IsOpenedOn h c node
+  pub no_crash : list_any (is_crash_of c) opened.since ≡ false
+  pub no_failure : list_any (is_failure_of node) opened.since ≡ false
 
 -- the node failed, and wasn't taken in again since
 pub record IsDown (h : List EntryValue) (n : ℕ) : Type 0 where

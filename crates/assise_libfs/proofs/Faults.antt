@@ -14,7 +14,7 @@ use Rattle.assise_names.specs.declared.refusal.Refusal.{Refusal}
 use Rattle.assise_names.specs.declared.refusal.Refusal.TheVariants.{BadClient, BadNode, ClientGone, InodesSpent, LogFull, NodeDown, OutOfMemory, TooLarge}
 use Rattle.assise_names.specs.declared.limits.TheConstants.{MOST_CLIENTS}
 use Rattle.assise_history.specs.Entries.{opens}
-use Rattle.assise_history.specs.Legal.{IsDown, MayCall, clients_opened, durability_of, is_failure_of}
+use Rattle.assise_history.specs.Legal.{IsDown, IsOpenedOn, MayCall, clients_opened, durability_of, is_failure_of}
 use Rattle.assise_history.proofs.ClientCounts.{next_opened, opened_within}
 use Rattle.assise_history.proofs.Legality.{fits_in}
 use Rattle.assise_inode_table.specs.Numbers.{makes_inode}
@@ -31,7 +31,7 @@ use Rattle.assise_model_events.specs.Machine.{Machine, MachineInvariant}
 use Rattle.assise_model_events.proofs.Rejoined.{stands_is_node}
 use Rattle.assise_machine_calls.specs.Answers.{opening_answer}
 use Rattle.assise_libfs.specs.Calling.{IsCutOff, MakesInode, MayRefuseTry, WritesTooMuch}
-use Rattle.assise_libfs.specs.Lives.{HasCrashed, HasLostNode, IsOpenedOn}
+use Rattle.assise_libfs.specs.Lives.{HasCrashed, HasLostNode}
 use Rattle.assise_libfs.specs.Opening.{MayRefuseOpen}
 
 -- ---- the faults of a client
@@ -98,7 +98,7 @@ module _ (m : Machine) (h : MachineInvariant m) (c : ℕ) where
   client_of : is_client m.world c ≡ true → IsClient m.world c
   client_of e = (le_true 1 c (&&_left (nat_le 1 c) (nat_le c m.world.clients) e), le_true c m.world.clients (&&_right (nat_le 1 c) (nat_le c m.world.clients) e))
 
-  never_opened : is_client m.world c ≡ false → (n : ℕ) → IsOpenedOn c n m.history → ⊥
+  never_opened : is_client m.world c ≡ false → (n : ℕ) → IsOpenedOn m.history c n → ⊥
   never_opened none n o =
       let first = next_opened o.before c n o.durability (fits_in m.history o.before o.since (opens c n o.durability) h.recorded.legal o.split) in
       let within = opened_within m.history o.before o.since c n o.durability h.recorded.legal o.split in
@@ -109,13 +109,13 @@ module _ (m : Machine) (h : MachineInvariant m) (c : ℕ) where
   lost_node : is_client m.world c ≡ true → m.world.lives c ≡ false → HasLostNode c m.history
   lost_node known over = let o = h.recorded.opened c (client_of known) in record {
     node = m.world.home c;
-    opened = record { durability = o.durability; before = o.before; since = o.since; split = o.split };
-    failure = not_false (list_any (is_failure_of (m.world.home c)) o.since) (sym o.lives ∙ over);
+    opened = o.opened;
+    failure = not_false (list_any (is_failure_of (m.world.home c)) o.opened.since) (sym o.lives ∙ over);
   }
 
   cut_off : is_client m.world c ≡ true → m.world.crashed c ≡ false → m.world.lives c ≡ false → IsCutOff c m.history
   cut_off known sound over = let o = h.recorded.opened c (client_of known) in
-      (lost_node known over, record { node = m.world.home c; durability = o.durability; before = o.before; since = o.since; split = o.split; no_crash = sym o.crashed ∙ sound })
+      (lost_node known over, record { node = m.world.home c; opened = o.opened; no_crash = sym o.crashed ∙ sound })
 
   may_call : client_fault m c ≡ None → MayCall m.history c
   may_call fine =
@@ -123,18 +123,15 @@ module _ (m : Machine) (h : MachineInvariant m) (c : ℕ) where
       let o = h.recorded.opened c (client_of sound.0) in
       record {
         node = m.world.home c;
-        durability = o.durability;
-        before = o.before;
-        since = o.since;
-        split = o.split;
+        opened = o.opened;
         no_crash = sym o.crashed ∙ sound.1.0;
-        no_failure = not_true (list_any (is_failure_of (m.world.home c)) o.since) (sym o.lives ∙ sound.1.1);
+        no_failure = not_true (list_any (is_failure_of (m.world.home c)) o.opened.since) (sym o.lives ∙ sound.1.1);
       }
 
   has_crashed : is_client m.world c ≡ true → m.world.crashed c ≡ true → HasCrashed c m.history
   has_crashed known over = let o = h.recorded.opened c (client_of known) in record {
     node = m.world.home c;
-    opened = record { durability = o.durability; before = o.before; since = o.since; split = o.split };
+    opened = o.opened;
     crash = sym o.crashed ∙ over;
   }
 

@@ -6,9 +6,9 @@ use Rattle.assise_names.specs.declared.refusal.Refusal.{Refusal}
 use Rattle.assise_names.specs.declared.refusal.Refusal.TheVariants.{OutOfMemory, Busy, NodeDown, ClientGone, InodesSpent, TooLarge, LastNode, BadNode, BadClient, WrongPhase, StaleMessage, LogFull}
 use Rattle.assise_history.specs.Entries.{EntryValue}
 use Rattle.assise_libfs.specs.Calling.{MayRefuse, MayRefuseTry}
-use Rattle.assise_libfs.specs.Lives.{IsOpenedOn}
+use Rattle.assise_history.specs.Legal.{IsOpenedOn}
 
-pub refused-opened : (c n : ℕ) (op : Op) (h : List EntryValue) (r : Refusal) → ∥ IsOpenedOn c n h ∥₁ → MayRefuseTry c op h r → MayRefuse c op h r
+pub refused-opened : (c n : ℕ) (op : Op) (h : List EntryValue) (r : Refusal) → ∥ IsOpenedOn h c n ∥₁ → MayRefuseTry c op h r → MayRefuse c op h r
 refused-opened c n op h OutOfMemory o f = tt
 refused-opened c n op h Busy o f = tt
 refused-opened c n op h NodeDown o f = f

@@ -9,13 +9,13 @@ use Rattle.assise_names.specs.declared.durability.Durability.{Durability}
 use Rattle.assise_names.specs.declared.refusal.Refusal.{Refusal}
 use Rattle.assise_names.specs.declared.reply.Reply.{Reply}
 use Rattle.assise_history.specs.Entries.{EntryValue, opens, calls}
-use Rattle.assise_history.specs.Legal.{IsLegal, calls_made, clients_opened}
+use Rattle.assise_history.specs.Legal.{IsLegal, IsOpenedOn, calls_made, clients_opened}
 use Rattle.assise_history.proofs.ClientCounts.{early, next_opened}
 use Rattle.assise_history.proofs.LivesOneMore.{made-still}
 use Rattle.assise_keeper.specs.Clients.{calls_by, Extends, ExtendsByOne}
 use Rattle.assise_keeper.proofs.PassAdds.{calls-append}
 use Rattle.assise_libfs.specs.Calling.{told_call, ExtendsByOthers, SeesTry, answers}
-use Rattle.assise_libfs.specs.Lives.{IsOpenedAs, IsOpenedOn}
+use Rattle.assise_libfs.specs.Lives.{IsOpenedAs}
 
 nothing_more : (xs ys : List EntryValue) → xs ++ ys ≡ xs → ys ≡ []
 nothing_more [] ys e = e
@@ -76,7 +76,7 @@ try-extends c op a (Ok (Some reply)) d s = one-extends c a d (told_call c a op r
 try-extends c op a (Ok None) d s = others-extends c a d s
 try-extends c op a (Err refusal) d s = others-extends c a d s
 
-pub opened-extends : (c n : ℕ) (a d : List EntryValue) → Extends d a → IsOpenedOn c n a → IsOpenedOn c n d
+pub opened-extends : (c n : ℕ) (a d : List EntryValue) → Extends d a → IsOpenedOn a c n → IsOpenedOn d c n
 opened-extends c n a d e o = record {
   durability = o.durability;
   before = o.before;
@@ -84,7 +84,7 @@ opened-extends c n a d e o = record {
   split = e.1 ∙ (ap (λ z. z ++ e.0) o.split ∙ append_assoc o.before (opens c n o.durability ∷ o.since) e.0);
 }
 
-pub opened_on : (c n : ℕ) (u : Durability) (h : List EntryValue) → IsOpenedAs c n u h → IsOpenedOn c n h
+pub opened_on : (c n : ℕ) (u : Durability) (h : List EntryValue) → IsOpenedAs c n u h → IsOpenedOn h c n
 opened_on c n u h o = record { durability = u; before = o.before; since = o.since; split = o.split }
 
 -- ---- counts

@@ -7,10 +7,10 @@ use Rattle.assise_names.specs.declared.refusal.Refusal.{Refusal}
 use Rattle.assise_names.specs.declared.refusal.Refusal.TheVariants.{OutOfMemory, Busy, NodeDown, ClientGone, InodesSpent, TooLarge, LastNode, BadNode, BadClient, WrongPhase, StaleMessage, LogFull}
 use Rattle.assise_names.specs.declared.reply.Reply.{Reply}
 use Rattle.assise_history.specs.Entries.{EntryValue, calls}
-use Rattle.assise_history.specs.Legal.{IsAlive, MayCall, calls_made}
+use Rattle.assise_history.specs.Legal.{IsAlive, IsOpenedOn, MayCall, calls_made}
 use Rattle.assise_keeper.specs.Clients.{calls_by, ExtendsByOne}
 use Rattle.assise_model_history.specs.Numbered.{made_in}
-use Rattle.assise_libfs.specs.Lives.{IsOpenedOn, HasLostNode, HasCrashed}
+use Rattle.assise_libfs.specs.Lives.{HasLostNode, HasCrashed}
 
 -- the client's next call after this history, with its reply
 abbrev pub told_call : ℕ → List EntryValue → Op → Reply → EntryValue
@@ -102,7 +102,7 @@ MayRefuseTry c op h InodesSpent = HasSpentInodes c op h
 MayRefuseTry c op h TooLarge = WritesTooMuch op × ∥ MayCall h c ∥₁
 MayRefuseTry c op h LastNode = ⊥
 MayRefuseTry c op h BadNode = ⊥
-MayRefuseTry c op h BadClient = (n : ℕ) → IsOpenedOn c n h → ⊥
+MayRefuseTry c op h BadClient = (n : ℕ) → IsOpenedOn h c n → ⊥
 MayRefuseTry c op h WrongPhase = ⊥
 MayRefuseTry c op h StaleMessage = ⊥
 MayRefuseTry c op h LogFull = ∥ MayCall h c ∥₁

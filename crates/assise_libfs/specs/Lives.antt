@@ -4,17 +4,10 @@ use Rattle.std.specs.Prelude.{◌≡◌, ℕ, true, List, [], ◌∷◌, ◌++�
 use Rattle.std.specs.List.{list_any}
 use Rattle.assise_names.specs.declared.durability.Durability.{Durability}
 use Rattle.assise_history.specs.Entries.{EntryValue, opens}
-use Rattle.assise_history.specs.Legal.{is_crash_of, is_failure_of}
+use Rattle.assise_history.specs.Legal.{IsOpenedOn, is_crash_of, is_failure_of}
 use Rattle.assise_keeper.specs.Clients.{openings_of}
 
--- the client was opened on the node
-pub record IsOpenedOn (c n : ℕ) (h : List EntryValue) : Type 0 where
-  pub durability : Durability
-  pub before : List EntryValue
-  pub since : List EntryValue
-  pub split : h ≡ before ++ opens c n durability ∷ since
-
--- and so
+-- the client was opened on the node, and so
 pub record IsOpenedAs (c n : ℕ) (u : Durability) (h : List EntryValue) : Type 0 where
   pub before : List EntryValue
   pub since : List EntryValue
@@ -31,11 +24,11 @@ OpensNoOther c n u old new = openings_of new ≡ openings_of old ++ opens c n u 
 -- the client's node has failed since the client was opened
 pub record HasLostNode (c : ℕ) (h : List EntryValue) : Type 0 where
   pub node : ℕ
-  pub opened : IsOpenedOn c node h
+  pub opened : IsOpenedOn h c node
   pub failure : list_any (is_failure_of node) opened.since ≡ true
 
 -- the client has crashed since it was opened
 pub record HasCrashed (c : ℕ) (h : List EntryValue) : Type 0 where
   pub node : ℕ
-  pub opened : IsOpenedOn c node h
+  pub opened : IsOpenedOn h c node
   pub crash : list_any (is_crash_of c) opened.since ≡ true

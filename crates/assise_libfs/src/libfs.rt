@@ -2,7 +2,7 @@
 ghost use Rattle.std.specs.Prelude.{◌≡◌, ◌≤◌, Some};
 ghost use Rattle.assise_history.specs.Legal.{IsLegal, calls_made};
 ghost use Rattle.assise_keeper.specs.Passes.{IsPassOf, client as client_of_pass, seen};
-ghost use Rattle.assise_libfs.specs.Lives.{IsOpenedOn};
+ghost use Rattle.assise_history.specs.Legal.{IsOpenedOn};
 
 use crate::pause::pause;
 use crate::served::Served;
@@ -46,7 +46,7 @@ pub struct LibFs<'a, S: Growing> {
     calls: u64,
     ghost ours: { IsPassOf keeper.now pass },
     ghost its: { client_of_pass pass ≡ Some client },
-    ghost opened: { ∥ IsOpenedOn client node (seen pass) ∥₁ },
+    ghost opened: { ∥ IsOpenedOn (seen pass) client node ∥₁ },
     ghost legal: { ∥ IsLegal (seen pass) ∥₁ },
     ghost counted: { calls ≡ calls_made client (seen pass) },
     ghost some_turns: { 1 ≤ limit },

@@ -8,13 +8,12 @@ use Rattle.assise_names.specs.declared.call.Op.TheVariants.{Fsync}
 use Rattle.assise_names.specs.declared.durability.Durability.{Durability}
 use Rattle.assise_names.specs.declared.reply.Reply.TheVariants.{Done}
 use Rattle.assise_history.specs.Entries.{EntryValue, opens, calls}
-use Rattle.assise_history.specs.Legal.{IsDown, MayCall, calls_made, clients_opened}
+use Rattle.assise_history.specs.Legal.{IsDown, IsOpenedOn, MayCall, calls_made, clients_opened}
 use Rattle.assise_history.proofs.ClientCounts.{next_opened, opened_within}
 use Rattle.assise_history.proofs.Legality.{fits_in, legal-nil}
 use Rattle.assise_history.proofs.OneMore.{legal-call, legal-open}
 use Rattle.assise_history.proofs.LivesOneMore.{down-last, down-nil, may_call-opened, may_call-push, opened-push, opened-still}
 use Rattle.assise_libfs.specs.Calling.{told_call}
-use Rattle.assise_libfs.specs.Lives.{IsOpenedOn}
 use Rattle.assise_libfs_tests.specs.Ledgers.{IsLedger}
 
 ledger-nil : IsLedger 0 []
@@ -75,7 +74,7 @@ pub may_call : (n : ℕ) (h : List EntryValue) (c : ℕ) → ∥ IsLedger n h �
 may_call n h c k lo hi = ∥∥₁_map k (λ l. l.calls c lo hi)
 
 -- no other client was ever opened
-pub no_other : (n : ℕ) (h : List EntryValue) (c : ℕ) → ∥ IsLedger n h ∥₁ → (1 ≤ c → c ≤ n → ⊥) → (m : ℕ) → IsOpenedOn c m h → ⊥
+pub no_other : (n : ℕ) (h : List EntryValue) (c : ℕ) → ∥ IsLedger n h ∥₁ → (1 ≤ c → c ≤ n → ⊥) → (m : ℕ) → IsOpenedOn h c m → ⊥
 no_other n h c k other m o = ∥∥₁_elim k no_proofs (λ l.
     let first = next_opened o.before c m o.durability (fits_in h o.before o.since (opens c m o.durability) l.legal o.split) in
     let within = opened_within h o.before o.since c m o.durability l.legal o.split in

@@ -24,9 +24,10 @@ call_is_of_opened : (h before later : List EntryValue) (e : EntryValue) (c n : �
 call_is_of_opened h before later e c n u x legal fits new split client =
     let call : IsNextCall before x = (fits_in h before later (calls x) legal split).follows in
     let ready : MayCall before x.client = call.ready in
-    let opened : h ≡ ready.before ++ opens x.client ready.node ready.durability ∷ (ready.since ++ calls x ∷ later) =
-    split ∙ ap (λ es. es ++ calls x ∷ later) ready.split ∙ append_assoc ready.before (opens x.client ready.node ready.durability ∷ ready.since) (calls x ∷ later) in
-    let within = opened_within h ready.before (ready.since ++ calls x ∷ later) x.client ready.node ready.durability legal opened in
+    let o = ready.opened in
+    let opened : h ≡ o.before ++ opens x.client ready.node o.durability ∷ (o.since ++ calls x ∷ later) =
+    split ∙ ap (λ es. es ++ calls x ∷ later) o.split ∙ append_assoc o.before (opens x.client ready.node o.durability ∷ o.since) (calls x ∷ later) in
+    let within = opened_within h o.before (o.since ++ calls x ∷ later) x.client ready.node o.durability legal opened in
     let next = next_opened h c n u (subst (Fits h) new fits) in
     omega (arith, within, next, client)
 
@@ -37,11 +38,12 @@ next_takes_none h e c x legal fits still client lost =
     let fails_is : e ≡ fails w.node w.losses = one_of e (fails w.node w.losses) w.before w.behind w.split in
     let fair : IsFair h w.node w.losses = (subst (Fits h) fails_is fits).follows in
     let may : MayLose h w.node w.loss = fair.each w.lower w.higher w.loss w.listed in
-    let on = may.on in
+    let on = may.on.opened in
     let m = still.could in
+    let now = m.opened in
     let one : w.loss.client ≡ c = w.client ∙ client in
     let opened : h ≡ on.before ++ opens c w.node on.durability ∷ on.since = subst (λ d. h ≡ on.before ++ opens d w.node on.durability ∷ on.since) one on.split in
-    let same = one_place h legal c w.node m.node on.durability m.durability on.before on.since m.before m.since opened m.split in
+    let same = one_place h legal c w.node m.node on.durability now.durability on.before on.since now.before now.since opened now.split in
     let failed : is_failure_of m.node e ≡ true = ap (is_failure_of m.node) fails_is ∙ eq-eqb m.node w.node (sym same.node) in
     let no = sym failed ∙ still.no_failure in
     cc

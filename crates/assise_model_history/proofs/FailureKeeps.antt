@@ -127,13 +127,11 @@ past_syncs s n l sound r h before since x split client sync =
 was_on : (s : State) (n : ℕ) (l : Loss) → WorldInvariant s.world → IsRecorded s → Contains (losses_of s.world n) l → IsOn s.history l.client n
 was_on s n l sound r h =
     let f : IsFirstLost s.world n l = (exactly_lost s.world n l sound).0 h in
-    let o : WasOpened s.history s.world l.client = r.opened l.client (sound.opened l.client f.lives) in
+    let was : WasOpened s.history s.world l.client = r.opened l.client (sound.opened l.client f.lives) in
+    let o = was.opened in
     record {
-      durability = o.durability;
-      before = o.before;
-      since = o.since;
-      split = subst (λ m. s.history ≡ o.before ++ opens l.client m o.durability ∷ o.since) f.home o.split;
-      no_failure = subst (λ m. list_any (is_failure_of m) o.since ≡ false) f.home (no_failure s l.client o f.lives);
+      opened = record { durability = o.durability; before = o.before; since = o.since; split = subst (λ m. s.history ≡ o.before ++ opens l.client m o.durability ∷ o.since) f.home o.split };
+      no_failure = subst (λ m. list_any (is_failure_of m) o.since ≡ false) f.home (no_failure s l.client was f.lives);
     }
 
 pub failure_fits : (s : State) (n : ℕ) → WorldInvariant s.world → IsRecorded s → IsFair s.history n (losses_of s.world n)

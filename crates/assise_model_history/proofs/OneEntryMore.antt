@@ -94,14 +94,16 @@ any_push p h e = list_any-append p h (e ∷ []) ∙ ap (λ b. list_any p h || b)
 
 -- the entry may be the client's crash or its node's failure
 pub opened_more : (h : List EntryValue) (e : EntryValue) (w w' : World) (c : ℕ) → w'.home c ≡ w.home c → w'.crashed c ≡ (w.crashed c || is_crash_of c e) → w'.lives c ≡ (w.lives c && not (is_failure_of (w.home c) e)) → WasOpened h w c → WasOpened (h ++ e ∷ []) w' c
-opened_more h e w w' c home crashed lives o = record {
-  durability = o.durability;
-  before = o.before;
-  since = o.since ++ e ∷ [];
-  split = subst (λ n. h ++ e ∷ [] ≡ o.before ++ opens c n o.durability ∷ (o.since ++ e ∷ [])) (sym home) (ap (λ g. g ++ e ∷ []) o.split ∙ append_assoc o.before (opens c (w.home c) o.durability ∷ o.since) (e ∷ []));
-  crashed = crashed ∙ ap (λ b. b || is_crash_of c e) o.crashed ∙ sym (any_push (is_crash_of c) o.since e);
+opened_more h e w w' c home crashed lives was = let o = was.opened in record {
+  opened = record {
+    durability = o.durability;
+    before = o.before;
+    since = o.since ++ e ∷ [];
+    split = subst (λ n. h ++ e ∷ [] ≡ o.before ++ opens c n o.durability ∷ (o.since ++ e ∷ [])) (sym home) (ap (λ g. g ++ e ∷ []) o.split ∙ append_assoc o.before (opens c (w.home c) o.durability ∷ o.since) (e ∷ []));
+  };
+  crashed = crashed ∙ ap (λ b. b || is_crash_of c e) was.crashed ∙ sym (any_push (is_crash_of c) o.since e);
   lives = subst (λ n. w'.lives c ≡ not (list_any (is_failure_of n) (o.since ++ e ∷ []))) (sym home)
-      (lives ∙ ap (λ b. b && not (is_failure_of (w.home c) e)) o.lives ∙ sym (not_or (list_any (is_failure_of (w.home c)) o.since) (is_failure_of (w.home c) e)) ∙ ap not (sym (any_push (is_failure_of (w.home c)) o.since e)));
+      (lives ∙ ap (λ b. b && not (is_failure_of (w.home c) e)) was.lives ∙ sym (not_or (list_any (is_failure_of (w.home c)) o.since) (is_failure_of (w.home c) e)) ∙ ap not (sym (any_push (is_failure_of (w.home c)) o.since e)));
 }
 
 -- it is neither
@@ -111,22 +113,16 @@ opened_aside h e w w' c same crash failure o =
 
 -- there is none
 pub opened_still : (h : List EntryValue) (w w' : World) (c : ℕ) → SameClients w w' → WasOpened h w c → WasOpened h w' c
-opened_still h w w' c same o = record {
-  durability = o.durability;
-  before = o.before;
-  since = o.since;
-  split = subst (λ n. h ≡ o.before ++ opens c n o.durability ∷ o.since) (sym (same.home c)) o.split;
-  crashed = same.crashed c ∙ o.crashed;
-  lives = subst (λ n. w'.lives c ≡ not (list_any (is_failure_of n) o.since)) (sym (same.home c)) (same.lives c ∙ o.lives);
+opened_still h w w' c same was = let o = was.opened in record {
+  opened = record { durability = o.durability; before = o.before; since = o.since; split = subst (λ n. h ≡ o.before ++ opens c n o.durability ∷ o.since) (sym (same.home c)) o.split };
+  crashed = same.crashed c ∙ was.crashed;
+  lives = subst (λ n. w'.lives c ≡ not (list_any (is_failure_of n) o.since)) (sym (same.home c)) (same.lives c ∙ was.lives);
 }
 
 -- it is the client's opening
 pub opened_now : (h : List EntryValue) (w' : World) (c n : ℕ) (u : Durability) → w'.home c ≡ n → w'.crashed c ≡ false → w'.lives c ≡ true → WasOpened (h ++ opens c n u ∷ []) w' c
 opened_now h w' c n u home crashed lives = record {
-  durability = u;
-  before = h;
-  since = [];
-  split = subst (λ m. h ++ opens c n u ∷ [] ≡ h ++ opens c m u ∷ []) (sym home) refl;
+  opened = record { durability = u; before = h; since = []; split = subst (λ m. h ++ opens c n u ∷ [] ≡ h ++ opens c m u ∷ []) (sym home) refl };
   crashed = crashed;
   lives = lives;
 }

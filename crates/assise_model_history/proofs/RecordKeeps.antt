@@ -130,14 +130,14 @@ same_run w h sound same =
     subst (λ ps. AreAnswered opening_tree ps) (sym (exchanges_plain w.calls) ∙ ap (λ xs. map exchange (map plain_call xs)) same ∙ ap (λ cs. map exchange cs) (kept_plain h)) sound.coherent.answered
 
 -- a client that lives lost no node since its opening
-pub no_failure : (s : State) (c : ℕ) (o : WasOpened s.history s.world c) → s.world.lives c ≡ true → list_any (is_failure_of (s.world.home c)) o.since ≡ false
-no_failure s c o lives = not-true (list_any (is_failure_of (s.world.home c)) o.since) (sym o.lives ∙ lives)
+pub no_failure : (s : State) (c : ℕ) (o : WasOpened s.history s.world c) → s.world.lives c ≡ true → list_any (is_failure_of (s.world.home c)) o.opened.since ≡ false
+no_failure s c o lives = not-true (list_any (is_failure_of (s.world.home c)) o.opened.since) (sym o.lives ∙ lives)
 
 pub call_fits : (s : State) (x : NumberedCall) (s' : State) → WorldInvariant s.world → IsRecorded s → IsCall s x s' → IsNextCall s.history (plain_call x)
 call_fits s x s' sound r e =
     let o : WasOpened s.history s.world x.client = r.opened x.client (sound.opened x.client e.world.lives) in
     record {
-      ready = record { node = s.world.home x.client; durability = o.durability; before = o.before; since = o.since; split = o.split; no_crash = sym o.crashed ∙ e.world.running; no_failure = no_failure s x.client o e.world.lives };
+      ready = record { node = s.world.home x.client; opened = o.opened; no_crash = sym o.crashed ∙ e.world.running; no_failure = no_failure s x.client o e.world.lives };
       number = e.world.number ∙ r.next x.client;
     }
 
@@ -247,7 +247,7 @@ call_recorded s x s' sound r e =
 pub crash_fits : (s : State) (c : ℕ) (s' : State) → WorldInvariant s.world → IsRecorded s → IsCrash s c s' → IsAlive s.history c
 crash_fits s c s' sound r e =
     let o : WasOpened s.history s.world c = r.opened c (sound.opened c e.world.lives) in
-    record { node = s.world.home c; durability = o.durability; before = o.before; since = o.since; split = o.split; no_crash = sym o.crashed ∙ e.world.running }
+    record { node = s.world.home c; opened = o.opened; no_crash = sym o.crashed ∙ e.world.running }
 
 crash_opened : (s : State) (c : ℕ) (s' : State) → IsRecorded s → IsCrash s c s' → (d : ℕ) → IsClient s.world d → WasOpened (s.history ++ crashes c ∷ []) s'.world d
 crash_opened s c s' r e d client =

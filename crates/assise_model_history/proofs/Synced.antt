@@ -49,10 +49,12 @@ placed (b ∷ before) since x (f ∷ prefix) behind y h =
 -- a client whose node failed, since it was opened there, makes no call
 failed_since : (h prefix rest : List EntryValue) (c n : ℕ) (losses : List Loss) → IsLegal h → h ≡ prefix ++ fails n losses ∷ rest → IsOn prefix c n → MayCall h c → ⊥
 failed_since h prefix rest c n losses legal split on may =
-    let since : List EntryValue = on.since ++ fails n losses ∷ rest in
-    let there : h ≡ on.before ++ opens c n on.durability ∷ since = split ∙ ap (λ es. es ++ fails n losses ∷ rest) on.split ∙ append_assoc on.before (opens c n on.durability ∷ on.since) (fails n losses ∷ rest) in
-    let same : SamePlace on.before since n on.durability may.before may.since may.node may.durability = one_place h legal c n may.node on.durability may.durability on.before since may.before may.since there may.split in
-    let some : list_any (is_failure_of n) since ≡ true = passes_at (is_failure_of n) on.since rest (fails n losses) (eq-eqb n n refl) in
+    let o = on.opened in
+    let now = may.opened in
+    let since : List EntryValue = o.since ++ fails n losses ∷ rest in
+    let there : h ≡ o.before ++ opens c n o.durability ∷ since = split ∙ ap (λ es. es ++ fails n losses ∷ rest) o.split ∙ append_assoc o.before (opens c n o.durability ∷ o.since) (fails n losses ∷ rest) in
+    let same : SamePlace o.before since n o.durability now.before now.since may.node now.durability = one_place h legal c n may.node o.durability now.durability o.before since now.before now.since there now.split in
+    let some : list_any (is_failure_of n) since ≡ true = passes_at (is_failure_of n) o.since rest (fails n losses) (eq-eqb n n refl) in
     let none : list_any (is_failure_of n) since ≡ false = subst (λ m. list_any (is_failure_of m) since ≡ false) (sym same.node) (subst (λ es. list_any (is_failure_of may.node) es ≡ false) (sym same.rest) may.no_failure) in
     both_ways (list_any (is_failure_of n) since) none some
 

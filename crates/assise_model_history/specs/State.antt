@@ -2,9 +2,8 @@
 -- Assise (OSDI 2020), section 3 (prefix crash consistency, fail-over, node recovery).
 use Rattle.std.specs.Prelude.{◌≡◌, ℕ, zero, suc, ◌≤◌, not, List, [], ◌∷◌, ◌++◌}
 use Rattle.std.specs.List.{list_any}
-use Rattle.assise_names.specs.declared.durability.Durability.{Durability}
-use Rattle.assise_history.specs.Entries.{EntryValue, opens}
-use Rattle.assise_history.specs.Legal.{IsDown, IsLegal, IsPastSyncs, calls_made, clients_opened, is_crash_of, is_failure_of}
+use Rattle.assise_history.specs.Entries.{EntryValue}
+use Rattle.assise_history.specs.Legal.{IsDown, IsLegal, IsOpenedOn, IsPastSyncs, calls_made, clients_opened, is_crash_of, is_failure_of}
 use Rattle.assise_model_world.specs.Runs.{begun}
 use Rattle.assise_model_world.specs.World.{World, Full, IsClient, first_unreplicated}
 use Rattle.assise_model_history.specs.Numbered.{made_in, kept_numbered}
@@ -20,12 +19,9 @@ IsNode s n = (1 ≤ n) × (n ≤ s.nodes)
 
 -- the client was opened on its home, and it crashed, or its home failed, exactly where an entry since says so
 pub record WasOpened (h : List EntryValue) (w : World) (c : ℕ) : Type 0 where
-  pub durability : Durability
-  pub before : List EntryValue
-  pub since : List EntryValue
-  pub split : h ≡ before ++ opens c (w.home c) durability ∷ since
-  pub crashed : w.crashed c ≡ list_any (is_crash_of c) since
-  pub lives : w.lives c ≡ not (list_any (is_failure_of (w.home c)) since)
+  pub opened : IsOpenedOn h c (w.home c)
+  pub crashed : w.crashed c ≡ list_any (is_crash_of c) opened.since
+  pub lives : w.lives c ≡ not (list_any (is_failure_of (w.home c)) opened.since)
 
 -- the history is legal, and the machine's state is what it says
 pub record IsRecorded (s : State) : Type 0 where

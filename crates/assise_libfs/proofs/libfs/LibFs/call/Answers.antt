@@ -1,7 +1,7 @@
 use Rattle.std.proofs.Common.{◌∙◌, ap, subst, Ok}
 use Rattle.assise_libfs.specs.Calling.{MayRefuse}
 use Rattle.assise_libfs.specs.Clients.{client_of, node_of, seen_by}
-use Rattle.assise_libfs.specs.Lives.{IsOpenedOn}
+use Rattle.assise_history.specs.Legal.{IsOpenedOn}
 use Rattle.assise_libfs.proofs.Refused.{refused-opened}
 use Rattle.assise_libfs.proofs.Same.{same-then}
 use Rattle.assise_libfs.proofs.Tries.{others_then_try}
@@ -30,7 +30,7 @@ returns-in-Err-clause-sees g c = let inv = c.loop-turn.invariant in
 pub returns-in-Err-clause-refused : goal.returns-in-Err-clause-refused
 returns-in-Err-clause-refused g c =
     let now = c.turn.new.self in
-    let opened = subst (λ z. ∥ IsOpenedOn z (node_of now) (seen_by now) ∥₁) c.turn.ensures.same.client now.opened in
+    let opened = subst (λ z. ∥ IsOpenedOn (seen_by now) z (node_of now) ∥₁) c.turn.ensures.same.client now.opened in
     let refused = refused-opened _ (node_of now) c.args.op.now (seen_by now) c.in-Err.refusal opened c.in-Err.ensures.refused in
     subst (λ z. MayRefuse z c.args.op.now (seen_by now) c.in-Err.refusal) c.loop-turn.invariant.same.client refused
 
