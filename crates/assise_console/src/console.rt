@@ -62,7 +62,7 @@ impl<C: Drop> Drop for ConsoleOf<C> {
 
 impl<C: Revokes + Drop> ConsoleOf<C> {
     /// A cluster in which nothing happened: 1 to `MOST_NODES` nodes, logs of 8 to 4,096 records, and 1 to 4,096 inodes that a node keeps hot.
-    /// Clients are opened with revokers of the stock, and a call is tried so many times at most. The one refusal is
+    /// Clients are opened with revokers of the stock, and a call is tried at most `turns` times. The one refusal is
     /// [`Refusal::OutOfMemory`].
     pub fn new(
         alloc: Global,
@@ -132,7 +132,7 @@ impl<C: Revokes + Drop> ConsoleOf<C> {
         }
     }
 
-    /// Opens a client on a node, with a revoker of a kind, whose fsyncs are served so.
+    /// Opens a client on a node, with a revoker of a kind and this durability.
     fn open(
         &mut self,
         alloc: Global,

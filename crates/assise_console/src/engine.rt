@@ -42,7 +42,7 @@ pub fn engine<R: Read, W: Write, C: Revokes + Drop>(
     run_script(alloc, input.as_slice(), writer, stock, command_line.turns)
 }
 
-/// Runs the script that these bytes are, and writes its answers and nothing else. A call is tried so many times at most.
+/// Runs the script that these bytes are, and writes its answers and nothing else. A call is tried at most `turns` times.
 ///
 /// [`EngineFault::Script`] is the first fault of the script, and [`EngineFault::Memory`] out of memory for the cluster of
 /// a script that has no fault; nothing is written then. [`EngineFault::Write`] is the writer's failure.

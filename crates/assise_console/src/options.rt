@@ -19,8 +19,8 @@ pub struct CommandLine<'a> {
     pub threads: bool,
 }
 
-/// The version that `assise --version` prints.
-pub const VERSION: &str = "0.1.0";
+/// The version that `assise --version` prints. Which commit was built, and whether it was proved, `./build` writes there.
+pub const VERSION: &str = "0.1.0 (unknown, unproved)";
 
 /// What `assise --help` prints.
 const HELP: &str = r"Runs a script on a cluster of a replicated file system, and prints each answer

@@ -23,7 +23,7 @@ pub enum Response {
     Released(usize),
     /// The node whose link is another now.
     Linked(u32),
-    /// The node at which so many inodes may be hot now.
+    /// The node whose hot capacity was set.
     HotSet(u32),
     /// The client that crashed.
     Crashed(u32),

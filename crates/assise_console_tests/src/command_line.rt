@@ -127,7 +127,7 @@ fn what_is_printed_says_what_to_do(rt: HostRuntime) -> Result<(), Fail> {
         assert!(rt; help.contains(part), "{part}");
     }
     let version = printed(rt.alloc(), &["assise", "--version"])?;
-    assert_eq!(rt; version.as_str(), "assise 0.1.0\n");
+    assert_eq!(rt; version.as_str(), "assise 0.1.0 (unknown, unproved)\n");
     let fault = printed(rt.alloc(), &["assise"])?;
     assert!(rt; fault.starts_with("error: "), "{fault}");
     Ok(())

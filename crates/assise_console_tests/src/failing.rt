@@ -10,7 +10,7 @@ use std::io;
 use std::io::{ErrorKind, Read, Write};
 use std::process::Abort;
 
-/// A reader that gives at most seven bytes at a time, and fails after so many reads.
+/// A reader that gives at most seven bytes at a time, and fails once none of its reads is left.
 #[derive(Drop)]
 struct BrokenReader {
     bytes: &'static [u8],
@@ -32,7 +32,7 @@ impl Read for BrokenReader {
     }
 }
 
-/// A writer that takes so many writes, and then fails. It counts the calls after the first that failed.
+/// A writer that fails once none of its writes is left. It counts the calls after the first that failed.
 #[derive(Drop)]
 struct BrokenWriter {
     left: usize,
@@ -91,7 +91,7 @@ fn run<R: Read>(
     engine(alloc, reader, writer, stock, &NOWHERE).err()
 }
 
-/// Reads a script with a reader that fails after so many reads, and says how the run ended and how much it printed.
+/// Reads a script with a reader that fails after `left` reads, and says how the run ended and how much it printed.
 fn read_in_part(
     alloc: Global,
     rt: &impl Abort,

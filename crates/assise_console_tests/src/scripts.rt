@@ -31,7 +31,7 @@ pub(crate) fn prints(
     Ok(output.as_slice() == wanted.as_bytes())
 }
 
-/// A script whose first line makes a cluster that keeps so many inodes hot; a script without a cluster stays as it is.
+/// A script whose first line makes a cluster that keeps `hot` inodes hot; a script without a cluster stays as it is.
 fn with_hot(alloc: Global, script: &str, hot: u32) -> Result<String, AllocError> {
     if let Some((first, rest)) = script.split_once('\n') {
         if let Some((cluster, _)) = first.rsplit_once(' ') {

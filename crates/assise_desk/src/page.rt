@@ -19,7 +19,7 @@ pub(crate) fn place_bytes(bytes: &[u8], out: &mut [u8; DESK_BYTES]) -> Result<us
     place_at(bytes, out, 0).ok_or(DeskFault::NoRoom)
 }
 
-/// Puts a page of names at the front of a desk's bytes: those behind the first so many, each with a zero byte behind it, as many as
+/// Puts a page of names at the front of a desk's bytes: those from number `first` on, each with a zero byte behind it, as many as
 /// there is room for. It answers how many bytes they have: where a name is left there is room for one.
 pub(crate) fn place_page(names: &[Name], first: u64, out: &mut [u8; DESK_BYTES]) -> usize
     ensures page { IsPage DESK_BYTES (drop first names.now) (take result out.new) }

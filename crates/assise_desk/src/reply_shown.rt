@@ -6,7 +6,7 @@ use crate::desk_request::DESK_BYTES;
 use crate::page::{place_bytes, place_page};
 use assise_names::reply::Reply;
 
-/// A reply in numbers and bytes. Of names it is a page, behind the first so many.
+/// A reply in numbers and bytes. Of names it is a page, from number `first` on.
 pub(crate) fn show_reply(
     reply: &Reply,
     first: u64,

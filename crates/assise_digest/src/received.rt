@@ -115,7 +115,7 @@ impl Received {
         self.digested += 1;
     }
 
-    /// Counts the next records as digested, so many.
+    /// Counts the next `count` records as digested.
     pub(crate) fn count_all_digested(&mut self, count: usize)
         requires begun { IsBegun (seen_log self.old) }
         requires there { count ≤ length (ahead (seen_log self.old)) }
@@ -131,7 +131,7 @@ impl Received {
         }
     }
 
-    /// Whether so many records are all that aren't digested of a client that lives here, and there are some.
+    /// Whether `count` records are all that aren't digested of a client that lives here, and there are some.
     pub(crate) fn are_all_ahead(&self, count: usize) -> bool
         requires begun { IsBegun (seen_log self.now) }
         ensures at_home { result ≡ true → is_some self.now.pending ≡ true }
@@ -166,7 +166,7 @@ impl Received {
         Ok(())
     }
 
-    /// Equal effects of the next records, so many. The bytes of writes are shared.
+    /// Equal effects of the next `count` records. The bytes of writes are shared.
     pub(crate) fn effects_ahead(&self, alloc: Global, count: usize) -> Result<Vec<Effect>, Refusal>
         requires begun { IsBegun (seen_log self.now) }
         requires there { count ≤ length (ahead (seen_log self.now)) }

@@ -404,7 +404,7 @@ impl Region {
         self.logs[client - 1].coalesce(alloc, from)
     }
 
-    /// Puts records of a client into the inodes, in their order, so many at most, and of those alone that are numbered
+    /// Puts at most `at_most` records of a client into the inodes, in their order, and of those alone that are numbered
     /// below what is replicated (Strata, SOSP 2017, section 3: digest). Each group is put in whole or not at all. It
     /// answers how many records there were, and only where no whole group is among those that may be digested is that 0.
     /// Where memory runs out it answers those before, and the one refusal, [`Refusal::OutOfMemory`], comes where there were
@@ -476,7 +476,7 @@ impl Region {
         self.logs[client - 1].next_group()
     }
 
-    /// Puts the next records of a client into the inodes, so many: all of them, or none.
+    /// Puts the next `count` records of a client into the inodes: all of them, or none.
     fn digest_group(&mut self, client: usize, count: usize) -> Result<(), Refusal>
         requires client { HasClient self.old client }
         requires disjoint { TouchDisjoint self.old }

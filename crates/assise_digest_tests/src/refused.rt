@@ -60,7 +60,7 @@ fn appends_to(alloc: Global, region: &mut Region, effect: &str, wanted: &str) ->
     }
 }
 
-/// What is seen of three records of a client that lives elsewhere, of which so many are digested.
+/// What is seen of three records of a client that lives elsewhere, of which a number is digested.
 const DIGESTED: [&str; 4] = [
     " 0..0..3; dir 0; none;",
     " 0..1..3; dir 0; file 0;",

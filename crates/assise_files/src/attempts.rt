@@ -12,7 +12,7 @@ use assise_names::reply::Reply;
 use assise_rounds::rounds::round;
 use std::alloc::Global;
 
-/// Tries a call until it is answered or refused, so many times at most, with a round of all nodes behind each try that waits or finds
+/// Tries a call until it is answered or refused, at most `turns` times, with a round of all nodes behind each try that waits or finds
 /// its client's log full. Where such a round has nothing to do, and where no try settles it, it is [`Refusal::Busy`], or
 /// [`Refusal::LogFull`] where the log stays full.
 pub(crate) fn settle_call<C: Revokes + Drop>(

@@ -38,7 +38,7 @@ impl Files {
     ghost use Rattle.assise_files.specs.CallTries.{IsTriedOut};
 
     /// A cluster in which nothing happened: 1 to `MOST_NODES` nodes, logs of 8 to 4,096 records, and 1 to 4,096 inodes that a node keeps hot. A
-    /// call is tried so many times at most. The one refusal is [`Refusal::OutOfMemory`].
+    /// call is tried at most `turns` times. The one refusal is [`Refusal::OutOfMemory`].
     pub fn new(
         alloc: Global,
         nodes: u32,

@@ -60,7 +60,7 @@ impl Requests {
         self.ask(alloc, asked, texts[0], texts[1])
     }
 
-    /// Client 1 makes so many files in a directory, whose names have 200 bytes.
+    /// Client 1 makes `count` files in a directory, whose names have 200 bytes.
     fn make_files(&mut self, alloc: Global, directory: &str, count: u64) -> Option<()> {
         for number in 0..count {
             let step = format!(in alloc; "create 1 {directory}/{number:0200}").ok()?;

@@ -17,7 +17,7 @@ use assise_names::refusal::Refusal;
 use assise_names::reply::Reply;
 use std::alloc::Global;
 
-/// Reads at most so many bytes from an offset on.
+/// Reads at most `length` bytes, from an offset on.
 pub(crate) fn plan_read<V: View>(
     alloc: Global,
     view: &V,

@@ -136,7 +136,7 @@ fn walk_to_taker<'a, V: View>(
     walk(view, taker, reads)
 }
 
-/// Repeats the first visits, so many, behind the others.
+/// Repeats the first `count` visits behind the others.
 fn repeat(visits: &mut Visits, count: usize) -> Result<(), Refusal>
     requires { count ≤ length visits.old.items }
     ensures ok { OnOk result (visits.new.items ≡

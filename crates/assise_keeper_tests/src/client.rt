@@ -59,7 +59,7 @@ pub fn call_as<R: Wait>(
     }
 }
 
-/// Makes so many calls, each in a turn of its own, and answers their numbers.
+/// Makes `count` calls, each in a turn of its own, and answers their numbers.
 pub fn calls_as<R: Wait>(
     rt: &R,
     alloc: Global,

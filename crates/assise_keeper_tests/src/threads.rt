@@ -38,7 +38,7 @@ pub struct Ended {
     pub book: Option<Book>,
 }
 
-/// Opens a client, which makes so many calls.
+/// Opens a client, which makes `count` calls.
 pub fn serve<R: Wait>(
     rt: &R,
     alloc: Global,
@@ -86,7 +86,7 @@ fn serve_beside_worker<R: Threads + Wait + Sync>(
     )
 }
 
-/// Two clients make so many calls each, in two threads, beside a worker in a third; then they meet.
+/// Two clients make `count` calls each, in two threads, beside a worker in a third; then they meet.
 pub fn two_clients<R: Threads + Wait + Sync>(rt: &R, alloc: Global, count: u32) -> Option<Ended>
     ensures one { IfSome result (λ e. seen e.first.pass ≡ seen e.second.pass) }
     ensures first { IfSome result (λ e. EndsWith (mine e.first.pass)

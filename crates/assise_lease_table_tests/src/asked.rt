@@ -45,7 +45,7 @@ fn hold(
 }
 
 /// How often the revokers were called of clients 1 and 2, which read inode 7, and of client 3, which reads inode 8, once client 4 has
-/// asked for inode 7 so many times.
+/// asked for inode 7 `times` times.
 fn calls_of(alloc: Global, times: u32) -> Option<[u32; 3]> {
     let logs = OneLog {
         log: Log::new(alloc, 64).ok()?,

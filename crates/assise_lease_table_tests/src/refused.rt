@@ -27,7 +27,7 @@ fn hold(table: &mut ClientTable, client: u32) -> Option<()> {
     table.hold(client, 7, Mode::Read).ok()
 }
 
-/// Whether inode 7 has so many leases, so many of them revoked.
+/// Whether inode 7 has `count` leases, `revoked` of them revoked.
 fn is_held(table: &ClientTable, count: usize, revoked: usize) -> bool {
     let leases = table.leases(7);
     leases.len() == count && leases.iter().filter(|lease| lease.revoked).count() == revoked

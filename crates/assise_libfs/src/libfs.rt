@@ -66,7 +66,7 @@ impl<'a, S: Served> LibFs<'a, S> {
     ghost use Rattle.assise_libfs.specs.InTurns.{IsPassTurn, TurnsOnce, TurnsTo};
     ghost use Rattle.assise_model_events.specs.Events.{open_client, opened, refused};
 
-    /// Opens a client on a node, whose fsyncs are served so, for calls of 1 to 1,000,000 turns. The client is the pass's from
+    /// Opens a client on a node, with this durability, for calls of 1 to 1,000,000 turns. The client is the pass's from
     /// then on, beside its right to open clients; what is stored with it serves the state, as a revoker does.
     ///
     /// Refused with [`Refusal::BadNode`] where there is no such node, [`Refusal::NodeDown`] where it is down or comes back,
@@ -155,7 +155,7 @@ impl<'a, S: Served> LibFs<'a, S> {
         self.call(rt, alloc, &Op::Mkdir(path))
     }
 
-    /// Reads bytes of a file from an offset on, at most so many.
+    /// Reads at most `most` bytes of a file, from an offset on.
     pub fn read<R: Wait>(
         &mut self,
         rt: &R,
@@ -346,7 +346,7 @@ impl<'a, S: Served> LibFs<'a, S> {
         Err(Refusal::Busy)
     }
 
-    // One try of a call. No state has the memory for so many calls that their count ends.
+    // One try of a call. No state has the memory for 2^64 calls.
     fn turn<R: Wait>(&mut self, rt: &R, alloc: Global, op: &Op) -> Result<Option<Reply>, Refusal>
         ensures same { IsSameClient self.old self.new }
         ensures sees { SeesTry (client_of self.old) op.now

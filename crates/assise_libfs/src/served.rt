@@ -24,7 +24,7 @@ pub trait Served: Growing {
     /// What an event does to the state, with its answer: of a cluster, all that the laws say of it.
     ghost acts: { Self → ClusterEvent → Answer → Self → Type 0 };
 
-    /// Opens a client on a node, whose fsyncs are served so, and answers its number. Refused with [`Refusal::BadNode`] where
+    /// Opens a client on a node, with this durability, and answers its number. Refused with [`Refusal::BadNode`] where
     /// there is no such node, [`Refusal::NodeDown`] where it is down or comes back, [`Refusal::BadClient`] where no client can
     /// be opened any more, and [`Refusal::OutOfMemory`]: what is refused leaves the history as it was, and gives back what would
     /// have been stored.

@@ -46,7 +46,7 @@ pub(crate) fn try_turn<S: Served, R: Wait>(
     tried
 }
 
-/// Opens a client on a node, whose fsyncs are served so, and which is the pass's from then on.
+/// Opens a client on a node, with this durability, which is the pass's from then on.
 pub(crate) fn open_turn<S: Served, R: Wait>(
     rt: &R,
     alloc: Global,

@@ -17,7 +17,7 @@ use assise_names::refusal::Refusal;
 use assise_names::reply::Reply;
 use std::alloc::Global;
 
-/// Clients are opened on node 1, the one node. Their fsyncs are answered, once so many tries have waited, or refused where the ledger
+/// Clients are opened on node 1, the one node. Their fsyncs are answered, once `waits` tries have waited, or refused where the ledger
 /// is full; their other calls wait for ever. It counts the tries.
 #[derive(Drop)]
 pub struct Ledger {
@@ -51,7 +51,7 @@ impl Growing for Ledger {
 impl Ledger {
     ghost use Rattle.std.specs.Prelude.{◌≡◌, []};
 
-    /// A ledger in which nothing happened, where so many tries wait.
+    /// A ledger in which nothing happened, where `waits` tries wait.
     pub fn new(alloc: Global, waits: u32, full: bool) -> Ledger
         ensures { result.history.events ≡ [] }
     {

@@ -12,7 +12,7 @@ use assise_names::durability::Durability;
 use std::alloc::Global;
 use std::sync::Wait;
 
-/// A client of a ledger makes an fsync of so many turns: what it came to, and how often it was tried.
+/// A client of a ledger makes an fsync of `turns` turns: what it came to, and how often it was tried.
 pub fn sync_once<R: Wait>(rt: &R, alloc: Global, ledger: Ledger, turns: u32) -> Option<String>
     requires some { 1 ≤ turns }
     requires few { turns ≤ 1000000 }

@@ -18,7 +18,7 @@ pub enum Answer {
     Digested(Result<usize, Refusal>),
     /// How many leases of clients went.
     Released(usize),
-    /// Whether so many inodes may be hot.
+    /// Whether the node's hot capacity was set.
     HotSet(Result<(), Refusal>),
     /// Whether a client crashed.
     Crashed(Result<(), Refusal>),

@@ -86,7 +86,7 @@ impl<C: Revokes + Drop> ClusterOf<C> {
         })
     }
 
-    /// Opens a client on a node, whose fsyncs are served so, and answers its number. The client is asked for its leases by the
+    /// Opens a client on a node, with this durability, and answers its number. The client is asked for its leases by the
     /// revoker. Refused with [`Refusal::BadNode`] where there is no such node, [`Refusal::NodeDown`] where it isn't full,
     /// [`Refusal::BadClient`] where all clients were opened that may be, and [`Refusal::OutOfMemory`]: what is refused leaves all as it
     /// was, and gives the revoker back.

@@ -98,7 +98,7 @@ fn digest_to<C: Revokes + Drop>(
     progress
 }
 
-/// A node digests records of a client, so many at most, until the next group is longer than what is left of them, or memory runs
+/// A node digests at most `at_most` records of a client, until the next group is longer than what is left of them, or memory runs
 /// out.
 fn digest_of<C: Revokes + Drop>(
     alloc: Global,
@@ -152,7 +152,7 @@ fn digest_of<C: Revokes + Drop>(
     }
 }
 
-/// A node digests so many records of a client, of those that all full nodes have, or fewer where memory runs out. It answers how
+/// A node digests `wanted` records of a client, of those that all full nodes have, or fewer where memory runs out. It answers how
 /// many there were. While all nodes are full nothing is to be noted, so no list of inodes is made. The one refusal is
 /// [`Refusal::OutOfMemory`], where there was none, and it changes nothing.
 fn digest_wanted<C: Revokes + Drop>(
@@ -184,7 +184,7 @@ fn digest_wanted<C: Revokes + Drop>(
     state.nodes.digest_some(node, client, acked, wanted)
 }
 
-/// A node digests so many records of a client, of those that all full nodes have, or fewer where memory runs out, and the manager
+/// A node digests `wanted` records of a client, of those that all full nodes have, or fewer where memory runs out, and the manager
 /// notes the inodes. It answers how many there were. The one refusal is [`Refusal::OutOfMemory`], where there was none, and it
 /// changes nothing.
 fn digest_noted<C: Revokes + Drop>(
@@ -220,7 +220,7 @@ fn digest_noted<C: Revokes + Drop>(
     Ok(count)
 }
 
-/// How many effects so many records of a log have, from a number on.
+/// How many effects `count` records of a log have, from a number on.
 fn effects_from(log: &Log, from: u64, count: usize) -> usize
     requires few { count ≤ 64 }
     ensures { result ≡ length (all_effects (take count (records_from log.now from))) }

@@ -17,7 +17,7 @@ use assise_names::durability::Durability;
 use assise_names::refusal::Refusal;
 use std::alloc::Global;
 
-/// Opens a client on a node, whose fsyncs are served so, and answers its number. Refused as [`open_refusal`] says, and with
+/// Opens a client on a node, with this durability, and answers its number. Refused as [`open_refusal`] says, and with
 /// [`Refusal::OutOfMemory`]: what is refused leaves all as it was, and gives the revoker back.
 pub fn open<C: Revokes + Drop>(
     alloc: Global,

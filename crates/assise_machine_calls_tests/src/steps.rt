@@ -87,7 +87,7 @@ fn command_of(alloc: Global, line: &str) -> Option<Command> {
     Some(last.command)
 }
 
-/// A cluster of so many nodes, whose clients' logs have 8 records at most.
+/// A cluster of `nodes` nodes, whose clients' logs have 8 records at most.
 pub(crate) fn cluster_of(alloc: Global, nodes: u32) -> Option<Sound> {
     if nodes == 0 || nodes > MOST_NODES {
         return None;

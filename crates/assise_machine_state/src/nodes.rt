@@ -99,7 +99,7 @@ impl Nodes {
         end_all(&mut self.regions, client);
     }
 
-    /// Takes records of a client that lives elsewhere in at a node, behind the last, but for so many at the front. They have
+    /// Takes records of a client that lives elsewhere in at a node, behind the last, but for the first `skipped`. They have
     /// room there, and get the groups that the client's own log has, which another node has. It takes no memory.
     pub fn extend(&mut self, node: u32, client: u32, own: u32, records: Vec<Record>, skipped: usize)
         requires there { HasLog self.old node client }
@@ -120,7 +120,7 @@ impl Nodes {
         self.take_in(node, client, own, records.into_iter(), skipped);
     }
 
-    /// Takes records in, but for so many at the front.
+    /// Takes records in, but for the first `skipped`.
     fn take_in(
         &mut self,
         node: u32,
@@ -267,7 +267,7 @@ impl Nodes {
         self.regions[node as usize - 1].coalesce(client as usize, from)
     }
 
-    /// A node digests records of a client that are numbered below what is replicated, so many at most, each group whole or
+    /// A node digests at most `at_most` records of a client that are numbered below what is replicated, each group whole or
     /// not at all, and answers how many. The one refusal is [`Refusal::OutOfMemory`], where there was one to digest, and it
     /// changes nothing.
     pub fn digest_some(

@@ -9,7 +9,7 @@ use assise_names::refusal::Refusal;
 use assise_private_log::log::Log;
 use assise_record::effect::Effect;
 
-/// Adds the inodes that so many records of a log touch, from a number on. The one refusal is [`Refusal::OutOfMemory`].
+/// Adds the inodes that `count` records of a log touch, from a number on. The one refusal is [`Refusal::OutOfMemory`].
 pub fn push_touched_from(
     inodes: &mut Vec<u64>,
     log: &Log,

@@ -41,7 +41,7 @@ pub(crate) fn append(
     nodes.append(node, client, added).ok()
 }
 
-/// A node digests so many records of its only client.
+/// A node digests `count` records of its only client.
 pub(crate) fn digest(nodes: &mut Nodes, node: u32, count: usize) -> Option<()> {
     if !has_log(nodes, node, 1) || nodes.region(node).clients() != 1 {
         return None;

@@ -81,7 +81,7 @@ impl Desk {
         })
     }
 
-    /// Begins anew with so many nodes, whose clients' logs have so many records at most, and so many inodes that may be hot. None
+    /// Begins anew with `nodes` nodes, whose clients' logs have at most `log` records, and at most `hot` hot inodes a node. None
     /// where there is no such cluster, or no memory.
     pub(crate) fn renew(
         &mut self,

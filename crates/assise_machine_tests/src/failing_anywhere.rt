@@ -111,7 +111,7 @@ const LATER: usize = 5;
 /// More steps than any script has.
 const AT_THE_END: usize = 512;
 
-/// Sees that nothing is wrong in scripts, each served by steps, whichever node fails before whichever step, and comes back so many
+/// Sees that nothing is wrong in scripts, each served by steps, whichever node fails before whichever step, and comes back `away`
 /// steps further.
 pub(crate) fn see_failures(
     alloc: Global,
@@ -141,7 +141,7 @@ fn see_failures_of(alloc: Global, rt: &impl Abort, desk: &mut Desk, steps: &str,
     }
 }
 
-/// What is wrong behind a step from the place on where a node fails, which comes back so many steps further, or at the end. Steps may
+/// What is wrong behind a step from the place on where a node fails, which comes back `away` steps further, or at the end. Steps may
 /// be refused then.
 fn fault_of(
     alloc: Global,
@@ -167,7 +167,7 @@ fn fault_of(
     fault_at_the_end(alloc, desk)
 }
 
-/// A node fails before the step of a place, and comes back so many steps further.
+/// A node fails before the step of a place, and comes back `away` steps further.
 fn fail_or_return(
     alloc: Global,
     desk: &mut Desk,

@@ -93,7 +93,7 @@ fn settle(alloc: Global, desk: &mut Desk) -> Option<()> {
     Some(())
 }
 
-/// Whether all that a client wrote is replicated, and has gone from the log of each of so many full nodes.
+/// Whether all that a client wrote is replicated, and has gone from the log of each of `nodes` full nodes.
 fn has_digested(cluster: &Cluster, nodes: u32, client: u32) -> bool {
     let Ok(acked) = cluster.acked(client) else {
         return true;

@@ -137,7 +137,7 @@ const OUTCOMES: [&str; 23] = [
 /// Which of them came out.
 type Came = [bool; OUTCOMES.len()];
 
-/// Appends a step by chance, where there are so many nodes, and so many clients were opened. Now and then there is no such node or
+/// Appends a step by chance, where there are `nodes` nodes, and `clients` clients were opened. Now and then there is no such node or
 /// client.
 fn put_step(
     dice: &mut Dice,
@@ -237,7 +237,7 @@ pub(crate) struct Lists {
     /// How many lists, and how many steps each has.
     pub(crate) lists: u32,
     pub(crate) steps: u32,
-    /// After so many steps each it is looked at what is wrong.
+    /// It is looked at what is wrong each time that this number of steps is done.
     pub(crate) apart: u32,
 }
 

@@ -15,7 +15,7 @@ pub(crate) enum Task<'a> {
     Hot,
     /// Steps, each once more where it is refused as out of memory.
     Again,
-    /// Scripts in which a node fails before each step, and comes back so many steps further.
+    /// Scripts in which a node fails before each step, and comes back a number of steps further.
     Failures(usize, &'a [&'a str]),
     /// Lists of steps by chance.
     Chance(Lists),

@@ -47,7 +47,7 @@ impl Tally {
         self.left.fetch_sub(1, Ordering::SeqCst);
     }
 
-    /// Waits until so many messages were answered, or a thread has left.
+    /// Waits until `count` messages were answered, or a thread has left.
     pub fn wait_until_answered<R: Wait>(&self, rt: &R, count: u32) {
         for _ in rt.forever() {
             let answered = self.answered.load(Ordering::SeqCst);

@@ -62,7 +62,7 @@ pub fn what_a_call_lacks_can_be_answered()
         Calling m c op (refused OutOfMemory) m }
 {}
 
-/// What nodes do can be done where no fault stands. Leases go where clients hold only so many inodes.
+/// What nodes do can be done where no fault stands. Leases go where clients hold inodes up to a number alone.
 pub fn what_nodes_do_can_be_done()
     ensures delivered { (m : Machine) (f : LogFrame) (n : ℕ) → MachineInvariant m →
         delivery_fault m f n ≡ None → IsTimelyDelivery m f n →

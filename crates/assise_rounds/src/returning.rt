@@ -23,7 +23,7 @@ pub fn return_node<C: Revokes + Drop>(
     cluster.join(alloc, node)
 }
 
-/// A node that comes back gets inodes that it may lack, so many at most, until it lacks none. Refused as [`ClusterOf::refill`].
+/// A node that comes back gets at most `stale` inodes that it may lack, until it lacks none. Refused as [`ClusterOf::refill`].
 fn fill<C: Revokes + Drop>(
     alloc: Global,
     cluster: &mut ClusterOf<C>,

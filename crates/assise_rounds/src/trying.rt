@@ -16,7 +16,7 @@ use assise_names::refusal::Refusal;
 use assise_names::reply::Reply;
 use std::alloc::Global;
 
-/// Tries a call until it isn't awaited any more, so many times at most, with a round over these links between two tries. Refused as
+/// Tries a call until it isn't awaited any more, at most `turns` times, with a round over these links between two tries. Refused as
 /// [`ClusterOf::try_call`], and with [`Refusal::Busy`] where the call is still awaited: after the last try, or after a round in which
 /// there was nothing to do. Zero times is once.
 pub fn try_often<C: Revokes + Drop, L: Link>(

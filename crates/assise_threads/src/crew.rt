@@ -90,7 +90,7 @@ impl<'a> Crew<'a> {
     ghost use Rattle.assise_threads.specs.AtKeeper.{AreClients};
     ghost use Rattle.assise_threads.specs.Threads.{main_keeper, main_seen};
 
-    /// A main thread of a cluster of so many nodes, with revokers for clients, each call of which is tried so many times at most.
+    /// A main thread of a cluster of `nodes` nodes, with revokers for clients, each call of which is tried at most `turns` times.
     pub(crate) fn new(
         main: MainThread<'a>,
         gate: &'a OpenGate,

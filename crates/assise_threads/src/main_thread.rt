@@ -97,7 +97,7 @@ impl<'a, C: Revokes + Drop> MainThreadOf<'a, C> {
         workers_up_to(alloc, self.keeper, &mut self.pass, last)
     }
 
-    /// Opens a client on a node, whose fsyncs are served so, and no other was opened meanwhile. Refused, the revoker comes back.
+    /// Opens a client on a node, with this durability, and no other was opened meanwhile. Refused, the revoker comes back.
     pub(crate) fn open<R: Wait>(
         &mut self,
         rt: &R,
@@ -198,7 +198,7 @@ impl<'a, C: Revokes + Drop> MainThreadOf<'a, C> {
         answer
     }
 
-    /// A node comes back: it begins to, and then gets an inode and tries to join until it is full, so many times at most. Behind the last of
+    /// A node comes back: it begins to, and then gets an inode and tries to join until it is full, `turns` times at most. Behind the last of
     /// these it is refused with [`Refusal::Busy`].
     pub(crate) fn bring_back<R: Wait>(
         &mut self,
