@@ -1,4 +1,4 @@
-/* fsyncs: what an fsync costs behind so many writes of 4,096 bytes, on clusters of 1, 2, 3 and 8 nodes.
+/* fsyncs: what an fsync costs behind a number of writes of 4,096 bytes, on clusters of 1, 2, 3 and 8 nodes.
  *
  * Prints the rows of a table: the writes that it has to make safe, and microseconds of processor time of the fsync for each count of
  * nodes, the best of some tries. */
@@ -23,7 +23,7 @@ static double microseconds(void) {
     return (double)now.tv_sec * 1e6 + (double)now.tv_nsec * 1e-3;
 }
 
-/* The time of one fsync behind so many writes, or below 0 where a call is refused. */
+/* The time of one fsync behind this number of writes, or below 0 where a call is refused. */
 static double time_fsync(struct assise_desk *desk, uint32_t client, long count) {
     static const uint8_t page[PAGE_BYTES];
     for (long i = 0; i < count; i++)
