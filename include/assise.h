@@ -16,7 +16,7 @@
  * What the caller owes, and nothing checks: assise_begin comes first; one call at a time on a desk, and none from a signal handler or
  * from the forked child of a process with threads; a desk stays where it is, or is moved by memcpy, and then only the copy counts; its
  * last field, `cluster`, is never written; assise_free before the desk goes, else its memory is lost. The program is linked with
- * libassise_c.a and with the C library's allocator (rattle_alloc, rattle_dealloc and rattle_realloc over malloc, free and realloc).
+ * libassise.a, which `./build` makes, and which takes its memory by malloc, realloc and free.
  */
 #ifndef ASSISE_H
 #define ASSISE_H
@@ -50,6 +50,13 @@ struct assise_desk {
     uint8_t bytes[ASSISE_BYTES];
     void *cluster[2]; /* the library's own */
 };
+
+/* Version and commit of the library, and whether it is proved. */
+extern const char assise_version_text[];
+
+static inline const char *assise_version(void) {
+    return assise_version_text;
+}
 
 /* Writes an empty desk, whatever stands there. */
 void assise_begin(struct assise_desk *desk);
