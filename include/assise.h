@@ -4,14 +4,26 @@
  * has it served, and gives the desk's result: a number from 0 on, or one of `enum assise_fault`, below 0. The library has two functions
  * of its own, assise_begin and assise_serve; all others are written over them here.
  *
- *     struct assise_desk desk;
- *     assise_begin(&desk);
- *     assise_make(&desk, 2, 64, 64);
- *     uint32_t client = (uint32_t)assise_open(&desk, 1, ASSISE_LEAST);
- *     assise_create(&desk, client, "/letter");
- *     assise_write(&desk, client, "/letter", "hello", 5, 0);
- *     assise_fsync(&desk, client);
- *     assise_free(&desk);
+ *     #include <assise.h>
+ *     #include <stdio.h>
+ *
+ *     static struct assise_desk desk;
+ *
+ *     static int64_t seen(const char *what, int64_t result) {
+ *         if (result < 0) fprintf(stderr, "%s: %s\n", what, assise_text(result));
+ *         return result;
+ *     }
+ *
+ *     int main(void) {
+ *         assise_begin(&desk);
+ *         if (seen("make", assise_make(&desk, 2, 64, 64)) < 0) return 1;
+ *         uint32_t client = (uint32_t)seen("open", assise_open(&desk, 1, ASSISE_LEAST));
+ *         if (seen("create", assise_create(&desk, client, "/letter")) < 0) return 1;
+ *         if (seen("write", assise_write(&desk, client, "/letter", "hello", 5, 0)) != 5) return 1;
+ *         if (seen("fsync", assise_fsync(&desk, client)) < 0) return 1;
+ *         assise_free(&desk);
+ *         return 0;
+ *     }
  *
  * What the caller owes, and nothing checks: assise_begin comes first; one call at a time on a desk, and none from a signal handler or
  * from the forked child of a process with threads; a desk stays where it is, or is moved by memcpy, and then only the copy counts; its
@@ -21,6 +33,7 @@
 #ifndef ASSISE_H
 #define ASSISE_H
 
+#include <errno.h>
 #include <stddef.h>
 #include <stdint.h>
 #include <string.h>
@@ -29,8 +42,23 @@
 extern "C" {
 #endif
 
+/* The version of this header. What assise_version() says is the library's. */
+#define ASSISE_VERSION "0.1.0"
+
 /* How many bytes a request or an answer may have. */
 #define ASSISE_BYTES 12288
+
+/* Limits. */
+#define ASSISE_MOST_NODES 16           /* of a cluster */
+#define ASSISE_MOST_CLIENTS 32         /* opened on a cluster, ever */
+#define ASSISE_LEAST_LOG 8             /* records in a client's log, at least */
+#define ASSISE_MOST_LOG 4096           /* and at most */
+#define ASSISE_MOST_HOT 4096           /* inodes that a node keeps hot */
+#define ASSISE_MOST_NAME_BYTES 255     /* of a name */
+#define ASSISE_MOST_NAMES 32           /* of a path */
+#define ASSISE_MOST_FILE_BYTES 1048576 /* of a file */
+#define ASSISE_MOST_ENTRIES 4096       /* of a directory */
+#define ASSISE_MOST_INODES 1048576     /* files and directories that one client makes */
 
 struct assise_request {
     uint32_t call;        /* what is asked for: ASSISE_MAKE .. */
@@ -130,6 +158,69 @@ enum assise_fault {
 /* What stands at a path, by a stat. */
 enum assise_stands { ASSISE_FILE = 1, ASSISE_DIR = 2 };
 
+/* What a failure took of a client: its calls from a number on, counted from 0. */
+struct assise_loss {
+    uint32_t client;
+    uint64_t call;
+};
+
+/* A fault in words; for a number from 0 on, that there is none. */
+static inline const char *assise_text(int64_t fault) {
+    switch (fault) {
+    case ASSISE_NO_ENT: return "a name on the way isn't there";
+    case ASSISE_EXISTS: return "something is there already";
+    case ASSISE_NOT_DIR: return "a file stands where a directory is wanted";
+    case ASSISE_IS_DIR: return "a directory stands where a file is wanted";
+    case ASSISE_NOT_EMPTY: return "the directory has entries";
+    case ASSISE_INVALID: return "not for the root, nor for a directory into itself";
+    case ASSISE_TOO_BIG: return "the file would be too big";
+    case ASSISE_DIR_FULL: return "the directory is full";
+    case ASSISE_OUT_OF_MEMORY: return "out of memory";
+    case ASSISE_BUSY: return "each try of the call waited";
+    case ASSISE_NODE_DOWN: return "the node has failed";
+    case ASSISE_CLIENT_GONE: return "the client has crashed";
+    case ASSISE_INODES_SPENT: return "the client can make no more files";
+    case ASSISE_TOO_LARGE: return "the write is too long";
+    case ASSISE_LAST_NODE: return "the only full node can't fail";
+    case ASSISE_BAD_NODE: return "there is no such node";
+    case ASSISE_BAD_CLIENT: return "there is no such client, or all were opened";
+    case ASSISE_WRONG_PHASE: return "the node is in another phase";
+    case ASSISE_STALE_MESSAGE: return "the message is stale";
+    case ASSISE_LOG_FULL: return "the client's log is full";
+    case ASSISE_NOT_ABSOLUTE: return "the path doesn't begin with a slash";
+    case ASSISE_EMPTY_NAME: return "a name in the path is empty";
+    case ASSISE_BAD_NAME: return "a name in the path can't be one";
+    case ASSISE_NAME_TOO_LONG: return "a name in the path is too long";
+    case ASSISE_TOO_DEEP: return "the path has too many names";
+    case ASSISE_NO_CLUSTER: return "there is no cluster";
+    case ASSISE_BAD_REQUEST: return "the request is out of range";
+    case ASSISE_NO_ROOM: return "the answer has no room";
+    default: return fault < 0 ? "an unknown fault" : "no fault";
+    }
+}
+
+/* The number of <errno.h> that is nearest to a fault, and 0 for a number from 0 on. */
+static inline int assise_errno(int64_t fault) {
+    switch (fault) {
+    case ASSISE_NO_ENT: return ENOENT;
+    case ASSISE_EXISTS: return EEXIST;
+    case ASSISE_NOT_DIR: return ENOTDIR;
+    case ASSISE_IS_DIR: return EISDIR;
+    case ASSISE_NOT_EMPTY: return ENOTEMPTY;
+    case ASSISE_TOO_BIG: return EFBIG;
+    case ASSISE_DIR_FULL: case ASSISE_INODES_SPENT: return ENOSPC;
+    case ASSISE_OUT_OF_MEMORY: return ENOMEM;
+    case ASSISE_BUSY: case ASSISE_LOG_FULL: return EAGAIN;
+    case ASSISE_NODE_DOWN: case ASSISE_CLIENT_GONE: case ASSISE_STALE_MESSAGE: return EIO;
+    case ASSISE_LAST_NODE: return EBUSY;
+    case ASSISE_BAD_NODE: case ASSISE_NO_CLUSTER: return ENXIO;
+    case ASSISE_BAD_CLIENT: return EBADF;
+    case ASSISE_BAD_NAME: return EILSEQ;
+    case ASSISE_NAME_TOO_LONG: case ASSISE_TOO_DEEP: return ENAMETOOLONG;
+    default: return fault < 0 ? EINVAL : 0;
+    }
+}
+
 /* A request of any call. */
 static inline int64_t assise_ask(struct assise_desk *desk, struct assise_request request, const char *path, const void *other,
                                  size_t other_bytes) {
@@ -178,11 +269,23 @@ static inline int64_t assise_crash(struct assise_desk *desk, uint32_t client) {
     return assise_manage(desk, ASSISE_CRASH, client, 0, 0, 0, 0);
 }
 
-/* A node fails, and its clients are over: how many bytes are in `bytes` then. For each client that lost calls they have its number (4
- * bytes, the lowest first) and the number of its first lost call (8 bytes): behind its last answered fsync. Its calls are counted from 0;
- * a call that found its log full asked for an fsync, which is one of them if it was answered. */
+/* The bytes of a loss: its client's number, and the number of the call, each with the lowest byte first. */
+#define ASSISE_LOSS_BYTES 12
+
+/* A node fails, and its clients are over: how many of them lost calls. assise_loss has each of these, until the desk's next request. */
 static inline int64_t assise_fail(struct assise_desk *desk, uint32_t node) {
-    return assise_manage(desk, ASSISE_FAIL, 0, node, 0, 0, 0);
+    int64_t bytes = assise_manage(desk, ASSISE_FAIL, 0, node, 0, 0, 0);
+    return bytes < 0 ? bytes : bytes / ASSISE_LOSS_BYTES;
+}
+
+/* The loss at a place, counted from 0: it lies behind the client's last answered fsync. A call that found its log full asked for an
+ * fsync, which counts as one of the client's calls if it was answered. */
+static inline struct assise_loss assise_loss(const struct assise_desk *desk, uint32_t place) {
+    const uint8_t *bytes = desk->bytes + (size_t)(place % (ASSISE_MOST_CLIENTS + 1)) * ASSISE_LOSS_BYTES;
+    struct assise_loss loss = {0, 0};
+    for (int k = 0; k < 4; k++) loss.client |= (uint32_t)bytes[k] << (8 * k);
+    for (int k = 0; k < 8; k++) loss.call |= (uint64_t)bytes[4 + k] << (8 * k);
+    return loss;
 }
 
 /* A node that failed comes back. Where that is refused midway, for memory, let it fail and come back again. */
@@ -226,8 +329,8 @@ static inline int64_t assise_read(struct assise_desk *desk, uint32_t client, con
     return (int64_t)done;
 }
 
-/* Writes `count` bytes at an offset. More than a desk has beside the path are several calls, of which a fault may leave the first done:
- * each call is made as a whole or not at all. */
+/* Writes `count` bytes at an offset: how many were written. More than a desk has beside the path are several calls, each of which is made
+ * as a whole or not at all. So fewer than `count` were written where a fault came behind the first; then it stands in `result`. */
 static inline int64_t assise_write(struct assise_desk *desk, uint32_t client, const char *path, const void *data, uint64_t count,
                                    uint64_t offset) {
     size_t path_bytes = strlen(path);
@@ -237,10 +340,10 @@ static inline int64_t assise_write(struct assise_desk *desk, uint32_t client, co
     do {
         uint64_t some = count - done < most ? count - done : most;
         int64_t result = assise_at(desk, ASSISE_WRITE, client, path, (const uint8_t *)data + done, (size_t)some, offset + done, 0);
-        if (result < 0) return result;
+        if (result < 0) return done ? (int64_t)done : result;
         done += some;
     } while (done < count);
-    return 0;
+    return (int64_t)done;
 }
 
 /* Gives a file another size: the bytes behind it go, or zero bytes come. */
@@ -263,7 +366,7 @@ static inline int64_t assise_rmdir(struct assise_desk *desk, uint32_t client, co
     return assise_at(desk, ASSISE_RMDIR, client, path, 0, 0, 0, 0);
 }
 
-/* A page of a directory's names, behind the first so many: how many bytes are in `bytes` then, each name with a zero byte behind it. As
+/* A page of a directory's names, from number `first` on: how many bytes are in `bytes` then, each name with a zero byte behind it. As
  * long as names are left at least one comes. `stands` is how many entries the directory has. */
 static inline int64_t assise_list(struct assise_desk *desk, uint32_t client, const char *path, uint64_t first) {
     return assise_at(desk, ASSISE_LIST, client, path, 0, 0, first, 0);

@@ -27,7 +27,7 @@ static double microseconds(void) {
 static double time_fsync(struct assise_desk *desk, uint32_t client, long count) {
     static const uint8_t page[PAGE_BYTES];
     for (long i = 0; i < count; i++)
-        if (assise_write(desk, client, "/file", page, PAGE_BYTES, (uint64_t)(i % PAGES) * PAGE_BYTES) < 0)
+        if (assise_write(desk, client, "/file", page, PAGE_BYTES, (uint64_t)(i % PAGES) * PAGE_BYTES) != PAGE_BYTES)
             return -1;
     double begun = microseconds();
     return assise_fsync(desk, client) < 0 ? -1 : microseconds() - begun;

@@ -173,6 +173,8 @@ static int file_write(sqlite3_file *base, const void *data, int count, sqlite3_i
     struct assise_desk *desk = take_turn(client);
     tell_of(client, VFS_WRITE);
     int64_t result = assise_write(desk, client->number, file->path, data, (uint64_t)count, (uint64_t)offset);
+    if (result >= 0 && result < count)
+        result = desk->result;
     end_turn(client);
     return code_of(client, result, SQLITE_IOERR_WRITE);
 }

@@ -1,0 +1,132 @@
+/* calls: each function of the header once where it does what it says, and wrong use, which gives codes. Prints each step that comes to
+ * something else, and last `N passed, M failed`. */
+#include <assise.h>
+#include <inttypes.h>
+#include <stdio.h>
+
+static struct assise_desk desk;
+static int passed, failed;
+
+static void see(const char *step, int64_t result, int64_t wanted) {
+    if (result == wanted) {
+        passed++;
+        return;
+    }
+    failed++;
+    printf("%s: %" PRId64 " (%s), and not %" PRId64 " (%s)\n", step, result, assise_text(result), wanted, assise_text(wanted));
+}
+
+#define SEE(wanted, call) see(#call, (call), (wanted))
+
+static void makes_and_opens(void) {
+    assise_begin(&desk);
+    SEE(ASSISE_NO_CLUSTER, assise_open(&desk, 1, ASSISE_LEAST));
+    SEE(ASSISE_BAD_REQUEST, assise_make(&desk, 0, 64, 16));
+    SEE(ASSISE_BAD_REQUEST, assise_make(&desk, ASSISE_MOST_NODES + 1, 64, 16));
+    SEE(ASSISE_BAD_REQUEST, assise_make(&desk, 2, ASSISE_LEAST_LOG - 1, 16));
+    SEE(ASSISE_BAD_REQUEST, assise_make(&desk, 2, ASSISE_MOST_LOG + 1, 16));
+    SEE(ASSISE_BAD_REQUEST, assise_make(&desk, 2, 64, ASSISE_MOST_HOT + 1));
+    SEE(0, assise_make(&desk, 2, 64, 16));
+    SEE(1, assise_open(&desk, 1, ASSISE_LEAST));
+    SEE(2, assise_open(&desk, 2, ASSISE_WHOLE));
+    SEE(3, assise_open(&desk, 1, ASSISE_EIGHTS));
+    SEE(ASSISE_BAD_NODE, assise_open(&desk, 3, ASSISE_LEAST));
+}
+
+static void makes_files(void) {
+    char text[8] = "";
+    SEE(0, assise_mkdir(&desk, 1, "/d"));
+    SEE(0, assise_create(&desk, 1, "/d/f"));
+    SEE(ASSISE_EXISTS, assise_create(&desk, 2, "/d/f"));
+    SEE(5, assise_write(&desk, 1, "/d/f", "hello", 5, 0));
+    SEE(5, assise_read(&desk, 2, "/d/f", text, sizeof text, 0));
+    SEE(0, memcmp(text, "hello", 5));
+    SEE(5, assise_stat(&desk, 1, "/d/f"));
+    SEE(ASSISE_FILE, (int64_t)desk.stands);
+    SEE(0, assise_truncate(&desk, 1, "/d/f", 2));
+    SEE(2, assise_stat(&desk, 2, "/d/f"));
+    SEE(2, assise_list(&desk, 2, "/d", 0));
+    SEE(0, memcmp(desk.bytes, "f", 2));
+    SEE(0, assise_rename(&desk, 2, "/d/f", "/g"));
+    SEE(ASSISE_NO_ENT, assise_stat(&desk, 1, "/d/f"));
+    SEE(0, assise_unlink(&desk, 1, "/g"));
+    SEE(0, assise_rmdir(&desk, 1, "/d"));
+    SEE(0, assise_stat(&desk, 1, "/"));
+    SEE(ASSISE_DIR, (int64_t)desk.stands);
+    SEE(0, assise_fsync(&desk, 1));
+}
+
+/* A write of several requests, the second of which the file is too big for. */
+static void writes_in_parts(void) {
+    static uint8_t data[2 * ASSISE_BYTES];
+    uint64_t behind = ASSISE_MOST_FILE_BYTES - ASSISE_BYTES;
+    SEE(0, assise_create(&desk, 1, "/big"));
+    SEE((int64_t)sizeof data, assise_write(&desk, 1, "/big", data, sizeof data, 0));
+    SEE((int64_t)sizeof data, assise_stat(&desk, 1, "/big"));
+    SEE(ASSISE_BYTES - 4, assise_write(&desk, 1, "/big", data, sizeof data, behind));
+    SEE(ASSISE_TOO_BIG, desk.result);
+    SEE(ASSISE_MOST_FILE_BYTES - 4, assise_stat(&desk, 1, "/big"));
+    SEE(ASSISE_TOO_BIG, assise_write(&desk, 1, "/big", data, 1, ASSISE_MOST_FILE_BYTES));
+}
+
+static void fails_and_comes_back(void) {
+    SEE(0, assise_fsync(&desk, 1));
+    SEE(0, assise_create(&desk, 1, "/lost"));
+    SEE(1, assise_fail(&desk, 1));
+    SEE(1, assise_loss(&desk, 0).client);
+    SEE(1, assise_loss(&desk, 0).call > 0);
+    SEE(ASSISE_NODE_DOWN, assise_stat(&desk, 1, "/"));
+    SEE(ASSISE_WRONG_PHASE, assise_fail(&desk, 1));
+    SEE(ASSISE_LAST_NODE, assise_fail(&desk, 2));
+    SEE(ASSISE_NO_ENT, assise_stat(&desk, 2, "/lost"));
+    SEE(0, assise_back(&desk, 1));
+    SEE(0, assise_crash(&desk, 2));
+    SEE(ASSISE_CLIENT_GONE, assise_stat(&desk, 2, "/"));
+    SEE(1, assise_legal(&desk));
+    SEE(1, assise_history(&desk) > 0);
+    SEE(1, assise_round(&desk) >= 0);
+}
+
+static void wrong_paths(void) {
+    static char path[2 * ASSISE_BYTES];
+    SEE(ASSISE_BAD_CLIENT, assise_create(&desk, 33, "/x"));
+    SEE(4, assise_open(&desk, 2, ASSISE_LEAST));
+    SEE(ASSISE_NOT_ABSOLUTE, assise_create(&desk, 4, "x"));
+    SEE(ASSISE_EMPTY_NAME, assise_create(&desk, 4, "//x"));
+    SEE(ASSISE_BAD_NAME, assise_create(&desk, 4, "/.."));
+    memset(path, 'x', sizeof path - 1);
+    path[0] = '/';
+    SEE(ASSISE_BAD_REQUEST, assise_create(&desk, 4, path));
+    SEE(ASSISE_BAD_REQUEST, assise_write(&desk, 4, path, "", 0, 0));
+    path[ASSISE_MOST_NAME_BYTES + 2] = 0;
+    SEE(ASSISE_NAME_TOO_LONG, assise_create(&desk, 4, path));
+    for (int k = 0; k < 2 * (ASSISE_MOST_NAMES + 1); k++) path[k] = k % 2 ? 'n' : '/';
+    path[2 * (ASSISE_MOST_NAMES + 1)] = 0;
+    SEE(ASSISE_TOO_DEEP, assise_create(&desk, 4, path));
+    SEE(ASSISE_INVALID, assise_rename(&desk, 4, "/", "/x"));
+    SEE(ASSISE_BAD_REQUEST, assise_manage(&desk, 99, 0, 0, 0, 0, 0));
+}
+
+static void tells_faults(void) {
+    SEE(ENOENT, assise_errno(ASSISE_NO_ENT));
+    SEE(ENOSPC, assise_errno(ASSISE_DIR_FULL));
+    SEE(ENAMETOOLONG, assise_errno(ASSISE_TOO_DEEP));
+    SEE(EINVAL, assise_errno(-999));
+    SEE(0, assise_errno(3));
+    for (int64_t fault = -303; fault < 0; fault++)
+        if (strcmp(assise_text(fault), "an unknown fault") != 0 && (strlen(assise_text(fault)) == 0 || assise_errno(fault) == 0))
+            SEE(0, fault);
+    SEE(0, strncmp(assise_version(), ASSISE_VERSION " (", strlen(ASSISE_VERSION) + 2));
+}
+
+int main(void) {
+    makes_and_opens();
+    makes_files();
+    writes_in_parts();
+    fails_and_comes_back();
+    wrong_paths();
+    tells_faults();
+    SEE(0, assise_free(&desk));
+    printf("%d passed, %d failed\n", passed, failed);
+    return failed ? 1 : 0;
+}
