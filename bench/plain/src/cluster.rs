@@ -284,6 +284,7 @@ impl Cluster {
     }
 
     /// A call's reply and effects; None while a lease is missing.
+    #[inline(always)]
     fn plan(&mut self, client: usize, operation: &Operation) -> Option<Planned> {
         let Client { home, made, .. } = self.clients[client];
         loop {
@@ -305,6 +306,7 @@ impl Cluster {
     }
 
     /// Writes the record of a call, which makes an inode or not, into its client's log.
+    #[inline(always)]
     fn write(&mut self, client: usize, effects: Rc<[Effect]>, makes: bool) -> Result<(), Refusal> {
         let caller = &mut self.clients[client];
         if makes && caller.made >= MAX_MADE {

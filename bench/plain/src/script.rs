@@ -137,13 +137,18 @@ struct Line<'a> {
     count: usize,
 }
 
+// What is inlined takes no longer than one function would.
 impl<'a> Line<'a> {
+    #[inline(always)]
     fn of(text: &'a str) -> Line<'a> {
         let mut line = Line {
             words: [""; 6],
             count: 0,
         };
-        for word in text.split(' ').filter(|word| !word.is_empty()).take(6) {
+        for word in text.split(' ').filter(|word| !word.is_empty()) {
+            if line.count == 6 {
+                break;
+            }
             line.words[line.count] = word;
             line.count += 1;
         }
@@ -162,10 +167,12 @@ impl<'a> Line<'a> {
         Ok(value as usize)
     }
 
+    #[inline(always)]
     fn path(&self, at: usize) -> Result<Path, ScriptFault> {
         Path::parse(self.words[at]).map_err(ScriptFault::BadPath)
     }
 
+    #[inline(always)]
     fn call(&self, cluster: bool) -> Result<Command, ScriptFault> {
         let client = self.number(0)?;
         let Some(&(call, wanted)) = CALLS.iter().find(|(name, _)| *name == self.words[1]) else {
