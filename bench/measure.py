@@ -25,15 +25,17 @@ def plain_program():
     return os.path.join(BUILT, "release/assise_plain")
 
 
-def processor_time(words):
-    """The seconds of processor time of a command, its own and the system's for it."""
+def taken(words):
+    """The nanoseconds that a command takes: by the clock, and of all processors."""
     with open(os.devnull, "r+b") as null:
+        begin = time.perf_counter_ns()
         child = subprocess.Popen(words, stdin=null, stdout=null)
         _, status, usage = os.wait4(child.pid, 0)
+        clock = time.perf_counter_ns() - begin
     child.returncode = os.waitstatus_to_exitcode(status)
     if child.returncode != 0:
         raise subprocess.CalledProcessError(child.returncode, words)
-    return usage.ru_utime + usage.ru_stime
+    return clock, int((usage.ru_utime + usage.ru_stime) * 10**9)
 
 
 class Bench:
@@ -73,18 +75,13 @@ class Bench:
                 if one != two or not one:
                     return one == two
 
+    def fastest(self, script, *options):
+        """The nanoseconds of the fastest run: by the clock, and of all processors."""
+        return min(taken([self.program, script, *options]) for _ in range(TRIES))
+
     def best(self, script, *options):
-        """The nanoseconds of the fastest run."""
-        return min(self.timed(script, *options) for _ in range(TRIES))
-
-    def timed(self, script, *options):
-        begin = time.perf_counter_ns()
-        subprocess.run([self.program, script, *options], stdout=subprocess.DEVNULL, check=True)
-        return time.perf_counter_ns() - begin
-
-    def processors(self, script, *options):
-        """The nanoseconds of processor time of the run that takes least."""
-        return int(min(processor_time([self.program, script, *options]) for _ in range(TRIES)) * 10**9)
+        """The nanoseconds of the fastest run by the clock."""
+        return self.fastest(script, *options)[0]
 
     def instructions(self, script):
         """The instructions of a run."""
