@@ -1,5 +1,5 @@
-"""What bench/run --budget measures: for each table of docs/PERFORMANCE.md one ratio, of instructions where valgrind can count them,
-else of processor time, and the most that it may be."""
+"""What bench/run --budget measures: for each table of docs/PERFORMANCE.md one ratio, of instructions where valgrind can count
+them, else of processor time, and the most that it may be."""
 
 from measure import COMPARED, Bench, plain_program
 
@@ -40,18 +40,18 @@ def threads_on_four_nodes(bench):
 
 
 def check_of_history(bench):
-    short, long = (
-        bench.instructions_between(count, bench.checked("mixed", count), bench.script("mixed", count)) for count in (1000, 10000)
-    )
+    scripts = [(count, bench.checked("mixed", count), bench.script("mixed", count)) for count in (1000, 10000)]
+    short, long = (bench.instructions_between(*of_count) for of_count in scripts)
     return long / short
 
 
 def optimistic_records(bench):
-    pairs = [(of, behind) for of in ("mail", "pages") for behind in (4, 64)]
-    pessimistic, optimistic = (
-        sum(bench.records_digested(of=of, behind=behind, mode=mode) for of, behind in pairs) for mode in ("pessimistic", "optimistic")
-    )
-    return optimistic / pessimistic
+    digested = {"pessimistic": 0, "optimistic": 0}
+    for of in ("mail", "pages"):
+        for behind in (4, 64):
+            for mode in digested:
+                digested[mode] += bench.records_digested(of=of, behind=behind, mode=mode)
+    return digested["optimistic"] / digested["pessimistic"]
 
 
 def transaction(bench):

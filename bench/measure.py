@@ -15,7 +15,15 @@ BUILT = os.path.expanduser("~/.cache/assise_plain")
 TRIES = 5
 
 # The workloads that ours and the plain program are compared by, and the calls of each in its usual size.
-COMPARED = {"create": 100_000, "rename": 100_000, "parse": 200_000, "share": 50_000, "mix": 20_000, "write": 20_000, "read": 10_000}
+COMPARED = {
+    "create": 100_000,
+    "rename": 100_000,
+    "parse": 200_000,
+    "share": 50_000,
+    "mix": 20_000,
+    "write": 20_000,
+    "read": 10_000,
+}
 
 
 def plain_program():
