@@ -177,12 +177,14 @@ def paths_in(lines):
 
 
 def completions(lines, before, text):
-    """The words that begin with this text and may stand behind what is before them in a line, in a script of these lines."""
+    """What a text may become behind what is before it in a line: a command, one of few words, or a path that lines of the script name.
+
+    Words that are whole have a space behind them; a path may go on."""
     texts = texts_of(before)
     place, known = command_place(texts) if texts else (0, KEYWORDS)
-    if len(texts) <= place:
-        found = list(known)
+    kinds = known.get(texts[place], ())[len(texts) - place - 1 :] if len(texts) > place else ()
+    if kinds and kinds[0].fault is path_fault:
+        found = paths_in(lines)
     else:
-        kinds = known.get(texts[place], ())[len(texts) - place - 1 :]
-        found = paths_in(lines) if kinds and kinds[0].fault is path_fault else kinds[0].choices if kinds else []
+        found = [f"{word} " for word in (kinds[0].choices if kinds else known if len(texts) <= place else ())]
     return sorted(word for word in found if word.startswith(text))
