@@ -2,6 +2,7 @@
 
 import os
 import re
+import signal
 import subprocess
 import sys
 from dataclasses import dataclass
@@ -34,6 +35,8 @@ class Run:
 
 def begin(program):
     """Lets standard output take any bytes, and ends where there is no program; where it has to be built first, that is seen."""
+    # As any program starts: it ends where nobody reads on.
+    signal.signal(signal.SIGPIPE, signal.SIG_DFL)
     sys.stdout.reconfigure(encoding="utf-8", errors="surrogateescape")
     try:
         status = subprocess.run([program, os.devnull], stdin=subprocess.DEVNULL).returncode
