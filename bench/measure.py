@@ -100,11 +100,11 @@ class Bench:
         return int(re.search(r"Collected : (\d+)", done.stderr.decode())[1])
 
     def instructions_between(self, turns, more, less):
-        """The instructions of a turn, of which there are so many more in the one script than in the other."""
+        """The instructions of a turn, of which the one script has `turns` more than the other."""
         return (self.instructions(more) - self.instructions(less)) / turns
 
     def costs(self, turns, more, less):
-        """What a turn costs, of which there are so many more in the one script than in the other."""
+        """What a turn costs, of which the one script has `turns` more than the other."""
         nanoseconds = (self.best(more) - self.best(less)) // turns
         if not shutil.which("valgrind"):
             return f"{nanoseconds} ns"

@@ -6,7 +6,7 @@ use assise_record::effect::Effect;
 use assise_test_rows::{Subject, show};
 use std::alloc::{AllocError, Global};
 
-/// Steps, and the inodes behind each, where those that are cold stand in parentheses. So many may be hot as was said last.
+/// Steps, and the inodes behind each, where those that are cold stand in parentheses. As many may be hot as was said last.
 const STEPS: &str = "\
 hot 1 =>
 put 1 => (1)

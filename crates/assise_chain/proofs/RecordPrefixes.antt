@@ -28,7 +28,7 @@ length_between l from to =
     let there : length (records_from l from) ≡ length l.records - (from - l.first) = length-drop (from - l.first) l.records in
     omega (arith, length-take (to - first_sent l from) (records_from l from))
 
--- so many records are counted of those from a number on and below another
+-- `count` records are counted of those from a number on and below another
 pub record IsCounted (l : NumberedLog) (from to first most count : ℕ) : Type 0 where
   pub first_is : first ≡ first_sent l from
   pub most_is : most ≡ min 64 (min to (end l) - first)
@@ -42,7 +42,7 @@ counted l from to first most count is =
 counted_within : (l : NumberedLog) (from to first most count : ℕ) → IsCounted l from to first most count → count ≤ min to (end l) - first_sent l from
 counted_within l from to first most count is = omega (arith, is.first_is, is.most_is, is.count_is, (is_whole l first most).within)
 
--- what is sent is so many of the records from a number on
+-- what is sent is the first `count` of the records from a number on
 pub sent_first : (l : NumberedLog) (from to first most count : ℕ) → IsCounted l from to first most count → sent l from to ≡ take count (records_from l from)
 sent_first l from to first most count is =
     let within : min count (to - first_sent l from) ≡ count = omega (arith, counted_within l from to first most count is) in
@@ -50,7 +50,7 @@ sent_first l from to first most count is =
     ∙ take-take count (to - first_sent l from) (records_from l from)
     ∙ ap (λ n. take n (records_from l from)) within
 
--- and there are so many
+-- and there are `count`
 pub sent_length : (l : NumberedLog) (from to first most count : ℕ) → IsCounted l from to first most count → length (sent l from to) ≡ count
 sent_length l from to first most count is =
     let within : count ≤ length (log_records_between l from to) = omega (arith, length_between l from to, counted_within l from to first most count is) in

@@ -22,7 +22,7 @@ count_sent l from to = whole_count l (first_sent l from) (min 64 (length (log_re
 abbrev pub sent : NumberedLog → ℕ → ℕ → List LogRecord
 sent l from to = take (count_sent l from to) (log_records_between l from to)
 
--- of each of so many records from a number on, whether a group ends with it, by where groups end
+-- of each of a number of records from another on, whether a group ends with it, by where groups end
 abbrev pub end_marks : (ℕ → Bool) → ℕ → ℕ → List Bool
 end_marks border first zero = []
 end_marks border first (suc count) = border (suc first) ∷ end_marks border (suc first) count

@@ -43,7 +43,7 @@ pub fn message(
     Ok(Some(Frame::with_marks(epoch, client, first, records, last)))
 }
 
-/// Of each of so many records from a number on, whether it is the last of its group.
+/// Of each of `count` records from a number on, whether it is the last of its group.
 fn last_marks(alloc: Global, log: &Log, first: u64, count: usize) -> Result<Vec<bool>, Refusal>
     requires fits { first + count < 2 ^ 64 }
     ensures marks { IfOk result (λ marks. marks.items ≡ last_marks log.now first count) }

@@ -6,7 +6,7 @@ use Rattle.std.proofs.Math.Seq.{get_or-append_seam}
 use Rattle.assise_model_world.specs.World.{World, received_by_all}
 use Rattle.assise_machine.specs.Clusters.{AreAcked}
 
--- of the first so many clients, if there are as many
+-- of the first `i` clients, if there are as many
 pub record AreAckedTo (w : World) (i : ℕ) (acked : List ℕ) : Type 0 where
   pub count : length acked ≡ min i w.clients
   pub each : (c : ℕ) → c < length acked → slice_index_or acked c 0 ≡ received_by_all w (suc c)

@@ -24,7 +24,7 @@ named m (suc k) there = elim (cases_lt (length m.members.nodes) (suc k)) [
   | inr near ↦ (omega arith, near)
 ]
 
--- the place of a node's link is one of so many
+-- the place of a node's link is below the most nodes
 pub below_most : {C : Type 0} (cluster : ClusterOf C) (n : ℕ) → (node_fault (machine cluster) n ≡ Some BadNode → ⊥) → n - 1 < MOST_NODES
 below_most cluster n there =
     let there_is = named (machine cluster) n there in

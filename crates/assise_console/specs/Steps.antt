@@ -35,7 +35,7 @@ pub record IsUneventful (a : answers.Response) (es : Told) (t next : ConsoleStat
   pub told : es ≡ []
   pub stays : t ≡ next
 
--- a client is opened on node n, with a revoker of this kind, and its fsyncs are served so
+-- a client is opened on node n, with a revoker of this kind and fsyncs of durability `u`
 pub record OpensClient (s : ConsoleState) (n : ℕ) (kind : RevokerKind) (u : Durability) (es : Told) (a : answers.Response) (t : ConsoleState) : Type 0 where
   pub answer : Answer
   pub tells : Tells a answer
@@ -67,7 +67,7 @@ pub data CarriesFrames (perfect : Type 0) (n : ℕ) (a : answers.Response) (m : 
   is_carried : (count : ℕ) → a ≡ Carried count → Replicates perfect n count m es m' → CarriesFrames perfect n a m es m'
   is_refused : (r : Refusal) → a ≡ Refused r → IsEvent (outgoing n) (refused r) m es m' → CarriesFrames perfect n a m es m'
 
--- so many inodes may be hot at node n then, which the answer tells; a number out of limits does nothing
+-- `capacity` inodes may be hot at node n then, which the answer tells; a number out of limits does nothing
 pub data SetsHot (n capacity : ℕ) (a : answers.Response) (m : Machine) (es : Told) (m' : Machine) : Type 0 where
   is_made : 1 ≤ capacity → capacity ≤ 4096 → IsOneAt (λ k. set_hot k capacity) n a m es m' → SetsHot n capacity a m es m'
   is_out : (1 ≤ capacity → capacity ≤ 4096 → ⊥) → a ≡ Quiet → Nothing m es m' → SetsHot n capacity a m es m'

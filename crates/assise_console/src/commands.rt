@@ -37,7 +37,7 @@ pub fn release<C: Revokes + Drop>(cluster: &mut ClusterOf<C>) -> Response
     Response::Released(cluster.release_ready())
 }
 
-/// So many inodes may be hot at a node, 1 to 4,096. Another number does nothing: no script has one.
+/// `capacity` inodes may be hot at a node, 1 to 4,096. Another number does nothing: no script has one.
 pub fn set_hot<C: Revokes + Drop>(cluster: &mut ClusterOf<C>, node: u64, capacity: u64) -> Response
     ensures { (es : Told) × SetsHot node capacity result (machine cluster.old) es (machine
         cluster.new) }

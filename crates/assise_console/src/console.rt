@@ -223,7 +223,7 @@ impl<C: Revokes + Drop> ConsoleOf<C> {
         !matches!(self.cluster.region(node), Err(Refusal::BadNode))
     }
 
-    /// So many inodes may be hot at a node.
+    /// `capacity` inodes may be hot at a node.
     fn set_hot(&mut self, node: u64, capacity: u64) -> Response
         ensures { (es : Told) × Changes (SetsHot node capacity result) (console_seen self.old) es
             (console_seen self.new) }

@@ -81,14 +81,14 @@ next_effects l = first_effects (ahead l)
 abbrev pub ahead_below : ReceivedLog → ℕ → List LogRecord
 ahead_below l to = take (to - l.digested) (ahead l)
 
--- so many of the records that aren't digested are the next group, or what is left of it
+-- `count` of the records that aren't digested are the next group, or what is left of it
 pub record IsNextGroup (l : ReceivedLog) (count : ℕ) : Type 0 where
   pub some : 0 < count
   pub within : count ≤ length (ahead l)
   pub border : is_border l.log (l.digested + count) ≡ true
   pub least : (k : ℕ) → 0 < k → k < count → is_border l.log (l.digested + k) ≡ false
 
--- how many of those below a number are whole groups, so many records at most
+-- how many of those below number `to` are whole groups, `most` records at most
 abbrev pub whole_ahead : ReceivedLog → (to most : ℕ) → ℕ
 whole_ahead l to most = whole_count l.log l.digested (min (length (ahead_below l to)) most)
 
@@ -126,7 +126,7 @@ digested_further l count = record { log = l.log; digested = l.digested + count; 
 abbrev pub regrouped_from : ReceivedLog → ℕ → ReceivedLog
 regrouped_from l from = record { log = regrouped l.log from; digested = l.digested; at_home = l.at_home }
 
--- the first records that aren't digested, so many, are made of the inodes
+-- the first records that aren't digested, a number of them, are made of the inodes
 abbrev pub digested_by : RegionValue → ℕ → ℕ → RegionValue
 digested_by r client count = record r {
   inodes = all_applied r.inodes (all_effects (take count (ahead (log_of r client))));

@@ -61,7 +61,7 @@ link_kind_of word =
     else (if pointwise nat_eq word (codes "fault") then Ok Fault
     else Err BadLink))))
 
--- so many nodes, a log of 8 to 4,096 and 1 to 4,096 hot
+-- a number of nodes, a log of 8 to 4,096 and 1 to 4,096 hot
 abbrev pub cluster_of : List ℕ → List ℕ → List ℕ → Result Command ScriptFault
 cluster_of nodes log hot = limited 1 MOST_NODES nodes >>= λ n. limited 8 4096 log >>= λ l. limited 1 4096 hot >>= λ h. Ok (Cluster n l h)
 

@@ -31,7 +31,7 @@ pub enum ScriptFault {
     SecondCluster,
     /// A number of `cluster`, or the capacity of `hot`, is too small or too large.
     BadLimit,
-    /// A growth was really refused, at a line without another fault.
+    /// No memory was to be had, at a line without another fault.
     Memory,
     /// A word names no kind of link.
     BadLink,

@@ -91,7 +91,7 @@ fn lines_are_read(rt: HostRuntime) {
     assert_eq!(rt; show(rt.alloc(), &mut Lines, FAULTS).as_str(), "right");
 }
 
-/// How many commands a script with so many calls behind its cluster has.
+/// How many commands a script with `count` calls behind its cluster has.
 fn count_of(alloc: Global, calls: usize) -> Option<usize> {
     let lines = "\n1 write /f 0 thello".repeat(alloc, calls).ok()?;
     let script = format!(in alloc; "cluster 1 8 1{lines}").ok()?;

@@ -37,8 +37,8 @@ InVain c op (suc k) m es m' = Then (InVain c op k) (TriesInVain c op) m es m'
 
 -- ---- a call
 
--- After fewer than so many tries in vain one settles the call; or one waits, and there is nothing to do in the round behind it; or the
--- same of one that finds the log full; or so many tries are in vain.
+-- After fewer than `turns` tries in vain one settles the call; or one waits, and there is nothing to do in the round behind it; or the
+-- same of one that finds the log full; or `turns` tries are in vain.
 pub data IsTriedOut (turns c : ℕ) (op : Op) (r : Result Reply Refusal) (m : Machine) (es : Told) (m' : Machine) : Type 0 where
   settles_at_last : (k : ℕ) → k < turns → (r ≡ Err LogFull → ⊥) → Then (InVain c op k) (IsEvent (try_call c op) (settled_answer r)) m es m' → IsTriedOut turns c op r m es m'
   ends_waiting : (k : ℕ) → k < turns → r ≡ Err Busy → Then (InVain c op k) (WaitsOnce false c op) m es m' → IsTriedOut turns c op r m es m'

@@ -72,25 +72,25 @@ pub record IsOpenedOn (h : List EntryValue) (c n : ℕ) : Type 0 where
   pub since : List EntryValue
   pub split : h ≡ before ++ opens c n durability ∷ since
 
--- and hasn't crashed since
+-- the client was opened, and hasn't crashed since
 pub record IsAlive (h : List EntryValue) (c : ℕ) : Type 0 where
   pub node : ℕ
   pub opened : IsOpenedOn h c node
   pub no_crash : list_any (is_crash_of c) opened.since ≡ false
 
--- and the node hasn't failed since
+-- the client was opened on the node, and the node hasn't failed since
 pub record IsOn (h : List EntryValue) (c n : ℕ) : Type 0 where
   pub opened : IsOpenedOn h c n
   pub no_failure : list_any (is_failure_of n) opened.since ≡ false
 
--- and neither has the client crashed nor its node failed since
+-- the client was opened, and neither has it crashed nor its node failed since
 pub record MayCall (h : List EntryValue) (c : ℕ) : Type 0 where
   pub node : ℕ
   pub opened : IsOpenedOn h c node
   pub no_crash : list_any (is_crash_of c) opened.since ≡ false
   pub no_failure : list_any (is_failure_of node) opened.since ≡ false
 
--- the node failed, and wasn't taken in again since
+-- the node failed, and hasn't been taken in again since
 pub record IsDown (h : List EntryValue) (n : ℕ) : Type 0 where
   pub losses : List Loss
   pub before : List EntryValue

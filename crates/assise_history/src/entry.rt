@@ -84,7 +84,7 @@ impl Entry {
         &self.kind
     }
 
-    /// The opening of a client on a node, whose fsyncs are served so.
+    /// The opening of a client on a node, and the durability that its fsyncs have.
     pub fn open(client: u32, node: u32, durability: Durability) -> Entry
         ensures { result ≡ opens client node durability }
     {

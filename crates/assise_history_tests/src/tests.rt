@@ -227,7 +227,7 @@ fn legal_histories_pass_and_others_do_not(rt: HostRuntime) {
     assert_eq!(rt; shown(rt.alloc(), ILLEGAL).as_str(), "right");
 }
 
-/// What [`put_verdict`] says of a history of so many calls.
+/// What [`put_verdict`] says of a history of `count` calls.
 fn verdict_of(alloc: Global, calls: u64) -> Option<String> {
     let mut history = History::new(alloc);
     add(alloc, &mut history, "open 1 1")?;

@@ -111,7 +111,7 @@ pub block_past : (bs : List (List ℕ)) (k : ℕ) → IsCut bs → length bs ≤
 block_past bs k h p = sym (ap (take 4096) (drop_all (4096 * k) (concat bs) (omega (arith, most bs h))))
 
 -- ---- cutting
--- the first so many of the blocks that the bytes are cut into
+-- the first `count` of the blocks that the bytes are cut into
 pub record CutSoFar (blocks : List (List ℕ)) (count : ℕ) (bytes : List ℕ) : Type 0 where
   pub shape : IsCut blocks
   pub whole : concat blocks ≡ take (4096 * count) bytes
@@ -163,7 +163,7 @@ joined_more blocks block offset n joined skipped so_far =
       left = rw all (omega (arith, so_far.left, length-append (concat blocks) block));
     }
 
--- blocks with the bytes of so many full ones are as many
+-- blocks with the bytes of `k` full ones are as many
 pub as_many : (bs : List (List ℕ)) (k : ℕ) → IsCut bs → length (concat bs) ≡ 4096 * k → length bs ≡ k
 as_many [] k h e = omega (arith, e)
 as_many (b ∷ bs) k h e = let low = least (b ∷ bs) h (omega arith) in let high = most (b ∷ bs) h in omega (arith, e, low, high)

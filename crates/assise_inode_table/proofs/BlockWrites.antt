@@ -155,7 +155,7 @@ pub part_over : (k n : ℕ) (xs : List ℕ) (o : ℕ) (new : List ℕ)
     → bytes_from k n (overwritten xs o new) ≡ overwritten (bytes_from k n xs) (min (o - k) n) (bytes_from (k - o) (n - min (o - k) n) new)
 part_over k n xs o new = ap (take n) (dropped k xs o new) ∙ taken n (drop k xs) (o - k) (drop (k - o) new)
 
--- so many blocks hold it, and no fewer
+-- `count` blocks hold it, and no fewer
 pub over_more : (bs : List (List ℕ)) (o : ℕ) (new : List ℕ) (count k : ℕ) → IsCut bs → count ≡ max (length bs) (div_ceil (o + length new) 4096) → k < count → 4096 * k < length (overwritten (concat bs) o new)
 over_more bs o new count k cut is more = go bs refl
   where
@@ -295,7 +295,7 @@ bytes_between bs size cut within e =
     let held : size / 4096 ≤ length bs = omega (arith, most bs cut) in
     concat_take bs (size / 4096) cut held ∙ ap (λ n. take n (concat bs)) (omega arith)
 
--- the first block has so many bytes
+-- the first block has `rest` bytes
 first_long : (rest : ℕ) (b : List ℕ) (bs : List (List ℕ)) → IsCut (b ∷ bs) → rest ≤ length (concat (b ∷ bs)) → rest < 4096 → rest ≤ length b
 unfolding IsCut
 first_long rest b [] cut within small = omega (arith, length-append b [])

@@ -8,7 +8,7 @@ use Rattle.assise_names.specs.declared.reply.Reply.{Reply}
 use Rattle.assise_names.specs.declared.reply.Reply.TheVariants.{Done, Bytes, Names, File, Dir, Error}
 use Rattle.assise_inode_table.specs.Traces.{NumberedCall}
 
--- the inode that a client makes when it has made so many before; clients are numbered from 1, so the root, inode 0, is nobody's
+-- the inode that a client makes when it has made `count` before; clients are numbered from 1, so the root, inode 0, is nobody's
 abbrev pub inode_number : ℕ → ℕ → ℕ
 inode_number client count = 4294967296 * client + count
 

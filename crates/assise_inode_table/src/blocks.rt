@@ -63,7 +63,7 @@ pub fn overwritten(
     Ok(made)
 }
 
-/// The bytes of blocks from an offset on, at most so many, in one piece.
+/// The bytes of blocks from an offset on, up to a count, in one piece.
 pub fn joined(
     alloc: Global,
     blocks: &[Bytes],
@@ -83,7 +83,7 @@ pub fn joined(
     Ok(joined)
 }
 
-/// The bytes of blocks from an offset on, at most so many, in one piece: shared with the block where one has them all.
+/// The bytes of blocks from an offset on, up to a count, in one piece: shared with the block where one has them all.
 pub fn piece(
     alloc: Global,
     blocks: &[Bytes],

@@ -54,7 +54,7 @@ impl FileBytes {
         self.size == 0
     }
 
-    /// The bytes from an offset on, at most so many: none at or past the end (POSIX.1-2017, read()). The one
+    /// The bytes from an offset on, up to a count: none at or past the end (POSIX.1-2017, read()). The one
     /// refusal is [`Refusal::OutOfMemory`], where there is a byte to read.
     #[tactic(auto, using(crate::proofs::BlockWrites::read_within))]
     pub fn read(&self, alloc: Global, offset: u64, most: u64) -> Result<ByteString, Refusal>

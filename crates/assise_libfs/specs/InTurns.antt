@@ -45,7 +45,7 @@ abbrev pub IsFullOf : ℕ → List EntryValue → Type 0
 IsFullOf c h = calls_made c h ≡ 18446744073709551615
 
 module _ {S : Type 0} (history : S → List EntryValue) (acts : S → ClusterEvent → Answer → S → Type 0) (c : ℕ) (op : Op) where
-  -- in so many turns the call was tried and only awaited
+  -- in each of the turns the call was tried and only awaited
   abbrev pub HasWaited : ℕ → List EntryValue → List EntryValue → Type 0
   HasWaited zero old new = new ≡ old
   HasWaited (suc k) old new = (mid : List EntryValue) × (HasWaited k old mid × InOneTurn history acts (try_call c op) not_yet mid new)
@@ -58,7 +58,7 @@ module _ {S : Type 0} (history : S → List EntryValue) (acts : S → ClusterEve
     pub waited : HasWaited waits old mid
     pub last : InOneTurn history acts (try_call c op) a mid new
 
-  -- or no more, as the client has made so many calls that no number is left for it
+  -- or no more, as the client has made all the calls that there are numbers for
   pub record EndsUntried (limit : ℕ) (old new : List EntryValue) : Type 0 where
     pub waits : ℕ
     pub few : waits < limit

@@ -138,7 +138,7 @@ impl Link for DelayingLink {
     ghost same = { λ _ _ is. absurd (not_delay is) };
 }
 
-/// A link that answers the first bytes of what it is handed, so many at most.
+/// A link that answers the first bytes of what it is handed, at most a number of its own.
 #[derive(Drop)]
 pub struct CuttingLink {
     most: usize,
@@ -146,7 +146,7 @@ pub struct CuttingLink {
 }
 
 impl CuttingLink {
-    /// A link that lets so many bytes through.
+    /// A link that lets `most` bytes through.
     pub fn new(most: usize) -> CuttingLink
         ensures most { result.most ≡ most }
         ensures no_faults { result.faults.count ≡ 0 }

@@ -66,7 +66,7 @@ impl TestLink {
         TestLink::Delay(DelayingLink::new())
     }
 
-    /// A link that lets so many bytes through.
+    /// A link that lets `most` bytes through.
     pub fn cut(most: usize) -> TestLink
         ensures { IsUnusedLink (cut most) result }
     {

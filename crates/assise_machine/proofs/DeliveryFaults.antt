@@ -10,7 +10,7 @@ use Rattle.assise_machine_state.specs.Observed.{is_full_in, observed, stands_ful
 use Rattle.assise_machine_state.specs.Places.{IsNumber}
 use Rattle.assise_machine_state.specs.StateValues.{StateValue, standings}
 
--- whether there is a client of this number, of so many
+-- whether there is a client of number `c`, of `k` in all
 abbrev is_known : ℕ → ℕ → Bool
 is_known c k = nat_le 1 c && nat_le c k
 

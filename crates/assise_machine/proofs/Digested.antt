@@ -153,7 +153,7 @@ module _ (s : StateValue) (n c : ℕ) (shape : ShapeInvariant s) (sound : ∥ Wo
   unfolding world_of
   digested_is = ap (λ l. l.digested) was
 
-  -- as the code finds it: so many records may be digested
+  -- as the code finds it: how many records may be digested
   pub wanted_as : (r : RegionValue) (from acked at_most wanted : ℕ) → from ≡ (log_of r c).digested → r ≡ region_in s.nodes n → acked ≡ received_by_all w c →
       wanted ≡ min at_most (acked - from) → wanted ≡ min at_most (undigested w n c)
   wanted_as r from acked at_most wanted log region all is =
@@ -251,7 +251,7 @@ module _ (s : StateValue) (n c : ℕ) (shape : ShapeInvariant s) (sound : ∥ Wo
         | inr enough ↦ some enough
       ]
 
-  -- ---- so many of them
+  -- ---- `count` of them
 
   module _ (count : ℕ) (few : count ≤ undigested w n c) (whole : EndsWithGroup w n c count) where
     abbrev t : StateValue

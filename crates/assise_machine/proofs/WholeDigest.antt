@@ -69,7 +69,7 @@ module _ (s : StateValue) (n : ℕ) (shape : ShapeInvariant s) (holds : ∥ Mach
     pub clients_between : length v.clients ≡ length s.clients
     clients_between = ap length same_between.clients
 
-  -- so many records are digested, and then prefixes go
+  -- `count` records are digested, and then prefixes go
   module _ (count : ℕ) (few : count ≤ min most_digested (undigested_to (world_of s) n (length s.clients))) (some : 0 < undigested_to (world_of s) n (length s.clients) → 0 < count)
       (whole : EndWithGroups (world_of s) n count (length s.clients)) where
     abbrev t : StateValue

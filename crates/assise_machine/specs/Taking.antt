@@ -41,6 +41,6 @@ pub record IsNext (l : NumberedLog) (epoch newest : ℕ) (f : LogFrame) (receive
 abbrev pub IsNextOf : StateValue → LogFrame → (node received : ℕ) → Type 0
 IsNextOf s f node received = IsNext (own_log s f.client) s.members.epoch (newest (level_of s.members.levels node)) f received
 
--- so many records from a number on are no more than the log may have
+-- `count` records from a number on are no more than the log may have
 abbrev pub HasRoomFor : NumberedLog → (from count : ℕ) → Type 0
 HasRoomFor l from count = (from - l.first) + count ≤ l.limit

@@ -21,7 +21,7 @@ pub enum Event {
     Digest(u32),
     /// Leases that were asked for go, where they may.
     ReleaseReady,
-    /// So many inodes may be hot at a node.
+    /// How many inodes may be hot at a node is set.
     SetHot(u32, HotCapacity),
     /// A client crashes.
     Crash(u32),

@@ -24,9 +24,9 @@ pub struct HotCapacity {
 }
 
 impl HotCapacity {
-    /// So many, if that is 1 to 4,096.
+    /// A capacity of `inodes`, if that is 1 to 4,096.
     pub fn new(inodes: usize) -> Option<HotCapacity>
-        ensures so_many { IfSome result (λ capacity. capacity.inodes ≡ inodes) }
+        ensures value { IfSome result (λ capacity. capacity.inodes ≡ inodes) }
         ensures within { IsSome result ↔ ((1 ≤ inodes) × (inodes ≤ 4096)) }
     {
         if inodes == 0 || inodes > MOST_HOT {

@@ -18,7 +18,7 @@ is_ripe s a = nat_le (cut_once_asked (client_seen s.clients a.client) a.cut) (di
 abbrev pub is_early : StateValue → Asked → Bool
 is_early s a = not (is_ripe s a)
 
--- so many leases went, one after another, and answers with them
+-- `many` leases went, one after another, and answers with them
 pub record LetsSomeGo (s : StateValue) (many : ℕ) (t : StateValue) : Type 0 where
   pub gone : List Gone
   pub count : length gone ≡ many

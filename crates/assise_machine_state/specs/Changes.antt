@@ -106,7 +106,7 @@ abbrev pub drops_to : StateValue → ℕ → StateValue
 drops_to s zero = s
 drops_to s (suc c) = after_drop (drops_to s c) (suc c) (digested_by_all (world_of (drops_to s c)) (suc c))
 
--- so many inodes may be hot at node n
+-- `capacity` inodes may be hot at node n
 abbrev pub after_hot : StateValue → (n capacity : ℕ) → StateValue
 after_hot s n capacity = record s { nodes = with_hot_in s.nodes n capacity }
 

@@ -10,11 +10,11 @@ use Rattle.assise_digest.specs.Region.{AreWhole, HasClient, IsBegun, ReceivedLog
 use Rattle.assise_model_events.specs.NodeEvents.{border_marks}
 use Rattle.assise_machine_state.specs.Places.{IsNumber, item_at, item, with_item}
 
--- a node that received nothing, of which so many inodes may be hot
+-- a node that received nothing, of which `hot` inodes may be hot
 abbrev pub new_region : (hot : ℕ) → RegionValue
 new_region hot = record { inodes = opening_inodes; logs = []; capacity = hot }
 
--- so many of them
+-- `count` of them
 abbrev pub new_regions : (count hot : ℕ) → List RegionValue
 new_regions zero hot = []
 new_regions (suc count) hot = new_region hot ∷ new_regions count hot
@@ -55,7 +55,7 @@ with_region rs n r = with_item rs n r
 abbrev pub with_log_in : List RegionValue → ℕ → ℕ → ReceivedLog → List RegionValue
 with_log_in rs n c l = with_region rs n (with_log (region_in rs n) c l)
 
--- so many inodes may be hot at a node
+-- `capacity` inodes may be hot at node n
 abbrev pub with_hot_in : List RegionValue → ℕ → (capacity : ℕ) → List RegionValue
 with_hot_in rs n capacity = with_region rs n (with_hot_capacity (region_in rs n) capacity)
 

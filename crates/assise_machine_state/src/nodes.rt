@@ -42,7 +42,7 @@ impl Model for Nodes {
 }
 
 impl Nodes {
-    /// So many nodes, each with an empty root and 1 to 4,096 inodes that may be hot. The one refusal is
+    /// `count` nodes, each with an empty root and `hot_capacity` inodes that may be hot. The one refusal is
     /// [`Refusal::OutOfMemory`].
     pub fn new(alloc: Global, count: u32, hot_capacity: usize) -> Result<Nodes, Refusal>
         requires least { 1 ≤ hot_capacity }

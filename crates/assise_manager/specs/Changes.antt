@@ -11,12 +11,12 @@ use Rattle.assise_manager.specs.declared.level.Level.TheVariants.{Plain, Marked}
 use Rattle.assise_manager.specs.Membership.{Membership, written_since, lowest_full}
 use Rattle.assise_manager.specs.NodeLevels.{joined_levels, level_of, plains, with_level}
 
--- so many full nodes
+-- `count` full nodes
 abbrev pub fulls : ℕ → List Standing
 fulls zero = []
 fulls (suc count) = full ∷ fulls count
 
--- so many full nodes at the first level, in the first epoch
+-- `count` full nodes at the first level, in the first epoch
 abbrev pub all_full : ℕ → Membership
 all_full count = record { epoch = 1; nodes = fulls count; written = []; levels = plains count }
 

@@ -27,7 +27,7 @@ abbrev pub greater : Level → Level → Level
 greater Plain l = l
 greater Marked l = Marked
 
--- so many nodes at the first level
+-- `count` nodes at the first level
 abbrev pub plains : ℕ → List Level
 plains zero = []
 plains (suc count) = Plain ∷ plains count

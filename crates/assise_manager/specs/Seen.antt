@@ -39,20 +39,20 @@ lowest_besides numbers node = if slice_index_or numbers 0 0 == node then slice_i
 
 -- ---- room
 
--- so many inodes more take no memory
+-- `count` inodes more take no memory
 abbrev pub has_list_room : ℕ → WrittenList → Bool
 has_list_room count l = nat_le count (spare l.inodes)
 
 abbrev pub has_stale_room : ℕ → StaleSet → Bool
 has_stale_room count s = nat_le (deque_len s.inodes + count) (deque_capacity s.inodes)
 
--- so many inodes more take no memory, where the node comes back and is filled from this one
+-- `count` inodes more take no memory, where the node comes back and is filled from this one
 abbrev pub has_node_room : ℕ → ℕ → Node → Bool
 has_node_room node count Full = true
 has_node_room node count (Down since) = true
 has_node_room node count (Returning r) = not (r.donor == node) || has_stale_room count r.stale
 
--- the last list, if there is one, takes so many inodes more without memory
+-- the last list, if there is one, takes `count` inodes more without memory
 abbrev pub has_last_room : ℕ → List WrittenList → Bool
 has_last_room count [] = true
 has_last_room count (l ∷ []) = has_list_room count l

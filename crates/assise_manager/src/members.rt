@@ -60,7 +60,7 @@ impl Members {
     ghost use Rattle.assise_manager.specs.Standings.{full, returning, full_nodes, standing_of, phase_of};
     ghost use Rattle.assise_manager.specs.Whole.{membership, has_room_for};
 
-    /// So many full nodes at the first level, in epoch 1. The one refusal is [`Refusal::OutOfMemory`].
+    /// `count` full nodes at the first level, in epoch 1. The one refusal is [`Refusal::OutOfMemory`].
     pub fn new(alloc: Global, count: u32) -> Result<Members, Refusal>
         requires some { 0 < count }
         ensures full { IfOk result (λ m. membership m ≡ all_full count) }
@@ -294,7 +294,7 @@ impl Members {
         Ok(())
     }
 
-    /// Makes room for so many inodes that are written at a node. The one refusal is [`Refusal::OutOfMemory`].
+    /// Makes room for `count` inodes that are written at a node. The one refusal is [`Refusal::OutOfMemory`].
     pub fn reserve_written(&mut self, node: u32, count: usize) -> Result<(), Refusal>
         ensures same { membership self.new ≡ membership self.old }
         ensures room { OnOk result (has_room_for self.new node count ≡ true) }

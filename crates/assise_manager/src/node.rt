@@ -41,7 +41,7 @@ impl Node {
         matches!(self, Node::Full)
     }
 
-    /// Makes room for so many inodes more that are written at a node.
+    /// Makes room for `count` inodes more that are written at a node.
     pub(crate) fn reserve(&mut self, node: u32, count: usize) -> Result<(), AllocError>
         ensures same { standing self.new ≡ standing self.old }
         ensures room { OnOk result (has_node_room node count self.new ≡ true) }
@@ -150,7 +150,7 @@ pub(crate) fn refill_all(nodes: &mut [Node], refill: &Refill<'_>) -> Result<(), 
     Ok(())
 }
 
-/// Makes room for so many inodes more that are written at a node.
+/// Makes room for `count` inodes more that are written at a node.
 pub(crate) fn reserve_all(nodes: &mut [Node], node: u32, count: usize) -> Result<(), AllocError>
     ensures len { length nodes.new ≡ length nodes.old }
     ensures same { map standing nodes.new ≡ map standing nodes.old }

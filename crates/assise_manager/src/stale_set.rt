@@ -55,7 +55,7 @@ impl StaleSet {
         self.inodes.len()
     }
 
-    /// Makes room for so many inodes more.
+    /// Makes room for `count` inodes more.
     pub(crate) fn reserve(&mut self, count: usize) -> Result<(), AllocError>
         ensures same { stale_inodes self.new ≡ stale_inodes self.old }
         ensures room { OnOk result (has_stale_room count self.new ≡ true) }

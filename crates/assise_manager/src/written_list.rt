@@ -37,7 +37,7 @@ impl WrittenList {
         Ok(list)
     }
 
-    /// Makes room for so many inodes more.
+    /// Makes room for `count` inodes more.
     pub(crate) fn reserve(&mut self, count: usize) -> Result<(), AllocError>
         ensures same { listed_inodes self.new ≡ listed_inodes self.old }
         ensures room { OnOk result (has_list_room count self.new ≡ true) }
@@ -67,7 +67,7 @@ impl WrittenList {
     }
 }
 
-/// Makes room for so many inodes more on the last list, if there is one.
+/// Makes room for `count` inodes more on the last list, if there is one.
 pub(crate) fn reserve_last(lists: &mut [WrittenList], count: usize) -> Result<(), AllocError>
     ensures len { length lists.new ≡ length lists.old }
     ensures same { map listed_inodes lists.new ≡ map listed_inodes lists.old }

@@ -23,7 +23,7 @@ use Rattle.assise_model_events.proofs.Freeable.{released_can}
 
 -- ---- client 1 crashes once it has leases
 
--- clients hold only so many inodes
+-- clients hold no inode above some number
 abbrev pub HoldFew : Leases → Type 0
 HoldFew l = (most : ℕ) × ((i : ℕ) → most < i → l.levels.clients i ≡ [])
 

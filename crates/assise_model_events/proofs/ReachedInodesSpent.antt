@@ -60,7 +60,7 @@ record AreFree (made : ℕ) (l : Leases) : Type 0 where
   pub clients : (j : ℕ) → made ≤ j → l.levels.clients (inode_number 1 j) ≡ []
   pub nodes : (j : ℕ) → made ≤ j → l.levels.nodes (inode_number 1 j) ≡ []
 
--- the client made so many inodes, and reads an empty root
+-- the client made `made` inodes, and reads an empty root
 record HasMade (limit made : ℕ) (m : Machine) : Type 0 where
   pub stands : Stands limit m
   pub made_is : m.world.made 1 ≡ made
@@ -96,7 +96,7 @@ file_not_root k same = omega (arith, same)
 files_differ : (j k : ℕ) → k < j → inode_number 1 j ≢ inode_number 1 k
 files_differ j k less same = omega (arith, less, same)
 
--- the client made so many inodes, reads an empty root, and gets what it needs to create a file
+-- the client made `made` inodes, reads an empty root, and gets what it needs to create a file
 record MayCreate (limit made : ℕ) (m : Machine) (gs : List Granted) : Type 0 where
   pub stands : Stands limit m
   pub made_is : m.world.made 1 ≡ made

@@ -1,4 +1,4 @@
--- Leases that are ready can go, where clients hold only so many inodes.
+-- Leases that are ready can go, where clients hold no inode above some number.
 use Rattle.std.proofs.Common.{◌≡◌, ◌⊎◌, ℕ, zero, suc, ◌≤◌, ◌&&◌, nat_le, inl, inr, true, false, List, [], ◌∷◌, None, refl, ap, sym, ◌∙◌, subst, arith, eq-eqb}
 use Rattle.std.proofs.lemmas.Bool.{and_parts, both_ways, cases_Bool, cases_eq, leb-true, ne_eqb}
 use Rattle.assise_lease_table.specs.Leases.{Among, lease_of, without_holder}

@@ -25,7 +25,7 @@ pub data ClusterEvent : Type 0 where
   digest : (node : ℕ) → ClusterEvent
   -- leases that were asked for go, where they may
   release_ready : ClusterEvent
-  -- so many inodes may be hot at a node
+  -- `capacity` inodes may be hot at a node
   set_hot : (node capacity : ℕ) → ClusterEvent
   -- a client crashes
   crash : (client : ℕ) → ClusterEvent

@@ -50,7 +50,7 @@ pub record MachineInvariant (m : Machine) : Type 0 where
 
 -- ---- the start
 
--- all nodes are full, so many inodes may be hot at each, and nothing happened
+-- all nodes are full, `hot` inodes may be hot at each, and nothing happened
 abbrev pub begun_as : (nodes limit hot : ℕ) → Machine
 begun_as nodes limit hot = record {
   limit = limit;
@@ -71,6 +71,6 @@ pub record Adds (m : Machine) (entries : List EntryValue) (m' : Machine) : Type 
 
 -- ---- how many inodes may be hot
 
--- so many at node n, and all else as it was
+-- `capacity` at node n, and all else as it was
 abbrev pub with_hot : Machine → (n capacity : ℕ) → Machine
 with_hot m n capacity = record m { hot = slice_set m.hot (n - 1) capacity }

@@ -97,7 +97,7 @@ undigested_to w n (suc c) = undigested_to w n c + undigested w n (suc c)
 abbrev pub most_digested : ℕ
 most_digested = 64
 
--- the client's part of the next so many records, of clients by ascending number
+-- the client's part of the next `count` records, of clients by ascending number
 abbrev pub part_of : World → ℕ → ℕ → ℕ → ℕ
 part_of w n count zero = 0
 part_of w n count (suc c) = min (undigested w n (suc c)) (count - undigested_to w n c)
@@ -112,7 +112,7 @@ DigestsTo n count w₀ w o zero w' o' = (w' ≡ w) × (o' ≡ o)
 DigestsTo n count w₀ w o (suc c) w' o' =
     (v : World) × ((p : Membership) × (DigestsTo n count w₀ w o c v p × DigestsNext n count (suc c) w₀ v p w' o'))
 
--- so many records are digested at node n, at most 64, and none only where there is none; then prefixes of logs go that all full nodes
+-- `count` records are digested at node n, at most 64, and none only where there is none; then prefixes of logs go that all full nodes
 -- have digested
 pub record IsDigested (m : Machine) (n count : ℕ) (m' : Machine) : Type 0 where
   pub few : count ≤ min most_digested (undigested_to m.world n m.world.clients)

@@ -18,7 +18,7 @@ pub enum Op {
     Create(Path),
     /// Makes a directory without entries at a path where nothing is.
     Mkdir(Path),
-    /// Reads from an offset on, at most so many bytes.
+    /// Reads from an offset on, up to a count of bytes.
     Read(Path, u64, u64),
     /// Writes bytes at an offset.
     Write(Path, u64, ByteString),

@@ -38,7 +38,7 @@ pub enum PathFault {
     NameTooLong,
     /// It has more than 32 names.
     TooDeep,
-    /// A growth was really refused.
+    /// No memory was to be had.
     Memory,
 }
 

@@ -10,7 +10,7 @@ use std::fmt::{Display, Formatter};
 /// Why a call is not made. A refused call makes no entry in the history and changes no file.
 #[derive(Clone, Copy, PartialEq, Eq, Debug)]
 pub enum Refusal {
-    /// A growth was really refused.
+    /// No memory was to be had.
     OutOfMemory,
     /// The turn limit is spent, or a node that joins still has stale inodes.
     Busy,

@@ -8,7 +8,7 @@ use Rattle.assise_private_log.specs.NumberedLog.{NumberedLog, is_border}
 abbrev pub group_end : NumberedLog → ℕ → ℕ
 group_end l number = if nat_le number l.first then number else number + prefix_len not (drop (number - l.first) l.begins)
 
--- how many records from a number on, at most so many, end with a group
+-- how many records from a number on, at most `most`, end with a group
 unfoldable pub whole_count : NumberedLog → (from most : ℕ) → ℕ
 whole_count l from zero = 0
 whole_count l from (suc n) = if is_border l (from + suc n) then suc n else whole_count l from n
@@ -19,7 +19,7 @@ pub record IsNextBorder (l : NumberedLog) (number next : ℕ) : Type 0 where
   pub border : is_border l next ≡ true
   pub least : (k : ℕ) → number ≤ k → k < next → is_border l k ≡ false
 
--- so many records are at most as many as were asked for, no border lies behind them and within those, and unless there are none
+-- `count` records are at most as many as were asked for, no border lies behind them and within those, and unless there are none
 -- they end at one
 pub record IsWholeCount (l : NumberedLog) (from most count : ℕ) : Type 0 where
   pub within : count ≤ most

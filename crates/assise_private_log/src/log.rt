@@ -40,7 +40,7 @@ impl Model for Log {
 }
 
 impl Log {
-    /// A log without records, whose first number is 0, with room for so many. The one refusal is
+    /// A log without records, whose first number is 0, with room for `limit`. The one refusal is
     /// [`Refusal::OutOfMemory`].
     pub fn new(alloc: Global, limit: usize) -> Result<Log, Refusal>
         requires least { 8 ≤ limit }
@@ -154,7 +154,7 @@ impl Log {
         self.view.group_end(number)
     }
 
-    /// How many records from a number on, at most so many, end with a group. Among 64 some do.
+    /// How many records from a number on, at most `most`, end with a group. Among 64 some do.
     pub fn whole_count(&self, from: u64, most: usize) -> usize
         requires fits { from + most < 2 ^ 64 }
         ensures count { result ≡ whole_count self.now from most }

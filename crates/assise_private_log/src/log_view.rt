@@ -92,7 +92,7 @@ impl LogView {
         number.max(end)
     }
 
-    /// How many records from a number on, at most so many, end with a group. Among 64 some do.
+    /// How many records from a number on, at most `most`, end with a group. Among 64 some do.
     pub fn whole_count(&self, from: u64, most: usize) -> usize
         requires fits { from + most < 2 ^ 64 }
         ensures count { result ≡ whole_count self.now from most }

@@ -30,7 +30,7 @@ fn log_of_two(alloc: Global) -> Option<Log> {
     Some(log)
 }
 
-/// Whether a log has so many records, and the first is of call 0 and touches inode 7.
+/// Whether a log has `count` records, and the first is of call 0 and touches inode 7.
 fn has_first_of(log: &Log, count: usize) -> bool {
     let is_first = log.get(0).is_some_and(|record| record.call() == 0);
     is_first && log.len() == count && log.view().touches(0, 7)

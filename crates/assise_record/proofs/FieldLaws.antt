@@ -76,7 +76,7 @@ byte_reads fault = record {
       subst (λ (y : ℕ × List ℕ). Takes (b ∷ bytes) (y.0 ∷ []) y.1 × (y.0 < 256)) (ok_is (b, bytes) x e)
       (record { parts = refl; rest_fits = λ i. fits (suc i) }, fits 0)
 
--- so many bytes
+-- `n` bytes
 pub bytes_take : (n : ℕ) (fault : FrameFault) (bytes : List ℕ) (x : List ℕ × List ℕ) → IsBytes bytes → bytes_at n fault bytes ≡ Ok x → Takes bytes x.0 x.1 × (length x.0 ≡ n) × IsBytes x.0
 bytes_take n fault bytes x fits e =
     let g = cond_ok (ltb (length bytes) n) fault (take n bytes, drop n bytes) x e in

@@ -14,7 +14,7 @@ use Rattle.assise_record.proofs.FieldLaws.{IsBytes, Takes, Reads, seq_takes, gua
 
 -- ---- one mark
 
--- the mark of a record with so many records behind it
+-- the mark of a record with `left` records behind it
 abbrev pub IsMark : Bool → ℕ → Option Bool → Type 0
 IsMark false left mark = mark ≡ None
 IsMark true left mark = (last : Bool) × (mark ≡ Some last) × (left ≡ 0 → last ≡ true)

@@ -50,19 +50,19 @@ abbrev pub all_coalesced : List (List LogRecord) → List LogRecord
 all_coalesced [] = []
 all_coalesced (g ∷ gs) = coalesced_group g ++ all_coalesced gs
 
--- so many records of what is left are whole groups
+-- the first `k` records of what is left are whole groups
 abbrev pub are_whole : List (List LogRecord) → ℕ → Bool
 are_whole [] k = k == 0
 are_whole (g ∷ gs) k = (k == 0) || (nat_le (length (coalesced_group g)) k && are_whole gs (k - length (coalesced_group g)))
 
--- and so many were the records of those groups
+-- and how many records the groups of those `k` had before they were coalesced
 abbrev pub were : List (List LogRecord) → ℕ → ℕ
 were [] k = k
 were (g ∷ gs) k = if nat_le (length (coalesced_group g)) k then length g + were gs (k - length (coalesced_group g)) else 0
 
 -- ---- groups of a log
 
--- so many records in groups of at most 64, the last with the rest
+-- records in groups of at most 64, the last with the rest
 abbrev pub groups_of : ℕ → List LogRecord → List (List LogRecord)
 groups_of zero rs = []
 groups_of (suc n) [] = []

@@ -36,15 +36,15 @@ abbrev pub byte_at : FrameFault → List ℕ → Read ℕ
 byte_at fault [] = Err fault
 byte_at fault (b ∷ rest) = Ok (b, rest)
 
--- so many bytes
+-- `n` bytes
 abbrev pub bytes_at : ℕ → FrameFault → List ℕ → Read (List ℕ)
 bytes_at n fault bytes = if nat_lt (length bytes) n then Err fault else Ok (take n bytes, drop n bytes)
 
--- a number of so many bytes, the highest first
+-- a number of `n` bytes, the highest first
 abbrev pub number_at : ℕ → FrameFault → List ℕ → Read ℕ
 number_at n fault bytes = if nat_lt (length bytes) n then Err fault else Ok (big_number n (take n bytes), drop n bytes)
 
--- so many readings, one behind the other
+-- a number of readings, one behind the other
 unfoldable pub many_at : {A : Type 0} → (List ℕ → Read A) → ℕ → List ℕ → Read (List A)
 many_at read zero bytes = Ok ([], bytes)
 many_at read (suc n) bytes = do
@@ -145,7 +145,7 @@ effect_at bytes = do
 abbrev pub is_mark : ℕ → ℕ → Bool
 is_mark left mark = mark == 1 || (mark == 0 && nat_lt 0 left)
 
--- the mark of a record with so many records behind it, in versions that have marks
+-- the mark of a record with `left` records behind it, in versions that have marks
 unfoldable pub mark_at : Bool → ℕ → List ℕ → Read (Option Bool)
 mark_at false left bytes = Ok (None, bytes)
 mark_at true left bytes = do
@@ -167,7 +167,7 @@ read_record marked left bytes = do
   _ ← guard (nat_lt 0 count.0 && nat_le count.0 4) BadValue
   effects_of_record call.0 mark.0 count.0 count.1
 
--- so many records, and their marks
+-- a number of records, and their marks
 unfoldable pub records_at : Bool → ℕ → List ℕ → Read (List LogRecord × List Bool)
 records_at marked zero bytes = Ok (([], []), bytes)
 records_at marked (suc left) bytes = do
@@ -175,7 +175,7 @@ records_at marked (suc left) bytes = do
   others ← records_at marked left first.1
   Ok ((first.0.0 ∷ others.0.0, option_to_list first.0.1 ++ others.0.1), others.1)
 
--- so many records, and nothing behind them
+-- `count` records, and nothing behind them
 unfoldable pub body_at : Bool → ℕ → List ℕ → Result (List LogRecord × List Bool) FrameFault
 body_at marked count body = do
   records ← records_at marked count body

@@ -5,7 +5,7 @@ use Rattle.std.specs.Prelude.{◌≡◌, ℕ, ◌+◌, ◌<◌, ◌≤◌, List,
 use Rattle.byteorder.specs.Endian.{big_number}
 use Rattle.assise_record.specs.Reading.{HasCount, IsVersion}
 
--- the number of so many bytes that begins at this byte
+-- the number of `width` bytes that begins at byte `from`
 abbrev pub field : ℕ → ℕ → List ℕ → ℕ
 field from width bytes = big_number width (take width (drop from bytes))
 

@@ -59,7 +59,7 @@ impl Header {
     }
 }
 
-/// The mark of a record with so many records behind it, where records have marks.
+/// The mark of a record with `left` records behind it, where records have marks.
 #[tactic(auto, unfolding(crate::specs::Reading::mark_at))]
 fn mark_at(marked: bool, left: u16, bytes: &[u8]) -> Result<(Option<bool>, &[u8]), FrameFault>
     ensures { Exactly (λ x. (x.0, x.1.now)) result (mark_at marked left bytes.now) }
@@ -74,7 +74,7 @@ fn mark_at(marked: bool, left: u16, bytes: &[u8]) -> Result<(Option<bool>, &[u8]
     Ok((Some(mark == LAST), rest))
 }
 
-/// The call of a record with so many records behind it, its mark, and the count of its effects, which stand behind that.
+/// The call of a record with `left` records behind it, its mark, and the count of its effects, which stand behind that.
 #[tactic(auto, unfolding(crate::specs::Reading::read_record))]
 fn record_head_at(
     marked: bool,
@@ -97,7 +97,7 @@ fn record_head_at(
     Ok(((call, mark, count), rest))
 }
 
-/// A record with so many records behind it, and its mark. What stands behind it is left of the bytes, which its effects share.
+/// A record with `left` records behind it, and its mark. What stands behind it is left of the bytes, which its effects share.
 fn record_at(
     alloc: Global,
     marked: bool,
@@ -114,7 +114,7 @@ fn record_at(
     Ok((Record::new(call, effects), mark))
 }
 
-/// What stands behind a record with so many records behind it, of which nothing is copied.
+/// What stands behind a record with `left` records behind it, of which nothing is copied.
 fn skip_record(marked: bool, left: u16, bytes: &[u8]) -> Result<&[u8], FrameFault>
     ensures { Exactly (λ rest. rest.now) result (rest_of (read_record marked left bytes.now)) }
 {
@@ -122,7 +122,7 @@ fn skip_record(marked: bool, left: u16, bytes: &[u8]) -> Result<&[u8], FrameFaul
     skip_effects(count, rest)
 }
 
-/// What stands behind so many records, of which nothing is copied.
+/// What stands behind `count` records, of which nothing is copied.
 fn skip_records(marked: bool, count: u16, bytes: &[u8]) -> Result<&[u8], FrameFault>
     ensures { Exactly (λ rest. rest.now) result (rest_of (records_at marked count bytes.now)) }
 {
@@ -156,7 +156,7 @@ fn push_mark(last: &mut Vec<bool>, mark: Option<bool>) -> Result<(), FrameFault>
     Ok(())
 }
 
-/// So many records, and their marks. What stands behind them is left of the bytes, which their effects share.
+/// `count` records, and their marks. What stands behind them is left of the bytes, which their effects share.
 fn records_at(
     alloc: Global,
     marked: bool,

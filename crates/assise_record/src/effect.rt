@@ -131,7 +131,7 @@ impl Model for FileSize {
 }
 
 impl FileSize {
-    /// A length of so many bytes.
+    /// A length in bytes.
     pub fn new(length: u32) -> FileSize
         requires fits { length ≤ 1048576 }
         ensures { result ≡ length }

@@ -116,7 +116,7 @@ fn name_of(alloc: Global, text: &str) -> Result<Name, FrameFault>
     }
 }
 
-/// So many effects. What stands behind them is left of the bytes, which the effects share.
+/// `count` effects. What stands behind them is left of the bytes, which the effects share.
 pub(crate) fn effects_at(
     alloc: Global,
     count: u8,
@@ -145,7 +145,7 @@ fn own_effect_at(alloc: Global, bytes: &mut Bytes) -> Result<Effect, FrameFault>
     Ok(effect)
 }
 
-/// What stands behind so many effects, of which none is copied.
+/// What stands behind `count` effects, of which none is copied.
 pub(crate) fn skip_effects(count: u8, bytes: &[u8]) -> Result<&[u8], FrameFault>
     ensures { Exactly (λ rest. rest.now) result (rest_of (many_at effect_at count bytes.now)) }
 {

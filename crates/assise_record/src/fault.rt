@@ -22,7 +22,7 @@ pub enum FrameFault {
     BadLength,
     /// A number out of its range, or bytes that are no name.
     BadValue,
-    /// A growth was really refused.
+    /// No memory was to be had.
     Memory,
 }
 

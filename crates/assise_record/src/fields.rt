@@ -19,7 +19,7 @@ pub(crate) fn u8_at(bytes: &[u8], short: FrameFault) -> Result<(u8, &[u8]), Fram
     }
 }
 
-/// So many bytes, and what stands behind them.
+/// The next `count` bytes, and what stands behind them.
 pub(crate) fn slice_at(
     bytes: &[u8],
     count: usize,
@@ -74,7 +74,7 @@ pub(crate) fn payload_at(bytes: &[u8]) -> Result<((u32, &[u8]), &[u8]), FrameFau
     Ok(((offset, payload), rest))
 }
 
-/// Whether so many bytes may be written at the offset.
+/// Whether `count` bytes may be written at the offset.
 fn is_extent(offset: u32, size: u32) -> bool
     ensures { result ≡ is_extent offset size }
 {

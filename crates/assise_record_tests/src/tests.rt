@@ -64,7 +64,7 @@ fn read(alloc: Global, bytes: &[u8]) -> Result<(Frame, usize), FrameFault> {
     }
 }
 
-/// The capacity of a vector that had room for so many bytes once a frame stands in it, if it is spelled by these bytes.
+/// The capacity of a vector that had room for `room` bytes once a frame stands in it, if it is spelled by these bytes.
 fn room_taken(alloc: Global, frame: &Frame, bytes: &[u8], room: usize) -> Option<usize> {
     let mut out = Vec::with_capacity(alloc, room).ok()?;
     encode(frame, &mut out).ok()?;

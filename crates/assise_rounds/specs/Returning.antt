@@ -20,12 +20,12 @@ abbrev pub Fills : ℕ → ℕ → Machine → Told → Machine → Type 0
 Fills n zero m es m' = Nothing m es m'
 Fills n (suc k) m es m' = Then (Fills n k) (FillsOne n) m es m'
 
--- node n, which may lack so many inodes, gets so many, or fewer where it lacks none before
+-- node n, which may lack `stale` inodes, gets as many, or fewer where it lacks none before
 pub data IsFilled (stale n : ℕ) (m : Machine) (es : Told) (m' : Machine) : Type 0 where
   lacks_none : (k : ℕ) → k < stale → Then (Fills n k) (IsEvent (refill n) (left 0)) m es m' → IsFilled stale n m es m'
   gets_all : Fills n stale m es m' → IsFilled stale n m es m'
 
--- one of so many is refused
+-- one of `stale` inodes is refused
 pub record StopsFilling (stale n : ℕ) (e : Refusal) (m : Machine) (es : Told) (m' : Machine) : Type 0 where
   pub before : ℕ
   pub few : before < stale
@@ -33,7 +33,7 @@ pub record StopsFilling (stale n : ℕ) (e : Refusal) (m : Machine) (es : Told) 
 
 -- ---- a node comes back
 
--- node n, which may lack so many inodes, is filled, and joins, with this result; where an inode is refused nothing follows
+-- node n, which may lack `stale` inodes, is filled, and joins, with this result; where an inode is refused nothing follows
 pub data FillsUp (stale n : ℕ) (r : Result ⊤ Refusal) (m : Machine) (es : Told) (m' : Machine) : Type 0 where
   is_filled : Then (IsFilled stale n) (IsEvent (join n) (joining_answer r)) m es m' → FillsUp stale n r m es m'
   is_stopped : (e : Refusal) → r ≡ Err e → StopsFilling stale n e m es m' → FillsUp stale n r m es m'

@@ -60,7 +60,7 @@ pub record DeliversOver (faithful : Type 0) (f : LogFrame) (n : ℕ) (is_in : Bo
   pub taken : is_in ≡ is_taken_in came
   pub happen : AllHappen m (delivery n came) m'
 
--- these frames go over a link to the nodes that they are for, one after another, and so many are taken in
+-- these frames go over a link to the nodes that they are for, one after another, and `count` are taken in
 pub record AreCarried (faithful : Type 0) (frames : List (LogFrame × ℕ)) (count : ℕ) (m m' : Machine) : Type 0 where
   pub carried : List Carried
   pub same : faithful → AreSame carried
@@ -68,7 +68,7 @@ pub record AreCarried (faithful : Type 0) (frames : List (LogFrame × ℕ)) (cou
   pub counts : count ≡ taken carried
   pub happen : AllHappen m (deliveries carried) m'
 
--- what node n sends goes over a link to the nodes that it is for, one frame after another; so many are taken in
+-- what node n sends goes over a link to the nodes that it is for, one frame after another; `count` are taken in
 pub record Replicates (faithful : Type 0) (n count : ℕ) (m : Machine) (es : Told) (m' : Machine) : Type 0 where
   pub carried : List Carried
   pub same : faithful → AreSame carried

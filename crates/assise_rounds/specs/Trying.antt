@@ -15,12 +15,12 @@ abbrev pub settled_answer : Result Reply Refusal → Answer
 settled_answer (Ok reply) = replied reply
 settled_answer (Err refusal) = refused refusal
 
--- it was tried so many times and is awaited each time, with a round over these links behind each try in which there was something to do
+-- it was tried a number of times and is awaited each time, with a round over these links behind each try in which there was something to do
 abbrev pub Awaits : (ℕ → Type 0) → ℕ → Op → ℕ → Machine → Told → Machine → Type 0
 Awaits faithful c op zero m es m' = Nothing m es m'
 Awaits faithful c op (suc k) m es m' = Then (Awaits faithful c op k) (Then (IsEvent (try_call c op) not_yet) (RoundsOver faithful true)) m es m'
 
--- at one of so many tries the call isn't awaited any more; or it is awaited at each, and then it is busy: no round follows the last;
+-- at one of `turns` tries the call isn't awaited any more; or it is awaited at each, and then it is busy: no round follows the last;
 -- or it is awaited and there was nothing to do in the round behind, and then it is busy too: no try follows
 pub data TriesOften (faithful : ℕ → Type 0) (turns c : ℕ) (op : Op) (r : Result Reply Refusal) (m : Machine) (es : Told) (m' : Machine) : Type 0 where
   is_settled : (k : ℕ) → k ≤ turns - 1 → Then (Awaits faithful c op k) (IsEvent (try_call c op) (settled_answer r)) m es m' → TriesOften faithful turns c op r m es m'

@@ -49,7 +49,7 @@ mutual
   same_counts p q (entry name t es) =
       omega (arith, length-append (places_below (p ++ name ∷ []) t) (places_of p es), length-append (places_below (q ++ name ∷ []) t) (places_of q es), same_count (p ++ name ∷ []) (q ++ name ∷ []) t, same_counts p q es)
 
--- with the entries that are left, so many are counted
+-- how many are counted with the entries that are left
 abbrev pub counted_with : ℕ → List (List ℕ) → List Stored → ℕ
 counted_with n path left = min (n + length (places_of path (map_entries left))) (2 ^ 64 - 1)
 

@@ -2,7 +2,7 @@
 -- POSIX.1-2017, system interfaces: read() and write() for the offset, lseek() for the gap that reads as zeros, ftruncate() for the size.
 use Rattle.std.specs.Prelude.{ℕ, ◌+◌, ◌-◌, Bool, nat_le, List, ◌++◌, length, take, drop, replicate}
 
--- the bytes from an offset on, at most so many
+-- the bytes from an offset on, at most `most`
 abbrev pub bytes_from : ℕ → ℕ → List ℕ → List ℕ
 bytes_from offset most bytes = take most (drop offset bytes)
 

@@ -116,7 +116,7 @@ fn mkdir(alloc: Global, tree: &mut Tree, names: &[Name]) -> Result<Reply, Refusa
     Ok(Reply::Done)
 }
 
-/// Reads at most so many bytes from an offset on.
+/// Reads from an offset on, up to a count of bytes.
 fn read(
     alloc: Global,
     tree: &Tree,

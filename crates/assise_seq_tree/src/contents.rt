@@ -16,7 +16,7 @@ pub fn is_within(offset: u64, new: &[u8]) -> bool
     offset <= MOST_FILE_BYTES && new.len() as u64 <= MOST_FILE_BYTES - offset
 }
 
-/// The bytes from an offset on, at most so many. At or past the end there are none (POSIX.1-2017, read()).
+/// The bytes from an offset on, up to a count. At or past the end there are none (POSIX.1-2017, read()).
 pub fn bytes_from(bytes: &[u8], offset: u64, most: u64) -> &[u8]
     ensures { result.now ≡ bytes_from offset most bytes.now }
 {

@@ -26,7 +26,7 @@ tried_more n k a old tried filled new before done take joins =
       tries = subst (λ j. HasFilled n j before.begun new) next (tried, (before.tries, (filled, (record { answer = a; done = done; take = take }, joins))));
     }
 
--- so many times in all
+-- `turns` times in all
 pub tried_all : (n k turns : ℕ) (old new : Machine) → HasTried n k old new → k ≤ turns → turns ≤ k → HasTried n turns old new
 tried_all n k turns old new tried few many = let same : k ≡ turns = omega (arith, few, many) in subst (λ j. HasTried n j old new) same tried
 

@@ -41,7 +41,7 @@ said_then : (turns : ℕ) (first : Machine) (done next : List NumberedCommand) (
 said_then turns first done next seen now before after old mid new all (is_stretch same more) = subst (λ z. AreAllSaid turns first (done ++ next) z after old new) (sym same) (stretch_added turns first done seen before old mid all next after new more)
 said_then turns first done next seen now before after old mid new all (is_one l is none one) = subst (λ z. AreAllSaid turns first (done ++ z) now after old new) (sym is) (one_added turns first done seen before old mid all l now after new none one)
 
--- so many more of the commands
+-- `count` more of the commands
 pub goes_further : (turns : ℕ) (first : Machine) (ls rest : List NumberedCommand) (i count : ℕ) (seen now : Machine) (before after : Sights) (old mid new : Option (List ℕ)) → rest ≡ drop i ls → AreAllSaid turns first (take i ls) seen before old mid
     → AreSaidNext turns (take count rest) seen before now after mid new → AreAllSaid turns first (take (i + count) ls) now after old new
 goes_further turns first ls rest i count seen now before after old mid new is all more =

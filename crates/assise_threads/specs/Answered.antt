@@ -83,18 +83,18 @@ pub record IsFilledOnce (n : ℕ) (old new : Machine) : Type 0 where
   pub done : IsNoRefusal answer
   pub take : InOneTake (IsOneAt refill n answer) old new
 
--- node n was filled and tried to join, so many times, and each time it was to try again
+-- node n was filled and tried to join, a number of times, and each time it was to try again
 abbrev pub HasFilled : ℕ → ℕ → Machine → Machine → Type 0
 HasFilled n zero old new = new ≡ old
 HasFilled n (suc k) old new = (mid : Machine) × (HasFilled n k old mid × ((filled : Machine) × (IsFilledOnce n mid filled × InOneTake (IsOneAt join n (Refused Busy)) filled new)))
 
--- node n began to come back, and was filled and tried to join so many times
+-- node n began to come back, and was filled and tried to join `k` times
 pub record HasTried (n k : ℕ) (old new : Machine) : Type 0 where
   pub begun : Machine
   pub begins : IsReturnBegun n old begun
   pub tries : HasFilled n k begun new
 
--- Node n begins to come back, and then is filled and tries to join, at most so many times, until it has joined. That is the answer; or which
+-- Node n begins to come back, and then is filled and tries to join, at most `turns` times, until it has joined. That is the answer; or which
 -- of these takes is refused, where a join that is to be tried again refuses none but the last.
 pub data ComesBackInTakes (turns n : ℕ) (a : Response) (old new : Machine) : Type 0 where
   is_refused : (r : Refusal) → a ≡ Refused r → InOneTake (IsOneAt back n a) old new → ComesBackInTakes turns n a old new
@@ -109,7 +109,7 @@ pub record PrintsHistory (a : Response) (old new : Machine) : Type 0 where
   pub extends : Extends new.history old.history
   pub legal : ∥ IsLegal new.history ∥₁
 
--- the command is answered so, with so many turns for a call or a return, where the main thread had seen the first machine last before and has seen the second last then
+-- the command is answered so, with `turns` turns for a call or a return, where the main thread had seen the first machine last before and has seen the second last then
 abbrev pub AnswersCommand : ℕ → Command → Response → Machine → Machine → Type 0
 AnswersCommand turns (Cluster nodes log hot) a old new = IsSilent a old new
 AnswersCommand turns Manual a old new = IsSilent a old new

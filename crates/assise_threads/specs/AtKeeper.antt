@@ -9,7 +9,7 @@ use Rattle.assise_libfs.specs.declared.libfs.LibFs.{LibFs}
 abbrev pub AreAt : {S : Type 0} → Keeper S → List (LibFs S) → Type 0
 AreAt k ls = AllByRecursion (λ l. keeper_of l ≡ k) ls
 
--- a call of each has so many turns
+-- a call of each has `turns` turns
 abbrev pub HaveTurns : {S : Type 0} → ℕ → List (LibFs S) → Type 0
 HaveTurns turns ls = AllByRecursion (λ l. limit_of l ≡ turns) ls
 

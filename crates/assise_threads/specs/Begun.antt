@@ -7,7 +7,7 @@ use Rattle.assise_model_events.specs.Machine.{Machine, begun_as}
 use Rattle.assise_machine.specs.Clusters.{machine}
 use Rattle.assise_machine.specs.declared.cluster.ClusterOf.{ClusterOf}
 
--- it has so many nodes, logs of this limit, and so many inodes may be hot at each node
+-- it has `nodes` nodes, logs of limit `log`, and `hot` inodes may be hot at each node
 pub record IsClusterOf {C : Type 0} (nodes log hot : ℕ) (cluster : ClusterOf C) (count : ℕ) : Type 0 where
   pub begun : machine cluster ≡ begun_as nodes log hot
   pub all : count ≡ nodes

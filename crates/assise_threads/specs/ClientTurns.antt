@@ -23,6 +23,6 @@ pub record HappensSoundly (m : Machine) (e : ClusterEvent) (a : Answer) (m' : Ma
   pub happens : Happens m e a m'
   pub after : ∥ MachineInvariant m' ∥₁
 
--- what came of the call, by at most so many turns in each of which it was tried at a machine
+-- what came of the call, by at most `turns` turns in each of which it was tried at a machine
 abbrev pub TurnedThere : ℕ → ℕ → Op → List EntryValue → Result Reply Refusal → List EntryValue → Type 0
 TurnedThere turns c op old r new = Turned history_seen HappensSoundly turns c op old r new

@@ -18,12 +18,12 @@ use Rattle.assise_threads.specs.Begun.{machine_begun}
 use Rattle.assise_threads.specs.OneHistory.{HasOneHistory}
 use Rattle.assise_threads.specs.Said.{Said, commands_said, said_lines}
 
--- each command is answered behind those before it, calls and returns in so many turns: the machine goes on from command to command
+-- each command is answered behind those before it, calls and returns in `turns` turns at most: the machine goes on from command to command
 abbrev pub IsSaid : ℕ → Machine → List Said → Machine → Type 0
 IsSaid turns old [] new = new ≡ old
 IsSaid turns old (s ∷ ss) new = AnswersCommand turns s.command.command s.answer old s.machine × IsSaid turns s.machine ss new
 
--- These commands were run with threads, with so many turns for a call or a return, and from the machine that the first makes on this was
+-- These commands were run with threads, with `turns` turns for a call or a return, and from the machine that the first makes on this was
 -- said. It has one history: that of a last machine, to which calls and what nodes do of themselves lead.
 pub record IsThreadRun (turns : ℕ) (commands : List NumberedCommand) (ss : List Said) : Type 0 where
   pub each : commands_said ss ≡ commands

@@ -19,7 +19,7 @@ pub(crate) enum Take {
     Digest(u64),
     /// Leases go that may.
     Release,
-    /// So many inodes may be hot at a node.
+    /// How many inodes may be hot at a node is set.
     SetHot(u64, u64),
     /// A client crashes.
     Crash(u64),

@@ -18,7 +18,7 @@ use Rattle.assise_workers.specs.declared.worker.TurnEnd.TheVariants.{Did, Refuse
 abbrev pub IsRead : (newest : ℕ) → Option (LogFrame × Answer) → Type 0
 IsRead newest came = IfSome came (λ c. c.0.version ≤ newest)
 
--- so many were taken in, as far as 64 bits tell
+-- `n` were taken in, as far as 64 bits tell
 pub record Counts (n : ℕ) (carried : List Carried) : Type 0 where
   pub few : n ≤ taken carried
   pub all : taken carried < 18446744073709551616 → n ≡ taken carried
@@ -35,7 +35,7 @@ module _ {S : Type 0} (history : S → List EntryValue) (acts : S → ClusterEve
   HasDone (x ∷ xs) old new = (mid : List EntryValue) × (InOneTurn history acts x.0 x.1 old mid × HasDone xs mid new)
 
   -- Frames went over a link, each to the node that it is for, which reads versions up to this: over a faithful link what comes there, if
-  -- anything does, is the frame. So many were taken in, and nothing else happened.
+  -- anything does, is the frame. `count` were taken in, and nothing else happened.
   pub record HasCarried (faithful : Type 0) (reads : ℕ → ℕ) (letters : List (LogFrame × ℕ)) (count : ℕ) (old new : List EntryValue) : Type 0 where
     pub carried : List Carried
     pub all : map letter carried ≡ letters
@@ -68,7 +68,7 @@ module _ {S : Type 0} (history : S → List EntryValue) (acts : S → ClusterEve
     pub sent : InOneTurn history acts (outgoing n) answer old mid
     pub went : Went faithful (reads sent.before) answer end mid new
 
-  -- In one take the node digested, and leases went that may: nothing else happened. So many it were, as far as 64 bits tell.
+  -- In one take the node digested, and leases went that may: nothing else happened. They are `count`, as far as 64 bits tell.
   pub record Digests (n count : ℕ) (old new : List EntryValue) : Type 0 where
     pub before : S
     pub between : S
@@ -97,7 +97,7 @@ both_ends (Refused r) Stopped = Stopped
 both_ends (Refused r) (Did n) = Did n
 both_ends (Refused r) (Refused q) = Refused q
 
--- so many turns, each behind the other: what each came to, the last one first
+-- turns, each behind the other: what each came to, the last one first
 abbrev pub TurnAfterTurn : (turn : TurnEnd → List EntryValue → List EntryValue → Type 0) → List TurnEnd → List EntryValue → List EntryValue → Type 0
 TurnAfterTurn turn [] old new = new ≡ old
 TurnAfterTurn turn (end ∷ ends) old new = (mid : List EntryValue) × (TurnAfterTurn turn ends old mid × turn end mid new)

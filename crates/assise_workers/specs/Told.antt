@@ -18,7 +18,7 @@ told_all c k (op ∷ ops) [] = []
 told_all c k (op ∷ ops) (Ok reply ∷ rs) = calls (record { client = c; number = k; op = op; reply = reply }) ∷ told_all c (k + 1) ops rs
 told_all c k (op ∷ ops) (Err refusal ∷ rs) = told_all c k ops rs
 
--- what came of a call of a client, whose calls have so many turns each, by turns of its own
+-- what came of a call of a client, whose calls have `limit` turns each, by turns of its own
 abbrev pub Turned : {S : Type 0} → (S → List EntryValue) → (S → ClusterEvent → Answer → S → Type 0) → (limit : ℕ) → ℕ → Op → List EntryValue → Result Reply Refusal → List EntryValue → Type 0
 Turned history acts limit c op old r new = TurnsTo history acts c op limit r old new
 

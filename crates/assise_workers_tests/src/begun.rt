@@ -28,7 +28,7 @@ pub(crate) fn revoker(alloc: Global) -> Option<Revoker> {
     Some(Revoker::new(cut))
 }
 
-/// So many of them.
+/// `count` of them.
 pub(crate) fn revokers(alloc: Global, count: u32) -> Option<Vec<Revoker>> {
     let mut revokers = Vec::new(alloc);
     for _ in 0..count {

@@ -3,7 +3,7 @@ use Rattle.assise_desk.specs.Pages.{losses_bytes}
 use Rattle.assise_desk.specs.declared.desk_request.TheConstants.{DESK_BYTES}
 use Rattle.assise_desk.proofs.page.place_losses.Given as goal
 
--- so many lost calls are written
+-- the losses in front of `client-index` are written
 abbrev pub invariant-loop-client : goal.invariant-loop-client
 invariant-loop-client l = record {
   written : take l.end l.out ≡ losses_bytes (take l.client-index l.losses);

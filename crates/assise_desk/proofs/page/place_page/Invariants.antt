@@ -3,7 +3,7 @@ use Rattle.assise_desk.specs.Pages.{zero_ended}
 use Rattle.assise_desk.specs.declared.desk_request.TheConstants.{DESK_BYTES}
 use Rattle.assise_desk.proofs.page.place_page.Given as goal
 
--- so many names are written
+-- the names in front of `name-index` are written
 abbrev pub invariant-loop-name : goal.invariant-loop-name
 invariant-loop-name l = record {
   written : take l.end l.out ≡ zero_ended (take l.name-index l.left);

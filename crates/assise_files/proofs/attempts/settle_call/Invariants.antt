@@ -4,7 +4,7 @@ use Rattle.assise_rounds.specs.Traces.{Told}
 use Rattle.assise_files.specs.CallTries.{InVain}
 use Rattle.assise_files.proofs.attempts.settle_call.Given as goal
 
--- so many tries were in vain
+-- `counter` tries were in vain
 abbrev pub invariant-loop : goal.invariant-loop
 invariant-loop g l = record {
   tries : (es : Told) × InVain l.client l.op l.counter (machine l.fn.cluster) es (machine l.cluster);

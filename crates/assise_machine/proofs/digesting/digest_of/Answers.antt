@@ -35,7 +35,7 @@ log-requires g c = record {
       (has_here (value_of c.args.state.now) c.args.node c.args.client c.requires.parts.shape c.requires.parts.world c.requires.full c.requires.client).client;
 }
 
--- so many may be digested at most, and some of these end with a group where there are 64
+-- the most that may be digested; some of these end with a group where there are 64
 
 most_then : (g : given.Over) (c : goal.Then-wanted-eq0 g) → c.min-most.result ≡ min c.args.at_most (undigested (world_of (value_of c.args.state.now)) c.args.node c.args.client)
 most_then g c =

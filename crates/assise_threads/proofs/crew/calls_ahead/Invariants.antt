@@ -2,7 +2,7 @@ use Rattle.std.proofs.Common.{◌≡◌, ◌+◌, drop}
 use Rattle.assise_threads.specs.CallsAhead.{calls_ahead}
 use Rattle.assise_threads.proofs.crew.calls_ahead.Given as goal
 
--- so many calls so far, and as many as are left in front
+-- the calls so far, and those that are left in front
 abbrev pub invariant-loop-line : goal.invariant-loop-line
 invariant-loop-line l = record {
   count : l.count ≡ l.line-index;

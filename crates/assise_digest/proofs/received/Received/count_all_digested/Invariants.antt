@@ -6,7 +6,7 @@ use Rattle.assise_digest.specs.Region.{ahead, digested_further}
 use Rattle.assise_digest.specs.Invariant.{LogInvariant, seen_log}
 use Rattle.assise_digest.proofs.received.Received.count_all_digested.Given as goal
 
--- so many were counted
+-- `done` were counted
 abbrev pub invariant-loop-done : goal.invariant-loop-done
 invariant-loop-done l = record {
   within : l.done ≤ l.count;

@@ -5,7 +5,7 @@ use Rattle.assise_threads.specs.AtKeeper.{AreClients}
 use Rattle.assise_threads.specs.Threads.{main_keeper, main_seen}
 use Rattle.assise_threads.proofs.crew.Crew.run_all.Given as goal
 
--- so many commands were answered
+-- `done` commands were answered
 abbrev pub invariant-loop-done : goal.invariant-loop-done
 invariant-loop-done g l = record {
   few : l.done ≤ length l.commands;

@@ -4,7 +4,7 @@ use Rattle.assise_threads.specs.Openings.{OpensNone}
 use Rattle.assise_threads.specs.Threads.{main_keeper, main_seen}
 use Rattle.assise_threads.proofs.main_thread.MainThreadOf.bring_back.Given as goal
 
--- the node began to come back, was filled and tried to join so many times; and no client was opened
+-- the node began to come back, was filled and tried to join `counter` times; and no client was opened
 abbrev pub invariant-loop : goal.invariant-loop
 invariant-loop g l = record {
   tried : HasTried l.node l.counter (main_seen l.fn.self) (main_seen l.self);
