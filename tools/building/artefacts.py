@@ -46,15 +46,6 @@ def mark():
     return found if all(os.path.exists(os.path.join(OUT, name)) for name in ALL) else {}
 
 
-def is_newest():
-    """Whether the last build is of as many sources, and none is newer: then it needs no key."""
-    sources = tree.sources()
-    if mark().get("sources") != len(sources):
-        return False
-    made = os.stat(MARK).st_mtime_ns
-    return all(os.stat(path).st_mtime_ns <= made for path in sources)
-
-
 def stands(kit, proved):
     """Whether the last build is of these sources and this kit, and proved where that is asked for."""
     found = mark()
@@ -80,7 +71,7 @@ def place(kit, program, library, proved):
     for name, made in ((PROGRAM, program), (LIBRARY, library), (HEADER, tree.HEADER)):
         put(made, os.path.join(OUT, name))
     written(os.path.join(OUT, PACKAGE), PKG_CONFIG.format(version=tree.version()[0]))
-    told = {"key": key(kit), "sources": len(tree.sources()), "proved": proved, "what": what(proved), "kit": kits.identity(kit)}
+    told = {"key": key(kit), "proved": proved, "what": what(proved), "kit": kits.identity(kit)}
     written(MARK, json.dumps(told))
 
 
