@@ -22,3 +22,4 @@ pub mod CallOrder
 pub mod EntryAdded
 pub mod TreePrinted
 pub mod Placed
+mod SameTrees

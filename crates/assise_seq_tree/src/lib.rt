@@ -6,4 +6,5 @@ pub mod contents;
 pub mod laws;
 mod lines;
 mod renaming;
+pub mod sameness;
 pub mod tree;

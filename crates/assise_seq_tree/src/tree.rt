@@ -104,7 +104,7 @@ impl Tree {
     }
 
     /// The entries of a directory. A file is [`TreeError::NotDir`].
-    pub(crate) fn entries(&self) -> Result<&BTreeMap<Name, Tree>, TreeError>
+    pub fn entries(&self) -> Result<&BTreeMap<Name, Tree>, TreeError>
         ensures { MatchResult result (λ m. as_directory self.now ≡ Ok (map_entries m.now.entries))
             (λ e. as_directory self.now ≡ Err e) }
     {
@@ -115,7 +115,7 @@ impl Tree {
     }
 
     /// The bytes of a file. A directory is [`TreeError::IsDir`].
-    pub(crate) fn bytes(&self) -> Result<&[u8], TreeError>
+    pub fn bytes(&self) -> Result<&[u8], TreeError>
         ensures { MatchResult result (λ bytes. as_file self.now ≡ Ok bytes.now)
             (λ e. as_file self.now ≡ Err e) }
     {
