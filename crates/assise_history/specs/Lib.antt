@@ -6,3 +6,4 @@ pub mod Summary
 pub mod Opened
 pub mod Played
 pub mod Text
+pub mod Payload

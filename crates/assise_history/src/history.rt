@@ -1,9 +1,11 @@
 // What happened, in order.
-ghost use Rattle.std.specs.Prelude.{◌≡◌, ◌<◌, ◌^◌, [], ◌∷◌, ◌++◌, IsOk, IsOkUnless, OnOk, Some, length};
+ghost use Rattle.std.specs.Prelude.{◌≡◌, ◌<◌, ◌-◌, ◌^◌, [], ◌∷◌, ◌++◌, IsOk, IsOkUnless, OnOk, Some, length, min};
+ghost use Rattle.assise_history.specs.Payload.{payloads};
 ghost use Rattle.assise_history.specs.Text.{history_text};
 ghost use Rattle.assise_names.specs.declared.refusal.Refusal.TheVariants.{OutOfMemory};
 
 use crate::entry::Entry;
+use crate::payload::payload;
 use assise_names::refusal::Refusal;
 use std::alloc::Global;
 use std::fmt;
@@ -15,6 +17,8 @@ use std::marker::Model;
 #[derive(Debug, Drop)]
 pub struct History {
     entries: Vec<Entry>,
+    payload: u64,
+    ghost counted: { payload ≡ min (payloads entries.items) (2 ^ 64 - 1) },
 }
 
 impl Model for History {
@@ -33,6 +37,7 @@ impl History {
     {
         History {
             entries: Vec::new(alloc),
+            payload: 0,
         }
     }
 
@@ -41,6 +46,13 @@ impl History {
         ensures { result.now ≡ self.now.events }
     {
         self.entries.as_slice()
+    }
+
+    /// How many bytes its calls wrote, read and listed: at most 2^64 - 1. It keeps them all.
+    pub fn payload(&self) -> u64
+        ensures { result ≡ min (payloads self.now.events) (2 ^ 64 - 1) }
+    {
+        self.payload
     }
 
     /// Makes room for an entry, or answers [`Refusal::OutOfMemory`]. Where there is room already, it takes no memory. There
@@ -62,6 +74,7 @@ impl History {
         ensures grown { self.new.events ≡ self.old.events ++ entry ∷ [] }
         ensures few { length self.new.events < 2 ^ 63 }
     {
+        self.payload = self.payload.saturating_add(payload(&entry));
         self.entries.push_reserved(entry);
     }
 }

@@ -8,6 +8,7 @@ pub mod growing;
 pub mod history;
 pub mod kept;
 pub mod laws;
+mod payload;
 mod played;
 mod prefix;
 pub mod replay;
