@@ -25,3 +25,5 @@ pub mod ToldEntries
 pub mod Replicated
 pub mod Decided
 pub mod HotSet
+mod KnownClients
+mod Phases

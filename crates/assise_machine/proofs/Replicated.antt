@@ -237,6 +237,9 @@ module _ {C : Type 0} (cluster : ClusterOf C) where
   pub acked_seen : (c : ℕ) → acked_to cluster c ≡ received_by_all (observed value).world c
   acked_seen c = acked_known value cluster.sound.invariant.shape some_there cluster.sound.invariant.holds c
 
+  pub replicated_seen : (c : ℕ) → replicated_to cluster c ≡ first_unreplicated (observed value).world c
+  replicated_seen c = bound_known value cluster.sound.invariant.shape some_there cluster.sound.invariant.holds c
+
   -- the tree of the replicated calls is that of the laws
   pub replicated_tree : tree_after opening (replicated_calls cluster) ≡ tree_after_calls opening (ops (numbered_replicated (state_of (observed value))))
   unfolding observed

@@ -7,3 +7,4 @@ pub mod HandedOver
 pub mod Headline
 pub mod Running
 pub mod Taking
+pub mod KnownClients

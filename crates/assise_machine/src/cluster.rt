@@ -19,7 +19,9 @@ use assise_machine_failures::back::back;
 use assise_machine_failures::fail::fail;
 use assise_machine_failures::join::join;
 use assise_machine_failures::refill::refill;
+use assise_machine_state::client::Client;
 use assise_machine_state::sound::SoundOf;
+use assise_manager::phase::Phase;
 use assise_names::call::Op;
 use assise_names::durability::Durability;
 use assise_names::refusal::Refusal;
@@ -37,7 +39,7 @@ pub struct ClusterOf<C> {
 pub type Cluster = ClusterOf<Revoker>;
 
 impl<C: Revokes + Drop> ClusterOf<C> {
-    ghost use Rattle.std.specs.Prelude.{◌≡◌, ◌↔◌, ◌+◌, ◌<◌, ◌≤◌, ℕ, [], Err, IfErr, IfOk, IsOk, IsOkUnless, IsSome, List, None, OnErr, OnOk, length};
+    ghost use Rattle.std.specs.Prelude.{◌≡◌, ◌↔◌, ◌+◌, ◌<◌, ◌≤◌, ℕ, [], Err, IfErr, IfOk, IsOk, IsOkUnless, IsSome, List, None, Ok, OnErr, OnOk, length};
     ghost use Rattle.assise_names.specs.declared.refusal.Refusal.{Refusal as Refused};
     ghost use Rattle.assise_names.specs.declared.refusal.Refusal.TheVariants.{BadClient, BadNode, OutOfMemory};
     ghost use Rattle.assise_seq_tree.specs.Runs.{tree_after_calls};
@@ -49,7 +51,8 @@ impl<C: Revokes + Drop> ClusterOf<C> {
     ghost use Rattle.assise_lease_table.specs.Tables.{Enrols, SameRevokers};
     ghost use Rattle.assise_names.specs.declared.limits.TheConstants.{MOST_NODES};
     ghost use Rattle.assise_manager.specs.NodeLevels.{level_of, newest};
-    ghost use Rattle.assise_manager.specs.Standings.{standing_of};
+    ghost use Rattle.assise_manager.specs.declared.phase.Phase.TheVariants.{Full};
+    ghost use Rattle.assise_manager.specs.Standings.{phase_of, standing_of};
     ghost use Rattle.assise_model_world.specs.World.{IsClient, alone_at as alone_observed, received_by_all};
     ghost use Rattle.assise_model_history.specs.Traces.{numbered_replicated};
     ghost use Rattle.assise_model_events.specs.ClientEvents.{Crashing, Opening};
@@ -65,7 +68,8 @@ impl<C: Revokes + Drop> ClusterOf<C> {
     ghost use Rattle.assise_machine_state.specs.NodeValues.{with_hot_in};
     ghost use Rattle.assise_machine.specs.Answers.{delivery_answer, digesting_answer, raising_answer, sending_answer, setting_answer};
     ghost use Rattle.assise_machine.specs.Clusters.{AreAcked, machine, region_of, revokers};
-    ghost use Rattle.assise_machine.specs.Headline.{IsUp, acked_to, history_of, regions_of};
+    ghost use Rattle.assise_machine.specs.Headline.{IsUp, acked_to, history_of, regions_of, replicated_to};
+    ghost use Rattle.assise_machine.specs.KnownClients.{IsKnownClient};
 
     /// A cluster in which nothing happened: 1 to `MOST_NODES` full nodes, whose clients' logs have 8 to 4,096 records at most, and 1 to
     /// 4,096 inodes that may be hot. The one refusal is [`Refusal::OutOfMemory`].
@@ -330,6 +334,35 @@ impl<C: Revokes + Drop> ClusterOf<C> {
         ensures only_bad { IsOkUnless result BadClient }
     {
         self.sound.acked(client)
+    }
+
+    /// How many of a client's calls are replicated: those before the first of which some full node may lack a record. No failure takes
+    /// one of these, and their count never falls. The one refusal is [`Refusal::BadClient`]. It costs the nodes.
+    pub fn replicated_to(&self, client: u32) -> Result<u64, Refusal>
+        ensures replicated { IfOk result (λ count. count ≡ replicated_to self.now client) }
+        ensures ok { IsOk result ↔ IsClient (machine self.now).world client }
+        ensures only_bad { IsOkUnless result BadClient }
+    {
+        self.sound.replicated_to(client)
+    }
+
+    /// What is known of a client: its node, how many of its calls were answered, whether it crashed, and whether its node has failed
+    /// since. The one refusal is [`Refusal::BadClient`].
+    pub fn client(&self, client: u32) -> Result<&Client, Refusal>
+        ensures known { IfOk result
+            (λ known. ∥ IsKnownClient (machine self.now).history client known.now ∥₁) }
+        ensures ok { IsOk result ↔ IsClient (machine self.now).world client }
+        ensures only_bad { IsOkUnless result BadClient }
+    {
+        self.sound.client(client)
+    }
+
+    /// How a node stands. The one refusal is [`Refusal::BadNode`].
+    pub fn phase(&self, node: u32) -> Result<Phase, Refusal>
+        ensures phase { result ≡ phase_of (standing_of (machine self.now).members.nodes node) }
+        ensures up { (result ≡ Ok Full) ↔ IsUp self.now node }
+    {
+        self.sound.state.members.phase(node)
     }
 }
 

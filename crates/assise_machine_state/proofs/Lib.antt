@@ -33,3 +33,4 @@ pub mod JoinObserved
 pub mod Kept
 pub mod FailureSeen
 pub mod HotSeen
+mod Unreplicated

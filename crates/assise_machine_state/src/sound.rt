@@ -1,6 +1,7 @@
 // The state as it is between events.
 ghost use Rattle.assise_machine_state.specs.Whole.{StateInvariant, machine_of};
 
+use crate::client::Client;
 use crate::state::StateOf;
 use assise_digest::region::Region;
 use assise_history::history::History;
@@ -21,14 +22,16 @@ pub struct SoundOf<C> {
 pub type Sound = SoundOf<Revoker>;
 
 impl<C: Revokes + Drop> SoundOf<C> {
-    ghost use Rattle.std.specs.Prelude.{◌≡◌, ◌↔◌, ◌<◌, ◌≤◌, Err, IfOk, IsOk, IsOkUnless, None, Some};
+    ghost use Rattle.std.specs.Prelude.{◌≡◌, ◌↔◌, ◌<◌, ◌≤◌, Err, IfOk, IsOk, IsOkUnless, None, OnOk, Some};
     ghost use Rattle.assise_names.specs.declared.refusal.Refusal.{Refusal as Refused};
     ghost use Rattle.assise_names.specs.declared.refusal.Refusal.TheVariants.{BadClient, OutOfMemory};
     ghost use Rattle.assise_names.specs.declared.limits.TheConstants.{MOST_NODES};
-    ghost use Rattle.assise_model_world.specs.World.{IsClient, received_by_all};
+    ghost use Rattle.assise_model_world.specs.World.{IsClient, first_unreplicated, received_by_all};
     ghost use Rattle.assise_model_events.specs.Faults.{node_fault};
     ghost use Rattle.assise_model_events.specs.Machine.{begun_as};
+    ghost use Rattle.assise_machine_state.specs.ClientValues.{client_in};
     ghost use Rattle.assise_machine_state.specs.NodeValues.{new_regions, region_seen};
+    ghost use Rattle.assise_machine_state.specs.Places.{IsNumber};
 
     /// A cluster in which nothing happened: 1 to `MOST_NODES` full nodes, whose clients' logs have 8 to 4,096 records at most, and 1 to
     /// 4,096 inodes that may be hot. The one refusal is [`Refusal::OutOfMemory`].
@@ -75,6 +78,18 @@ impl<C: Revokes + Drop> SoundOf<C> {
         }
     }
 
+    /// Refused with [`Refusal::BadClient`] where there is no such client.
+    fn check_client(&self, client: u32) -> Result<(), Refusal>
+        ensures there { OnOk result (IsNumber self.now.state.clients client) }
+        ensures ok { IsOk result ↔ IsClient (machine_of self.now.state).world client }
+        ensures only_bad { IsOkUnless result BadClient }
+    {
+        if client == 0 || client as usize > self.state.clients.len() {
+            return Err(Refusal::BadClient);
+        }
+        Ok(())
+    }
+
     /// The place up to which all full nodes have a client's log: its records below are replicated. The one refusal is
     /// [`Refusal::BadClient`]. It costs the nodes.
     pub fn acked(&self, client: u32) -> Result<u64, Refusal>
@@ -83,9 +98,29 @@ impl<C: Revokes + Drop> SoundOf<C> {
         ensures ok { IsOk result ↔ IsClient (machine_of self.now.state).world client }
         ensures only_bad { IsOkUnless result BadClient }
     {
-        if client == 0 || client as usize > self.state.clients.len() {
-            return Err(Refusal::BadClient);
-        }
+        self.check_client(client)?;
         Ok(self.state.acked(client))
+    }
+
+    /// How many of a client's calls are replicated: those before the first of which some full node may lack a record. The one refusal is
+    /// [`Refusal::BadClient`]. It costs the nodes.
+    pub fn replicated_to(&self, client: u32) -> Result<u64, Refusal>
+        ensures replicated { IfOk result (λ count. count ≡ first_unreplicated
+            (machine_of self.now.state).world client) }
+        ensures ok { IsOk result ↔ IsClient (machine_of self.now.state).world client }
+        ensures only_bad { IsOkUnless result BadClient }
+    {
+        self.check_client(client)?;
+        Ok(self.state.replicated_to(client))
+    }
+
+    /// What is known of a client. The one refusal is [`Refusal::BadClient`].
+    pub fn client(&self, client: u32) -> Result<&Client, Refusal>
+        ensures known { IfOk result (λ x. x.now ≡ client_in self.now.state.clients client) }
+        ensures ok { IsOk result ↔ IsClient (machine_of self.now.state).world client }
+        ensures only_bad { IsOkUnless result BadClient }
+    {
+        self.check_client(client)?;
+        Ok(self.state.clients.get(client))
     }
 }

@@ -58,7 +58,7 @@ impl<C: Revokes + Drop> StateOf<C> {
     ghost use Rattle.assise_private_log.specs.NumberedLog.{end};
     ghost use Rattle.assise_manager.specs.Standings.{full_nodes};
     ghost use Rattle.assise_manager.specs.Whole.{membership};
-    ghost use Rattle.assise_model_world.specs.World.{digested_by_all, received_by_all};
+    ghost use Rattle.assise_model_world.specs.World.{digested_by_all, first_unreplicated, received_by_all};
     ghost use Rattle.assise_model_events.specs.Dsyncs.{besides, coalesced_from, most_of};
     ghost use Rattle.assise_model_events.specs.Machine.{begun_as};
     ghost use Rattle.assise_machine_state.specs.ClientValues.{client_in};
@@ -111,6 +111,20 @@ impl<C: Revokes + Drop> StateOf<C> {
             least = least.min(received);
         }
         least
+    }
+
+    /// How many of a client's calls are replicated: those before the first of which some full node may lack a record. It costs the
+    /// nodes.
+    pub fn replicated_to(&self, client: u32) -> u64
+        requires client { IsNumber self.now.clients client }
+        requires shape { ShapeInvariant (value_of self.now) }
+        ensures { result ≡ first_unreplicated (world_of (value_of self.now)) client }
+    {
+        let log = self.own_region(client).log(client as usize);
+        match log.since(self.acked(client)).next() {
+            Some(record) => record.call(),
+            None => self.clients.get(client).next(),
+        }
     }
 
     /// The place up to which all full nodes have digested a client's log. It costs the nodes.

@@ -1,0 +1,41 @@
+-- What is known of a client is what the history says.
+use Rattle.std.proofs.Common.{◌≡◌, ℕ, Bool, true, false, not, ◌∷◌, ◌++◌, refl, ap, sym, ◌∙◌}
+use Rattle.std.specs.List.{list_any}
+use Rattle.assise_history.specs.Entries.{opens}
+use Rattle.assise_history.specs.Legal.{is_failure_of}
+use Rattle.assise_model_world.specs.World.{IsClient}
+use Rattle.assise_model_events.specs.Machine.{MachineInvariant}
+use Rattle.assise_machine_state.specs.ClientValues.{ClientValue, client_in, client_seen}
+use Rattle.assise_machine_state.specs.Observed.{observed, world_of}
+use Rattle.assise_machine_state.specs.StateValues.{StateValue}
+use Rattle.assise_machine_state.proofs.Fullness.{client_number}
+use Rattle.assise_machine_state.proofs.ItemSeen.{client_is}
+use Rattle.assise_machine.specs.KnownClients.{IsKnownClient}
+
+same_not : (a b : Bool) → not a ≡ not b → a ≡ b
+same_not true true same = refl
+same_not true false same = cc
+same_not false true same = cc
+same_not false false same = refl
+
+pub known_client : (s : StateValue) (c : ℕ) (x : ClientValue) → IsClient (observed s).world c → x ≡ client_in s.clients c → MachineInvariant (observed s) → IsKnownClient (observed s).history c x
+unfolding observed world_of
+known_client s c x client is h =
+    let same : client_seen s.clients c ≡ x = client_is s.clients c (client_number s c client) ∙ sym is in
+    let home = ap (λ y. y.home) same in
+    let was = h.recorded.opened c client in
+    let since = was.opened.since in
+    record {
+      opened = record {
+        durability = was.opened.durability;
+        before = was.opened.before;
+        since = since;
+        split = was.opened.split ∙ ap (λ n. was.opened.before ++ opens c n was.opened.durability ∷ since) home;
+      };
+      crashed = sym (ap (λ y. y.crashed) same) ∙ was.crashed;
+      failed =
+          sym (ap (λ y. y.failed) same)
+          ∙ same_not (client_seen s.clients c).failed (list_any (is_failure_of (client_seen s.clients c).home) since) was.lives
+          ∙ ap (λ n. list_any (is_failure_of n) since) home;
+      calls = sym (ap (λ y. y.next) same) ∙ h.recorded.next c;
+    }

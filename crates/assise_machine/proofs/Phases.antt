@@ -1,0 +1,30 @@
+-- A node is full exactly where nothing is in the way of its events.
+use Rattle.std.proofs.Common.{◌≡◌, ℕ, Ok, Some, None, refl, ap, sym, ◌∙◌}
+use Rattle.assise_names.specs.declared.refusal.Refusal.{Refusal}
+use Rattle.assise_names.specs.declared.refusal.Refusal.TheVariants.{WrongPhase}
+use Rattle.assise_manager.specs.declared.phase.Phase.{Phase}
+use Rattle.assise_manager.specs.declared.phase.Phase.TheVariants.{Full}
+use Rattle.assise_manager.specs.Standings.{Standing, full, down, returning, phase_of, standing_of}
+use Rattle.assise_model_events.specs.Faults.{node_fault, unless_full}
+use Rattle.assise_machine_state.specs.Observed.{observed}
+use Rattle.assise_machine_state.specs.StateValues.{StateValue}
+
+full_fine : (o : Option Standing) → phase_of o ≡ Ok Full → unless_full WrongPhase o ≡ None
+full_fine None is = cc
+full_fine (Some full) is = refl
+full_fine (Some (down since)) is = cc
+full_fine (Some (returning since donor stale)) is = cc
+
+fine_full : (o : Option Standing) → unless_full WrongPhase o ≡ None → phase_of o ≡ Ok Full
+fine_full None is = cc
+fine_full (Some full) is = refl
+fine_full (Some (down since)) is = cc
+fine_full (Some (returning since donor stale)) is = cc
+
+pub full_has_no_fault : (s : StateValue) (n : ℕ) (r : Result Phase Refusal) → r ≡ phase_of (standing_of s.members.nodes n) → r ≡ Ok Full → node_fault (observed s) n ≡ None
+unfolding observed
+full_has_no_fault s n r is there = full_fine (standing_of s.members.nodes n) (sym is ∙ there)
+
+pub no_fault_is_full : (s : StateValue) (n : ℕ) (r : Result Phase Refusal) → r ≡ phase_of (standing_of s.members.nodes n) → node_fault (observed s) n ≡ None → r ≡ Ok Full
+unfolding observed
+no_fault_is_full s n r is fine = is ∙ fine_full (standing_of s.members.nodes n) fine

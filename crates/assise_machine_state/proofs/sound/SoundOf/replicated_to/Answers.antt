@@ -1,0 +1,6 @@
+use Rattle.assise_machine_state.specs.Observed.{observed}
+use Rattle.assise_machine_state.proofs.sound.SoundOf.replicated_to.Goals as goal
+
+pub returns-clause-replicated : goal.returns-clause-replicated
+unfolding observed
+returns-clause-replicated g c = c.replicated_to.ensures
