@@ -10,20 +10,30 @@ use Rattle.assise_files.specs.declared.files.Files.{Files}
 use Rattle.assise_files.proofs.TriesTrace.{call_trace}
 use Rattle.assise_desk.specs.declared.desk_call.ClientCall.{ClientCall}
 use Rattle.assise_desk.specs.declared.desk_call.ClusterCall.{ClusterCall}
-use Rattle.assise_desk.specs.declared.desk_call.ClusterCall.TheVariants.{Open, Crash, Fail, Back, Legal, Round, History}
+use Rattle.assise_desk.specs.declared.desk_call.ClusterCall.TheVariants.{Open, Crash, Fail, Back, Round, SetHot, Raise}
 use Rattle.assise_desk.specs.declared.desk_fault.DeskFault.{DeskFault}
 use Rattle.assise_desk.specs.declared.desk_request.DeskRequest.{DeskRequest}
-use Rattle.assise_desk.specs.DeskAnswers.{CallsAt, DoesAt, asks_for_none, is_called}
+use Rattle.assise_desk.specs.DeskAnswers.{CallsAt, DoesAt, ServesHot, ServesOpen, asks_for_none, is_called, names_no_durability, names_no_kind, opens_as, sets_hot, sets_nothing}
+
+opening_trace : (r : DeskRequest) (result : Result ℕ DeskFault) (files : Files) (es : Told) (left : Files) → ServesOpen r result files es left →
+    IsEventTrace (cluster_seen files) es (cluster_seen left)
+opening_trace r result files es left (opens_as kind durability is_kind is_durability h) = event_trace _ _ (cluster_seen files) es (cluster_seen left) h.event
+opening_trace r result files es left (names_no_kind none result_is same nothing) = nothing_trace (cluster_seen files) es (cluster_seen left) nothing
+opening_trace r result files es left (names_no_durability none result_is same nothing) = nothing_trace (cluster_seen files) es (cluster_seen left) nothing
+
+hot_trace : (r : DeskRequest) (result : Result ℕ DeskFault) (m : Machine) (es : Told) (m' : Machine) → ServesHot r result m es m' → IsEventTrace m es m'
+hot_trace r result m es m' (sets_hot least most h) = event_trace _ _ m es m' h.event
+hot_trace r result m es m' (sets_nothing out result_is nothing) = nothing_trace m es m' nothing
 
 pub cluster_trace : (call : ClusterCall) (r : DeskRequest) (result : Result ℕ DeskFault) (before out : List ℕ) (files : Files) (es : Told) (left : Files) →
     DoesAt call r result before out files es left → IsEventTrace (cluster_seen files) es (cluster_seen left)
-cluster_trace Open r result before out files es left h = event_trace _ _ (cluster_seen files) es (cluster_seen left) h.event
+cluster_trace Open r result before out files es left h = opening_trace r result files es left h
 cluster_trace Crash r result before out files es left h = event_trace _ _ (cluster_seen files) es (cluster_seen left) h.event
 cluster_trace Fail r result before out files es left h = event_trace _ _ (cluster_seen files) es (cluster_seen left) h.event
 cluster_trace Back r result before out files es left h = return_trace r.node h.returned (cluster_seen files) es (cluster_seen left) h.comes_back
-cluster_trace Legal r result before out files es left h = nothing_trace (cluster_seen files) es (cluster_seen left) h.nothing
 cluster_trace Round r result before out files es left h = round_trace (cluster_seen files) es (cluster_seen left) h.round.does
-cluster_trace History r result before out files es left h = nothing_trace (cluster_seen files) es (cluster_seen left) h.nothing
+cluster_trace SetHot r result before out files es left h = hot_trace r result (cluster_seen files) es (cluster_seen left) h
+cluster_trace Raise r result before out files es left h = event_trace _ _ (cluster_seen files) es (cluster_seen left) h.event
 
 pub client_trace : (turns : ℕ) (call : ClientCall) (r : DeskRequest) (bytes : List ℕ) (result : Result Reply DeskFault) (m : Machine) (es : Told) (m' : Machine) →
     CallsAt turns call r bytes result m es m' → IsEventTrace m es m'

@@ -1,5 +1,5 @@
 -- What the request of a desk does to its cluster, and what it is answered with.
-use Rattle.std.specs.Prelude.{◌≡◌, ◌≢◌, ℕ, ℤ, pos, min, ◌+◌, ◌-◌, ◌^◌, ◌<◌, ◌⊎◌, Bool, true, false, List, length, take, OnOk, Option, None, Some, Result, Ok, Err, ⊤}
+use Rattle.std.specs.Prelude.{◌≡◌, ◌≢◌, ℕ, ℤ, pos, min, ◌+◌, ◌-◌, ◌^◌, ◌<◌, ◌≤◌, ◌⊎◌, Bool, true, false, List, length, take, OnOk, Option, None, Some, Result, Ok, Err, ⊤}
 use Rattle.std.specs.Global.{Box, Vec}
 use Rattle.std.specs.Option.{option_map}
 use Rattle.assise_lease_table.specs.Tables.{Enrols}
@@ -7,11 +7,12 @@ use Rattle.assise_names.specs.declared.call.Op.{Op}
 use Rattle.assise_names.specs.declared.refusal.Refusal.{Refusal}
 use Rattle.assise_names.specs.declared.reply.Reply.{Reply}
 use Rattle.assise_machine_calls.specs.Answers.{crashing_answer}
-use Rattle.assise_names.specs.declared.durability.Durability.TheVariants.{Pessimistic}
+use Rattle.assise_names.specs.declared.durability.Durability.{Durability}
 use Rattle.assise_names.specs.declared.limits.TheConstants.{MOST_NODES}
-use Rattle.assise_model_events.specs.Events.{Answer, ClusterEvent, crash, fail, open_client}
+use Rattle.assise_model_events.specs.Events.{Answer, ClusterEvent, crash, fail, open_client, raise, set_hot}
 use Rattle.assise_model_events.specs.Machine.{Machine, begun_as}
 use Rattle.assise_machine_failures.specs.Answers.{failing_answer}
+use Rattle.assise_machine.specs.Answers.{raising_answer, setting_answer}
 use Rattle.assise_machine.specs.Running.{opened_answer}
 use Rattle.assise_rounds.specs.Traces.{IsEvent, Nothing, Told}
 use Rattle.assise_rounds.specs.Returning.{ComesBack}
@@ -24,17 +25,19 @@ use Rattle.assise_desk.specs.declared.caller_desk.CallerDesk.{CallerDesk}
 use Rattle.assise_desk.specs.declared.caller_desk.TheConstants.{MOST_TRIES}
 use Rattle.assise_desk.specs.declared.desk_call.ClientCall.{ClientCall}
 use Rattle.assise_desk.specs.declared.desk_call.ClusterCall.{ClusterCall}
-use Rattle.assise_desk.specs.declared.desk_call.ClusterCall.TheVariants.{Open, Crash, Fail, Back, Legal, Round, History}
+use Rattle.assise_desk.specs.declared.desk_call.ClusterCall.TheVariants.{Open, Crash, Fail, Back, Round, SetHot, Raise}
+use Rattle.assise_desk.specs.declared.desk_call.ClusterQuery.{ClusterQuery}
 use Rattle.assise_desk.specs.declared.desk_call.DeskCall.{DeskCall}
-use Rattle.assise_desk.specs.declared.desk_call.DeskCall.TheVariants.{Make, Free, Cluster, Client}
+use Rattle.assise_desk.specs.declared.desk_call.DeskCall.TheVariants.{Make, Free, Cluster, Query, Client}
 use Rattle.assise_desk.specs.declared.desk_fault.DeskFault.{DeskFault}
 use Rattle.assise_desk.specs.declared.desk_fault.DeskFault.TheVariants.{Refused, NoCluster, BadRequest, NoRoom}
 use Rattle.assise_desk.specs.declared.desk_request.TheConstants.{DESK_BYTES}
 use Rattle.assise_desk.specs.declared.desk_request.DeskRequest.{DeskRequest}
 use Rattle.assise_desk.specs.CallNumbers.{desk_call_number}
 use Rattle.assise_desk.specs.FaultCodes.{fault_code, no_memory}
-use Rattle.assise_desk.specs.NamedKinds.{NamesKind}
+use Rattle.assise_desk.specs.NamedKinds.{durability_named, kind_named}
 use Rattle.assise_desk.specs.Pages.{losses_bytes}
+use Rattle.assise_desk.specs.Queries.{Tells}
 use Rattle.assise_desk.specs.ShownReplies.{LeavesShown, ShowsReply, ShowsResult}
 use Rattle.assise_desk.specs.RequestedOps.{IsRequestedAt, MayAskForNone}
 
@@ -81,14 +84,24 @@ pub record TellsEvent {X : Type 0} (number : X → Result ℕ DeskFault) (answer
   pub result_is : result ≡ number told
   pub event : IsEvent e (answer told) m es m'
 
--- a client is opened, with a revoker of the kind that the request names
-pub record ServesOpen (r : DeskRequest) (result : Result ℕ DeskFault) (files : Files) (es : Told) (left : Files) : Type 0 where
-  pub kind : CutKind
-  pub named : NamesKind r.kind kind
+-- a client is opened on a node, with a revoker of this kind and fsyncs of this durability
+pub record OpensAs (kind : CutKind) (durability : Durability) (n : ℕ) (result : Result ℕ DeskFault) (files : Files) (es : Told) (left : Files) : Type 0 where
   pub opened : Result ℕ Refusal
   pub result_is : result ≡ number_told opened
-  pub event : IsEvent (open_client r.node Pessimistic) (opened_answer opened) (cluster_seen files) es (cluster_seen left)
+  pub event : IsEvent (open_client n durability) (opened_answer opened) (cluster_seen files) es (cluster_seen left)
   pub stored : OnOk opened (Enrols (kinds_seen files) (kinds_seen left) ((cluster_seen files).world.clients + 1) kind)
+
+-- both are those that the request names, unless one of its numbers names none
+pub data ServesOpen (r : DeskRequest) (result : Result ℕ DeskFault) (files : Files) (es : Told) (left : Files) : Type 0 where
+  opens_as : (kind : CutKind) (durability : Durability) → kind_named r.kind ≡ Some kind → durability_named r.first ≡ Some durability →
+      OpensAs kind durability r.node result files es left → ServesOpen r result files es left
+  names_no_kind : kind_named r.kind ≡ None → result ≡ Err BadRequest → left ≡ files → Nothing (cluster_seen files) es (cluster_seen left) → ServesOpen r result files es left
+  names_no_durability : durability_named r.first ≡ None → result ≡ Err BadRequest → left ≡ files → Nothing (cluster_seen files) es (cluster_seen left) → ServesOpen r result files es left
+
+-- the number of inodes that a node keeps hot is set, where it is 1 to 4,096
+pub data ServesHot (r : DeskRequest) (result : Result ℕ DeskFault) (m : Machine) (es : Told) (m' : Machine) : Type 0 where
+  sets_hot : 1 ≤ r.first → r.first ≤ 4096 → TellsEvent done_told setting_answer (set_hot r.node r.first) result m es m' → ServesHot r result m es m'
+  sets_nothing : (1 ≤ r.first → r.first ≤ 4096 → ⊥) → result ≡ Err BadRequest → Nothing m es m' → ServesHot r result m es m'
 
 -- who lost calls stands in the bytes, if there is room
 pub data PutsLosses (losses : List (ℕ × ℕ)) (result : Result ℕ DeskFault) (out : List ℕ) : Type 0 where
@@ -114,24 +127,15 @@ pub record TellsRound (result : Result ℕ DeskFault) (m : Machine) (es : Told) 
   pub result_is : result ≡ Ok (yes_told busy)
   pub round : RoundsOnce busy m es m'
 
--- the history is legal, unless there is no memory to check it
-pub record TellsLegal (result : Result ℕ DeskFault) (m : Machine) (es : Told) (m' : Machine) : Type 0 where
-  pub result_is : (result ≡ Ok 1) ⊎ (result ≡ Err no_memory)
-  pub nothing : Nothing m es m'
-
-pub record TellsLength (result : Result ℕ DeskFault) (m : Machine) (es : Told) (m' : Machine) : Type 0 where
-  pub result_is : result ≡ Ok (length m.history)
-  pub nothing : Nothing m es m'
-
 -- what it does, with its result, and with the bytes before it and then
 abbrev pub DoesAt : ClusterCall → DeskRequest → Result ℕ DeskFault → List ℕ → List ℕ → Files → Told → Files → Type 0
 DoesAt Open r result before out files es left = ServesOpen r result files es left
 DoesAt Crash r result before out files es left = TellsEvent done_told crashing_answer (crash r.client) result (cluster_seen files) es (cluster_seen left)
 DoesAt Fail r result before out files es left = TellsFailure r.node result before out (cluster_seen files) es (cluster_seen left)
 DoesAt Back r result before out files es left = TellsReturn r.node result (cluster_seen files) es (cluster_seen left)
-DoesAt Legal r result before out files es left = TellsLegal result (cluster_seen files) es (cluster_seen left)
 DoesAt Round r result before out files es left = TellsRound result (cluster_seen files) es (cluster_seen left)
-DoesAt History r result before out files es left = TellsLength result (cluster_seen files) es (cluster_seen left)
+DoesAt SetHot r result before out files es left = ServesHot r result (cluster_seen files) es (cluster_seen left)
+DoesAt Raise r result before out files es left = TellsEvent done_told raising_answer (raise r.node) result (cluster_seen files) es (cluster_seen left)
 
 -- but for a failure, which shows who lost calls, the bytes stay
 abbrev pub LeavesBytes : ClusterCall → List ℕ → List ℕ → Type 0
@@ -139,9 +143,9 @@ LeavesBytes Fail before out = Unit {0}
 LeavesBytes Open before out = out ≡ before
 LeavesBytes Crash before out = out ≡ before
 LeavesBytes Back before out = out ≡ before
-LeavesBytes Legal before out = out ≡ before
 LeavesBytes Round before out = out ≡ before
-LeavesBytes History before out = out ≡ before
+LeavesBytes SetHot before out = out ≡ before
+LeavesBytes Raise before out = out ≡ before
 
 -- ---- a call of a client
 
@@ -190,6 +194,7 @@ abbrev pub NeedsCluster : DeskCall → Type 0
 NeedsCluster Make = ⊥
 NeedsCluster Free = ⊥
 NeedsCluster (Cluster call) = Unit {0}
+NeedsCluster (Query query) = Unit {0}
 NeedsCluster (Client call) = Unit {0}
 
 -- a request that no cluster serves: the bytes, and what stands at the path, are as they were
@@ -211,6 +216,8 @@ pub data AnswersRequest (d : CallerDesk) (result : Result ℕ DeskFault) (d' : C
   answers_alone : AnswersAlone d result d' → LeavesDesk d d' → AnswersRequest d result d'
   request_manages : (call : ClusterCall) (files left : Files) → desk_call_number (Cluster call) ≡ d.request.call → IsServedBy d d' files left →
       (es : Told) × DoesAt call d.request result d.bytes d'.bytes files es left → LeavesBytes call d.bytes d'.bytes → d'.stands ≡ d.stands → AnswersRequest d result d'
+  request_queries : (query : ClusterQuery) (files : Files) → desk_call_number (Query query) ≡ d.request.call → files_at d ≡ Some files → files_at d' ≡ Some files →
+      Tells query d.request files result → LeavesDesk d d' → AnswersRequest d result d'
   request_calls : (call : ClientCall) (files left : Files) → desk_call_number (Client call) ≡ d.request.call → IsServedBy d d' files left →
       IsServedTo call d.request d.bytes d'.bytes d.stands d'.stands files result left → AnswersRequest d result d'
 

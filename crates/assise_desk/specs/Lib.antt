@@ -5,3 +5,4 @@ pub mod NamedKinds
 pub mod Pages
 pub mod ShownReplies
 pub mod DeskAnswers
+pub mod Queries

@@ -8,7 +8,7 @@ use Rattle.assise_names.specs.declared.path.PathFault.{PathFault}
 use Rattle.assise_names.specs.declared.path.PathFault.TheVariants.{BadName}
 use Rattle.assise_desk.specs.declared.desk_request.TheConstants.{DESK_BYTES}
 use Rattle.assise_desk.specs.declared.desk_call.ClientCall.{ClientCall}
-use Rattle.assise_desk.specs.declared.desk_call.ClientCall.TheVariants.{Create, Mkdir, Read, Write, Truncate, Rename, Unlink, Rmdir, List as Listing, Stat, Fsync}
+use Rattle.assise_desk.specs.declared.desk_call.ClientCall.TheVariants.{Create, Mkdir, Read, Write, Truncate, Rename, Unlink, Rmdir, List as Listing, Stat, Fsync, Dsync}
 use Rattle.assise_desk.specs.declared.desk_fault.DeskFault.{DeskFault}
 use Rattle.assise_desk.specs.declared.desk_fault.DeskFault.TheVariants as faults
 use Rattle.assise_desk.specs.declared.desk_request.DeskRequest.{DeskRequest}
@@ -55,6 +55,7 @@ RequestsOp Rmdir r bytes others op = RequestsAt bytes ops.Rmdir op
 RequestsOp Listing r bytes others op = RequestsAt bytes ops.List op
 RequestsOp Stat r bytes others op = RequestsAt bytes ops.Stat op
 RequestsOp Fsync r bytes others op = op ≡ ops.Fsync
+RequestsOp Dsync r bytes others op = op ≡ ops.Dsync
 
 -- of two paths the first's fault is told, and the other's only where the first is a path
 pub data MayFaultEither (bytes others : List ℕ) (fault : DeskFault) : Type 0 where
@@ -74,6 +75,7 @@ MayFault Rmdir bytes others fault = MayFaultPath bytes fault
 MayFault Listing bytes others fault = MayFaultPath bytes fault
 MayFault Stat bytes others fault = MayFaultPath bytes fault
 MayFault Fsync bytes others fault = ⊥
+MayFault Dsync bytes others fault = ⊥
 
 -- ---- in the bytes of a desk
 

@@ -2,16 +2,18 @@
 ghost use Rattle.std.specs.Prelude.{◌≡◌, IfErr, IfOk, None};
 ghost use Rattle.assise_files.specs.FilesSeen.{cluster_seen, most_tries};
 ghost use Rattle.assise_rounds.specs.Traces.{Told};
-ghost use Rattle.assise_desk.specs.NamedKinds.{NamesKind};
-ghost use Rattle.assise_desk.specs.DeskAnswers.{CallsAt, DoesAt, AnswersRequest, IsClusterMade, IsServedAt, IsServedTo, LeavesBytes, MayNotMake, ShowsLosses, cluster_at, number_told, done_told, replied_at, result_shown};
+ghost use Rattle.assise_desk.specs.NamedKinds.{durability_named, kind_named};
+ghost use Rattle.assise_desk.specs.DeskAnswers.{CallsAt, DoesAt, AnswersRequest, IsClusterMade, IsServedAt, IsServedTo, LeavesBytes, MayNotMake, ServesHot, ServesOpen, ShowsLosses, cluster_at, number_told, done_told, replied_at, result_shown};
 
 use crate::desk_call::{ClientCall, ClusterCall, DeskCall};
 use crate::desk_fault::DeskFault;
 use crate::desk_request::{DESK_BYTES, DeskRequest};
 use crate::page::place_losses;
+use crate::queries::tell;
 use crate::reply_shown::show_reply;
 use assise_files::cut_kind::CutKind;
 use assise_files::files::Files;
+use assise_names::durability::Durability;
 use assise_names::limits::MOST_NODES;
 use assise_names::refusal::Refusal;
 use assise_names::reply::Reply;
@@ -99,6 +101,10 @@ fn answer_request(alloc: Global, desk: &mut CallerDesk) -> Result<u64, DeskFault
             None => Err(DeskFault::NoCluster),
             Some(files) => manage(alloc, files, call, &request, &mut desk.bytes),
         },
+        Some(DeskCall::Query(query)) => match &desk.files {
+            None => Err(DeskFault::NoCluster),
+            Some(files) => tell(alloc, files, query, &request),
+        },
         Some(DeskCall::Client(call)) => match &mut desk.files {
             None => Err(DeskFault::NoCluster),
             Some(files) => {
@@ -142,18 +148,40 @@ fn manage(
     ensures turns { most_tries files.new ≡ most_tries files.old }
 {
     match call {
-        ClusterCall::Open => number_told(files.open(
-            alloc,
-            request.node,
-            cut_kind_of(request.kind),
-        )),
+        ClusterCall::Open => open_client(alloc, files, request),
         ClusterCall::Crash => done_told(files.crash(request.client)),
         ClusterCall::Fail => show_losses(files.fail(alloc, request.node), out),
         ClusterCall::Back => done_told(files.back(alloc, request.node)),
-        ClusterCall::Legal => Ok(u64::from(files.is_legal(alloc)?)),
         ClusterCall::Round => Ok(u64::from(files.round(alloc))),
-        ClusterCall::History => Ok(files.history_length() as u64),
+        ClusterCall::SetHot => set_hot(files, request),
+        ClusterCall::Raise => done_told(files.raise(request.node)),
     }
+}
+
+/// A client is opened as a request asks for it.
+fn open_client(alloc: Global, files: &mut Files, request: &DeskRequest) -> Result<u64, DeskFault>
+    ensures opens { (es : Told) × ServesOpen request.now result files.old es files.new }
+    ensures turns { most_tries files.new ≡ most_tries files.old }
+{
+    let Some(kind) = kind_named(request.kind) else {
+        return Err(DeskFault::BadRequest);
+    };
+    let Some(durability) = durability_named(request.first) else {
+        return Err(DeskFault::BadRequest);
+    };
+    number_told(files.open(alloc, request.node, kind, durability))
+}
+
+/// How many inodes a node keeps hot is set as a request asks for it.
+fn set_hot(files: &mut Files, request: &DeskRequest) -> Result<u64, DeskFault>
+    ensures sets { (es : Told) × ServesHot request.now result
+        (cluster_seen files.old) es (cluster_seen files.new) }
+    ensures turns { most_tries files.new ≡ most_tries files.old }
+{
+    if request.first < 1 || request.first > 4096 {
+        return Err(DeskFault::BadRequest);
+    }
+    done_told(files.set_hot(request.node, request.first as usize))
 }
 
 /// The number of a client, or why there is none.
@@ -192,14 +220,26 @@ fn show_losses(
     }
 }
 
-/// The kind of revoker that a number names.
-fn cut_kind_of(number: u32) -> CutKind
-    ensures { NamesKind number result }
+/// The kind of revoker that a number names, if it names one.
+fn kind_named(number: u32) -> Option<CutKind>
+    ensures { result ≡ kind_named number }
 {
     match number {
-        1 => CutKind::Whole,
-        2 => CutKind::Eights,
-        _ => CutKind::Least,
+        0 => Some(CutKind::Least),
+        1 => Some(CutKind::Whole),
+        2 => Some(CutKind::Eights),
+        _ => None,
+    }
+}
+
+/// The durability of fsyncs that a number names, if it names one.
+fn durability_named(number: u64) -> Option<Durability>
+    ensures { result ≡ durability_named number }
+{
+    match number {
+        0 => Some(Durability::Pessimistic),
+        1 => Some(Durability::Optimistic),
+        _ => None,
     }
 }
 

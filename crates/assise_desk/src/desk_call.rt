@@ -12,6 +12,8 @@ pub enum DeskCall {
     Free,
     /// What the desk's cluster does.
     Cluster(ClusterCall),
+    /// What is asked of the desk's cluster.
+    Query(ClusterQuery),
     /// What a client of the desk's cluster calls.
     Client(ClientCall),
 }
@@ -27,12 +29,33 @@ pub enum ClusterCall {
     Fail,
     /// A node comes back (6).
     Back,
-    /// Whether the history is legal is checked anew (7).
-    Legal,
     /// One round of all nodes (8).
     Round,
+    /// How many inodes a node keeps hot is set (32).
+    SetHot,
+    /// A node reads and sends version 2 of frames from here on (33).
+    Raise,
+}
+
+/// What is asked of a cluster, which changes nothing.
+#[derive(Clone, Copy, PartialEq, Eq, Debug)]
+pub enum ClusterQuery {
+    /// Whether the history is legal, checked anew (7).
+    Legal,
     /// How many entries the history has (9).
-    History,
+    Entries,
+    /// How many bytes its calls wrote, read and listed (10).
+    Payload,
+    /// How a node stands (11).
+    Phase,
+    /// How a client stands (12).
+    Standing,
+    /// The node of a client (13).
+    Home,
+    /// How many of a client's calls were answered (14).
+    Answered,
+    /// How many of a client's calls no failure can take any more (15).
+    Replicated,
 }
 
 /// What a client calls.
@@ -58,8 +81,10 @@ pub enum ClientCall {
     List,
     /// What stands at a path is told (25).
     Stat,
-    /// All calls so far are replicated (26).
+    /// All calls so far are replicated (26), for a client whose fsyncs wait for that.
     Fsync,
+    /// All calls so far are replicated (27).
+    Dsync,
 }
 
 impl DeskCall {
@@ -75,9 +100,15 @@ impl DeskCall {
             4 => Some(DeskCall::Cluster(ClusterCall::Crash)),
             5 => Some(DeskCall::Cluster(ClusterCall::Fail)),
             6 => Some(DeskCall::Cluster(ClusterCall::Back)),
-            7 => Some(DeskCall::Cluster(ClusterCall::Legal)),
+            7 => Some(DeskCall::Query(ClusterQuery::Legal)),
             8 => Some(DeskCall::Cluster(ClusterCall::Round)),
-            9 => Some(DeskCall::Cluster(ClusterCall::History)),
+            9 => Some(DeskCall::Query(ClusterQuery::Entries)),
+            10 => Some(DeskCall::Query(ClusterQuery::Payload)),
+            11 => Some(DeskCall::Query(ClusterQuery::Phase)),
+            12 => Some(DeskCall::Query(ClusterQuery::Standing)),
+            13 => Some(DeskCall::Query(ClusterQuery::Home)),
+            14 => Some(DeskCall::Query(ClusterQuery::Answered)),
+            15 => Some(DeskCall::Query(ClusterQuery::Replicated)),
             16 => Some(DeskCall::Client(ClientCall::Create)),
             17 => Some(DeskCall::Client(ClientCall::Mkdir)),
             18 => Some(DeskCall::Client(ClientCall::Read)),
@@ -89,6 +120,9 @@ impl DeskCall {
             24 => Some(DeskCall::Client(ClientCall::List)),
             25 => Some(DeskCall::Client(ClientCall::Stat)),
             26 => Some(DeskCall::Client(ClientCall::Fsync)),
+            27 => Some(DeskCall::Client(ClientCall::Dsync)),
+            32 => Some(DeskCall::Cluster(ClusterCall::SetHot)),
+            33 => Some(DeskCall::Cluster(ClusterCall::Raise)),
             _ => None,
         }
     }

@@ -28,10 +28,11 @@ pub struct DeskRequest {
     pub path_bytes: u32,
     /// How many bytes behind these are the other path's, or are to be written.
     pub other_bytes: u32,
-    /// The revoker of a client that is opened: 1 is whole, 2 eights, and any other number least.
+    /// The revoker of a client that is opened: 0 is least, 1 whole, 2 eights.
     pub kind: u32,
     /// The offset in bytes of a read or write, the size of a truncation, how many names a listing passes over; of a new cluster the
-    /// most records of a log, 8 to 4,096.
+    /// most records of a log, 8 to 4,096; of a client that is opened its fsyncs: 0 is pessimistic, 1 optimistic; how many inodes a
+    /// node keeps hot, 1 to 4,096.
     pub first: u64,
     /// The most bytes of a read; of a new cluster the most hot inodes of a node, 1 to 4,096.
     pub second: u64,
@@ -71,6 +72,9 @@ impl DeskRequest {
         if call == ClientCall::Fsync {
             return Ok(Op::Fsync);
         }
+        if call == ClientCall::Dsync {
+            return Ok(Op::Dsync);
+        }
         let path = path_at(alloc, path)?;
         match call {
             ClientCall::Create => Ok(Op::Create(path)),
@@ -84,6 +88,7 @@ impl DeskRequest {
             ClientCall::List => Ok(Op::List(path)),
             ClientCall::Stat => Ok(Op::Stat(path)),
             ClientCall::Fsync => Ok(Op::Fsync),
+            ClientCall::Dsync => Ok(Op::Dsync),
         }
     }
 }

@@ -8,4 +8,5 @@ pub mod desk_fault;
 pub mod desk_request;
 pub mod laws;
 mod page;
+mod queries;
 mod reply_shown;

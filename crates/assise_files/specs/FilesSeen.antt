@@ -1,6 +1,7 @@
 -- What is seen of a cluster that one caller uses.
 use Rattle.std.specs.Prelude.{ℕ, Option}
 use Rattle.assise_machine.specs.Clusters.{machine, revokers}
+use Rattle.assise_machine.specs.Headline.{replicated_to}
 use Rattle.assise_model_events.specs.Machine.{Machine}
 use Rattle.assise_files.specs.declared.cut_kind.CutKind.{CutKind}
 use Rattle.assise_files.specs.declared.files.Files.{Files}
@@ -16,3 +17,7 @@ most_tries files = files.turns
 -- the revoker of each client
 abbrev pub kinds_seen : Files → ℕ → Option CutKind
 kinds_seen files = revokers files.cluster
+
+-- how many calls of each client are replicated
+abbrev pub replicated_seen : Files → ℕ → ℕ
+replicated_seen files c = replicated_to files.cluster c

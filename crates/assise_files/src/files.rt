@@ -2,7 +2,10 @@
 use crate::attempts::settle_call;
 use crate::cut_kind::CutKind;
 use assise_history::check::check;
+use assise_history::history::History;
 use assise_machine::cluster::ClusterOf;
+use assise_machine_state::client::Client;
+use assise_manager::phase::Phase;
 use assise_names::call::Op;
 use assise_names::durability::Durability;
 use assise_names::refusal::Refusal;
@@ -19,22 +22,26 @@ pub struct Files {
 }
 
 impl Files {
-    ghost use Rattle.std.specs.Prelude.{◌≡◌, ◌↔◌, ◌+◌, ◌<◌, ◌≤◌, IfOk, IsOkUnless, IsTrue, OnOk, length};
-    ghost use Rattle.assise_names.specs.declared.durability.Durability.TheVariants.{Pessimistic};
-    ghost use Rattle.assise_names.specs.declared.refusal.Refusal.TheVariants.{OutOfMemory};
+    ghost use Rattle.std.specs.Prelude.{◌≡◌, ◌↔◌, ◌+◌, ◌<◌, ◌≤◌, IfOk, IsOk, IsOkUnless, IsTrue, OnOk};
+    ghost use Rattle.assise_names.specs.declared.refusal.Refusal.TheVariants.{BadClient, OutOfMemory};
     ghost use Rattle.assise_history.specs.Legal.{IsLegal};
     ghost use Rattle.assise_lease_table.specs.Tables.{Enrols};
     ghost use Rattle.assise_model_events.specs.ClientEvents.{Crashing, Opening};
     ghost use Rattle.assise_model_events.specs.Machine.{begun_as};
-    ghost use Rattle.assise_model_events.specs.MemberEvents.{Failing};
+    ghost use Rattle.assise_model_events.specs.MemberEvents.{Failing, Raising};
+    ghost use Rattle.assise_model_events.specs.NodeEvents.{SettingHot};
+    ghost use Rattle.assise_model_world.specs.World.{IsClient};
+    ghost use Rattle.assise_manager.specs.Standings.{phase_of, standing_of};
     ghost use Rattle.assise_machine_calls.specs.Answers.{crashing_answer};
     ghost use Rattle.assise_machine_failures.specs.Answers.{failing_answer};
+    ghost use Rattle.assise_machine.specs.Answers.{raising_answer, setting_answer};
+    ghost use Rattle.assise_machine.specs.KnownClients.{IsKnownClient};
     ghost use Rattle.assise_machine.specs.Running.{opened_answer};
     ghost use Rattle.assise_rounds.specs.Traces.{Told};
     ghost use Rattle.assise_rounds.specs.Returning.{ComesBack};
     ghost use Rattle.assise_rounds.specs.Rounds.{RoundsOnce};
     ghost use Rattle.assise_names.specs.declared.limits.TheConstants.{MOST_NODES};
-    ghost use Rattle.assise_files.specs.FilesSeen.{cluster_seen, kinds_seen, most_tries};
+    ghost use Rattle.assise_files.specs.FilesSeen.{cluster_seen, kinds_seen, most_tries, replicated_seen};
     ghost use Rattle.assise_files.specs.CallTries.{IsTriedOut};
 
     /// A cluster in which nothing happened: 1 to `MOST_NODES` nodes, logs of 8 to 4,096 records, and 1 to 4,096 inodes that a node keeps hot. A
@@ -62,19 +69,22 @@ impl Files {
         })
     }
 
-    /// Opens a client on a node, with a revoker of a kind, whose fsyncs wait, and answers its number. Refused as
+    /// Opens a client on a node, with a revoker of a kind and fsyncs of a durability, and answers its number. Refused as
     /// [`ClusterOf::open`](ClusterOf::open).
-    pub fn open(&mut self, alloc: Global, node: u32, kind: CutKind) -> Result<u32, Refusal>
-        ensures happens { Opening (cluster_seen self.old) node Pessimistic
+    pub fn open(
+        &mut self,
+        alloc: Global,
+        node: u32,
+        kind: CutKind,
+        durability: Durability,
+    ) -> Result<u32, Refusal>
+        ensures happens { Opening (cluster_seen self.old) node durability
             (opened_answer result) (cluster_seen self.new) }
         ensures stored { OnOk result (Enrols (kinds_seen self.old) (kinds_seen self.new)
             ((cluster_seen self.old).world.clients + 1) kind) }
         ensures turns { most_tries self.new ≡ most_tries self.old }
     {
-        match self
-            .cluster
-            .open(alloc, node, kind, Durability::Pessimistic)
-        {
+        match self.cluster.open(alloc, node, kind, durability) {
             Ok(client) => Ok(client),
             Err(refused) => Err(refused.0),
         }
@@ -131,11 +141,60 @@ impl Files {
         return_node(alloc, &mut self.cluster, node)
     }
 
-    /// How many entries the history has.
-    pub fn history_length(&self) -> usize
-        ensures { result ≡ length (cluster_seen self.now).history }
+    /// Sets how many inodes may be hot at a node, 1 to 4,096. Refused as [`ClusterOf::set_hot`](ClusterOf::set_hot).
+    pub fn set_hot(&mut self, node: u32, capacity: usize) -> Result<(), Refusal>
+        requires least { 1 ≤ capacity }
+        requires most { capacity ≤ 4096 }
+        ensures happens { SettingHot (cluster_seen self.old) node capacity
+            (setting_answer result) (cluster_seen self.new) }
+        ensures turns { most_tries self.new ≡ most_tries self.old }
     {
-        self.cluster.history().entries().len()
+        self.cluster.set_hot(node, capacity)
+    }
+
+    /// A full node reads and sends version 2 of frames from here on. Refused as [`ClusterOf::raise`](ClusterOf::raise).
+    pub fn raise(&mut self, node: u32) -> Result<(), Refusal>
+        ensures happens { Raising (cluster_seen self.old) node
+            (raising_answer result) (cluster_seen self.new) }
+        ensures turns { most_tries self.new ≡ most_tries self.old }
+    {
+        self.cluster.raise(node)
+    }
+
+    /// How a node stands. The one refusal is [`Refusal::BadNode`].
+    pub fn phase(&self, node: u32) -> Result<Phase, Refusal>
+        ensures { result ≡ phase_of
+            (standing_of (cluster_seen self.now).members.nodes node) }
+    {
+        self.cluster.phase(node)
+    }
+
+    /// What is known of a client: its node, how many of its calls were answered, whether it crashed, and whether its node has failed
+    /// since. The one refusal is [`Refusal::BadClient`].
+    pub fn client(&self, client: u32) -> Result<&Client, Refusal>
+        ensures known { IfOk result (λ known.
+            ∥ IsKnownClient (cluster_seen self.now).history client known.now ∥₁) }
+        ensures ok { IsOk result ↔ IsClient (cluster_seen self.now).world client }
+        ensures only_bad { IsOkUnless result BadClient }
+    {
+        self.cluster.client(client)
+    }
+
+    /// How many of a client's calls are replicated: no failure takes one of these. The one refusal is [`Refusal::BadClient`]. It costs
+    /// the nodes.
+    pub fn replicated_to(&self, client: u32) -> Result<u64, Refusal>
+        ensures replicated { IfOk result (λ count. count ≡ replicated_seen self.now client) }
+        ensures ok { IsOk result ↔ IsClient (cluster_seen self.now).world client }
+        ensures only_bad { IsOkUnless result BadClient }
+    {
+        self.cluster.replicated_to(client)
+    }
+
+    /// What was answered and what happened, in order.
+    pub fn history(&self) -> &History
+        ensures { result.now.events ≡ (cluster_seen self.now).history }
+    {
+        self.cluster.history()
     }
 
     /// Whether the history is legal, checked anew: it always is. The one refusal is [`Refusal::OutOfMemory`]. It costs as
