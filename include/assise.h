@@ -101,7 +101,13 @@ enum assise_call {
     ASSISE_BACK = 6,
     ASSISE_LEGAL = 7,
     ASSISE_ROUND = 8,
-    ASSISE_HISTORY = 9,
+    ASSISE_ENTRIES = 9,
+    ASSISE_PAYLOAD = 10,
+    ASSISE_PHASE = 11,
+    ASSISE_STANDING = 12,
+    ASSISE_HOME = 13,
+    ASSISE_ANSWERED = 14,
+    ASSISE_REPLICATED = 15,
     ASSISE_CREATE = 16,
     ASSISE_MKDIR = 17,
     ASSISE_READ = 18,
@@ -112,12 +118,24 @@ enum assise_call {
     ASSISE_RMDIR = 23,
     ASSISE_LIST = 24,
     ASSISE_STAT = 25,
-    ASSISE_FSYNC = 26
+    ASSISE_FSYNC = 26,
+    ASSISE_DSYNC = 27,
+    ASSISE_SET_HOT = 32,
+    ASSISE_RAISE = 33
 };
 
 /* How much of its log a client hands on before a lease goes to another: what touches the inode, all of it, or the first and on to the
  * next record whose number 8 divides. */
 enum assise_kind { ASSISE_LEAST = 0, ASSISE_WHOLE = 1, ASSISE_EIGHTS = 2 };
+
+/* What a client's fsync waits for: that all its calls are replicated, or for nothing. Its dsync waits for that in either case. */
+enum assise_durability { ASSISE_PESSIMISTIC = 0, ASSISE_OPTIMISTIC = 1 };
+
+/* How a node stands: it has all that is replicated; it failed; it comes back. */
+enum assise_phase { ASSISE_FULL = 1, ASSISE_DOWN = 2, ASSISE_RETURNING = 3 };
+
+/* How a client stands: it may call; it crashed; its node has failed since it was opened. */
+enum assise_standing { ASSISE_ALIVE = 1, ASSISE_CRASHED = 2, ASSISE_CUT_OFF = 3 };
 
 /* Results below 0. */
 enum assise_fault {
@@ -259,9 +277,15 @@ static inline int64_t assise_make(struct assise_desk *desk, uint32_t nodes, uint
 /* Lets the cluster go. */
 static inline int64_t assise_free(struct assise_desk *desk) { return assise_manage(desk, ASSISE_FREE, 0, 0, 0, 0, 0); }
 
-/* Opens a client on a node: its number. There are 32 in all, and the number of one that is gone doesn't come back. */
+/* Opens a client on a node, whose fsyncs have this durability: its number. There are 32 in all, and the number of one that is gone
+ * doesn't come back. */
+static inline int64_t assise_open_as(struct assise_desk *desk, uint32_t node, uint32_t kind, uint64_t durability) {
+    return assise_manage(desk, ASSISE_OPEN, 0, node, kind, 0, durability);
+}
+
+/* The same, and its fsyncs are pessimistic. */
 static inline int64_t assise_open(struct assise_desk *desk, uint32_t node, uint32_t kind) {
-    return assise_manage(desk, ASSISE_OPEN, 0, node, kind, 0, 0);
+    return assise_open_as(desk, node, kind, ASSISE_PESSIMISTIC);
 }
 
 /* A client crashes: nothing that it did is lost. */
@@ -293,14 +317,54 @@ static inline int64_t assise_back(struct assise_desk *desk, uint32_t node) {
     return assise_manage(desk, ASSISE_BACK, 0, node, 0, 0, 0);
 }
 
+/* How many inodes a node keeps hot, 1 to 4,096, is set. */
+static inline int64_t assise_set_hot(struct assise_desk *desk, uint32_t node, uint64_t hot) {
+    return assise_manage(desk, ASSISE_SET_HOT, 0, node, 0, hot, 0);
+}
+
+/* A full node reads and sends version 2 of frames from here on. */
+static inline int64_t assise_raise(struct assise_desk *desk, uint32_t node) {
+    return assise_manage(desk, ASSISE_RAISE, 0, node, 0, 0, 0);
+}
+
 /* 1, since the history is legal; it is checked anew, which takes long where it is. */
 static inline int64_t assise_legal(struct assise_desk *desk) { return assise_manage(desk, ASSISE_LEGAL, 0, 0, 0, 0, 0); }
 
 /* One round of all nodes: 1 where there was anything to do, else 0. */
 static inline int64_t assise_round(struct assise_desk *desk) { return assise_manage(desk, ASSISE_ROUND, 0, 0, 0, 0, 0); }
 
+/* ---- What is asked of the cluster, which changes nothing. */
+
 /* How many entries the history has. It is kept in memory, each call with its bytes. */
-static inline int64_t assise_history(struct assise_desk *desk) { return assise_manage(desk, ASSISE_HISTORY, 0, 0, 0, 0, 0); }
+static inline int64_t assise_entries(struct assise_desk *desk) { return assise_manage(desk, ASSISE_ENTRIES, 0, 0, 0, 0, 0); }
+
+/* How many bytes the history's calls wrote, read and listed. */
+static inline int64_t assise_payload(struct assise_desk *desk) { return assise_manage(desk, ASSISE_PAYLOAD, 0, 0, 0, 0, 0); }
+
+/* How a node stands, one of `enum assise_phase`. */
+static inline int64_t assise_phase(struct assise_desk *desk, uint32_t node) {
+    return assise_manage(desk, ASSISE_PHASE, 0, node, 0, 0, 0);
+}
+
+/* How a client stands, one of `enum assise_standing`. */
+static inline int64_t assise_standing(struct assise_desk *desk, uint32_t client) {
+    return assise_manage(desk, ASSISE_STANDING, client, 0, 0, 0, 0);
+}
+
+/* The node that a client was opened on. */
+static inline int64_t assise_home(struct assise_desk *desk, uint32_t client) {
+    return assise_manage(desk, ASSISE_HOME, client, 0, 0, 0, 0);
+}
+
+/* How many of a client's calls were answered, those that a failure took too. */
+static inline int64_t assise_answered(struct assise_desk *desk, uint32_t client) {
+    return assise_manage(desk, ASSISE_ANSWERED, client, 0, 0, 0, 0);
+}
+
+/* Of a client whose node is up: how many of its calls, from the first on, no failure can take any more. It never falls. */
+static inline int64_t assise_replicated(struct assise_desk *desk, uint32_t client) {
+    return assise_manage(desk, ASSISE_REPLICATED, client, 0, 0, 0, 0);
+}
 
 /* ---- What a client calls. A path is text that ends with a zero byte. */
 
@@ -377,9 +441,14 @@ static inline int64_t assise_stat(struct assise_desk *desk, uint32_t client, con
     return assise_at(desk, ASSISE_STAT, client, path, 0, 0, 0, 0);
 }
 
-/* All calls of the client so far are on all full nodes. */
+/* All calls of the client so far are on all full nodes, unless it was opened to be optimistic. */
 static inline int64_t assise_fsync(struct assise_desk *desk, uint32_t client) {
     return assise_at(desk, ASSISE_FSYNC, client, 0, 0, 0, 0, 0);
+}
+
+/* All calls of the client so far are on all full nodes. */
+static inline int64_t assise_dsync(struct assise_desk *desk, uint32_t client) {
+    return assise_at(desk, ASSISE_DSYNC, client, 0, 0, 0, 0, 0);
 }
 
 #ifdef __cplusplus

@@ -93,10 +93,10 @@ pub record OpensAs (kind : CutKind) (durability : Durability) (n : ℕ) (result 
 
 -- both are those that the request names, unless one of its numbers names none
 pub data ServesOpen (r : DeskRequest) (result : Result ℕ DeskFault) (files : Files) (es : Told) (left : Files) : Type 0 where
-  opens_as : (kind : CutKind) (durability : Durability) → kind_named r.kind ≡ Some kind → durability_named r.first ≡ Some durability →
+  opens_as : (kind : CutKind) (durability : Durability) → kind_named r.kind ≡ Some kind → durability_named r.second ≡ Some durability →
       OpensAs kind durability r.node result files es left → ServesOpen r result files es left
   names_no_kind : kind_named r.kind ≡ None → result ≡ Err BadRequest → left ≡ files → Nothing (cluster_seen files) es (cluster_seen left) → ServesOpen r result files es left
-  names_no_durability : durability_named r.first ≡ None → result ≡ Err BadRequest → left ≡ files → Nothing (cluster_seen files) es (cluster_seen left) → ServesOpen r result files es left
+  names_no_durability : durability_named r.second ≡ None → result ≡ Err BadRequest → left ≡ files → Nothing (cluster_seen files) es (cluster_seen left) → ServesOpen r result files es left
 
 -- the number of inodes that a node keeps hot is set, where it is 1 to 4,096
 pub data ServesHot (r : DeskRequest) (result : Result ℕ DeskFault) (m : Machine) (es : Told) (m' : Machine) : Type 0 where

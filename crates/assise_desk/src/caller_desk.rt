@@ -166,7 +166,7 @@ fn open_client(alloc: Global, files: &mut Files, request: &DeskRequest) -> Resul
     let Some(kind) = kind_named(request.kind) else {
         return Err(DeskFault::BadRequest);
     };
-    let Some(durability) = durability_named(request.first) else {
+    let Some(durability) = durability_named(request.second) else {
         return Err(DeskFault::BadRequest);
     };
     number_told(files.open(alloc, request.node, kind, durability))

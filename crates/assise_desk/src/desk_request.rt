@@ -31,10 +31,10 @@ pub struct DeskRequest {
     /// The revoker of a client that is opened: 0 is least, 1 whole, 2 eights.
     pub kind: u32,
     /// The offset in bytes of a read or write, the size of a truncation, how many names a listing passes over; of a new cluster the
-    /// most records of a log, 8 to 4,096; of a client that is opened its fsyncs: 0 is pessimistic, 1 optimistic; how many inodes a
-    /// node keeps hot, 1 to 4,096.
+    /// most records of a log, 8 to 4,096; how many inodes a node keeps hot, 1 to 4,096.
     pub first: u64,
-    /// The most bytes of a read; of a new cluster the most hot inodes of a node, 1 to 4,096.
+    /// The most bytes of a read; of a new cluster the most hot inodes of a node, 1 to 4,096; of a client that is opened its fsyncs: 0 is
+    /// pessimistic, 1 optimistic.
     pub second: u64,
 }
 

@@ -43,7 +43,7 @@ fn what_is_asked_wrongly(rt: HostRuntime) {
         rt.alloc(),
         &rt,
         "\
-open 1; stat 1 /; 0; 10; 27; make 0 8 4; make 17 8 4 => -301 -301 -302 -302 -302 -302 -302
+open 1; stat 1 /; 0; 31; 34; make 0 8 4; make 17 8 4 => -301 -301 -302 -302 -302 -302 -302
 make 1 7 4; make 1 4097 4; make 1 8; make 1 8 4097; stat 1 / => -302 -302 -302 -302 -301
 make 2 8 4; open 3; open 1; open 2; stat 3 /; stat 1 a; stat 1 //; stat 1 /.. => 0 -108 1 2 -109 -201 -202 -203
 rename 1 a //; rename 1 // a => -201 -202
@@ -79,6 +79,38 @@ mkdir 1 /a; mkdir 1 /b; mkdir 1 /c; mkdir 1 /d; mkdir 1 /e; mkdir 1 /f; mkdir 1 
 create 1 /a/f; create 2 /b/f; create 3 /c/f; create 4 /d/f; create 5 /e/f; create 6 /f/f; create 7 /g/f; create 8 /h/f; create 9 /i/f => 0 0 0 0 0 0 0 0 0
 create 1 /a/g; create 2 /b/g; create 3 /c/g; create 4 /d/g; create 5 /e/g; create 6 /f/g; create 7 /g/g; create 8 /h/g; create 9 /i/g => 0 0 0 0 0 0 0 0 0
 fail 1 => 108
+",
+    );
+}
+
+// An open is entry 1, a call entry 2. Client 2 stands on node 2.
+#[test]
+fn what_is_asked_of_a_cluster(rt: HostRuntime) {
+    show(
+        rt.alloc(),
+        &rt,
+        "\
+make 2 64 8; open 1; open 2; home 1; home 2; home 3; standing 1; standing 2; standing 3; standing 0 => 0 1 2 1 2 -109 1 1 -109 -109
+create 1 /f; write 1 0 /f hello; read 1 1 3 /f; list 1 /; entries; payload => 0 5 3 1 of 1 6 9
+answered 1; replicated 1; answered 2; replicated 2; answered 3; replicated 3 => 4 0 0 0 -109 -109
+dsync 1; answered 1; replicated 1; stat 1 /f; answered 1; replicated 1 => 0 5 5 5 6 6
+truncate 1 2 /f; answered 1; replicated 1; crash 2; standing 2 => 0 7 6 0 2
+phase 1; phase 2; phase 3; phase 0; fail 1; phase 1; standing 1; answered 1; replicated 1; legal => 1 1 -108 -108 12 2 3 7 7 1
+back 1; phase 1; standing 1; open 1; standing 3; home 3 => 0 1 3 3 1 1
+",
+    );
+}
+
+// An optimistic client's fsync makes nothing safe, and its dsync all. A node that isn't there is told, and so is a number of no kind.
+#[test]
+fn what_a_cluster_is_set_to(rt: HostRuntime) {
+    show(
+        rt.alloc(),
+        &rt,
+        "\
+make 2 64 8; open 1 0 1; create 1 /f; fsync 1; replicated 1; dsync 1; replicated 1 => 0 1 0 0 0 0 3
+open 1 3; open 1 0 2; open 1 1; open 1 2 => -302 -302 2 3
+hot 1 0; hot 1 4097; hot 3 1; hot 1 1; hot 2 4096; raise 3; raise 1; raise 2; raise 1 => -302 -302 -108 0 0 -108 0 0 -110
 ",
     );
 }

@@ -1,5 +1,5 @@
 -- A node is full exactly where nothing is in the way of its events.
-use Rattle.std.proofs.Common.{◌≡◌, ℕ, Ok, Some, None, refl, ap, sym, ◌∙◌}
+use Rattle.std.proofs.Common.{◌≡◌, ℕ, Option, Some, None, Result, Ok, refl, sym, ◌∙◌}
 use Rattle.assise_names.specs.declared.refusal.Refusal.{Refusal}
 use Rattle.assise_names.specs.declared.refusal.Refusal.TheVariants.{WrongPhase}
 use Rattle.assise_manager.specs.declared.phase.Phase.{Phase}
