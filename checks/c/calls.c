@@ -31,6 +31,44 @@ static void makes_and_opens(void) {
     SEE(2, assise_open(&desk, 2, ASSISE_WHOLE));
     SEE(3, assise_open(&desk, 1, ASSISE_EIGHTS));
     SEE(ASSISE_BAD_NODE, assise_open(&desk, 3, ASSISE_LEAST));
+    SEE(ASSISE_BAD_REQUEST, assise_open(&desk, 1, ASSISE_EIGHTS + 1));
+    SEE(ASSISE_BAD_REQUEST, assise_open_as(&desk, 1, ASSISE_LEAST, ASSISE_OPTIMISTIC + 1));
+}
+
+/* An optimistic client's fsync makes nothing safe, and its dsync all. */
+static void tells_what_is_safe(void) {
+    SEE(4, assise_open_as(&desk, 2, ASSISE_LEAST, ASSISE_OPTIMISTIC));
+    SEE(ASSISE_ALIVE, assise_standing(&desk, 4));
+    SEE(2, assise_home(&desk, 4));
+    SEE(0, assise_create(&desk, 4, "/hasty"));
+    SEE(0, assise_fsync(&desk, 4));
+    SEE(2, assise_answered(&desk, 4));
+    SEE(0, assise_replicated(&desk, 4));
+    SEE(0, assise_dsync(&desk, 4));
+    SEE(3, assise_replicated(&desk, 4));
+    SEE(5, assise_write(&desk, 4, "/hasty", "hello", 5, 0));
+    SEE(0, assise_unlink(&desk, 4, "/hasty"));
+    SEE(5, assise_payload(&desk));
+    SEE(9, assise_entries(&desk));
+    SEE(0, assise_crash(&desk, 4));
+    SEE(ASSISE_CRASHED, assise_standing(&desk, 4));
+    SEE(ASSISE_BAD_CLIENT, assise_standing(&desk, 5));
+    SEE(ASSISE_BAD_CLIENT, assise_home(&desk, 0));
+    SEE(ASSISE_BAD_CLIENT, assise_answered(&desk, 5));
+    SEE(ASSISE_BAD_CLIENT, assise_replicated(&desk, 5));
+}
+
+static void sets_nodes(void) {
+    SEE(0, assise_set_hot(&desk, 1, 1));
+    SEE(0, assise_set_hot(&desk, 2, ASSISE_MOST_HOT));
+    SEE(ASSISE_BAD_REQUEST, assise_set_hot(&desk, 1, 0));
+    SEE(ASSISE_BAD_REQUEST, assise_set_hot(&desk, 1, ASSISE_MOST_HOT + 1));
+    SEE(ASSISE_BAD_NODE, assise_set_hot(&desk, 3, 1));
+    SEE(0, assise_raise(&desk, 1));
+    SEE(ASSISE_WRONG_PHASE, assise_raise(&desk, 1));
+    SEE(ASSISE_BAD_NODE, assise_raise(&desk, 3));
+    SEE(ASSISE_FULL, assise_phase(&desk, 1));
+    SEE(ASSISE_BAD_NODE, assise_phase(&desk, 3));
 }
 
 static void makes_files(void) {
@@ -77,33 +115,35 @@ static void fails_and_comes_back(void) {
     SEE(1, assise_loss(&desk, 0).call > 0);
     SEE(ASSISE_NODE_DOWN, assise_stat(&desk, 1, "/"));
     SEE(ASSISE_WRONG_PHASE, assise_fail(&desk, 1));
+    SEE(ASSISE_DOWN, assise_phase(&desk, 1));
+    SEE(ASSISE_CUT_OFF, assise_standing(&desk, 1));
     SEE(ASSISE_LAST_NODE, assise_fail(&desk, 2));
     SEE(ASSISE_NO_ENT, assise_stat(&desk, 2, "/lost"));
     SEE(0, assise_back(&desk, 1));
     SEE(0, assise_crash(&desk, 2));
     SEE(ASSISE_CLIENT_GONE, assise_stat(&desk, 2, "/"));
     SEE(1, assise_legal(&desk));
-    SEE(1, assise_history(&desk) > 0);
+    SEE(1, assise_entries(&desk) > 0);
     SEE(1, assise_round(&desk) >= 0);
 }
 
 static void wrong_paths(void) {
     static char path[2 * ASSISE_BYTES];
     SEE(ASSISE_BAD_CLIENT, assise_create(&desk, 33, "/x"));
-    SEE(4, assise_open(&desk, 2, ASSISE_LEAST));
-    SEE(ASSISE_NOT_ABSOLUTE, assise_create(&desk, 4, "x"));
-    SEE(ASSISE_EMPTY_NAME, assise_create(&desk, 4, "//x"));
-    SEE(ASSISE_BAD_NAME, assise_create(&desk, 4, "/.."));
+    SEE(5, assise_open(&desk, 2, ASSISE_LEAST));
+    SEE(ASSISE_NOT_ABSOLUTE, assise_create(&desk, 5, "x"));
+    SEE(ASSISE_EMPTY_NAME, assise_create(&desk, 5, "//x"));
+    SEE(ASSISE_BAD_NAME, assise_create(&desk, 5, "/.."));
     memset(path, 'x', sizeof path - 1);
     path[0] = '/';
-    SEE(ASSISE_BAD_REQUEST, assise_create(&desk, 4, path));
-    SEE(ASSISE_BAD_REQUEST, assise_write(&desk, 4, path, "", 0, 0));
+    SEE(ASSISE_BAD_REQUEST, assise_create(&desk, 5, path));
+    SEE(ASSISE_BAD_REQUEST, assise_write(&desk, 5, path, "", 0, 0));
     path[ASSISE_MOST_NAME_BYTES + 2] = 0;
-    SEE(ASSISE_NAME_TOO_LONG, assise_create(&desk, 4, path));
+    SEE(ASSISE_NAME_TOO_LONG, assise_create(&desk, 5, path));
     for (int k = 0; k < 2 * (ASSISE_MOST_NAMES + 1); k++) path[k] = k % 2 ? 'n' : '/';
     path[2 * (ASSISE_MOST_NAMES + 1)] = 0;
-    SEE(ASSISE_TOO_DEEP, assise_create(&desk, 4, path));
-    SEE(ASSISE_INVALID, assise_rename(&desk, 4, "/", "/x"));
+    SEE(ASSISE_TOO_DEEP, assise_create(&desk, 5, path));
+    SEE(ASSISE_INVALID, assise_rename(&desk, 5, "/", "/x"));
     SEE(ASSISE_BAD_REQUEST, assise_manage(&desk, 99, 0, 0, 0, 0, 0));
 }
 
@@ -121,6 +161,8 @@ static void tells_faults(void) {
 
 int main(void) {
     makes_and_opens();
+    tells_what_is_safe();
+    sets_nodes();
     makes_files();
     writes_in_parts();
     fails_and_comes_back();

@@ -5,11 +5,14 @@ use Rattle.std.specs.Prelude.{◌+◌, OnOk, ⊤}
 use Rattle.assise_lease_table.specs.Tables.{Enrols}
 use Rattle.assise_names.specs.declared.refusal.Refusal.{Refusal}
 use Rattle.assise_machine_calls.specs.Answers.{crashing_answer}
-use Rattle.assise_names.specs.declared.durability.Durability.TheVariants.{Pessimistic}
+use Rattle.assise_names.specs.declared.durability.Durability.{Durability}
 use Rattle.assise_names.specs.declared.limits.TheConstants.{MOST_NODES}
 use Rattle.assise_model_events.specs.ClientEvents.{Crashing, Opening}
-use Rattle.assise_model_events.specs.MemberEvents.{Failing}
+use Rattle.assise_model_events.specs.MemberEvents.{Failing, Raising}
+use Rattle.assise_model_events.specs.NodeEvents.{SettingHot}
+use Rattle.assise_model_events.specs.Machine.{Machine}
 use Rattle.assise_machine_failures.specs.Answers.{failing_answer}
+use Rattle.assise_machine.specs.Answers.{raising_answer, setting_answer}
 use Rattle.assise_machine.specs.Running.{opened_answer}
 use Rattle.assise_rounds.specs.Traces.{Told}
 use Rattle.assise_rounds.specs.Returning.{ComesBack}
@@ -18,21 +21,37 @@ use Rattle.assise_files.specs.declared.cut_kind.CutKind.{CutKind}
 use Rattle.assise_files.specs.declared.files.Files.{Files}
 use Rattle.assise_desk.specs.declared.caller_desk.CallerDesk.{CallerDesk}
 use Rattle.assise_desk.specs.declared.desk_call.ClusterCall.{ClusterCall}
-use Rattle.assise_desk.specs.declared.desk_call.ClusterCall.TheVariants.{Open, Crash, Fail, Back}
+use Rattle.assise_desk.specs.declared.desk_call.ClusterCall.TheVariants.{Open, Crash, Fail, Back, SetHot, Raise}
 use Rattle.assise_desk.specs.declared.desk_call.DeskCall.{DeskCall}
 use Rattle.assise_desk.specs.declared.desk_fault.DeskFault.{DeskFault}
 use Rattle.assise_desk.specs.declared.desk_request.DeskRequest.{DeskRequest}
 use Rattle.assise_desk.specs.CallNumbers.{desk_call_number}
-use Rattle.assise_desk.specs.NamedKinds.{NamesKind}
-use Rattle.assise_desk.specs.DeskAnswers.{AnswersAlone, AnswersRequest, DoesAt, IsOutOfRange, IsServedAt, ShowsLosses, answers_alone, done_told, has_no_cluster, is_no_request, number_told, owned, request_calls, request_frees, request_makes, request_makes_none, request_manages, result_shown}
+use Rattle.assise_desk.specs.NamedKinds.{durability_named, kind_named}
+use Rattle.assise_desk.specs.DeskAnswers.{AnswersAlone, AnswersRequest, DoesAt, IsOutOfRange, IsServedAt, ServesHot, ServesOpen, ShowsLosses, answers_alone, done_told, has_no_cluster, is_no_request, number_told, opens_as, owned, request_calls, request_frees, request_makes, request_makes_none, request_manages, request_queries, result_shown, sets_hot}
 
 -- ---- one event
 
-pub opening_told : (call : ClusterCall) (r : DeskRequest) (result : Result ℕ DeskFault) (before out : List ℕ) (kind : CutKind) (told : Result ℕ Refusal) (files left : Files) → call ≡ Open →
-    result ≡ number_told told → NamesKind r.kind kind → Opening (cluster_seen files) r.node Pessimistic (opened_answer told) (cluster_seen left) →
-    OnOk told (Enrols (kinds_seen files) (kinds_seen left) ((cluster_seen files).world.clients + 1) kind) → (es : Told) × DoesAt call r result before out files es left
-opening_told call r result before out kind told files left is result_is named h stored =
-    rw is (_, record { kind = kind; named = named; opened = told; result_is = result_is; event = record { told = refl; happens = h }; stored = stored })
+pub opened_as : (r : DeskRequest) (result : Result ℕ DeskFault) (kind : CutKind) (durability : Durability) (told : Result ℕ Refusal) (files left : Files) → kind_named r.kind ≡ Some kind →
+    durability_named r.second ≡ Some durability → result ≡ number_told told → Opening (cluster_seen files) r.node durability (opened_answer told) (cluster_seen left) →
+    OnOk told (Enrols (kinds_seen files) (kinds_seen left) ((cluster_seen files).world.clients + 1) kind) → (es : Told) × ServesOpen r result files es left
+opened_as r result kind durability told files left is_kind is_durability result_is h stored =
+    (_, opens_as kind durability is_kind is_durability record { opened = told; result_is = result_is; event = record { told = refl; happens = h }; stored = stored })
+
+pub hot_set : (r : DeskRequest) (result : Result ℕ DeskFault) (told : Result ⊤ Refusal) (m m' : Machine) → 1 ≤ r.first → r.first ≤ 4096 → result ≡ done_told told →
+    SettingHot m r.node r.first (setting_answer told) m' → (es : Told) × ServesHot r result m es m'
+hot_set r result told m m' least most result_is h = (_, sets_hot least most record { told = told; result_is = result_is; event = record { told = refl; happens = h } })
+
+pub opening_told : (call : ClusterCall) (r : DeskRequest) (result : Result ℕ DeskFault) (before out : List ℕ) (files left : Files) → call ≡ Open → (es : Told) × ServesOpen r result files es left →
+    (es : Told) × DoesAt call r result before out files es left
+opening_told call r result before out files left is h = rw is h
+
+pub hot_told : (call : ClusterCall) (r : DeskRequest) (result : Result ℕ DeskFault) (before out : List ℕ) (files left : Files) → call ≡ SetHot →
+    (es : Told) × ServesHot r result (cluster_seen files) es (cluster_seen left) → (es : Told) × DoesAt call r result before out files es left
+hot_told call r result before out files left is h = rw is h
+
+pub raising_told : (call : ClusterCall) (r : DeskRequest) (result : Result ℕ DeskFault) (before out : List ℕ) (told : Result ⊤ Refusal) (files left : Files) → call ≡ Raise → result ≡ done_told told →
+    Raising (cluster_seen files) r.node (raising_answer told) (cluster_seen left) → (es : Told) × DoesAt call r result before out files es left
+raising_told call r result before out told files left is result_is h = rw is (_, record { told = told; result_is = result_is; event = record { told = refl; happens = h } })
 
 pub crashing_told : (call : ClusterCall) (r : DeskRequest) (result : Result ℕ DeskFault) (before out : List ℕ) (told : Result ⊤ Refusal) (files left : Files) → call ≡ Crash → result ≡ done_told told →
     Crashing (cluster_seen files) r.client (crashing_answer told) (cluster_seen left) → (es : Told) × DoesAt call r result before out files es left
@@ -79,6 +98,7 @@ pub answered_shown : (d d' : CallerDesk) (result : Result ℕ DeskFault) (n : �
 answered_shown d d' result n (answers_alone h leaves) = answers_alone (alone_shown d d' result n h) leaves
 answered_shown d d' result n (request_manages call files left number served h bytes stands) =
     request_manages call files left number record { from = served.from; leaves = served.leaves; turns = served.turns } h bytes stands
+answered_shown d d' result n (request_queries query files number from leaves tells stays) = request_queries query files number from leaves tells record { bytes = stays.bytes; stays = stays.stays }
 answered_shown d d' result n (request_calls call files left number served h) =
     request_calls call files left number record { from = served.from; leaves = served.leaves; turns = served.turns } h
 

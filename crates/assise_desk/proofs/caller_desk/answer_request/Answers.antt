@@ -1,6 +1,6 @@
 use Rattle.std.proofs.Common.{refl, ap}
-use Rattle.assise_desk.specs.declared.desk_call.DeskCall.TheVariants.{Client, Cluster, Make}
-use Rattle.assise_desk.specs.DeskAnswers.{answers_alone, request_calls, has_no_cluster, request_makes, request_makes_none, request_manages, owned}
+use Rattle.assise_desk.specs.declared.desk_call.DeskCall.TheVariants.{Client, Cluster, Make, Query}
+use Rattle.assise_desk.specs.DeskAnswers.{answers_alone, request_calls, has_no_cluster, request_makes, request_makes_none, request_manages, request_queries, owned}
 use Rattle.assise_desk.proofs.DeskSteps.{number_is, owned_is}
 use Rattle.assise_desk.proofs.caller_desk.answer_request.Goals as goal
 
@@ -32,16 +32,29 @@ returns-in-Some-clause-answered c =
 
 pub returns-in-None-files-2-clause-answered : goal.returns-in-None-files-2-clause-answered
 returns-in-None-files-2-clause-answered c =
-    answers_alone (has_no_cluster (Client c.in-Some-Client.call)
-    (number_is c.in-Some-Client.field-0 (Client c.in-Some-Client.call) c.args.desk.now.request.call c.in-Some-Client.field-0-is c.in-Some-Client.ensures) tt
+    answers_alone (has_no_cluster (Query c.in-Some-Query.query)
+    (number_is c.in-Some-Query.field-0 (Query c.in-Some-Query.query) c.args.desk.now.request.call c.in-Some-Query.field-0-is c.in-Some-Query.ensures) tt
     (ap owned c.in-None-files-2.is) (ap owned c.in-None-files-2.is) refl) record { bytes = refl; stays = refl }
 
 pub returns-in-Some-files-clause-answered : goal.returns-in-Some-files-clause-answered
 returns-in-Some-files-clause-answered c =
-    request_calls c.in-Some-Client.call c.deref_mut-in-Some-files.result.now c.serve_client.new.files
+    let there = owned_is c.args.desk.now.files c.in-Some-files.files c.deref.result.now c.in-Some-files.is c.deref.ensures in
+    request_queries c.in-Some-Query.query c.deref.result.now
+    (number_is c.in-Some-Query.field-0 (Query c.in-Some-Query.query) c.args.desk.now.request.call c.in-Some-Query.field-0-is c.in-Some-Query.ensures)
+    there there c.tell.ensures record { bytes = refl; stays = refl }
+
+pub returns-in-None-files-3-clause-answered : goal.returns-in-None-files-3-clause-answered
+returns-in-None-files-3-clause-answered c =
+    answers_alone (has_no_cluster (Client c.in-Some-Client.call)
+    (number_is c.in-Some-Client.field-0 (Client c.in-Some-Client.call) c.args.desk.now.request.call c.in-Some-Client.field-0-is c.in-Some-Client.ensures) tt
+    (ap owned c.in-None-files-3.is) (ap owned c.in-None-files-3.is) refl) record { bytes = refl; stays = refl }
+
+pub returns-in-Some-files-2-clause-answered : goal.returns-in-Some-files-2-clause-answered
+returns-in-Some-files-2-clause-answered c =
+    request_calls c.in-Some-Client.call c.deref_mut-in-Some-files-2.result.now c.serve_client.new.files
     (number_is c.in-Some-Client.field-0 (Client c.in-Some-Client.call) c.args.desk.now.request.call c.in-Some-Client.field-0-is c.in-Some-Client.ensures)
     record {
-      from = owned_is c.args.desk.now.files c.in-Some-files.files c.deref_mut-in-Some-files.result.now c.in-Some-files.is c.deref_mut-in-Some-files.ensures.value;
+      from = owned_is c.args.desk.now.files c.in-Some-files-2.files c.deref_mut-in-Some-files-2.result.now c.in-Some-files-2.is c.deref_mut-in-Some-files-2.ensures.value;
       leaves = refl;
       turns = c.serve_client.ensures.turns;
     } c.serve_client.ensures.served

@@ -1,10 +1,9 @@
-use Rattle.assise_desk.proofs.DeskSteps.{crashing_told, failing_told, opening_told, return_told}
+use Rattle.assise_desk.proofs.DeskSteps.{crashing_told, failing_told, hot_told, opening_told, raising_told, return_told}
 use Rattle.assise_desk.proofs.caller_desk.manage.Goals as goal
 
 pub returns-in-Open-clause-does : goal.returns-in-Open-clause-does
 returns-in-Open-clause-does c =
-    opening_told c.args.call c.args.request.now c.number_told.result c.args.out.now c.args.out.now c.cut_kind_of.result c.open.result c.args.files.now c.open.new.self c.in-Open.is
-    c.number_told.ensures c.cut_kind_of.ensures c.open.ensures.happens c.open.ensures.stored
+    opening_told c.args.call c.args.request.now c.open_client.result c.args.out.now c.args.out.now c.args.files.now c.open_client.new.files c.in-Open.is c.open_client.ensures.opens
 
 pub returns-in-Crash-clause-does : goal.returns-in-Crash-clause-does
 returns-in-Crash-clause-does c =
@@ -20,3 +19,12 @@ pub returns-in-Back-clause-does : goal.returns-in-Back-clause-does
 returns-in-Back-clause-does c =
     return_told c.args.call c.args.request.now c.done_told-in-Back.result c.args.out.now c.args.out.now c.back.result c.args.files.now c.back.new.self c.in-Back.is
     c.done_told-in-Back.ensures c.back.ensures.comes_back
+
+pub returns-in-SetHot-clause-does : goal.returns-in-SetHot-clause-does
+returns-in-SetHot-clause-does c =
+    hot_told c.args.call c.args.request.now c.set_hot.result c.args.out.now c.args.out.now c.args.files.now c.set_hot.new.files c.in-SetHot.is c.set_hot.ensures.sets
+
+pub returns-in-Raise-clause-does : goal.returns-in-Raise-clause-does
+returns-in-Raise-clause-does c =
+    raising_told c.args.call c.args.request.now c.done_told-in-Raise.result c.args.out.now c.args.out.now c.raise.result c.args.files.now c.raise.new.self c.in-Raise.is
+    c.done_told-in-Raise.ensures c.raise.ensures.happens

@@ -12,8 +12,7 @@ returns-clause-phase g c =
 
 pub returns-clause-up : goal.returns-clause-up
 returns-clause-up g c =
-    let s = value_of c.args.self.now.sound.state in
-    (
+    let s = value_of c.args.self.now.sound.state in (
       λ full. fine_is_up c.args.self.now c.args.node (full_has_no_fault s c.args.node c.phase.result c.phase.ensures full),
       λ up. no_fault_is_full s c.args.node c.phase.result c.phase.ensures (up_is_fine c.args.self.now c.args.node up),
     )
