@@ -1,35 +1,50 @@
 //! A client's calls.
 
-use crate::desk::{turn, Call, Desk, Request, Shared, BYTES};
+use crate::desk::{turn, Desk, Request, Shared};
+use crate::numbers::{call, stands};
+use crate::stat::Stat;
 use std::io;
+use std::sync::MutexGuard;
 
-/// What stands at a path.
-#[derive(Clone, Copy, Debug, PartialEq, Eq)]
-pub enum Stat {
-    /// A file, and how many bytes it has.
-    File {
-        /// 0 to 1,048,576.
-        bytes: u64,
-    },
-    /// A directory, and how many names it has.
-    Directory {
-        /// 0 to 4,096.
-        entries: u64,
-    },
-}
-
-const FILE: u64 = 1;
-
-/// A client on a node. It is over once its node fails, also where the node comes back; files stay, and another client finds them.
+/// A client on a node, and the calls of the file system.
 ///
-/// A path is `/`, or a slash before each of its names: 32 names at most, of 1 to 255 bytes each.
+/// It is over once its node fails, also where the node comes back; files stay, and another client finds them.
+///
+/// A path is text: `/`, or a slash before each of its names, which are [`MOST_NAMES`](crate::limits::MOST_NAMES) at most, of 1 to
+/// [`MOST_NAME_BYTES`](crate::limits::MOST_NAME_BYTES) each.
+///
+/// # What goes with it
+///
+/// A clone is the same client. **Dropping it does nothing in the cluster**: the client stays open there, with its leases and with what it
+/// didn't sync, and its number is spent. Others still get at its files: the nodes make safe what they look at, and take its leases. The
+/// rest of what it didn't sync is on its node alone, and goes with it. So [`fsync`](Client::fsync) first; [`crash`](Client::crash) lets
+/// its leases go.
 ///
 /// # Errors
 ///
-/// Errors of the tree are the system's (`ENOENT` is [`NotFound`](io::ErrorKind::NotFound)). Besides those that a call names, each may be
-/// refused with [`NodeDown`](crate::Refusal::NodeDown), [`ClientGone`](crate::Refusal::ClientGone), [`Busy`](crate::Refusal::Busy)
-/// or [`OutOfMemory`](crate::Refusal::OutOfMemory), or for its path.
-#[derive(Debug)]
+/// Errors of the tree are the system's, as `ENOENT`, whose kind is [`NotFound`](io::ErrorKind::NotFound). Besides those that a call names,
+/// each may be refused with [`NodeDown`](crate::Refusal::NodeDown), [`ClientGone`](crate::Refusal::ClientGone),
+/// [`Busy`](crate::Refusal::Busy), [`LogFull`](crate::Refusal::LogFull) or [`OutOfMemory`](crate::Refusal::OutOfMemory), and each that
+/// takes a path for the path: [`NotAbsolute`](crate::Refusal::NotAbsolute), [`EmptyName`](crate::Refusal::EmptyName),
+/// [`BadName`](crate::Refusal::BadName), [`NameTooLong`](crate::Refusal::NameTooLong), [`TooDeep`](crate::Refusal::TooDeep),
+/// [`BadRequest`](crate::Refusal::BadRequest).
+///
+/// # Examples
+///
+/// ```
+/// # fn main() -> std::io::Result<()> {
+/// let client = assise::Cluster::new(2, 64, 64)?.open(1)?;
+/// client.mkdir("/box")?;
+/// client.write_all("/box/draft", "hello")?;
+/// client.rename("/box/draft", "/box/letter")?;
+/// client.fsync()?;
+/// assert_eq!(client.list("/box")?, ["letter"]);
+/// assert_eq!(client.read_all("/box/letter")?, b"hello");
+/// # Ok(())
+/// # }
+/// ```
+#[derive(Clone, Debug)]
+#[must_use = "a client that is dropped stays open in its cluster, and its number is spent"]
 pub struct Client {
     desk: Shared,
     number: u32,
@@ -40,18 +55,43 @@ impl Client {
         Client { desk, number }
     }
 
-    /// Its number, 1 to 32.
+    /// Its number, 1 to [`MOST_CLIENTS`](crate::limits::MOST_CLIENTS).
     pub fn number(&self) -> u32 {
         self.number
+    }
+
+    /// The client's process stops: it and its clones are over. Nothing that it did is lost by that: the nodes replicate it in their rounds,
+    /// and then its leases go. Until then, a failure of its node takes what isn't synced.
+    ///
+    /// ```
+    /// # fn main() -> std::io::Result<()> {
+    /// let cluster = assise::Cluster::new(2, 64, 64)?;
+    /// let client = cluster.open(1)?;
+    /// client.create("/letter")?;
+    /// client.crash()?;
+    /// while cluster.round()? {}
+    /// assert_eq!(cluster.fail(1)?, []);
+    /// # Ok(())
+    /// # }
+    /// ```
+    ///
+    /// # Errors
+    ///
+    /// [`ClientGone`](crate::Refusal::ClientGone) where it crashed before, [`NodeDown`](crate::Refusal::NodeDown).
+    #[doc(alias = "assise_crash")]
+    pub fn crash(self) -> io::Result<()> {
+        self.turn().ask(self.request(call::CRASH)).map(drop)
     }
 
     /// Makes a file without bytes.
     ///
     /// # Errors
     ///
-    /// `EEXIST`, `ENOENT`, `ENOTDIR`; `ENOSPC` where the directory has 4,096 names.
-    pub fn create(&self, path: &str) -> io::Result<()> {
-        self.ask(Call::Create, path)
+    /// `EEXIST`, `ENOENT`, `ENOTDIR`; `ENOSPC` where the directory has [`MOST_ENTRIES`](crate::limits::MOST_ENTRIES);
+    /// [`InodesSpent`](crate::Refusal::InodesSpent).
+    #[doc(alias = "create_new")]
+    pub fn create(&self, path: impl AsRef<str>) -> io::Result<()> {
+        self.done(self.request(call::CREATE), path.as_ref(), &[])
     }
 
     /// Makes a directory without names.
@@ -59,68 +99,9 @@ impl Client {
     /// # Errors
     ///
     /// Those of [`Client::create`].
-    pub fn mkdir(&self, path: &str) -> io::Result<()> {
-        self.ask(Call::Mkdir, path)
-    }
-
-    /// Reads from an offset on, and says how many bytes: fewer than there is room for at the file's end, none behind it.
-    ///
-    /// What has more than 12,288 bytes is read by several calls.
-    ///
-    /// # Errors
-    ///
-    /// `ENOENT`, `ENOTDIR`, `EISDIR`.
-    pub fn read(&self, path: &str, buffer: &mut [u8], offset: u64) -> io::Result<usize> {
-        let mut desk = turn(&self.desk);
-        let (mut done, mut at) = (0, offset);
-        for part in buffer.chunks_mut(BYTES) {
-            let request = Request { first: at, second: part.len() as u64, ..self.request(Call::Read) };
-            let got = desk.ask_at(request, path, &[])?;
-            let found = desk.answer(got);
-            part[..found.len()].copy_from_slice(found);
-            done += found.len();
-            at = at.saturating_add(got);
-            if found.len() < part.len() {
-                break;
-            }
-        }
-        Ok(done)
-    }
-
-    /// Writes all bytes at an offset. A gap behind the file's end is filled with zeros.
-    ///
-    /// What has, with its path, more than 12,288 bytes is written by several calls, and a failure may lose the last of them.
-    ///
-    /// # Errors
-    ///
-    /// `ENOENT`, `ENOTDIR`, `EISDIR`; `EFBIG` where the file would have more than 1,048,576 bytes.
-    pub fn write(&self, path: &str, bytes: &[u8], offset: u64) -> io::Result<()> {
-        let mut desk = turn(&self.desk);
-        let most = BYTES.saturating_sub(path.len()).max(1);
-        let mut at = offset;
-        if bytes.is_empty() {
-            return self.write_part(&mut desk, path, bytes, at);
-        }
-        for part in bytes.chunks(most) {
-            self.write_part(&mut desk, path, part, at)?;
-            at = at.saturating_add(part.len() as u64);
-        }
-        Ok(())
-    }
-
-    fn write_part(&self, desk: &mut Desk, path: &str, bytes: &[u8], offset: u64) -> io::Result<()> {
-        let request = Request { first: offset, ..self.request(Call::Write) };
-        desk.ask_at(request, path, bytes).map(drop)
-    }
-
-    /// Gives a file another size: it is cut, or filled up with zeros.
-    ///
-    /// # Errors
-    ///
-    /// Those of [`Client::write`].
-    pub fn truncate(&self, path: &str, size: u64) -> io::Result<()> {
-        let request = Request { first: size, ..self.request(Call::Truncate) };
-        turn(&self.desk).ask_at(request, path, &[]).map(drop)
+    #[doc(alias = "create_dir")]
+    pub fn mkdir(&self, path: impl AsRef<str>) -> io::Result<()> {
+        self.done(self.request(call::MKDIR), path.as_ref(), &[])
     }
 
     /// Moves what stands at `from` to `to`, at once. A file may replace a file, and a directory a directory without names.
@@ -128,17 +109,18 @@ impl Client {
     /// # Errors
     ///
     /// `ENOENT`, `ENOTDIR`, `EISDIR`, `ENOTEMPTY`, `ENOSPC`; `EINVAL` of the root, and of a path to one below itself.
-    pub fn rename(&self, from: &str, to: &str) -> io::Result<()> {
-        turn(&self.desk).ask_at(self.request(Call::Rename), from, to.as_bytes()).map(drop)
+    pub fn rename(&self, from: impl AsRef<str>, to: impl AsRef<str>) -> io::Result<()> {
+        self.done(self.request(call::RENAME), from.as_ref(), to.as_ref().as_bytes())
     }
 
-    /// Removes a file.
+    /// Removes a file. It is gone at once, also for who has it open as a [`File`](crate::File).
     ///
     /// # Errors
     ///
     /// `ENOENT`, `ENOTDIR`, `EISDIR`.
-    pub fn unlink(&self, path: &str) -> io::Result<()> {
-        self.ask(Call::Unlink, path)
+    #[doc(alias = "remove_file")]
+    pub fn unlink(&self, path: impl AsRef<str>) -> io::Result<()> {
+        self.done(self.request(call::UNLINK), path.as_ref(), &[])
     }
 
     /// Removes a directory without names.
@@ -146,26 +128,9 @@ impl Client {
     /// # Errors
     ///
     /// `ENOENT`, `ENOTDIR`, `ENOTEMPTY`; `EINVAL` of the root.
-    pub fn rmdir(&self, path: &str) -> io::Result<()> {
-        self.ask(Call::Rmdir, path)
-    }
-
-    /// The names in a directory, rising by their bytes.
-    ///
-    /// # Errors
-    ///
-    /// `ENOENT`, `ENOTDIR`.
-    pub fn list(&self, path: &str) -> io::Result<Vec<String>> {
-        let mut desk = turn(&self.desk);
-        let mut names = Vec::new();
-        loop {
-            let request = Request { first: names.len() as u64, ..self.request(Call::List) };
-            let count = desk.ask_at(request, path, &[])?;
-            take_names(desk.answer(count), &mut names)?;
-            if count == 0 || names.len() as u64 >= desk.stands() {
-                return Ok(names);
-            }
-        }
+    #[doc(alias = "remove_dir")]
+    pub fn rmdir(&self, path: impl AsRef<str>) -> io::Result<()> {
+        self.done(self.request(call::RMDIR), path.as_ref(), &[])
     }
 
     /// What stands at a path.
@@ -173,39 +138,39 @@ impl Client {
     /// # Errors
     ///
     /// `ENOENT`, `ENOTDIR`.
-    pub fn stat(&self, path: &str) -> io::Result<Stat> {
-        let mut desk = turn(&self.desk);
-        let count = desk.ask_at(self.request(Call::Stat), path, &[])?;
+    #[doc(alias = "metadata")]
+    pub fn stat(&self, path: impl AsRef<str>) -> io::Result<Stat> {
+        let path = path.as_ref();
+        let mut desk = self.turn();
+        let count = desk.ask_at(self.request(call::STAT), path, &[])?;
         match desk.stands() {
-            FILE => Ok(Stat::File { bytes: count }),
-            _ => Ok(Stat::Directory { entries: count }),
+            stands::DIR => Ok(Stat::Directory { entries: count }),
+            _ => Ok(Stat::File { bytes: count }),
         }
     }
 
-    /// Returns once all full nodes have all that this client wrote, in whatever files.
+    /// Returns once all full nodes have all that this client did so far, in whatever files.
     ///
     /// # Errors
     ///
     /// Those of each call.
+    #[doc(alias = "sync_all")]
     pub fn fsync(&self) -> io::Result<()> {
-        turn(&self.desk).ask(self.request(Call::Fsync)).map(drop)
+        self.turn().ask(self.request(call::FSYNC)).map(drop)
     }
 
-    fn request(&self, call: Call) -> Request {
+    /// The desk of the client's cluster, for one turn.
+    pub(crate) fn turn(&self) -> MutexGuard<'_, Desk> {
+        turn(&self.desk)
+    }
+
+    /// A request of the client, by a number of `call`.
+    pub(crate) fn request(&self, call: u32) -> Request {
         Request::of_client(call, self.number)
     }
 
-    fn ask(&self, call: Call, path: &str) -> io::Result<()> {
-        turn(&self.desk).ask_at(self.request(call), path, &[]).map(drop)
+    /// Serves a request that answers with a number of no meaning.
+    pub(crate) fn done(&self, request: Request, path: &str, other: &[u8]) -> io::Result<()> {
+        self.turn().ask_at(request, path, other).map(drop)
     }
-}
-
-/// Takes names that each have a zero byte behind them.
-fn take_names(bytes: &[u8], names: &mut Vec<String>) -> io::Result<()> {
-    for name in bytes.split_inclusive(|byte| *byte == 0) {
-        let name = name.strip_suffix(&[0]).unwrap_or(name);
-        let name = String::from_utf8(name.to_vec()).map_err(|error| io::Error::new(io::ErrorKind::InvalidData, error))?;
-        names.push(name);
-    }
-    Ok(())
 }

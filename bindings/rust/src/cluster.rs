@@ -1,58 +1,116 @@
 //! A cluster.
 
 use crate::client::Client;
-use crate::desk::{turn, Call, Desk, Request, Shared};
+use crate::desk::{turn, Desk, Request, Shared};
+use crate::numbers::{call, define, kind};
 use std::io;
 use std::sync::{Arc, Mutex};
 
 /// How much of a client's log is made safe before another client gets a lease of its.
-#[derive(Clone, Copy, Debug, PartialEq, Eq)]
+///
+/// ```
+/// # fn main() -> std::io::Result<()> {
+/// use assise::{Cluster, Revoker};
+///
+/// let cluster = Cluster::new(2, 64, 64)?;
+/// let writer = cluster.open_with(1, Revoker::Whole)?;
+/// writer.create("/seen")?;
+/// writer.create("/other")?;
+/// writer.write("/seen", "text", 0)?;
+/// writer.write("/other", "text", 0)?;
+///
+/// // Another client reads one file. By `Least`, the write behind would be lost with node 1.
+/// cluster.open(2)?.read_all("/seen")?;
+/// assert_eq!(cluster.fail(1)?, []);
+/// # Ok(())
+/// # }
+/// ```
+#[derive(Clone, Copy, Debug, PartialEq, Eq, Hash)]
+#[repr(u32)]
 pub enum Revoker {
-    /// What it wrote to the file or directory, and all before it.
-    Least = 0,
+    /// What it wrote to the file or directory that the lease is of, and all before that.
+    Least = kind::LEAST,
     /// All that it wrote.
-    Whole = 1,
-    /// As [`Revoker::Least`], and up to seven records more, so that their count is a multiple of 8.
-    Eights = 2,
+    Whole = kind::WHOLE,
+    /// As [`Revoker::Least`], and up to seven records more: to a multiple of 8, or to the log's end.
+    Eights = kind::EIGHTS,
 }
 
 /// What a client lost with its node.
-#[derive(Clone, Copy, Debug, PartialEq, Eq)]
+///
+/// ```
+/// # fn main() -> std::io::Result<()> {
+/// use assise::{Cluster, Lost};
+///
+/// let cluster = Cluster::new(2, 64, 64)?;
+/// let client = cluster.open(1)?;
+/// client.create("/kept")?; // its call 0
+/// client.fsync()?; // 1
+/// client.create("/lost")?; // 2
+/// assert_eq!(cluster.fail(1)?, [Lost { client: 1, first_call: 2 }]);
+/// # Ok(())
+/// # }
+/// ```
+#[derive(Clone, Copy, Debug, PartialEq, Eq, Hash)]
 pub struct Lost {
-    /// The client's number.
+    /// The client's number, from 1.
     pub client: u32,
-    /// The number of its first lost call, counted from 0. It and all behind it are lost.
+    /// The number of its first lost call, counted from 0. It and all behind it are lost. A call that found its log full asked for an
+    /// fsync, which counts as a call, too, if it was answered.
     pub first_call: u64,
 }
 
-/// How many bytes of an answer a lost client has: its number, and that of its first lost call.
-const LOST_BYTES: usize = 12;
-
-/// A cluster of nodes, numbered from 1. A clone is the same cluster; it goes with the last clone and the last client.
+/// A cluster of nodes, numbered from 1.
+///
+/// A clone is the same cluster. It goes with the last clone, client and file, and all that it holds with it.
+///
+/// Threads may share it: one request is served at a time, and who comes meanwhile waits.
+///
+/// ```
+/// # fn main() -> std::io::Result<()> {
+/// let cluster = assise::Cluster::new(3, 64, 64)?;
+/// let client = cluster.open(1)?;
+/// client.create("/letter")?;
+/// client.fsync()?;
+///
+/// cluster.fail(1)?;
+/// cluster.back(1)?;
+/// cluster.fail(2)?;
+/// assert_eq!(cluster.open(1)?.list("/")?, ["letter"]);
+/// assert!(cluster.is_legal()?);
+/// # Ok(())
+/// # }
+/// ```
 #[derive(Clone, Debug)]
 pub struct Cluster {
     desk: Shared,
 }
 
 impl Cluster {
-    /// Makes a cluster of 1 to 16 nodes, on which nothing has happened. A client's log holds `log` records, 8 to 4,096, and a node
-    /// keeps `hot` files and directories hot, 1 to 4,096.
+    /// Makes a cluster on which nothing has happened.
+    ///
+    /// It has 1 to [`MOST_NODES`](crate::limits::MOST_NODES) nodes. A client's log holds `log` records, which are
+    /// [`LEAST_LOG`](crate::limits::LEAST_LOG) to [`MOST_LOG`](crate::limits::MOST_LOG), and a node keeps `hot` files and directories
+    /// hot, 1 to [`MOST_HOT`](crate::limits::MOST_HOT).
     ///
     /// # Errors
     ///
     /// [`BadRequest`](crate::Refusal::BadRequest) where a number is out of range, [`OutOfMemory`](crate::Refusal::OutOfMemory).
+    #[doc(alias = "assise_make")]
     pub fn new(nodes: u32, log: u64, hot: u64) -> io::Result<Cluster> {
         let mut desk = Desk::new();
-        desk.ask(Request { node: nodes, first: log, second: hot, ..Request::new(Call::Make) })?;
+        desk.ask(Request { node: nodes, first: log, second: hot, ..Request::new(call::MAKE) })?;
         Ok(Cluster { desk: Arc::new(Mutex::new(desk)) })
     }
 
-    /// Opens a client on a full node, with [`Revoker::Least`]. A cluster has 32 clients in all, and no number comes back.
+    /// Opens a client on a full node, with [`Revoker::Least`]. A cluster has [`MOST_CLIENTS`](crate::limits::MOST_CLIENTS) in all, and no
+    /// number comes back.
     ///
     /// # Errors
     ///
     /// [`BadNode`](crate::Refusal::BadNode), [`NodeDown`](crate::Refusal::NodeDown) where the node isn't full,
     /// [`BadClient`](crate::Refusal::BadClient) where all clients were opened, [`OutOfMemory`](crate::Refusal::OutOfMemory).
+    #[doc(alias = "assise_open")]
     pub fn open(&self, node: u32) -> io::Result<Client> {
         self.open_with(node, Revoker::Least)
     }
@@ -63,17 +121,19 @@ impl Cluster {
     ///
     /// Those of [`Cluster::open`].
     pub fn open_with(&self, node: u32, revoker: Revoker) -> io::Result<Client> {
-        let number = self.ask(Request { node, kind: revoker as u32, ..Request::new(Call::Open) })?;
+        let number = self.ask(Request { node, kind: revoker as u32, ..Request::new(call::OPEN) })?;
         Ok(Client::new(Arc::clone(&self.desk), number as u32))
     }
 
-    /// The process of a client stops. What it wrote is replicated still, and then its leases go.
+    /// Crashes a client by its number: for one whose [`Client`] was dropped. [`Client::crash`] says what comes of it.
     ///
     /// # Errors
     ///
-    /// [`BadClient`](crate::Refusal::BadClient), [`ClientGone`](crate::Refusal::ClientGone), [`NodeDown`](crate::Refusal::NodeDown).
+    /// [`BadClient`](crate::Refusal::BadClient) where none has the number, [`ClientGone`](crate::Refusal::ClientGone) where it crashed,
+    /// [`NodeDown`](crate::Refusal::NodeDown) where its node failed.
+    #[doc(alias = "assise_crash")]
     pub fn crash(&self, client: u32) -> io::Result<()> {
-        self.ask(Request::of_client(Call::Crash, client)).map(drop)
+        self.ask(Request::of_client(call::CRASH, client)).map(drop)
     }
 
     /// A node stops, and the clients on it are over: what each lost, by their rising numbers. Of a client that isn't named no call is
@@ -83,20 +143,23 @@ impl Cluster {
     ///
     /// [`BadNode`](crate::Refusal::BadNode), [`WrongPhase`](crate::Refusal::WrongPhase) where it is down,
     /// [`LastNode`](crate::Refusal::LastNode) where no other is full, [`OutOfMemory`](crate::Refusal::OutOfMemory).
+    #[doc(alias = "assise_fail")]
     pub fn fail(&self, node: u32) -> io::Result<Vec<Lost>> {
         let mut desk = turn(&self.desk);
-        let count = desk.ask(Request { node, ..Request::new(Call::Fail) })?;
-        Ok(desk.answer(count).chunks_exact(LOST_BYTES).map(lost_of).collect())
+        let count = desk.ask(Request { node, ..Request::new(call::FAIL) })?;
+        Ok(desk.answer(count).chunks_exact(define::LOSS_BYTES as usize).map(lost_of).collect())
     }
 
-    /// A node that is down comes back: it is filled from the others, and full again.
+    /// A node that is down comes back: it is filled from the others, and full again. Where that is refused midway, for memory, let it
+    /// fail and come back again.
     ///
     /// # Errors
     ///
     /// [`BadNode`](crate::Refusal::BadNode), [`WrongPhase`](crate::Refusal::WrongPhase) where it isn't down,
     /// [`OutOfMemory`](crate::Refusal::OutOfMemory).
+    #[doc(alias = "assise_back")]
     pub fn back(&self, node: u32) -> io::Result<()> {
-        self.ask(Request { node, ..Request::new(Call::Back) }).map(drop)
+        self.ask(Request { node, ..Request::new(call::BACK) }).map(drop)
     }
 
     /// One round of all nodes: each sends what is to be replicated and digests what all have, and leases go that may. Says whether there
@@ -104,27 +167,31 @@ impl Cluster {
     ///
     /// # Errors
     ///
-    /// None is known.
+    /// None: a cluster always answers it.
+    #[doc(alias = "assise_round")]
     pub fn round(&self) -> io::Result<bool> {
-        Ok(self.ask(Request::new(Call::Round))? == 1)
+        Ok(self.ask(Request::new(call::ROUND))? == 1)
     }
 
-    /// How many entries the history has: each call, each client that was opened or crashed, each failure and return of a node.
+    /// How many entries the history has: each call, each client that was opened or crashed, each failure and return of a node. All are
+    /// kept in memory, with the bytes of each write.
     ///
     /// # Errors
     ///
-    /// None is known.
+    /// None: a cluster always answers it.
+    #[doc(alias = "assise_history")]
     pub fn history_len(&self) -> io::Result<u64> {
-        self.ask(Request::new(Call::History))
+        self.ask(Request::new(call::HISTORY))
     }
 
-    /// Whether the history is legal, checked anew.
+    /// Whether the history is legal, which it is: that is checked anew, and takes long where it is.
     ///
     /// # Errors
     ///
     /// [`OutOfMemory`](crate::Refusal::OutOfMemory).
+    #[doc(alias = "assise_legal")]
     pub fn is_legal(&self) -> io::Result<bool> {
-        Ok(self.ask(Request::new(Call::Legal))? == 1)
+        Ok(self.ask(Request::new(call::LEGAL))? == 1)
     }
 
     fn ask(&self, request: Request) -> io::Result<u64> {

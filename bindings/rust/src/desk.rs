@@ -1,40 +1,14 @@
-//! The place at which requests are served: `include/assise.h` in Rust.
+//! The place at which requests are served: the structs of `assise.h` in Rust, and the two functions of the library.
 
-use crate::refusal::error_of;
-use std::ffi::c_void;
+use crate::faults::error_of;
+use crate::limits::CALL_BYTES;
+use crate::numbers::{call, fault};
+use std::ffi::{c_char, c_void, CStr};
 use std::fmt;
 use std::io;
 use std::mem::MaybeUninit;
+use std::ptr::addr_of;
 use std::sync::{Arc, Mutex, MutexGuard, PoisonError};
-
-/// How many bytes a request or an answer may have.
-pub(crate) const BYTES: usize = 12_288;
-
-/// What a request asks for.
-#[derive(Clone, Copy)]
-#[repr(u32)]
-pub(crate) enum Call {
-    Make = 1,
-    Free,
-    Open,
-    Crash,
-    Fail,
-    Back,
-    Legal,
-    Round,
-    History,
-    Create = 16,
-    Mkdir,
-    Read,
-    Write,
-    Truncate,
-    Rename,
-    Unlink,
-    Rmdir,
-    List,
-    Stat,
-    Fsync,
-}
 
 /// A request's words: what is asked for, by or of whom, and two numbers more.
 #[derive(Clone, Copy, Default)]
@@ -51,11 +25,12 @@ pub(crate) struct Request {
 }
 
 impl Request {
-    pub(crate) fn new(call: Call) -> Request {
-        Request { call: call as u32, ..Request::default() }
+    /// A request of one of the numbers of `call`.
+    pub(crate) fn new(call: u32) -> Request {
+        Request { call, ..Request::default() }
     }
 
-    pub(crate) fn of_client(call: Call, client: u32) -> Request {
+    pub(crate) fn of_client(call: u32, client: u32) -> Request {
         Request { client, ..Request::new(call) }
     }
 }
@@ -66,19 +41,33 @@ struct Place {
     request: Request,
     result: i64,
     stands: u64,
-    bytes: [u8; BYTES],
+    bytes: [u8; CALL_BYTES],
     cluster: [*mut c_void; 2],
 }
 
 extern "C" {
+    static assise_version_text: [c_char; 0];
     fn assise_begin(place: *mut Place);
     fn assise_serve(place: *mut Place);
+}
+
+/// The version and commit of the library that the program is linked with, and whether it is proved: `0.1.0 (d329e992a, unproved)`.
+///
+/// ```
+/// println!("assise {}", assise::version());
+/// ```
+#[doc(alias = "assise_version")]
+pub fn version() -> &'static str {
+    // SAFETY: it is a text of the library's that ends with a zero byte, and nobody writes it.
+    let text = unsafe { CStr::from_ptr(addr_of!(assise_version_text).cast()) };
+    text.to_str().unwrap_or("unknown")
 }
 
 /// A desk, whose cluster goes with it.
 pub(crate) struct Desk(Box<Place>);
 
-// SAFETY: a cluster is memory of its own, and nothing of it is a thread's.
+// SAFETY: a cluster is memory of its own, by malloc and free, and the library keeps nothing of it elsewhere: not in a thread's memory, and
+// not in the process's. It isn't `Sync`: who asks has it alone, as `&mut`.
 unsafe impl Send for Desk {}
 
 impl Desk {
@@ -95,16 +84,16 @@ impl Desk {
     /// Serves a request: a result of 0 or more, or the error for another.
     pub(crate) fn ask(&mut self, request: Request) -> io::Result<u64> {
         self.0.request = request;
-        // SAFETY: the desk was begun, nobody else has it, and it stays where it is.
+        // SAFETY: the desk was begun, nobody else has it, and its cluster is the library's own.
         unsafe { assise_serve(&mut *self.0) };
         u64::try_from(self.0.result).map_err(|_| error_of(self.0.result))
     }
 
     /// Serves a request with a path, and behind it other bytes: what is written, or a second path.
     pub(crate) fn ask_at(&mut self, mut request: Request, path: &str, other: &[u8]) -> io::Result<u64> {
-        let end = path.len() + other.len();
-        if end > BYTES {
-            return Err(error_of(BAD_REQUEST));
+        let end = path.len().saturating_add(other.len());
+        if end > CALL_BYTES {
+            return Err(error_of(fault::BAD_REQUEST));
         }
         self.0.bytes[..path.len()].copy_from_slice(path.as_bytes());
         self.0.bytes[path.len()..end].copy_from_slice(other);
@@ -115,8 +104,8 @@ impl Desk {
 
     /// The first bytes of the answer.
     pub(crate) fn answer(&self, count: u64) -> &[u8] {
-        let count = usize::try_from(count).unwrap_or(BYTES);
-        &self.0.bytes[..count.min(BYTES)]
+        let count = usize::try_from(count).unwrap_or(CALL_BYTES);
+        &self.0.bytes[..count.min(CALL_BYTES)]
     }
 
     /// What stands at a path that was looked at, or how many entries a directory has that was listed.
@@ -125,11 +114,10 @@ impl Desk {
     }
 }
 
-const BAD_REQUEST: i64 = -302;
-
 impl Drop for Desk {
     fn drop(&mut self) {
-        let _ = self.ask(Request::new(Call::Free));
+        // It is refused only where there is no cluster.
+        let _ = self.ask(Request::new(call::FREE));
     }
 }
 
@@ -139,7 +127,7 @@ impl fmt::Debug for Desk {
     }
 }
 
-/// A desk that a cluster and its clients share.
+/// A desk that a cluster, its clients and their files share.
 pub(crate) type Shared = Arc<Mutex<Desk>>;
 
 /// The desk, for one turn. A thread that panicked with it left it whole: the library returns from each request.
@@ -150,43 +138,24 @@ pub(crate) fn turn(desk: &Shared) -> MutexGuard<'_, Desk> {
 #[cfg(test)]
 mod tests {
     use super::*;
+    use crate::numbers::{define, DESK};
     use std::mem::{align_of, size_of};
 
-    const CALLS: [(Call, &str); 20] = [
-        (Call::Make, "MAKE"),
-        (Call::Free, "FREE"),
-        (Call::Open, "OPEN"),
-        (Call::Crash, "CRASH"),
-        (Call::Fail, "FAIL"),
-        (Call::Back, "BACK"),
-        (Call::Legal, "LEGAL"),
-        (Call::Round, "ROUND"),
-        (Call::History, "HISTORY"),
-        (Call::Create, "CREATE"),
-        (Call::Mkdir, "MKDIR"),
-        (Call::Read, "READ"),
-        (Call::Write, "WRITE"),
-        (Call::Truncate, "TRUNCATE"),
-        (Call::Rename, "RENAME"),
-        (Call::Unlink, "UNLINK"),
-        (Call::Rmdir, "RMDIR"),
-        (Call::List, "LIST"),
-        (Call::Stat, "STAT"),
-        (Call::Fsync, "FSYNC"),
-    ];
-
-    #[test]
-    fn the_header_has_each_call() {
-        let header = include_str!("../../../include/assise.h");
-        for (call, name) in CALLS {
-            assert!(header.contains(&format!("ASSISE_{name} = {}", call as u32)), "no {name}");
-        }
-        assert!(header.contains(&format!("#define ASSISE_BYTES {BYTES}\n")));
-    }
+    /// The structs as [`Request`] and [`Place`] have them.
+    const SEEN: &str = "struct assise_request { uint32_t call; uint32_t client; uint32_t node; uint32_t path_bytes; \
+        uint32_t other_bytes; uint32_t kind; uint64_t first; uint64_t second; } struct assise_desk { struct assise_request request; \
+        int64_t result; uint64_t stands; uint8_t bytes[ASSISE_BYTES]; void *cluster[2]; }";
 
     #[test]
     fn a_desk_lies_as_in_c() {
-        assert_eq!((size_of::<Request>(), align_of::<Request>()), (40, 8));
-        assert_eq!((size_of::<Place>(), align_of::<Place>()), (40 + 16 + BYTES + 16, 8));
+        assert_eq!(DESK, format!("#define ASSISE_BYTES {CALL_BYTES} {SEEN}"));
+        assert_eq!((size_of::<Request>(), align_of::<Request>()), (6 * 4 + 2 * 8, 8));
+        assert_eq!((size_of::<Place>(), align_of::<Place>()), (size_of::<Request>() + 2 * 8 + CALL_BYTES + 2 * size_of::<usize>(), 8));
+    }
+
+    #[test]
+    fn crate_header_and_library_are_of_one_version() {
+        assert_eq!(define::VERSION, env!("CARGO_PKG_VERSION"));
+        assert!(version().starts_with(&format!("{} (", define::VERSION)));
     }
 }

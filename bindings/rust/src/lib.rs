@@ -1,36 +1,58 @@
-//! A replicated file system as a library: a [`Cluster`] of one to sixteen nodes in this process, and the calls of its [`Client`]s.
+//! A replicated file system as a library: a [`Cluster`] of nodes in this process, and the calls of its [`Client`]s.
 //!
 //! A client writes to its node; [`Client::fsync`] is answered once all full nodes have what it wrote. Where a node fails, its clients
 //! are over, and each loses at most a tail of its calls behind its last fsync, over all files, in order. A client that is opened on
 //! another node finds the rest.
 //!
 //! ```
-//! # fn main() -> std::io::Result<()> {
-//! let cluster = assise::Cluster::new(2, 64, 16)?;
-//! let writer = cluster.open(1)?;
-//! writer.create("/letter")?;
-//! writer.write("/letter", b"kept", 0)?;
-//! writer.fsync()?;
-//! writer.write("/letter", b"lost", 0)?;
-//! cluster.fail(1)?;
+//! use std::io::Write;
 //!
-//! let mut text = [0; 4];
-//! cluster.open(2)?.read("/letter", &mut text, 0)?;
-//! assert_eq!(&text, b"kept");
+//! # fn main() -> std::io::Result<()> {
+//! let cluster = assise::Cluster::new(2, 64, 64)?;
+//! let mut letter = cluster.open(1)?.create_file("/letter")?;
+//! letter.write_all(b"kept")?;
+//! letter.sync_all()?;
+//! letter.write_all(b", and lost")?;
+//! cluster.fail(1)?;
+//! assert_eq!(cluster.open(2)?.read_all("/letter")?, b"kept");
 //! # Ok(())
 //! # }
 //! ```
+//!
+//! The calls of a client have the names that they have in C and in scripts, as `mkdir`; where std has a type, names are std's, as those of
+//! [`File`]. Paths are text.
 //!
 //! The cluster itself is proved; this crate isn't. It adds a lock, so that threads may share a cluster, and puts errors in
 //! [`io::Error`](std::io::Error)s: those of the tree are the system's, as `ENOENT`, and of all others [`Refusal::of`] says which.
 //!
 //! The cluster keeps each call, and the bytes of each write, in its history: in memory, as long as it is there.
 
+#![warn(missing_docs)]
+#![deny(unsafe_code)]
+
+mod bytes;
 mod client;
 mod cluster;
+#[allow(unsafe_code)]
 mod desk;
+mod errno;
+mod faults;
+mod file;
+pub mod limits;
+mod numbers;
+mod read_dir;
 mod refusal;
+mod stat;
 
-pub use client::{Client, Stat};
+pub use client::Client;
 pub use cluster::{Cluster, Lost, Revoker};
+pub use desk::version;
+pub use file::File;
+pub use read_dir::ReadDir;
 pub use refusal::Refusal;
+pub use stat::Stat;
+
+/// The programs of the page are tests.
+#[cfg(doctest)]
+#[doc = include_str!("../README.md")]
+struct Page;

@@ -1,136 +1,139 @@
-//! Results below 0, as errors.
+//! Why a call wasn't served.
 
+use crate::errno::EINVAL;
+use crate::faults::fault_of;
+use crate::numbers::fault;
 use std::error::Error;
 use std::fmt;
-use std::io::{self, ErrorKind};
+use std::io;
 
-/// Why a call wasn't served, where the tree isn't the reason. A refused call changed nothing.
-#[derive(Clone, Copy, Debug, PartialEq, Eq)]
+/// Why a call wasn't served, where the tree isn't the reason. A refused call stands in no history, and changed no file.
+///
+/// An [`io::Error`] of this crate either has the system's number, and is the tree's, or carries a refusal, which [`Refusal::of`] gives
+/// back. The [`kind`](io::Error::kind) of such an error is that of the system's nearest number, [`Refusal::errno`], which may be one that
+/// no program can name: so ask for the refusal.
+///
+/// ```
+/// use assise::{Cluster, Refusal};
+///
+/// # fn main() -> std::io::Result<()> {
+/// let cluster = Cluster::new(2, 64, 64)?;
+/// let client = cluster.open(1)?;
+/// cluster.fail(1)?;
+///
+/// let error = client.create("/letter").unwrap_err();
+/// assert_eq!(Refusal::of(&error), Some(Refusal::NodeDown));
+///
+/// // An error of the tree is none.
+/// let error = cluster.open(2)?.stat("/letter").unwrap_err();
+/// assert_eq!(Refusal::of(&error), None);
+/// assert_eq!(error.kind(), std::io::ErrorKind::NotFound);
+/// # Ok(())
+/// # }
+/// ```
+#[derive(Clone, Copy, Debug, PartialEq, Eq, Hash)]
 #[non_exhaustive]
+#[repr(i64)]
 pub enum Refusal {
     /// Memory was refused: call again.
-    OutOfMemory,
-    /// The call was tried over and over, and waited each time.
-    Busy,
+    OutOfMemory = fault::OUT_OF_MEMORY,
+    /// The call was tried over and over, waited each time, and the nodes have nothing left to do: call again, or bring a node back.
+    Busy = fault::BUSY,
     /// The client's node has failed since the client was opened, or a client was to be opened on a node that isn't full. Open one on
     /// a full node.
-    NodeDown,
-    /// The client has crashed.
-    ClientGone,
-    /// The client has made 1,048,576 files and directories.
-    InodesSpent,
-    /// A write is longer than one may be.
-    TooLarge,
+    NodeDown = fault::NODE_DOWN,
+    /// The client has crashed: open another.
+    ClientGone = fault::CLIENT_GONE,
+    /// The client has made [`MOST_INODES`](crate::limits::MOST_INODES) files and directories: open another.
+    InodesSpent = fault::INODES_SPENT,
+    /// A single write is too long. No write of this crate is, since it goes in parts.
+    TooLarge = fault::TOO_LARGE,
     /// The only full node can't fail.
-    LastNode,
+    LastNode = fault::LAST_NODE,
     /// There is no such node.
-    BadNode,
-    /// There is no such client, or all were opened that may be.
-    BadClient,
+    BadNode = fault::BAD_NODE,
+    /// There is no such client, or [`MOST_CLIENTS`](crate::limits::MOST_CLIENTS) were opened, which is all that may be.
+    BadClient = fault::BAD_CLIENT,
     /// A node that is down can't fail, and only one that is down comes back.
-    WrongPhase,
-    /// A message that no node takes.
-    StaleMessage,
-    /// The client's log has no room.
-    LogFull,
-    /// A path has to begin with a slash.
-    NotAbsolute,
-    /// A name in a path has no bytes.
-    EmptyName,
+    WrongPhase = fault::WRONG_PHASE,
+    /// A message of an earlier epoch, which no node takes. No call of this crate is refused so.
+    StaleMessage = fault::STALE_MESSAGE,
+    /// The client's log has no room, and the nodes have nothing left to do.
+    LogFull = fault::LOG_FULL,
+    /// A path begins with no slash.
+    NotAbsolute = fault::NOT_ABSOLUTE,
+    /// A name in a path has no bytes: two slashes stand together, or one stands at the end.
+    EmptyName = fault::EMPTY_NAME,
     /// A name is `.` or `..`, or has a zero byte.
-    BadName,
-    /// A name has more than 255 bytes.
-    NameTooLong,
-    /// A path has more than 32 names.
-    TooDeep,
-    /// There is no cluster.
-    NoCluster,
-    /// A number is out of range, or a path is too long.
-    BadRequest,
-    /// An answer has no room.
-    NoRoom,
+    BadName = fault::BAD_NAME,
+    /// A name has more than [`MOST_NAME_BYTES`](crate::limits::MOST_NAME_BYTES).
+    NameTooLong = fault::NAME_TOO_LONG,
+    /// A path has more than [`MOST_NAMES`](crate::limits::MOST_NAMES).
+    TooDeep = fault::TOO_DEEP,
+    /// There is no cluster. No call of this crate is refused so, since a [`Cluster`](crate::Cluster) is one.
+    NoCluster = fault::NO_CLUSTER,
+    /// A number is out of range, or a path has more bytes than a request.
+    BadRequest = fault::BAD_REQUEST,
+    /// An answer has more bytes than one may have. No call of this crate is refused so.
+    NoRoom = fault::NO_ROOM,
 }
 
-/// Each refusal with its result, the kind of its error, and its text.
-const REFUSALS: [(i64, Refusal, ErrorKind, &str); 20] = [
-    (-101, Refusal::OutOfMemory, ErrorKind::OutOfMemory, "out of memory"),
-    (-102, Refusal::Busy, ErrorKind::TimedOut, "each try of the call waited"),
-    (-103, Refusal::NodeDown, ErrorKind::NotConnected, "the node has failed"),
-    (-104, Refusal::ClientGone, ErrorKind::NotConnected, "the client has crashed"),
-    (-105, Refusal::InodesSpent, ErrorKind::Other, "the client can make no more files"),
-    (-106, Refusal::TooLarge, ErrorKind::InvalidInput, "the write is too long"),
-    (-107, Refusal::LastNode, ErrorKind::InvalidInput, "the only full node can't fail"),
-    (-108, Refusal::BadNode, ErrorKind::InvalidInput, "there is no such node"),
-    (-109, Refusal::BadClient, ErrorKind::Other, "there is no such client, or all were opened"),
-    (-110, Refusal::WrongPhase, ErrorKind::InvalidInput, "the node is in another phase"),
-    (-111, Refusal::StaleMessage, ErrorKind::Other, "the message is stale"),
-    (-112, Refusal::LogFull, ErrorKind::Other, "the client's log is full"),
-    (-201, Refusal::NotAbsolute, ErrorKind::InvalidInput, "the path doesn't begin with a slash"),
-    (-202, Refusal::EmptyName, ErrorKind::InvalidInput, "a name in the path is empty"),
-    (-203, Refusal::BadName, ErrorKind::InvalidInput, "a name in the path can't be one"),
-    (-204, Refusal::NameTooLong, ErrorKind::InvalidInput, "a name in the path is too long"),
-    (-205, Refusal::TooDeep, ErrorKind::InvalidInput, "the path has too many names"),
-    (-301, Refusal::NoCluster, ErrorKind::NotConnected, "there is no cluster"),
-    (-302, Refusal::BadRequest, ErrorKind::InvalidInput, "the request is out of range"),
-    (-303, Refusal::NoRoom, ErrorKind::Other, "the answer has no room"),
+const ALL: [Refusal; 20] = [
+    Refusal::OutOfMemory,
+    Refusal::Busy,
+    Refusal::NodeDown,
+    Refusal::ClientGone,
+    Refusal::InodesSpent,
+    Refusal::TooLarge,
+    Refusal::LastNode,
+    Refusal::BadNode,
+    Refusal::BadClient,
+    Refusal::WrongPhase,
+    Refusal::StaleMessage,
+    Refusal::LogFull,
+    Refusal::NotAbsolute,
+    Refusal::EmptyName,
+    Refusal::BadName,
+    Refusal::NameTooLong,
+    Refusal::TooDeep,
+    Refusal::NoCluster,
+    Refusal::BadRequest,
+    Refusal::NoRoom,
 ];
 
-/// The system's number of each error of the tree, from result -1 on: ENOENT, EEXIST, ENOTDIR, EISDIR, ENOTEMPTY, EINVAL, EFBIG, ENOSPC.
-const TREE_ERRORS: [i32; 8] = [2, 17, 20, 21, 39, 22, 27, 28];
-
 impl Refusal {
-    /// The refusal that an error of this crate is for, or `None` of one of the tree.
+    /// The refusal that an error of this crate is for, or `None` of one of the tree, and of any other.
     pub fn of(error: &io::Error) -> Option<Refusal> {
         error.get_ref()?.downcast_ref::<Refusal>().copied()
+    }
+
+    /// The number of `<errno.h>` that is nearest: `EIO` where node or client is gone, `EAGAIN` where the call waits. A file system
+    /// that is called by number, as one under FUSE, answers it.
+    ///
+    /// ```
+    /// assert_eq!(assise::Refusal::NodeDown.errno(), 5);
+    /// ```
+    #[doc(alias = "assise_errno")]
+    pub fn errno(self) -> i32 {
+        fault_of(self as i64).map_or(EINVAL, |fault| fault.errno)
+    }
+
+    pub(crate) fn of_code(code: i64) -> Option<Refusal> {
+        ALL.into_iter().find(|refusal| *refusal as i64 == code)
     }
 }
 
 impl fmt::Display for Refusal {
     fn fmt(&self, out: &mut fmt::Formatter<'_>) -> fmt::Result {
-        let row = REFUSALS.iter().find(|row| row.1 == *self);
-        out.write_str(row.map_or("refused", |row| row.3))
+        out.write_str(fault_of(*self as i64).map_or("refused", |fault| fault.text))
     }
 }
 
 impl Error for Refusal {}
 
-/// The error for a result below 0.
-pub(crate) fn error_of(result: i64) -> io::Error {
-    if let Some(row) = REFUSALS.iter().find(|row| row.0 == result) {
-        return io::Error::new(row.2, row.1);
-    }
-    let tree = usize::try_from(-1 - result).ok().and_then(|at| TREE_ERRORS.get(at));
-    match tree {
-        Some(number) => io::Error::from_raw_os_error(*number),
-        None => io::Error::new(ErrorKind::Other, format!("result {result}")),
-    }
-}
-
-#[cfg(test)]
-mod tests {
-    use super::*;
-
-    #[test]
-    fn each_result_has_its_error() {
-        for (result, refusal, kind, text) in REFUSALS {
-            let error = error_of(result);
-            assert_eq!((Refusal::of(&error), error.kind()), (Some(refusal), kind));
-            assert_eq!(error.to_string(), text);
-        }
-        for (at, number) in TREE_ERRORS.iter().enumerate() {
-            let error = error_of(-1 - at as i64);
-            assert_eq!((error.raw_os_error(), Refusal::of(&error)), (Some(*number), None));
-        }
-        assert_eq!(error_of(-999).to_string(), "result -999");
-    }
-
-    #[test]
-    fn the_header_has_each_result() {
-        let header = include_str!("../../../include/assise.h");
-        let results = REFUSALS.iter().map(|row| row.0).chain(-(TREE_ERRORS.len() as i64)..0);
-        for result in results {
-            let has_it = [",", " "].iter().any(|end| header.contains(&format!(" = {result}{end}")));
-            assert!(has_it, "no {result}");
-        }
+/// The refusal is the error's inner one, and its kind that of [`Refusal::errno`].
+impl From<Refusal> for io::Error {
+    fn from(refusal: Refusal) -> io::Error {
+        io::Error::new(io::Error::from_raw_os_error(refusal.errno()).kind(), refusal)
     }
 }

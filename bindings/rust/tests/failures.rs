@@ -1,15 +1,6 @@
-//! What failures, returns and crashes leave, and threads.
+//! What failures, returns and crashes leave.
 
-use assise::{Client, Cluster, Lost, Refusal, Stat};
-use std::io::ErrorKind;
-use std::thread;
-
-fn bytes_of(client: &Client, path: &str) -> Vec<u8> {
-    let mut bytes = vec![0; 100];
-    let count = client.read(path, &mut bytes, 0).unwrap();
-    bytes.truncate(count);
-    bytes
-}
+use assise::{Cluster, Lost, Refusal, Revoker, Stat};
 
 #[test]
 fn what_is_synced_is_kept() {
@@ -23,9 +14,32 @@ fn what_is_synced_is_kept() {
     assert_eq!(cluster.fail(1).unwrap(), [Lost { client: 1, first_call: 3 }]);
 
     let reader = cluster.open(2).unwrap();
-    assert_eq!(bytes_of(&reader, "/kept"), b"synced");
+    assert_eq!(reader.read_all("/kept").unwrap(), b"synced");
     assert_eq!(reader.list("/").unwrap(), ["kept"]);
     assert!(cluster.is_legal().unwrap());
+}
+
+#[test]
+fn each_client_of_the_node_has_its_own_loss() {
+    let cluster = Cluster::new(2, 64, 64).unwrap();
+    let clients: Vec<_> = (0..3).map(|_| cluster.open(1).unwrap()).collect();
+    clients[0].mkdir("/a").unwrap();
+    clients[0].mkdir("/b").unwrap();
+    clients[0].mkdir("/c").unwrap();
+    clients[0].fsync().unwrap();
+    clients[0].create("/a/lost").unwrap();
+    clients[1].create("/b/kept").unwrap();
+    clients[1].fsync().unwrap();
+    clients[2].create("/c/kept").unwrap();
+    clients[2].fsync().unwrap();
+    clients[2].create("/c/lost").unwrap();
+    clients[2].unlink("/c/kept").unwrap();
+    let lost = [Lost { client: 1, first_call: 4 }, Lost { client: 3, first_call: 2 }];
+    assert_eq!(cluster.fail(1).unwrap(), lost);
+    let reader = cluster.open(2).unwrap();
+    assert_eq!(reader.list("/a").unwrap(), [""; 0]);
+    assert_eq!(reader.list("/b").unwrap(), ["kept"]);
+    assert_eq!(reader.list("/c").unwrap(), ["kept"]);
 }
 
 #[test]
@@ -34,9 +48,8 @@ fn a_client_of_a_failed_node_is_over() {
     let client = cluster.open(1).unwrap();
     assert_eq!(cluster.fail(1).unwrap(), []);
     let error = client.list("/").unwrap_err();
-    assert_eq!(error.kind(), ErrorKind::NotConnected);
     assert_eq!(Refusal::of(&error), Some(Refusal::NodeDown));
-    assert_eq!(Refusal::of(&cluster.open(1).unwrap_err()), Some(Refusal::NodeDown));
+    assert_eq!(Refusal::NodeDown.errno(), 5);
 
     cluster.back(1).unwrap();
     assert!(client.list("/").is_err());
@@ -49,9 +62,32 @@ fn what_another_read_is_kept() {
     let (writer, reader) = (cluster.open(1).unwrap(), cluster.open(2).unwrap());
     writer.create("/file").unwrap();
     writer.write("/file", b"seen", 0).unwrap();
-    assert_eq!(bytes_of(&reader, "/file"), b"seen");
+    assert_eq!(reader.read_all("/file").unwrap(), b"seen");
     cluster.fail(1).unwrap();
-    assert_eq!(bytes_of(&reader, "/file"), b"seen");
+    assert_eq!(reader.read_all("/file").unwrap(), b"seen");
+}
+
+/// What a client loses once another read what its first write behind an fsync wrote, which is its record 3, of eleven behind.
+fn loss_with(revoker: Revoker) -> Vec<Lost> {
+    let cluster = Cluster::new(2, 64, 64).unwrap();
+    let writer = cluster.open_with(1, revoker).unwrap();
+    writer.create("/seen").unwrap();
+    writer.create("/other").unwrap();
+    writer.fsync().unwrap();
+    writer.write("/seen", "x", 0).unwrap();
+    for at in 0..10 {
+        writer.write("/other", "x", at).unwrap();
+    }
+    cluster.open(2).unwrap().read_all("/seen").unwrap();
+    cluster.fail(1).unwrap()
+}
+
+#[test]
+fn a_revoker_says_how_much_is_kept() {
+    assert_eq!(loss_with(Revoker::Least), [Lost { client: 1, first_call: 4 }]);
+    // Records 4 to 8 are those of the calls 4 to 8.
+    assert_eq!(loss_with(Revoker::Eights), [Lost { client: 1, first_call: 9 }]);
+    assert_eq!(loss_with(Revoker::Whole), []);
 }
 
 #[test]
@@ -59,12 +95,11 @@ fn a_node_that_comes_back_has_all() {
     let cluster = Cluster::new(2, 64, 64).unwrap();
     cluster.fail(1).unwrap();
     let writer = cluster.open(2).unwrap();
-    writer.create("/file").unwrap();
-    writer.write("/file", b"text", 0).unwrap();
+    writer.write_all("/file", "text").unwrap();
     cluster.back(1).unwrap();
     writer.fsync().unwrap();
     cluster.fail(2).unwrap();
-    assert_eq!(bytes_of(&cluster.open(1).unwrap(), "/file"), b"text");
+    assert_eq!(cluster.open(1).unwrap().read_all("/file").unwrap(), b"text");
     assert!(cluster.is_legal().unwrap());
 }
 
@@ -73,20 +108,45 @@ fn a_crash_keeps_what_was_written() {
     let cluster = Cluster::new(2, 64, 64).unwrap();
     let client = cluster.open(1).unwrap();
     client.create("/file").unwrap();
-    cluster.crash(client.number()).unwrap();
-    assert_eq!(Refusal::of(&client.fsync().unwrap_err()), Some(Refusal::ClientGone));
+    let clone = client.clone();
+    client.crash().unwrap();
+    assert_eq!(Refusal::of(&clone.fsync().unwrap_err()), Some(Refusal::ClientGone));
     assert_eq!(cluster.open(2).unwrap().stat("/file").unwrap(), Stat::File { bytes: 0 });
+    assert_eq!(cluster.fail(1).unwrap(), []);
 }
 
+/// What a crash leaves to be replicated is lost with the node before, and kept behind the rounds.
 #[test]
-fn there_are_thirty_two_clients() {
-    let cluster = Cluster::new(2, 64, 64).unwrap();
-    for number in 1..=32 {
-        let client = cluster.open(1 + number % 2).unwrap();
-        assert_eq!(client.number(), number);
-        cluster.crash(number).unwrap();
+fn a_crash_is_no_sync() {
+    for (is_replicated, lost) in [(false, vec![Lost { client: 1, first_call: 0 }]), (true, vec![])] {
+        let cluster = Cluster::new(2, 64, 64).unwrap();
+        let client = cluster.open(1).unwrap();
+        client.create("/file").unwrap();
+        client.crash().unwrap();
+        while is_replicated && cluster.round().unwrap() {}
+        assert_eq!(cluster.fail(1).unwrap(), lost);
     }
-    assert_eq!(Refusal::of(&cluster.open(1).unwrap_err()), Some(Refusal::BadClient));
+}
+
+/// A client that is dropped stays open: its number is spent, others get at its files, and what it didn't sync goes with its node.
+#[test]
+fn a_drop_does_nothing() {
+    let cluster = Cluster::new(2, 64, 64).unwrap();
+    let before = cluster.history_len().unwrap();
+    let writer = cluster.open(1).unwrap();
+    writer.create("/seen").unwrap();
+    writer.create("/other").unwrap();
+    writer.fsync().unwrap();
+    writer.write("/seen", "text", 0).unwrap();
+    writer.write("/other", "text", 0).unwrap();
+    drop(writer);
+    assert_eq!(cluster.history_len().unwrap(), before + 6);
+    let reader = cluster.open(2).unwrap();
+    assert_eq!(reader.number(), 2);
+    assert_eq!(reader.read_all("/seen").unwrap(), b"text");
+    assert_eq!(cluster.fail(1).unwrap(), [Lost { client: 1, first_call: 4 }]);
+    assert_eq!(reader.read_all("/other").unwrap(), b"");
+    assert_eq!(Refusal::of(&cluster.crash(1).unwrap_err()), Some(Refusal::NodeDown));
 }
 
 #[test]
@@ -95,43 +155,25 @@ fn a_log_that_is_full_is_synced() {
     let client = cluster.open(1).unwrap();
     client.create("/file").unwrap();
     for number in 0..200_u8 {
-        client.write("/file", &[number], u64::from(number)).unwrap();
+        client.write("/file", [number], u64::from(number)).unwrap();
     }
     assert_eq!(client.stat("/file").unwrap(), Stat::File { bytes: 200 });
     client.fsync().unwrap();
     while cluster.round().unwrap() {}
+    assert!(!cluster.round().unwrap());
 }
 
 #[test]
-fn threads_share_a_cluster() {
-    let cluster = Cluster::new(3, 64, 64).unwrap();
+fn a_history_has_an_entry_for_each_call() {
+    let cluster = Cluster::new(2, 64, 64).unwrap();
     let before = cluster.history_len().unwrap();
-    let work = |number: u32| {
-        let cluster = cluster.clone();
-        move || {
-            let (client, path) = (cluster.open(1 + number % 3).unwrap(), format!("/{number}"));
-            client.create(&path).unwrap();
-            for at in 0..100 {
-                client.write(&path, &[number as u8], at).unwrap();
-            }
-            client.fsync().unwrap();
-        }
-    };
-    let threads: Vec<_> = (0..4).map(|number| thread::spawn(work(number))).collect();
-    threads.into_iter().for_each(|thread| thread.join().unwrap());
-
-    let reader = cluster.open(1).unwrap();
-    for number in 0..4_u8 {
-        assert_eq!(bytes_of(&reader, &format!("/{number}")), [number; 100]);
-    }
-    assert!(cluster.history_len().unwrap() > before);
-    assert!(cluster.is_legal().unwrap());
-}
-
-#[test]
-fn a_client_outlives_its_cluster_s_handle() {
-    let client = Cluster::new(1, 64, 64).unwrap().open(1).unwrap();
+    let client = cluster.open(1).unwrap();
     client.create("/file").unwrap();
-    client.fsync().unwrap();
-    assert_eq!(client.list("/").unwrap(), ["file"]);
+    assert!(client.create("/file").is_err());
+    assert!(client.create("file").is_err());
+    cluster.fail(1).unwrap();
+    cluster.back(1).unwrap();
+    // The client, its two calls, which the tree answers, the failure, and the return.
+    assert_eq!(cluster.history_len().unwrap(), before + 5);
+    assert!(cluster.is_legal().unwrap());
 }
