@@ -111,7 +111,7 @@ impl Refusal {
     /// that is called by number, as one under FUSE, answers it.
     ///
     /// ```
-    /// assert_eq!(assise::Refusal::NodeDown.errno(), 5);
+    /// assert_eq!(assise::Refusal::NodeDown.errno(), 5); // EIO
     /// ```
     #[doc(alias = "assise_errno")]
     pub fn errno(self) -> i32 {

@@ -1,6 +1,11 @@
 //! Calls of one client, and the errors of the tree.
 
+#[allow(dead_code)]
+#[path = "../src/errno.rs"]
+mod errno;
+
 use assise::{limits, Client, Cluster, Stat};
+use errno::{EEXIST, EFBIG, EINVAL, EISDIR, ENOENT, ENOSPC, ENOTDIR, ENOTEMPTY};
 use std::fmt::Debug;
 use std::io::{self, ErrorKind};
 
@@ -12,15 +17,6 @@ fn client() -> Client {
 fn number<T: Debug>(result: io::Result<T>) -> i32 {
     result.expect_err("an error").raw_os_error().expect("the system's number")
 }
-
-const ENOENT: i32 = 2;
-const EEXIST: i32 = 17;
-const ENOTDIR: i32 = 20;
-const EISDIR: i32 = 21;
-const EINVAL: i32 = 22;
-const EFBIG: i32 = 27;
-const ENOSPC: i32 = 28;
-const ENOTEMPTY: i32 = 39;
 
 #[test]
 fn a_file_is_written_and_read() {

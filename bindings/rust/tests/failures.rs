@@ -1,5 +1,9 @@
 //! What failures, returns and crashes leave.
 
+#[allow(dead_code)]
+#[path = "../src/errno.rs"]
+mod errno;
+
 use assise::{Cluster, Lost, Refusal, Revoker, Stat};
 
 #[test]
@@ -49,7 +53,7 @@ fn a_client_of_a_failed_node_is_over() {
     assert_eq!(cluster.fail(1).unwrap(), []);
     let error = client.list("/").unwrap_err();
     assert_eq!(Refusal::of(&error), Some(Refusal::NodeDown));
-    assert_eq!(Refusal::NodeDown.errno(), 5);
+    assert_eq!(Refusal::NodeDown.errno(), errno::EIO);
 
     cluster.back(1).unwrap();
     assert!(client.list("/").is_err());

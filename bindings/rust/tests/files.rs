@@ -1,5 +1,9 @@
 //! Files as std has them.
 
+#[allow(dead_code)]
+#[path = "../src/errno.rs"]
+mod errno;
+
 use assise::{limits, Client, Cluster, Refusal, Stat};
 use std::io::{self, BufRead, BufReader, BufWriter, ErrorKind, Read, Seek, SeekFrom, Write};
 
@@ -51,7 +55,7 @@ fn a_place_is_a_number() {
     assert_eq!(file.seek(SeekFrom::Current(1)).unwrap_err().kind(), ErrorKind::InvalidInput);
     assert_eq!(file.read(&mut [0; 2]).unwrap(), 0);
     assert_eq!(file.read_to_end(&mut Vec::new()).unwrap(), 0);
-    assert_eq!(file.write(b"x").unwrap_err().raw_os_error(), Some(27));
+    assert_eq!(file.write(b"x").unwrap_err().raw_os_error(), Some(errno::EFBIG));
     assert_eq!(file.stream_position().unwrap(), u64::MAX);
 }
 
@@ -76,7 +80,7 @@ fn a_file_that_is_full_takes_no_more() {
     let client = client();
     let mut file = client.create_file("/file").unwrap();
     let error = io::copy(&mut io::repeat(1), &mut file).unwrap_err();
-    assert_eq!(error.raw_os_error(), Some(27));
+    assert_eq!(error.raw_os_error(), Some(errno::EFBIG));
     let Stat::File { bytes } = file.metadata().unwrap() else { panic!("a directory") };
     assert_eq!(file.stream_position().unwrap(), bytes);
     assert!(bytes > limits::MOST_FILE_BYTES - limits::CALL_BYTES as u64);
@@ -108,7 +112,7 @@ fn an_open_file_is_its_path() {
     assert_eq!(file.write(b"more").unwrap_err().kind(), ErrorKind::NotFound);
     assert_eq!(file.metadata().unwrap_err().kind(), ErrorKind::NotFound);
     client.mkdir("/file").unwrap();
-    assert_eq!(file.seek(SeekFrom::End(0)).unwrap_err().raw_os_error(), Some(21));
+    assert_eq!(file.seek(SeekFrom::End(0)).unwrap_err().raw_os_error(), Some(errno::EISDIR));
     client.rmdir("/file").unwrap();
     client.write_all("/file", "another").unwrap();
     let mut rest = String::new();

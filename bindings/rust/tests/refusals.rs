@@ -47,7 +47,7 @@ fn nodes_are_there_or_not() {
 #[test]
 fn clients_are_there_or_not() {
     let cluster = Cluster::new(2, 64, 64).unwrap();
-    for client in [0, 1, 33, u32::MAX] {
+    for client in [0, 1, limits::MOST_CLIENTS + 1, u32::MAX] {
         assert_eq!(refusal(cluster.crash(client)), Some(Refusal::BadClient));
     }
     for number in 1..=limits::MOST_CLIENTS {
