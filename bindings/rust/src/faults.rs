@@ -45,7 +45,7 @@ mod tests {
         }
         for fault in FAULTS.iter().filter(|fault| fault.code < -100) {
             let error = error_of(fault.code);
-            let refusal = Refusal::of(&error).expect("a refusal");
+            let refusal = Refusal::of(&error).unwrap_or_else(|| panic!("no Refusal is {}", fault.code));
             assert_eq!((refusal as i64, refusal.errno(), error.to_string()), (fault.code, fault.errno, fault.text.to_string()));
             assert_eq!(error.kind(), io::Error::from_raw_os_error(fault.errno).kind());
         }
