@@ -179,9 +179,9 @@ impl Cluster {
     /// # Errors
     ///
     /// None: a cluster always answers it.
-    #[doc(alias = "assise_history")]
+    #[doc(alias = "assise_entries")]
     pub fn history_len(&self) -> io::Result<u64> {
-        self.ask(Request::new(call::HISTORY))
+        self.ask(Request::new(call::ENTRIES))
     }
 
     /// Whether the history is legal, which it is: that is checked anew, and takes long where it is.
