@@ -288,7 +288,7 @@ static inline int64_t assise_open(struct assise_desk *desk, uint32_t node, uint3
     return assise_open_as(desk, node, kind, ASSISE_PESSIMISTIC);
 }
 
-/* A client crashes: nothing that it did is lost. */
+/* A client crashes. What it did stays in its node's log, and is replicated as before: a failure of the node may take what isn't yet. */
 static inline int64_t assise_crash(struct assise_desk *desk, uint32_t client) {
     return assise_manage(desk, ASSISE_CRASH, client, 0, 0, 0, 0);
 }
