@@ -1,16 +1,17 @@
 -- What is made of events is a trace of them: it keeps what holds of the machine, and adds exactly their entries.
-use Rattle.std.proofs.Common.{◌≡◌, ℕ, zero, suc, ◌-◌, Bool, true, false, [], ◌∷◌, ◌++◌, Option, None, Some, Result, refl, ap, sym, subst, ◌∙◌, append_assoc, append-nil}
+use Rattle.std.proofs.Common.{◌≡◌, ◌≤◌, arith, ℕ, zero, suc, ◌-◌, Bool, true, false, [], ◌∷◌, ◌++◌, Option, None, Some, Result, refl, ap, sym, subst, ◌∙◌, append_assoc, append-nil}
 use Rattle.assise_names.specs.declared.call.Op.{Op}
 use Rattle.assise_names.specs.declared.refusal.Refusal.{Refusal}
 use Rattle.assise_names.specs.declared.reply.Reply.{Reply}
 use Rattle.assise_names.specs.declared.limits.TheConstants.{MOST_NODES}
 use Rattle.assise_history.specs.Legal.{IsLegal}
+use Rattle.assise_model_world.specs.World.{first_unreplicated}
 use Rattle.assise_model_events.specs.Events.{Answer, ClusterEvent, all_entries, entries_of, not_yet, try_call}
 use Rattle.assise_model_events.specs.Faults.{node_fault}
 use Rattle.assise_model_events.specs.Happenings.{AllHappen}
 use Rattle.assise_model_events.specs.Machine.{MachineInvariant, Machine}
 use Rattle.assise_machine.specs.Running.{happens}
-use Rattle.assise_machine.proofs.EventLists.{served_keeps, served_told}
+use Rattle.assise_machine.proofs.EventLists.{all_last, served_keeps, served_told}
 use Rattle.assise_rounds.specs.Traces.{IsEventTrace, IsEvent, Nothing, Then, Told}
 use Rattle.assise_rounds.specs.Rounds.{DigestsOnce, EachFull, IsRound, ReleasesOnce, RoundsOver, TakesTurn, UnlessAtFault, is_refused, replicates}
 use Rattle.assise_rounds.specs.Trying.{Awaits, TriesOften, is_busy, is_settled, is_stuck, settled_answer}
@@ -39,6 +40,12 @@ trace_told m m' [] same = ap (λ x. x.history) same ∙ sym (append-nil m.histor
 trace_told m m' ((e, a) ∷ es) (v, ((stock, step), rest)) =
     let now : v.history ≡ m.history ++ entries_of m.history e a = served_told stock m v e a step in
     trace_told v m' es rest ∙ ap (λ h. h ++ all_entries h es) now ∙ append_assoc m.history (entries_of m.history e a) (all_entries (m.history ++ entries_of m.history e a) es)
+
+pub trace_unreplicated : (m m' : Machine) (es : Told) (c : ℕ) → MachineInvariant m → IsEventTrace m es m' → first_unreplicated m.world c ≤ first_unreplicated m'.world c
+trace_unreplicated m m' [] c h same = omega (arith, ap (λ x. first_unreplicated x.world c) same)
+trace_unreplicated m m' ((e, a) ∷ es) c h (v, ((stock, step), rest)) =
+    let one : first_unreplicated m.world c ≤ first_unreplicated v.world c = (all_last stock m v ((e, a) ∷ []) h (v, (step, refl))).none_falls.unreplicated c in
+    omega (arith, one, trace_unreplicated v m' es c (served_keeps stock m v e a h step) rest)
 
 -- ---- of which it is made
 

@@ -1,10 +1,11 @@
 // Laws of rounds, tries and returns. Each function does nothing: its contract is the law.
-ghost use Rattle.std.specs.Prelude.{◌≡◌, ◌++◌, ⊤, Bool, List, Result, map, ℕ};
+ghost use Rattle.std.specs.Prelude.{◌≡◌, ◌≤◌, ◌++◌, ⊤, Bool, List, Result, map, ℕ};
 ghost use Rattle.assise_names.specs.declared.call.Op.{Op};
 ghost use Rattle.assise_names.specs.declared.refusal.Refusal.{Refusal};
 ghost use Rattle.assise_names.specs.declared.reply.Reply.{Reply};
 ghost use Rattle.assise_history.specs.Legal.{IsLegal};
 ghost use Rattle.assise_link.specs.Kinds.{perfect};
+ghost use Rattle.assise_model_world.specs.World.{first_unreplicated};
 ghost use Rattle.assise_model_events.specs.Events.{all_entries};
 ghost use Rattle.assise_model_events.specs.Machine.{MachineInvariant, Machine};
 ghost use Rattle.assise_rounds.specs.Traces.{IsEventTrace, Told};
@@ -38,4 +39,11 @@ pub fn a_trace_keeps_the_history_legal()
         IsLegal m'.history }
     ensures entries { (m m' : Machine) (es : Told) → IsEventTrace m es m' →
         m'.history ≡ m.history ++ all_entries m.history es }
+{}
+
+/// Over a trace of events the number of a client's first call of which some full node may lack a record never falls: what is replicated
+/// stays so.
+pub fn what_is_replicated_stays_replicated()
+    ensures { (m m' : Machine) (es : Told) (c : ℕ) → MachineInvariant m → IsEventTrace m es m' →
+        first_unreplicated m.world c ≤ first_unreplicated m'.world c }
 {}
