@@ -36,13 +36,12 @@ impl Header {
             out += if name == "call" { "" } else { UNUSED };
             out += &module(name, &rows);
         }
-        Ok(out + &self.faults()? + &format!("#[cfg(test)]\npub(crate) const DESK: &str = {:?};\n", self.desk()?))
+        Ok(out + &self.faults()?)
     }
 
-    /// The two structs that a request crosses in, and how many bytes a desk has.
+    /// The two structs that a request crosses in.
     pub fn desk(&self) -> Result<String, String> {
-        let bytes = self.text.lines().find(|line| line.starts_with("#define ASSISE_BYTES ")).ok_or("a desk has no size")?;
-        let mut out = bytes.to_string();
+        let mut out = String::new();
         for title in ["struct assise_request {", "struct assise_desk {"] {
             out += &format!(" {title} {} }}", self.between(title, "}")?);
         }

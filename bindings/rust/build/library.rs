@@ -9,8 +9,13 @@ use std::process::{Command, Stdio};
 const VARIABLE: &str = "ASSISE_LIB_DIR";
 const LIBRARY: &str = "libassise.a";
 
-/// Has the crate linked with the library, whose desk has to be that of the crate's header.
-pub fn link(manifest: &Path, header: &Header) -> Result<(), String> {
+/// The two structs that a request crosses in, as `src/desk.rs` has them.
+const DESK: &str = "struct assise_request { uint32_t call; uint32_t client; uint32_t node; uint32_t path_bytes; \
+    uint32_t other_bytes; uint32_t kind; uint64_t first; uint64_t second; } struct assise_desk { struct assise_request request; \
+    int64_t result; uint64_t stands; uint8_t bytes[ASSISE_BYTES]; void *cluster[2]; }";
+
+/// Has the crate linked with the library, and answers the header that stands beside it.
+pub fn linked(manifest: &Path) -> Result<Header, String> {
     println!("cargo:rerun-if-env-changed={VARIABLE}");
     let folder = match env::var_os(VARIABLE) {
         Some(named) => PathBuf::from(named),
@@ -20,15 +25,15 @@ pub fn link(manifest: &Path, header: &Header) -> Result<(), String> {
     if !library.is_file() {
         return Err(format!("no library at {library:?}: the repository's `./build` makes it, and {VARIABLE} may name another folder"));
     }
-    // `./build` puts the library's own header there. Another desk would be served beyond its end.
-    let beside = folder.join("../include/assise.h");
-    if beside.is_file() && Header::read(&beside)?.desk()? != header.desk()? {
+    // Another desk would be served beyond its end.
+    let header = Header::read(&folder.join("../include/assise.h"))?;
+    if header.desk()? != DESK {
         return Err(format!("the library at {library:?} has another desk than this crate: `./build` makes it anew"));
     }
     println!("cargo:rerun-if-changed={}", library.display());
     println!("cargo:rustc-link-search=native={}", folder.display());
     println!("cargo:rustc-link-lib=static=assise");
-    Ok(())
+    Ok(header)
 }
 
 /// The folder with the repository's library, which is built first where it isn't there.

@@ -3,7 +3,6 @@
 mod header;
 mod library;
 
-use header::Header;
 use std::env;
 use std::fs;
 use std::path::PathBuf;
@@ -19,9 +18,7 @@ fn main() {
 fn run() -> Result<(), String> {
     let folder = |name: &str| env::var_os(name).map(PathBuf::from).ok_or(format!("cargo sets no {name}"));
     let (manifest, out) = (folder("CARGO_MANIFEST_DIR")?, folder("OUT_DIR")?);
-    // A link to the repository's header; in a packaged crate, a copy of it.
-    let header = Header::read(&manifest.join("assise.h"))?;
+    let header = library::linked(&manifest)?;
     let numbers = out.join("numbers.rs");
-    fs::write(&numbers, header.in_rust()?).map_err(|why| format!("can't write {numbers:?}: {why}"))?;
-    library::link(&manifest, &header)
+    fs::write(&numbers, header.in_rust()?).map_err(|why| format!("can't write {numbers:?}: {why}"))
 }

@@ -138,17 +138,11 @@ pub(crate) fn turn(desk: &Shared) -> MutexGuard<'_, Desk> {
 #[cfg(test)]
 mod tests {
     use super::*;
-    use crate::numbers::{define, DESK};
+    use crate::numbers::define;
     use std::mem::{align_of, size_of};
-
-    /// The structs as [`Request`] and [`Place`] have them.
-    const SEEN: &str = "struct assise_request { uint32_t call; uint32_t client; uint32_t node; uint32_t path_bytes; \
-        uint32_t other_bytes; uint32_t kind; uint64_t first; uint64_t second; } struct assise_desk { struct assise_request request; \
-        int64_t result; uint64_t stands; uint8_t bytes[ASSISE_BYTES]; void *cluster[2]; }";
 
     #[test]
     fn a_desk_lies_as_in_c() {
-        assert_eq!(DESK, format!("#define ASSISE_BYTES {CALL_BYTES} {SEEN}"));
         assert_eq!((size_of::<Request>(), align_of::<Request>()), (6 * 4 + 2 * 8, 8));
         assert_eq!((size_of::<Place>(), align_of::<Place>()), (size_of::<Request>() + 2 * 8 + CALL_BYTES + 2 * size_of::<usize>(), 8));
     }
