@@ -66,7 +66,7 @@ struct assise_request {
     uint32_t node;        /* from 1 */
     uint32_t path_bytes;  /* how many bytes of the desk are the path's */
     uint32_t other_bytes; /* and how many behind these are the other path's, or are to be written */
-    uint32_t kind;        /* the revoker of a client that is opened */
+    uint32_t kind;        /* the revoker of a client that is opened, or the kind of a link */
     uint64_t first;
     uint64_t second;
 };
@@ -121,7 +121,8 @@ enum assise_call {
     ASSISE_FSYNC = 26,
     ASSISE_DSYNC = 27,
     ASSISE_SET_HOT = 32,
-    ASSISE_RAISE = 33
+    ASSISE_RAISE = 33,
+    ASSISE_SET_LINK = 34
 };
 
 /* How much of its log a client hands on before a lease goes to another: what touches the inode, all of it, or the first and on to the
@@ -130,6 +131,17 @@ enum assise_kind { ASSISE_LEAST = 0, ASSISE_WHOLE = 1, ASSISE_EIGHTS = 2 };
 
 /* What a client's fsync waits for: that all its calls are replicated, or for nothing. Its dsync waits for that in either case. */
 enum assise_durability { ASSISE_PESSIMISTIC = 0, ASSISE_OPTIMISTIC = 1 };
+
+/* What becomes of each frame that a node sends: it comes; it is lost; every second one is replaced by the one before; it comes one carry
+ * later; a prefix of it comes; a fault comes in its place. */
+enum assise_link {
+    ASSISE_PERFECT = 0,
+    ASSISE_LOSE = 1,
+    ASSISE_REPEAT = 2,
+    ASSISE_DELAY = 3,
+    ASSISE_CUT = 4,
+    ASSISE_FAULT = 5
+};
 
 /* How a node stands: it has all that is replicated; it failed; it comes back. */
 enum assise_phase { ASSISE_FULL = 1, ASSISE_DOWN = 2, ASSISE_RETURNING = 3 };
@@ -325,6 +337,11 @@ static inline int64_t assise_set_hot(struct assise_desk *desk, uint32_t node, ui
 /* A full node reads and sends version 2 of frames from here on. */
 static inline int64_t assise_raise(struct assise_desk *desk, uint32_t node) {
     return assise_manage(desk, ASSISE_RAISE, 0, node, 0, 0, 0);
+}
+
+/* What a node sends goes over a new link of a kind, one of `enum assise_link`; one that cuts lets `most` bytes of a frame through. */
+static inline int64_t assise_set_link(struct assise_desk *desk, uint32_t node, uint32_t kind, uint64_t most) {
+    return assise_manage(desk, ASSISE_SET_LINK, 0, node, kind, most, 0);
 }
 
 /* 1, since the history is legal; it is checked anew, which takes long where it is. */

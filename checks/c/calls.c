@@ -69,6 +69,10 @@ static void sets_nodes(void) {
     SEE(ASSISE_BAD_NODE, assise_raise(&desk, 3));
     SEE(ASSISE_FULL, assise_phase(&desk, 1));
     SEE(ASSISE_BAD_NODE, assise_phase(&desk, 3));
+    SEE(ASSISE_BAD_NODE, assise_set_link(&desk, 3, ASSISE_LOSE, 0));
+    SEE(ASSISE_BAD_REQUEST, assise_set_link(&desk, 1, ASSISE_FAULT + 1, 0));
+    for (uint32_t kind = ASSISE_PERFECT; kind <= ASSISE_FAULT; kind++) SEE(0, assise_set_link(&desk, 1, kind, 100));
+    SEE(0, assise_set_link(&desk, 1, ASSISE_PERFECT, 0));
 }
 
 static void makes_files(void) {

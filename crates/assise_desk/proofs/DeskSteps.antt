@@ -1,8 +1,12 @@
 -- What the request of a desk does to its cluster.
 use Rattle.std.proofs.Common.{◌≡◌, ◌≤◌, arith, inl, inr, ℕ, ℤ, List, Option, Some, Result, refl, sym, ap, subst, ◌∙◌}
 use Rattle.std.specs.Global.{Box, Vec}
-use Rattle.std.specs.Prelude.{◌+◌, OnOk, ⊤}
+use Rattle.std.specs.Prelude.{◌+◌, ◌-◌, ◌↔◌, [], IsOk, IsOkUnless, IsSome, OnErr, OnOk, Ok, Err, slice_set, ⊤}
+use Rattle.assise_link.specs.Kinds.{Kind}
 use Rattle.assise_lease_table.specs.Tables.{Enrols}
+use Rattle.assise_manager.specs.Standings.{standing_of}
+use Rattle.assise_names.specs.declared.refusal.Refusal.TheVariants.{BadNode}
+use Rattle.assise_desk.specs.declared.desk_fault.DeskFault.TheVariants.{Refused}
 use Rattle.assise_names.specs.declared.refusal.Refusal.{Refusal}
 use Rattle.assise_machine_calls.specs.Answers.{crashing_answer}
 use Rattle.assise_names.specs.declared.durability.Durability.{Durability}
@@ -16,18 +20,18 @@ use Rattle.assise_machine.specs.Answers.{raising_answer, setting_answer}
 use Rattle.assise_machine.specs.Running.{opened_answer}
 use Rattle.assise_rounds.specs.Traces.{Told}
 use Rattle.assise_rounds.specs.Returning.{ComesBack}
-use Rattle.assise_files.specs.FilesSeen.{cluster_seen, kinds_seen}
+use Rattle.assise_files.specs.FilesSeen.{cluster_seen, kinds_seen, links_seen}
 use Rattle.assise_files.specs.declared.cut_kind.CutKind.{CutKind}
 use Rattle.assise_files.specs.declared.files.Files.{Files}
 use Rattle.assise_desk.specs.declared.caller_desk.CallerDesk.{CallerDesk}
 use Rattle.assise_desk.specs.declared.desk_call.ClusterCall.{ClusterCall}
-use Rattle.assise_desk.specs.declared.desk_call.ClusterCall.TheVariants.{Open, Crash, Fail, Back, SetHot, Raise}
+use Rattle.assise_desk.specs.declared.desk_call.ClusterCall.TheVariants.{Open, Crash, Fail, Back, SetHot, Raise, SetLink}
 use Rattle.assise_desk.specs.declared.desk_call.DeskCall.{DeskCall}
 use Rattle.assise_desk.specs.declared.desk_fault.DeskFault.{DeskFault}
 use Rattle.assise_desk.specs.declared.desk_request.DeskRequest.{DeskRequest}
 use Rattle.assise_desk.specs.CallNumbers.{desk_call_number}
-use Rattle.assise_desk.specs.NamedKinds.{durability_named, kind_named}
-use Rattle.assise_desk.specs.DeskAnswers.{AnswersAlone, AnswersRequest, DoesAt, IsOutOfRange, IsServedAt, ServesHot, ServesOpen, ShowsLosses, answers_alone, done_told, has_no_cluster, is_no_request, number_told, opens_as, owned, request_calls, request_frees, request_makes, request_makes_none, request_manages, request_queries, result_shown, sets_hot}
+use Rattle.assise_desk.specs.NamedKinds.{durability_named, kind_named, link_named}
+use Rattle.assise_desk.specs.DeskAnswers.{AnswersAlone, AnswersRequest, DoesAt, IsOutOfRange, IsServedAt, ServesHot, ServesLink, ServesOpen, ShowsLosses, answers_alone, done_told, has_no_cluster, is_no_request, number_told, opens_as, owned, request_calls, request_frees, request_makes, request_makes_none, request_manages, request_queries, result_shown, links_no_node, sets_hot, sets_link}
 
 -- ---- one event
 
@@ -65,6 +69,17 @@ pub return_told : (call : ClusterCall) (r : DeskRequest) (result : Result ℕ De
     (es : Told) × ComesBack r.node told (cluster_seen files) es (cluster_seen left) → (es : Told) × DoesAt call r result before out files es left
 return_told call r result before out told files left is result_is (es, h) = rw is (es, record { returned = told; result_is = result_is; comes_back = h })
 
+pub link_told : (call : ClusterCall) (r : DeskRequest) (result : Result ℕ DeskFault) (before out : List ℕ) (files left : Files) → call ≡ SetLink → ServesLink r result files left →
+    cluster_seen left ≡ cluster_seen files → (es : Told) × DoesAt call r result before out files es left
+link_told call r result before out files left is h same = rw is ([], record { serves = h; nothing = record { told = refl; stays = same } })
+
+-- a link is set, or there is no such node
+pub link_set : (r : DeskRequest) (told : Result ⊤ Refusal) (kind : Kind) (files left : Files) → link_named r.kind r.first ≡ Some kind →
+    OnOk told (links_seen left ≡ slice_set (links_seen files) (r.node - 1) kind) → OnErr told (links_seen left ≡ links_seen files) →
+    (IsOk told ↔ IsSome (standing_of (cluster_seen files).members.nodes r.node)) → IsOkUnless told BadNode → ServesLink r (done_told told) files left
+link_set r (Ok done) kind files left named set kept there only = sets_link kind named (there.0 refl) refl set
+link_set r (Err refusal) kind files left named set kept there only = links_no_node (λ some. cc (there.1 some)) (ap (λ x. Err (Refused x)) only) kept
+
 -- ---- a cluster is made
 
 -- the numbers are in range
@@ -96,8 +111,8 @@ alone_shown d d' result n (has_no_cluster call number needs none still result_is
 
 pub answered_shown : (d d' : CallerDesk) (result : Result ℕ DeskFault) (n : ℤ) → AnswersRequest d result d' → AnswersRequest d result record d' { result = n }
 answered_shown d d' result n (answers_alone h leaves) = answers_alone (alone_shown d d' result n h) leaves
-answered_shown d d' result n (request_manages call files left number served h bytes stands) =
-    request_manages call files left number record { from = served.from; leaves = served.leaves; turns = served.turns } h bytes stands
+answered_shown d d' result n (request_manages call files left number served h bytes links stands) =
+    request_manages call files left number record { from = served.from; leaves = served.leaves; turns = served.turns } h bytes links stands
 answered_shown d d' result n (request_queries query files number from leaves tells stays) = request_queries query files number from leaves tells record { bytes = stays.bytes; stays = stays.stays }
 answered_shown d d' result n (request_calls call files left number served h) =
     request_calls call files left number record { from = served.from; leaves = served.leaves; turns = served.turns } h

@@ -1,10 +1,13 @@
 -- What the request of a desk does to its cluster, and what it is answered with.
-use Rattle.std.specs.Prelude.{◌≡◌, ◌≢◌, ℕ, ℤ, pos, min, ◌+◌, ◌-◌, ◌^◌, ◌<◌, ◌≤◌, ◌⊎◌, Bool, true, false, List, length, take, OnOk, Option, None, Some, Result, Ok, Err, ⊤}
+use Rattle.std.specs.Prelude.{◌≡◌, ◌≢◌, ℕ, ℤ, pos, min, ◌+◌, ◌-◌, ◌^◌, ◌<◌, ◌≤◌, ◌⊎◌, Bool, true, false, List, length, replicate, take, slice_set, OnOk, IsSome, Option, None, Some, Result, Ok, Err, ⊤}
 use Rattle.std.specs.Global.{Box, Vec}
 use Rattle.std.specs.Option.{option_map}
+use Rattle.assise_link.specs.Kinds.{Kind, perfect}
 use Rattle.assise_lease_table.specs.Tables.{Enrols}
+use Rattle.assise_manager.specs.Standings.{standing_of}
 use Rattle.assise_names.specs.declared.call.Op.{Op}
 use Rattle.assise_names.specs.declared.refusal.Refusal.{Refusal}
+use Rattle.assise_names.specs.declared.refusal.Refusal.TheVariants.{BadNode}
 use Rattle.assise_names.specs.declared.reply.Reply.{Reply}
 use Rattle.assise_machine_calls.specs.Answers.{crashing_answer}
 use Rattle.assise_names.specs.declared.durability.Durability.{Durability}
@@ -16,16 +19,17 @@ use Rattle.assise_machine.specs.Answers.{raising_answer, setting_answer}
 use Rattle.assise_machine.specs.Running.{opened_answer}
 use Rattle.assise_rounds.specs.Traces.{IsEvent, Nothing, Told}
 use Rattle.assise_rounds.specs.Returning.{ComesBack}
-use Rattle.assise_rounds.specs.Rounds.{RoundsOnce}
+use Rattle.assise_rounds.specs.NodeLinks.{FaithfulAt}
+use Rattle.assise_rounds.specs.Rounds.{RoundsOver}
 use Rattle.assise_files.specs.CallTries.{IsTriedOut}
-use Rattle.assise_files.specs.FilesSeen.{cluster_seen, kinds_seen, most_tries}
+use Rattle.assise_files.specs.FilesSeen.{cluster_seen, kinds_seen, links_seen, most_tries}
 use Rattle.assise_files.specs.declared.cut_kind.CutKind.{CutKind}
 use Rattle.assise_files.specs.declared.files.Files.{Files}
 use Rattle.assise_desk.specs.declared.caller_desk.CallerDesk.{CallerDesk}
 use Rattle.assise_desk.specs.declared.caller_desk.TheConstants.{MOST_TRIES}
 use Rattle.assise_desk.specs.declared.desk_call.ClientCall.{ClientCall}
 use Rattle.assise_desk.specs.declared.desk_call.ClusterCall.{ClusterCall}
-use Rattle.assise_desk.specs.declared.desk_call.ClusterCall.TheVariants.{Open, Crash, Fail, Back, Round, SetHot, Raise}
+use Rattle.assise_desk.specs.declared.desk_call.ClusterCall.TheVariants.{Open, Crash, Fail, Back, Round, SetHot, Raise, SetLink}
 use Rattle.assise_desk.specs.declared.desk_call.ClusterQuery.{ClusterQuery}
 use Rattle.assise_desk.specs.declared.desk_call.DeskCall.{DeskCall}
 use Rattle.assise_desk.specs.declared.desk_call.DeskCall.TheVariants.{Make, Free, Cluster, Query, Client}
@@ -35,7 +39,7 @@ use Rattle.assise_desk.specs.declared.desk_request.TheConstants.{DESK_BYTES}
 use Rattle.assise_desk.specs.declared.desk_request.DeskRequest.{DeskRequest}
 use Rattle.assise_desk.specs.CallNumbers.{desk_call_number}
 use Rattle.assise_desk.specs.FaultCodes.{fault_code, no_memory}
-use Rattle.assise_desk.specs.NamedKinds.{durability_named, kind_named}
+use Rattle.assise_desk.specs.NamedKinds.{durability_named, kind_named, link_named}
 use Rattle.assise_desk.specs.Pages.{losses_bytes}
 use Rattle.assise_desk.specs.Queries.{Tells}
 use Rattle.assise_desk.specs.ShownReplies.{LeavesShown, ShowsReply, ShowsResult}
@@ -65,6 +69,7 @@ result_shown (Err fault) = fault_code fault
 -- ---- a cluster is made
 
 pub record IsClusterMade (r : DeskRequest) (files : Files) : Type 0 where
+  pub links : links_seen files ≡ replicate MOST_NODES perfect
   pub begun : cluster_seen files ≡ begun_as r.node r.first r.second
   pub turns : most_tries files ≡ MOST_TRIES
 
@@ -122,10 +127,21 @@ pub record TellsReturn (n : ℕ) (result : Result ℕ DeskFault) (m : Machine) (
   pub result_is : result ≡ done_told returned
   pub comes_back : ComesBack n returned m es m'
 
-pub record TellsRound (result : Result ℕ DeskFault) (m : Machine) (es : Told) (m' : Machine) : Type 0 where
+pub record TellsRound (links : List Kind) (result : Result ℕ DeskFault) (m : Machine) (es : Told) (m' : Machine) : Type 0 where
   pub busy : Bool
   pub result_is : result ≡ Ok (yes_told busy)
-  pub round : RoundsOnce busy m es m'
+  pub round : RoundsOver (FaithfulAt links) busy m es m'
+
+-- what node n sends goes over a link of the kind that the request names, unless it names none or there is no such node
+pub data ServesLink (r : DeskRequest) (result : Result ℕ DeskFault) (files left : Files) : Type 0 where
+  sets_link : (kind : Kind) → link_named r.kind r.first ≡ Some kind → IsSome (standing_of (cluster_seen files).members.nodes r.node) → result ≡ Ok 0 →
+      links_seen left ≡ slice_set (links_seen files) (r.node - 1) kind → ServesLink r result files left
+  names_no_link : link_named r.kind r.first ≡ None → result ≡ Err BadRequest → links_seen left ≡ links_seen files → ServesLink r result files left
+  links_no_node : (IsSome (standing_of (cluster_seen files).members.nodes r.node) → ⊥) → result ≡ Err (Refused BadNode) → links_seen left ≡ links_seen files → ServesLink r result files left
+
+pub record SetsLinkAt (r : DeskRequest) (result : Result ℕ DeskFault) (files : Files) (es : Told) (left : Files) : Type 0 where
+  pub serves : ServesLink r result files left
+  pub nothing : Nothing (cluster_seen files) es (cluster_seen left)
 
 -- what it does, with its result, and with the bytes before it and then
 abbrev pub DoesAt : ClusterCall → DeskRequest → Result ℕ DeskFault → List ℕ → List ℕ → Files → Told → Files → Type 0
@@ -133,9 +149,15 @@ DoesAt Open r result before out files es left = ServesOpen r result files es lef
 DoesAt Crash r result before out files es left = TellsEvent done_told crashing_answer (crash r.client) result (cluster_seen files) es (cluster_seen left)
 DoesAt Fail r result before out files es left = TellsFailure r.node result before out (cluster_seen files) es (cluster_seen left)
 DoesAt Back r result before out files es left = TellsReturn r.node result (cluster_seen files) es (cluster_seen left)
-DoesAt Round r result before out files es left = TellsRound result (cluster_seen files) es (cluster_seen left)
+DoesAt Round r result before out files es left = TellsRound (links_seen files) result (cluster_seen files) es (cluster_seen left)
 DoesAt SetHot r result before out files es left = ServesHot r result (cluster_seen files) es (cluster_seen left)
 DoesAt Raise r result before out files es left = TellsEvent done_told raising_answer (raise r.node) result (cluster_seen files) es (cluster_seen left)
+DoesAt SetLink r result before out files es left = SetsLinkAt r result files es left
+
+-- but for a request that sets one, the links stay
+abbrev pub LeavesLinks : ClusterCall → Files → Files → Type 0
+LeavesLinks SetLink files left = Unit {0}
+LeavesLinks _ files left = links_seen left ≡ links_seen files
 
 -- but for a failure, which shows who lost calls, the bytes stay
 abbrev pub LeavesBytes : ClusterCall → List ℕ → List ℕ → Type 0
@@ -146,6 +168,7 @@ LeavesBytes Back before out = out ≡ before
 LeavesBytes Round before out = out ≡ before
 LeavesBytes SetHot before out = out ≡ before
 LeavesBytes Raise before out = out ≡ before
+LeavesBytes SetLink before out = out ≡ before
 
 -- ---- a call of a client
 
@@ -155,10 +178,10 @@ replied_at (Ok reply) = Ok reply
 replied_at (Err refusal) = Err (Refused refusal)
 
 -- the call is tried out; or there is none
-pub data CallsAt (turns : ℕ) (call : ClientCall) (r : DeskRequest) (bytes : List ℕ) (result : Result Reply DeskFault) (m : Machine) (es : Told) (m' : Machine) : Type 0 where
-  is_called : (op : Op) (answer : Result Reply Refusal) → IsRequestedAt call r bytes op → IsTriedOut turns r.client op answer m es m' → result ≡ replied_at answer →
-      CallsAt turns call r bytes result m es m'
-  asks_for_none : (fault : DeskFault) → MayAskForNone call r bytes fault → result ≡ Err fault → Nothing m es m' → CallsAt turns call r bytes result m es m'
+pub data CallsAt (links : List Kind) (turns : ℕ) (call : ClientCall) (r : DeskRequest) (bytes : List ℕ) (result : Result Reply DeskFault) (m : Machine) (es : Told) (m' : Machine) : Type 0 where
+  is_called : (op : Op) (answer : Result Reply Refusal) → IsRequestedAt call r bytes op → IsTriedOut (FaithfulAt links) turns r.client op answer m es m' → result ≡ replied_at answer →
+      CallsAt links turns call r bytes result m es m'
+  asks_for_none : (fault : DeskFault) → MayAskForNone call r bytes fault → result ≡ Err fault → Nothing m es m' → CallsAt links turns call r bytes result m es m'
 
 -- ---- a reply
 
@@ -169,8 +192,9 @@ ShowsIfOk (Err fault) first result before out stood stands = ShowsResult (Err fa
 -- a client's call is made, and its reply shown
 pub record IsServedTo (call : ClientCall) (r : DeskRequest) (before out : List ℕ) (stood stands : ℕ) (files : Files) (result : Result ℕ DeskFault) (left : Files) : Type 0 where
   pub reply : Result Reply DeskFault
-  pub made : (es : Told) × CallsAt (most_tries files) call r before reply (cluster_seen files) es (cluster_seen left)
+  pub made : (es : Told) × CallsAt (links_seen files) (most_tries files) call r before reply (cluster_seen files) es (cluster_seen left)
   pub shown : ShowsIfOk reply r.first result before out stood stands
+  pub links : links_seen left ≡ links_seen files
 
 -- ---- a desk
 
@@ -215,7 +239,7 @@ pub record IsServedBy (d d' : CallerDesk) (files left : Files) : Type 0 where
 pub data AnswersRequest (d : CallerDesk) (result : Result ℕ DeskFault) (d' : CallerDesk) : Type 0 where
   answers_alone : AnswersAlone d result d' → LeavesDesk d d' → AnswersRequest d result d'
   request_manages : (call : ClusterCall) (files left : Files) → desk_call_number (Cluster call) ≡ d.request.call → IsServedBy d d' files left →
-      (es : Told) × DoesAt call d.request result d.bytes d'.bytes files es left → LeavesBytes call d.bytes d'.bytes → d'.stands ≡ d.stands → AnswersRequest d result d'
+      (es : Told) × DoesAt call d.request result d.bytes d'.bytes files es left → LeavesBytes call d.bytes d'.bytes → LeavesLinks call files left → d'.stands ≡ d.stands → AnswersRequest d result d'
   request_queries : (query : ClusterQuery) (files : Files) → desk_call_number (Query query) ≡ d.request.call → files_at d ≡ Some files → files_at d' ≡ Some files →
       Tells query d.request files result → LeavesDesk d d' → AnswersRequest d result d'
   request_calls : (call : ClientCall) (files left : Files) → desk_call_number (Client call) ≡ d.request.call → IsServedBy d d' files left →

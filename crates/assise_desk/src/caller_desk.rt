@@ -1,9 +1,11 @@
 // A place in a caller's memory at which requests are served.
 ghost use Rattle.std.specs.Prelude.{◌≡◌, IfErr, IfOk, None};
-ghost use Rattle.assise_files.specs.FilesSeen.{cluster_seen, most_tries};
+ghost use Rattle.std.specs.Option.{option_map};
+ghost use Rattle.assise_link.specs.TestLinks.{kind_of_link};
+ghost use Rattle.assise_files.specs.FilesSeen.{cluster_seen, links_seen, most_tries};
 ghost use Rattle.assise_rounds.specs.Traces.{Told};
-ghost use Rattle.assise_desk.specs.NamedKinds.{durability_named, kind_named};
-ghost use Rattle.assise_desk.specs.DeskAnswers.{CallsAt, DoesAt, AnswersRequest, IsClusterMade, IsServedAt, IsServedTo, LeavesBytes, MayNotMake, ServesHot, ServesOpen, ShowsLosses, cluster_at, number_told, done_told, replied_at, result_shown};
+ghost use Rattle.assise_desk.specs.NamedKinds.{durability_named, kind_named, link_named};
+ghost use Rattle.assise_desk.specs.DeskAnswers.{CallsAt, DoesAt, AnswersRequest, IsClusterMade, IsServedAt, IsServedTo, LeavesBytes, LeavesLinks, MayNotMake, ServesHot, ServesLink, ServesOpen, ShowsLosses, cluster_at, number_told, done_told, replied_at, result_shown};
 
 use crate::desk_call::{ClientCall, ClusterCall, DeskCall};
 use crate::desk_fault::DeskFault;
@@ -13,6 +15,7 @@ use crate::queries::tell;
 use crate::reply_shown::show_reply;
 use assise_files::cut_kind::CutKind;
 use assise_files::files::Files;
+use assise_link::test_link::TestLink;
 use assise_names::durability::Durability;
 use assise_names::limits::MOST_NODES;
 use assise_names::refusal::Refusal;
@@ -145,6 +148,7 @@ fn manage(
     ensures does { (es : Told) × DoesAt call request.now result out.old out.new
         files.old es files.new }
     ensures bytes { LeavesBytes call out.old out.new }
+    ensures links { LeavesLinks call files.old files.new }
     ensures turns { most_tries files.new ≡ most_tries files.old }
 {
     match call {
@@ -155,6 +159,7 @@ fn manage(
         ClusterCall::Round => Ok(u64::from(files.round(alloc))),
         ClusterCall::SetHot => set_hot(files, request),
         ClusterCall::Raise => done_told(files.raise(request.node)),
+        ClusterCall::SetLink => set_link(files, request),
     }
 }
 
@@ -162,6 +167,7 @@ fn manage(
 fn open_client(alloc: Global, files: &mut Files, request: &DeskRequest) -> Result<u64, DeskFault>
     ensures opens { (es : Told) × ServesOpen request.now result files.old es files.new }
     ensures turns { most_tries files.new ≡ most_tries files.old }
+    ensures links { links_seen files.new ≡ links_seen files.old }
 {
     let Some(kind) = kind_named(request.kind) else {
         return Err(DeskFault::BadRequest);
@@ -177,6 +183,7 @@ fn set_hot(files: &mut Files, request: &DeskRequest) -> Result<u64, DeskFault>
     ensures sets { (es : Told) × ServesHot request.now result
         (cluster_seen files.old) es (cluster_seen files.new) }
     ensures turns { most_tries files.new ≡ most_tries files.old }
+    ensures links { links_seen files.new ≡ links_seen files.old }
 {
     if request.first < 1 || request.first > 4096 {
         return Err(DeskFault::BadRequest);
@@ -220,6 +227,33 @@ fn show_losses(
     }
 }
 
+/// What a node sends goes over a link that a request asks for.
+fn set_link(files: &mut Files, request: &DeskRequest) -> Result<u64, DeskFault>
+    ensures serves { ServesLink request.now result files.old files.new }
+    ensures cluster { cluster_seen files.new ≡ cluster_seen files.old }
+    ensures turns { most_tries files.new ≡ most_tries files.old }
+{
+    let Some(link) = link_named(request.kind, request.first) else {
+        return Err(DeskFault::BadRequest);
+    };
+    done_told(files.set_link(request.node, link))
+}
+
+/// A new link of the kind that a number names, if it names one.
+fn link_named(number: u32, most: u64) -> Option<TestLink>
+    ensures { option_map kind_of_link result ≡ link_named number most }
+{
+    match number {
+        0 => Some(TestLink::perfect()),
+        1 => Some(TestLink::lose()),
+        2 => Some(TestLink::repeat()),
+        3 => Some(TestLink::delay()),
+        4 => Some(TestLink::cut(most as usize)),
+        5 => Some(TestLink::fault()),
+        _ => None,
+    }
+}
+
 /// The kind of revoker that a number names, if it names one.
 fn kind_named(number: u32) -> Option<CutKind>
     ensures { result ≡ kind_named number }
@@ -251,9 +285,11 @@ fn make_call(
     request: &DeskRequest,
     bytes: &[u8; DESK_BYTES],
 ) -> Result<Reply, DeskFault>
-    ensures calls { (es : Told) × CallsAt (most_tries files.old) call request.now bytes.now result
+    ensures calls { (es : Told) × CallsAt (links_seen files.old) (most_tries files.old) call
+        request.now bytes.now result
         (cluster_seen files.old) es (cluster_seen files.new) }
     ensures turns { most_tries files.new ≡ most_tries files.old }
+    ensures links { links_seen files.new ≡ links_seen files.old }
 {
     match request.op_at(alloc, call, bytes) {
         Ok(op) => replied_at(files.call(alloc, request.client, &op)),

@@ -35,6 +35,8 @@ pub enum ClusterCall {
     SetHot,
     /// A node reads and sends version 2 of frames from here on (33).
     Raise,
+    /// What a node sends goes over another link from here on (34).
+    SetLink,
 }
 
 /// What is asked of a cluster, which changes nothing.
@@ -123,6 +125,7 @@ impl DeskCall {
             27 => Some(DeskCall::Client(ClientCall::Dsync)),
             32 => Some(DeskCall::Cluster(ClusterCall::SetHot)),
             33 => Some(DeskCall::Cluster(ClusterCall::Raise)),
+            34 => Some(DeskCall::Cluster(ClusterCall::SetLink)),
             _ => None,
         }
     }

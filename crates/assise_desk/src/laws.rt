@@ -1,6 +1,7 @@
 // A law of what is asked at a desk. The function does nothing: its contract is the law.
 ghost use Rattle.std.specs.Prelude.{List, Result, ℕ};
 ghost use Rattle.assise_names.specs.declared.reply.Reply.{Reply};
+ghost use Rattle.assise_link.specs.Kinds.{Kind};
 ghost use Rattle.assise_model_events.specs.Machine.{Machine};
 ghost use Rattle.assise_rounds.specs.Traces.{IsEventTrace, Told};
 ghost use Rattle.assise_files.specs.FilesSeen.{cluster_seen};
@@ -18,7 +19,7 @@ pub fn a_request_is_a_trace_of_events()
         (before out : List ℕ) (files : Files) (es : Told) (left : Files) →
         DoesAt call r result before out files es left →
         IsEventTrace (cluster_seen files) es (cluster_seen left) }
-    ensures client { (turns : ℕ) (call : ClientCall) (r : DeskRequest) (bytes : List ℕ)
+    ensures client { (links : List Kind) (turns : ℕ) (call : ClientCall) (r : DeskRequest) (bytes : List ℕ)
         (result : Result Reply DeskFault) (m : Machine) (es : Told) (m' : Machine) →
-        CallsAt turns call r bytes result m es m' → IsEventTrace m es m' }
+        CallsAt links turns call r bytes result m es m' → IsEventTrace m es m' }
 {}

@@ -1,3 +1,4 @@
 mod AlwaysLegal
 mod VainTries
 pub mod TriesTrace
+mod Links

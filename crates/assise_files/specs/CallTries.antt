@@ -8,39 +8,40 @@ use Rattle.assise_names.specs.declared.reply.Reply.{Reply}
 use Rattle.assise_model_events.specs.Events.{Answer, not_yet, refused, try_call, try_fsync}
 use Rattle.assise_model_events.specs.Machine.{Machine}
 use Rattle.assise_rounds.specs.Traces.{IsEvent, Nothing, Then, Told}
-use Rattle.assise_rounds.specs.Rounds.{RoundsOnce}
+use Rattle.assise_rounds.specs.Rounds.{RoundsOver}
 use Rattle.assise_rounds.specs.Trying.{settled_answer}
 
--- ---- one try; `busy` says whether there was anything to do in the round behind it
+-- ---- one try; `busy` says whether there was anything to do in the round behind it, and `faithful` which nodes' links carry what they
+-- are handed
 
 -- an fsync of client c is tried, and all nodes make a round: a round alone sends only what an fsync, a crash or a lease asks for
-pub record MakesRoom (busy : Bool) (c : ℕ) (m : Machine) (es : Told) (m' : Machine) : Type 0 where
+pub record MakesRoom (faithful : ℕ → Type 0) (busy : Bool) (c : ℕ) (m : Machine) (es : Told) (m' : Machine) : Type 0 where
   pub answer : Answer
-  pub trace : Then (IsEvent (try_fsync c) answer) (RoundsOnce busy) m es m'
+  pub trace : Then (IsEvent (try_fsync c) answer) (RoundsOver faithful busy) m es m'
 
 -- a try that waits
-abbrev pub WaitsOnce : Bool → ℕ → Op → Machine → Told → Machine → Type 0
-WaitsOnce busy c op m es m' = Then (IsEvent (try_call c op) not_yet) (RoundsOnce busy) m es m'
+abbrev pub WaitsOnce : (ℕ → Type 0) → Bool → ℕ → Op → Machine → Told → Machine → Type 0
+WaitsOnce faithful busy c op m es m' = Then (IsEvent (try_call c op) not_yet) (RoundsOver faithful busy) m es m'
 
 -- a try that finds its client's log full
-abbrev pub FindsFull : Bool → ℕ → Op → Machine → Told → Machine → Type 0
-FindsFull busy c op m es m' = Then (IsEvent (try_call c op) (refused LogFull)) (MakesRoom busy c) m es m'
+abbrev pub FindsFull : (ℕ → Type 0) → Bool → ℕ → Op → Machine → Told → Machine → Type 0
+FindsFull faithful busy c op m es m' = Then (IsEvent (try_call c op) (refused LogFull)) (MakesRoom faithful busy c) m es m'
 
-pub data TriesInVain (c : ℕ) (op : Op) (m : Machine) (es : Told) (m' : Machine) : Type 0 where
-  waits_in_vain : WaitsOnce true c op m es m' → TriesInVain c op m es m'
-  full_in_vain : FindsFull true c op m es m' → TriesInVain c op m es m'
+pub data TriesInVain (faithful : ℕ → Type 0) (c : ℕ) (op : Op) (m : Machine) (es : Told) (m' : Machine) : Type 0 where
+  waits_in_vain : WaitsOnce faithful true c op m es m' → TriesInVain faithful c op m es m'
+  full_in_vain : FindsFull faithful true c op m es m' → TriesInVain faithful c op m es m'
 
 -- so often, one after another
-abbrev pub InVain : ℕ → Op → ℕ → Machine → Told → Machine → Type 0
-InVain c op zero m es m' = Nothing m es m'
-InVain c op (suc k) m es m' = Then (InVain c op k) (TriesInVain c op) m es m'
+abbrev pub InVain : (ℕ → Type 0) → ℕ → Op → ℕ → Machine → Told → Machine → Type 0
+InVain faithful c op zero m es m' = Nothing m es m'
+InVain faithful c op (suc k) m es m' = Then (InVain faithful c op k) (TriesInVain faithful c op) m es m'
 
 -- ---- a call
 
 -- After fewer than `turns` tries in vain one settles the call; or one waits, and there is nothing to do in the round behind it; or the
 -- same of one that finds the log full; or `turns` tries are in vain.
-pub data IsTriedOut (turns c : ℕ) (op : Op) (r : Result Reply Refusal) (m : Machine) (es : Told) (m' : Machine) : Type 0 where
-  settles_at_last : (k : ℕ) → k < turns → (r ≡ Err LogFull → ⊥) → Then (InVain c op k) (IsEvent (try_call c op) (settled_answer r)) m es m' → IsTriedOut turns c op r m es m'
-  ends_waiting : (k : ℕ) → k < turns → r ≡ Err Busy → Then (InVain c op k) (WaitsOnce false c op) m es m' → IsTriedOut turns c op r m es m'
-  ends_full : (k : ℕ) → k < turns → r ≡ Err LogFull → Then (InVain c op k) (FindsFull false c op) m es m' → IsTriedOut turns c op r m es m'
-  spends_all : r ≡ Err Busy → InVain c op turns m es m' → IsTriedOut turns c op r m es m'
+pub data IsTriedOut (faithful : ℕ → Type 0) (turns c : ℕ) (op : Op) (r : Result Reply Refusal) (m : Machine) (es : Told) (m' : Machine) : Type 0 where
+  settles_at_last : (k : ℕ) → k < turns → (r ≡ Err LogFull → ⊥) → Then (InVain faithful c op k) (IsEvent (try_call c op) (settled_answer r)) m es m' → IsTriedOut faithful turns c op r m es m'
+  ends_waiting : (k : ℕ) → k < turns → r ≡ Err Busy → Then (InVain faithful c op k) (WaitsOnce faithful false c op) m es m' → IsTriedOut faithful turns c op r m es m'
+  ends_full : (k : ℕ) → k < turns → r ≡ Err LogFull → Then (InVain faithful c op k) (FindsFull faithful false c op) m es m' → IsTriedOut faithful turns c op r m es m'
+  spends_all : r ≡ Err Busy → InVain faithful c op turns m es m' → IsTriedOut faithful turns c op r m es m'

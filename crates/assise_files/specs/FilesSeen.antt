@@ -1,5 +1,7 @@
 -- What is seen of a cluster that one caller uses.
-use Rattle.std.specs.Prelude.{ℕ, Option}
+use Rattle.std.specs.Prelude.{ℕ, List, Option, map}
+use Rattle.assise_link.specs.Kinds.{Kind}
+use Rattle.assise_link.specs.TestLinks.{kind_of_link}
 use Rattle.assise_machine.specs.Clusters.{machine, revokers}
 use Rattle.assise_machine.specs.Headline.{replicated_to}
 use Rattle.assise_model_events.specs.Machine.{Machine}
@@ -13,6 +15,10 @@ cluster_seen files = machine files.cluster
 -- how often a call is tried at most
 abbrev pub most_tries : Files → ℕ
 most_tries files = files.turns
+
+-- of which kind each node's link is, from node 1 on
+abbrev pub links_seen : Files → List Kind
+links_seen files = map kind_of_link files.links
 
 -- the revoker of each client
 abbrev pub kinds_seen : Files → ℕ → Option CutKind

@@ -3,27 +3,31 @@ use crate::attempts::settle_call;
 use crate::cut_kind::CutKind;
 use assise_history::check::check;
 use assise_history::history::History;
+use assise_link::test_link::TestLink;
 use assise_machine::cluster::ClusterOf;
 use assise_machine_state::client::Client;
 use assise_manager::phase::Phase;
 use assise_names::call::Op;
 use assise_names::durability::Durability;
+use assise_names::limits::MOST_NODES;
 use assise_names::refusal::Refusal;
 use assise_names::reply::Reply;
 use assise_rounds::returning::return_node;
-use assise_rounds::rounds::round;
+use assise_rounds::rounds::round_over;
 use std::alloc::Global;
+use std::array;
 
 /// A cluster that one caller uses, with how often a call is tried. Nodes and clients are numbered from 1.
 #[derive(Drop)]
 pub struct Files {
     cluster: ClusterOf<CutKind>,
     turns: u32,
+    links: [TestLink; MOST_NODES as usize],
 }
 
 impl Files {
-    ghost use Rattle.std.specs.Prelude.{◌≡◌, ◌↔◌, ◌+◌, ◌<◌, ◌≤◌, IfOk, IsOk, IsOkUnless, IsTrue, OnOk};
-    ghost use Rattle.assise_names.specs.declared.refusal.Refusal.TheVariants.{BadClient, OutOfMemory};
+    ghost use Rattle.std.specs.Prelude.{◌≡◌, ◌↔◌, ◌+◌, ◌-◌, ◌<◌, ◌≤◌, IfOk, IsOk, IsOkUnless, IsSome, IsTrue, OnErr, OnOk, replicate, slice_set};
+    ghost use Rattle.assise_names.specs.declared.refusal.Refusal.TheVariants.{BadClient, BadNode, OutOfMemory};
     ghost use Rattle.assise_history.specs.Legal.{IsLegal};
     ghost use Rattle.assise_lease_table.specs.Tables.{Enrols};
     ghost use Rattle.assise_model_events.specs.ClientEvents.{Crashing, Opening};
@@ -39,9 +43,12 @@ impl Files {
     ghost use Rattle.assise_machine.specs.Running.{opened_answer};
     ghost use Rattle.assise_rounds.specs.Traces.{Told};
     ghost use Rattle.assise_rounds.specs.Returning.{ComesBack};
-    ghost use Rattle.assise_rounds.specs.Rounds.{RoundsOnce};
+    ghost use Rattle.assise_rounds.specs.Rounds.{RoundsOver};
+    ghost use Rattle.assise_rounds.specs.NodeLinks.{FaithfulAt};
+    ghost use Rattle.assise_link.specs.Kinds.{perfect};
+    ghost use Rattle.assise_link.specs.TestLinks.{kind_of_link};
     ghost use Rattle.assise_names.specs.declared.limits.TheConstants.{MOST_NODES};
-    ghost use Rattle.assise_files.specs.FilesSeen.{cluster_seen, kinds_seen, most_tries, replicated_seen};
+    ghost use Rattle.assise_files.specs.FilesSeen.{cluster_seen, kinds_seen, links_seen, most_tries, replicated_seen};
     ghost use Rattle.assise_files.specs.CallTries.{IsTriedOut};
 
     /// A cluster in which nothing happened: 1 to `MOST_NODES` nodes, logs of 8 to 4,096 records, and 1 to 4,096 inodes that a node keeps hot. A
@@ -61,11 +68,13 @@ impl Files {
         requires most_hot { hot ≤ 4096 }
         ensures begun { IfOk result (λ files. cluster_seen files ≡ begun_as nodes log hot) }
         ensures turns { IfOk result (λ files. most_tries files ≡ turns) }
+        ensures links { IfOk result (λ files. links_seen files ≡ replicate MOST_NODES perfect) }
         ensures only_memory { IsOkUnless result OutOfMemory }
     {
         Ok(Files {
             cluster: ClusterOf::new(alloc, nodes, log, hot)?,
             turns,
+            links: array::from_fn(|_| TestLink::perfect()),
         })
     }
 
@@ -83,6 +92,7 @@ impl Files {
         ensures stored { OnOk result (Enrols (kinds_seen self.old) (kinds_seen self.new)
             ((cluster_seen self.old).world.clients + 1) kind) }
         ensures turns { most_tries self.new ≡ most_tries self.old }
+        ensures links { links_seen self.new ≡ links_seen self.old }
     {
         match self.cluster.open(alloc, node, kind, durability) {
             Ok(client) => Ok(client),
@@ -90,26 +100,30 @@ impl Files {
         }
     }
 
-    /// A call of a client: it is tried until it is answered or refused, with a round of all nodes behind each try that waits or finds
-    /// the client's log full. Where such a round has nothing to do, or no try settles it, it is [`Refusal::Busy`], or
+    /// A call of a client: it is tried until it is answered or refused, with a round over the nodes' links behind each try that waits or
+    /// finds the client's log full. Where such a round has nothing to do, or no try settles it, it is [`Refusal::Busy`], or
     /// [`Refusal::LogFull`] where the log stays full. It may be called again then. Else it is refused as
     /// [`ClusterOf::try_call`](ClusterOf::try_call).
     pub fn call(&mut self, alloc: Global, client: u32, op: &Op) -> Result<Reply, Refusal>
-        ensures tried { (es : Told) × IsTriedOut (most_tries self.old) client op.now result
+        ensures tried { (es : Told) × IsTriedOut (FaithfulAt (links_seen self.old))
+            (most_tries self.old) client op.now result
             (cluster_seen self.old) es (cluster_seen self.new) }
         ensures turns { most_tries self.new ≡ most_tries self.old }
+        ensures links { links_seen self.new ≡ links_seen self.old }
     {
         let turns = self.turns;
-        settle_call(alloc, &mut self.cluster, client, op, turns)
+        let links = &mut self.links;
+        settle_call(alloc, &mut self.cluster, links, client, op, turns)
     }
 
-    /// One round of all nodes, as [`round`](fn@round) says. Whether there was anything to do.
+    /// One round of all nodes over their links, as [`round_over`](fn@round_over) says. Whether there was anything to do.
     pub fn round(&mut self, alloc: Global) -> bool
-        ensures round { (es : Told) × RoundsOnce result
+        ensures round { (es : Told) × RoundsOver (FaithfulAt (links_seen self.old)) result
             (cluster_seen self.old) es (cluster_seen self.new) }
         ensures turns { most_tries self.new ≡ most_tries self.old }
+        ensures links { links_seen self.new ≡ links_seen self.old }
     {
-        round(alloc, &mut self.cluster)
+        round_over(alloc, &mut self.cluster, &mut self.links)
     }
 
     /// A client crashes. Refused as [`ClusterOf::crash`](ClusterOf::crash).
@@ -117,6 +131,7 @@ impl Files {
         ensures happens { Crashing (cluster_seen self.old) client
             (crashing_answer result) (cluster_seen self.new) }
         ensures turns { most_tries self.new ≡ most_tries self.old }
+        ensures links { links_seen self.new ≡ links_seen self.old }
     {
         self.cluster.crash(client)
     }
@@ -127,6 +142,7 @@ impl Files {
         ensures happens { Failing (cluster_seen self.old) node
             (failing_answer result) (cluster_seen self.new) }
         ensures turns { most_tries self.new ≡ most_tries self.old }
+        ensures links { links_seen self.new ≡ links_seen self.old }
     {
         self.cluster.fail(alloc, node)
     }
@@ -137,6 +153,7 @@ impl Files {
         ensures comes_back { (es : Told) × ComesBack node result
             (cluster_seen self.old) es (cluster_seen self.new) }
         ensures turns { most_tries self.new ≡ most_tries self.old }
+        ensures links { links_seen self.new ≡ links_seen self.old }
     {
         return_node(alloc, &mut self.cluster, node)
     }
@@ -148,6 +165,7 @@ impl Files {
         ensures happens { SettingHot (cluster_seen self.old) node capacity
             (setting_answer result) (cluster_seen self.new) }
         ensures turns { most_tries self.new ≡ most_tries self.old }
+        ensures links { links_seen self.new ≡ links_seen self.old }
     {
         self.cluster.set_hot(node, capacity)
     }
@@ -157,8 +175,25 @@ impl Files {
         ensures happens { Raising (cluster_seen self.old) node
             (raising_answer result) (cluster_seen self.new) }
         ensures turns { most_tries self.new ≡ most_tries self.old }
+        ensures links { links_seen self.new ≡ links_seen self.old }
     {
         self.cluster.raise(node)
+    }
+
+    /// What a node sends goes over this link from here on. The one refusal is [`Refusal::BadNode`].
+    pub fn set_link(&mut self, node: u32, link: TestLink) -> Result<(), Refusal>
+        ensures set { OnOk result (links_seen self.new ≡
+            slice_set (links_seen self.old) (node - 1) (kind_of_link link)) }
+        ensures kept { OnErr result (links_seen self.new ≡ links_seen self.old) }
+        ensures ok { IsOk result ↔
+            IsSome (standing_of (cluster_seen self.old).members.nodes node) }
+        ensures only_bad { IsOkUnless result BadNode }
+        ensures cluster { cluster_seen self.new ≡ cluster_seen self.old }
+        ensures turns { most_tries self.new ≡ most_tries self.old }
+    {
+        self.cluster.phase(node)?;
+        self.links[node as usize - 1] = link;
+        Ok(())
     }
 
     /// How a node stands. The one refusal is [`Refusal::BadNode`].

@@ -151,6 +151,7 @@ fn call_named(word: &str) -> Option<u32> {
         "dsync" => Some(27),
         "hot" => Some(32),
         "raise" => Some(33),
+        "link" => Some(34),
         _ => word.parse::<u32>().ok(),
     }
 }

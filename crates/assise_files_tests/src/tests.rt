@@ -114,3 +114,16 @@ hot 1 0; hot 1 4097; hot 3 1; hot 1 1; hot 2 4096; raise 3; raise 1; raise 2; ra
 ",
     );
 }
+
+// Node 1 alone has the client's records while its link loses all, so an fsync waits until nothing can be done: F2.
+#[test]
+fn what_goes_over_links(rt: HostRuntime) {
+    show(
+        rt.alloc(),
+        &rt,
+        "\
+make 2 64 8; open 1; link 3 0; link 0 0; link 1 6; link 1 1; create 1 /f; dsync 1; replicated 1 => 0 1 -108 -108 -302 0 0 -102 0
+link 1 0; dsync 1; replicated 1; link 1 4 30; link 1 5; link 1 3; link 1 2; legal => 0 0 2 0 0 0 0 1
+",
+    );
+}

@@ -28,7 +28,7 @@ returns-in-Some-clause-answered c =
       from = owned_is c.args.desk.now.files c.in-Some.files c.deref_mut.result.now c.in-Some.is c.deref_mut.ensures.value;
       leaves = refl;
       turns = c.manage.ensures.turns;
-    } c.manage.ensures.does c.manage.ensures.bytes refl
+    } c.manage.ensures.does c.manage.ensures.bytes c.manage.ensures.links refl
 
 pub returns-in-None-files-2-clause-answered : goal.returns-in-None-files-2-clause-answered
 returns-in-None-files-2-clause-answered c =

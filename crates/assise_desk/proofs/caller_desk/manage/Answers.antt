@@ -1,4 +1,4 @@
-use Rattle.assise_desk.proofs.DeskSteps.{crashing_told, failing_told, hot_told, opening_told, raising_told, return_told}
+use Rattle.assise_desk.proofs.DeskSteps.{crashing_told, failing_told, hot_told, link_told, opening_told, raising_told, return_told}
 use Rattle.assise_desk.proofs.caller_desk.manage.Goals as goal
 
 pub returns-in-Open-clause-does : goal.returns-in-Open-clause-does
@@ -28,3 +28,7 @@ pub returns-in-Raise-clause-does : goal.returns-in-Raise-clause-does
 returns-in-Raise-clause-does c =
     raising_told c.args.call c.args.request.now c.done_told-in-Raise.result c.args.out.now c.args.out.now c.raise.result c.args.files.now c.raise.new.self c.in-Raise.is
     c.done_told-in-Raise.ensures c.raise.ensures.happens
+
+pub returns-in-SetLink-clause-does : goal.returns-in-SetLink-clause-does
+returns-in-SetLink-clause-does c =
+    link_told c.args.call c.args.request.now c.set_link.result c.args.out.now c.args.out.now c.args.files.now c.set_link.new.files c.in-SetLink.is c.set_link.ensures.serves c.set_link.ensures.cluster

@@ -1,9 +1,11 @@
+use Rattle.std.proofs.Common.{map}
 use Rattle.assise_machine.specs.Clusters.{machine}
 use Rattle.assise_machine_calls.specs.Answers.{turn_answer}
+use Rattle.assise_rounds.specs.NodeLinks.{FaithfulAt}
 use Rattle.assise_files.proofs.VainTries.{room_made}
 use Rattle.assise_files.proofs.attempts.make_room.Goals as goal
 
-pub returns : goal.returns
-returns g c =
-    room_made c.round.result c.args.client (turn_answer c.try_fsync.result) (machine c.args.cluster.now) (machine c.try_fsync.new.self) (machine c.round.new.cluster)
-    c.try_fsync.ensures.happens c.round.ensures
+pub returns-clause-makes : goal.returns-clause-makes
+returns-clause-makes g c =
+    room_made (FaithfulAt (map g.L.Link.kind c.args.links.now)) c.round_over.result c.args.client (turn_answer c.try_fsync.result) (machine c.args.cluster.now) (machine c.try_fsync.new.self)
+    (machine c.round_over.new.cluster) c.try_fsync.ensures.happens c.round_over.ensures.rounds
