@@ -39,10 +39,9 @@ class Judge:
 
     def __init__(self, has_threads):
         self.has_threads = has_threads
-        self.is_manual = False
+        self.is_manual = self.may_digest = False
         self.waiting = []
         self.made = {}
-        self.printed = 0
         self.shown = None
         self.swept, self.sweep, self.syncing = 0, [], {}
 
@@ -141,6 +140,7 @@ class Judge:
     # ---- calls
 
     def see_call(self, client, words, text):
+        self.may_digest = self.may_digest or not self.is_manual
         refusal = self.members.refusal_of_call(client)
         if not refusal and words[0] == "write" and len(bytes_of(words[3])) > MOST_WRITTEN:
             refusal = TOO_LARGE
@@ -154,6 +154,8 @@ class Judge:
             self.see_refusal("", text)
         self.happens("calls", client, words, text)
         self.made[client] = self.made.get(client, 0) + leaves_record(words, text)
+        if self.made[client] > self.log and not self.may_digest:
+            raise Wrong(f"client {client} has made {self.made[client]} records, and its log has {self.log} at most")
         self.syncing.pop(client, None)
 
     def see_log_full(self, client, words):
@@ -253,6 +255,7 @@ class Judge:
         if count > min(MOST_IN_FRAME, made):
             raise Wrong(f"{count} records were digested, and {min(MOST_IN_FRAME, made)} can be at most")
         if count:
+            self.may_digest = True
             self.members.digests()
 
     def see_release(self, words, answer):

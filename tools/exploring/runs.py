@@ -11,11 +11,11 @@ from scripting import running
 from exploring import judge, scripts
 from exploring.shrinking import Shrinker
 
-# Tries of a call: a link that brings nothing makes each of them wait.
-TURNS = "200"
+# Tries of a call, on one thread and with several: what holds frames back makes each of them wait.
+TURNS, TURNS_OF_THREADS = "200", "3000"
 
-# With threads a run may differ from the one before: how often a script is run until it is wrong.
-TRIES = 8
+# How many scripts are tried to make a wrong one shorter; with threads, where a run may differ from the one before, how many, and how often.
+SHRINKING, SHRINKING_OF_THREADS, TRIES_OF_THREADS = 1_500, 200, 4
 PICTURE = os.path.join(running.ROOT, "tools/picture")
 
 
@@ -38,7 +38,7 @@ class Explorer:
         self.counts = Counter()
 
     def run(self, lines):
-        words = ["-", *(["--threads"] if self.shape.has_threads else ["--turns", TURNS])]
+        words = ["-", *(["--threads", "--turns", TURNS_OF_THREADS] if self.shape.has_threads else ["--turns", TURNS])]
         return running.run(self.program, words, "".join(f"{line}\n" for line in lines))
 
     def why(self, lines):
@@ -71,14 +71,14 @@ class Explorer:
         best = [found]
 
         def is_wrong(lines):
-            for _ in range(TRIES if self.shape.has_threads else 1):
+            for _ in range(TRIES_OF_THREADS if self.shape.has_threads else 1):
                 run, reason = self.why(lines)
                 if reason:
                     best[0] = Found(found.seed, lines, run, reason)
                     return True
             return False
 
-        Shrinker(found.lines, is_wrong).shrunk()
+        Shrinker(found.lines, is_wrong, SHRINKING_OF_THREADS if self.shape.has_threads else SHRINKING).shrunk()
         return best[0]
 
     def draw(self, found, path):

@@ -234,8 +234,9 @@ class Writer:
                 self.add(f"carry {node}")
         if self.chance.random() < 0.4:
             self.add("release")
+        often = self.chance.choice((0, 0.9, 1, 1))
         for node in range(1, self.nodes + 1):
-            if self.chance.random() < 0.9:
+            if self.chance.random() < often:
                 self.add(f"digest {node}")
         self.add("release")
 
@@ -244,7 +245,9 @@ class Writer:
         self.add(self.chance.choice((f"carry {node}", f"carry {node}", f"digest {node}", "release", f"refill {node}", f"join {node}")))
 
     def raise_node(self):
-        self.add(f"raise {self.up()}")
+        """A node is raised; with threads all are, since calls would wait long otherwise."""
+        up = [node for node in range(1, self.nodes + 1) if node not in self.down]
+        self.lines += [f"raise {node}" for node in (up if self.shape.has_threads else [self.up()])]
         self.is_raised = True
 
     def hot(self):

@@ -2,21 +2,18 @@
 
 from scripting import grammar
 
-# How often a script is tried at most.
-MOST_TRIES = 1_500
-
 
 class Spent(Exception):
     """All tries are spent."""
 
 
 class Shrinker:
-    """The shortest lines so far that go wrong. `is_wrong` says of lines whether they do."""
+    """The shortest lines so far that go wrong. `is_wrong` says of lines whether they do, and is asked so many `tries` at most."""
 
-    def __init__(self, lines, is_wrong):
+    def __init__(self, lines, is_wrong, tries):
         self.lines = list(lines)
         self.is_wrong = is_wrong
-        self.tries = MOST_TRIES
+        self.tries = tries
         self.seen = set()
 
     def shrunk(self):
@@ -26,6 +23,7 @@ class Shrinker:
                 before = self.lines
                 self.without_lines()
                 self.without_clients()
+                self.with_short_paths()
                 self.simpler()
         except Spent:
             pass
@@ -65,6 +63,12 @@ class Shrinker:
                 self.without_clients()
                 return
 
+    def with_short_paths(self):
+        """Takes a path right below the root in place of a deeper one."""
+        for path in grammar.paths_in(self.lines):
+            if path.count("/") > 1:
+                self.take([with_path(line, path, path[path.rindex("/") :]) for line in self.lines])
+
     def simpler(self):
         """Takes simpler words where the script still goes wrong."""
         for place in range(len(self.lines)):
@@ -81,6 +85,12 @@ def without_client(line, client):
     if int(words[place]) == client:
         return ""
     words[place] = str(int(words[place]) - 1)
+    return " ".join(words)
+
+
+def with_path(line, path, other):
+    """A line with another path in place of this one, also where it is the front of one."""
+    words = (other + word[len(path) :] if f"{word}/".startswith(f"{path}/") else word for word in grammar.texts_of(line))
     return " ".join(words)
 
 
