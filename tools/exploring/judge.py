@@ -106,8 +106,8 @@ class Judge:
         if self.has_threads:
             self.take_waiting(lines)
         if lines != self.ledger.lines:
-            place = next((n for n, pair in enumerate(zip(lines, self.ledger.lines)) if pair[0] != pair[1]), None)
-            place = min(len(lines), len(self.ledger.lines)) if place is None else place
+            differ = [line != wanted for line, wanted in zip(lines, self.ledger.lines)]
+            place = differ.index(True) if True in differ else len(differ)
             there, wanted = ("".join(found[place : place + 1]) or "nothing" for found in (lines, self.ledger.lines))
             raise Wrong(f"the history's line {place + 1} is {there!r}, and by the answers {wanted!r}")
 

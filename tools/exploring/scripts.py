@@ -264,7 +264,8 @@ class Writer:
     def stray(self):
         """What is refused, or nearly."""
         other = self.nodes + 1
-        self.add(self.chance.choice((f"fail {other}", f"open {other} least", f"join {self.node()}", f"carry {other}", "99 stat /", "release")))
+        node = self.node()
+        self.add(self.chance.choice((f"fail {other}", f"open {other} least", f"join {node}", f"carry {other}", "99 stat /", "release")))
 
     def show(self):
         if self.chance.random() < 0.3:
