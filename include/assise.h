@@ -334,7 +334,7 @@ static inline int64_t assise_set_hot(struct assise_desk *desk, uint32_t node, ui
     return assise_manage(desk, ASSISE_SET_HOT, 0, node, 0, hot, 0);
 }
 
-/* A full node reads and sends version 2 of frames from here on. */
+/* A full node reads and sends version 2 of frames from here on. What it sends is for nodes that were raised too: so raise all. */
 static inline int64_t assise_raise(struct assise_desk *desk, uint32_t node) {
     return assise_manage(desk, ASSISE_RAISE, 0, node, 0, 0, 0);
 }

@@ -66,6 +66,7 @@ static void sets_nodes(void) {
     SEE(ASSISE_BAD_NODE, assise_set_hot(&desk, 3, 1));
     SEE(0, assise_raise(&desk, 1));
     SEE(ASSISE_WRONG_PHASE, assise_raise(&desk, 1));
+    SEE(0, assise_raise(&desk, 2));
     SEE(ASSISE_BAD_NODE, assise_raise(&desk, 3));
     SEE(ASSISE_FULL, assise_phase(&desk, 1));
     SEE(ASSISE_BAD_NODE, assise_phase(&desk, 3));

@@ -1,19 +1,19 @@
 -- Tries of a call, until it is settled.
 use Rattle.std.proofs.Common.{◌≡◌, ◌<◌, ℕ, suc, Bool, true, false, Result, Err, refl, subst}
 use Rattle.assise_names.specs.declared.call.Op.{Op}
+use Rattle.assise_names.specs.declared.call.Op.TheVariants.{Dsync}
 use Rattle.assise_names.specs.declared.refusal.Refusal.{Refusal}
 use Rattle.assise_names.specs.declared.refusal.Refusal.TheVariants.{Busy, LogFull}
 use Rattle.assise_names.specs.declared.reply.Reply.{Reply}
-use Rattle.assise_history.specs.Legal.{durability_of}
 use Rattle.assise_model_events.specs.Events.{Answer, not_yet, refused}
-use Rattle.assise_model_events.specs.Happenings.{Fsyncing, Trying}
+use Rattle.assise_model_events.specs.Happenings.{Trying}
 use Rattle.assise_model_events.specs.Machine.{Machine}
 use Rattle.assise_rounds.specs.Traces.{Told}
 use Rattle.assise_rounds.specs.Rounds.{RoundsOver}
 use Rattle.assise_rounds.specs.Trying.{settled_answer}
 use Rattle.assise_files.specs.CallTries.{FindsFull, InVain, IsTriedOut, MakesRoom, TriesInVain, WaitsOnce, waits_in_vain, full_in_vain, settles_at_last, ends_full, ends_waiting}
 
-pub room_made : (faithful : ℕ → Type 0) (busy : Bool) (c : ℕ) (a : Answer) (m v m' : Machine) → Fsyncing (durability_of c m.history) m c a v → (es : Told) × RoundsOver faithful busy v es m' → (gs : Told) × MakesRoom faithful busy c m gs m'
+pub room_made : (faithful : ℕ → Type 0) (busy : Bool) (c : ℕ) (a : Answer) (m v m' : Machine) → Trying m c Dsync a v → (es : Told) × RoundsOver faithful busy v es m' → (gs : Told) × MakesRoom faithful busy c m gs m'
 room_made faithful busy c a m v m' h (es, round) =
     (_, record { answer = a; trace = record { between = v; before = _; after = es; told = refl; first = record { told = refl; happens = h }; second = round } })
 

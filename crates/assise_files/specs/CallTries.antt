@@ -2,10 +2,11 @@
 -- Assise (OSDI 2020), section 3 (a process waits for a lease, or for its log to be replicated and digested).
 use Rattle.std.specs.Prelude.{◌≡◌, ℕ, zero, suc, ◌<◌, Bool, true, false, Result, Err}
 use Rattle.assise_names.specs.declared.call.Op.{Op}
+use Rattle.assise_names.specs.declared.call.Op.TheVariants.{Dsync}
 use Rattle.assise_names.specs.declared.refusal.Refusal.{Refusal}
 use Rattle.assise_names.specs.declared.refusal.Refusal.TheVariants.{Busy, LogFull}
 use Rattle.assise_names.specs.declared.reply.Reply.{Reply}
-use Rattle.assise_model_events.specs.Events.{Answer, not_yet, refused, try_call, try_fsync}
+use Rattle.assise_model_events.specs.Events.{Answer, not_yet, refused, try_call}
 use Rattle.assise_model_events.specs.Machine.{Machine}
 use Rattle.assise_rounds.specs.Traces.{IsEvent, Nothing, Then, Told}
 use Rattle.assise_rounds.specs.Rounds.{RoundsOver}
@@ -14,10 +15,10 @@ use Rattle.assise_rounds.specs.Trying.{settled_answer}
 -- ---- one try; `busy` says whether there was anything to do in the round behind it, and `faithful` which nodes' links carry what they
 -- are handed
 
--- an fsync of client c is tried, and all nodes make a round: a round alone sends only what an fsync, a crash or a lease asks for
+-- a dsync of client c is tried, and all nodes make a round: a round alone sends only what a sync, a crash or a lease asks for
 pub record MakesRoom (faithful : ℕ → Type 0) (busy : Bool) (c : ℕ) (m : Machine) (es : Told) (m' : Machine) : Type 0 where
   pub answer : Answer
-  pub trace : Then (IsEvent (try_fsync c) answer) (RoundsOver faithful busy) m es m'
+  pub trace : Then (IsEvent (try_call c Dsync) answer) (RoundsOver faithful busy) m es m'
 
 -- a try that waits
 abbrev pub WaitsOnce : (ℕ → Type 0) → Bool → ℕ → Op → Machine → Told → Machine → Type 0

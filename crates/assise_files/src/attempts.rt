@@ -53,7 +53,7 @@ pub(crate) fn settle_call<C: Revokes + Drop, L: Link>(
     Err(Refusal::Busy)
 }
 
-/// What is done where a client's log is full: a round alone sends nothing that no fsync, crash or lease asks for, so an fsync is tried
+/// What is done where a client's log is full: a round alone sends nothing that no sync, crash or lease asks for, so a dsync is tried
 /// first. Whether the round had anything to do.
 fn make_room<C: Revokes + Drop, L: Link>(
     alloc: Global,
@@ -66,6 +66,6 @@ fn make_room<C: Revokes + Drop, L: Link>(
         (machine cluster.old) es (machine cluster.new) }
     ensures stay { map L.kind links.new ≡ map L.kind links.old }
 {
-    let _ = cluster.try_fsync(client);
+    let _ = cluster.try_call(alloc, client, &Op::Dsync);
     round_over(alloc, cluster, links)
 }

@@ -20,6 +20,7 @@ fn a_full_log_makes_room(rt: HostRuntime) {
         "\
 make 2 8 4; open 1; create 1 /f; often write 1 /f x; round; round => 0 1 0 0 0 0
 make 1 8 4; open 1; create 1 /f; often write 1 /f x => 0 1 0 0
+make 2 8 4; open 1 0 1; create 1 /f; often write 1 /f x; often write 1 /f x => 0 1 0 0 0
 make 3 8 4; open 3 2; open 2 1; create 1 /f; often write 2 /f x; often write 1 /f x; read 2 0 9 /f => 0 1 2 0 0 0 1
 ",
     );
@@ -91,7 +92,7 @@ fn what_is_asked_of_a_cluster(rt: HostRuntime) {
         &rt,
         "\
 make 2 64 8; open 1; open 2; home 1; home 2; home 3; standing 1; standing 2; standing 3; standing 0 => 0 1 2 1 2 -109 1 1 -109 -109
-create 1 /f; write 1 0 /f hello; read 1 1 3 /f; list 1 /; entries; payload => 0 5 3 1 of 1 6 9
+create 1 /f; write 1 0 /f hello; read 1 1 3 /f; list 1 /; entries; payload => 0 0 3 2 of 1 6 9
 answered 1; replicated 1; answered 2; replicated 2; answered 3; replicated 3 => 4 0 0 0 -109 -109
 dsync 1; answered 1; replicated 1; stat 1 /f; answered 1; replicated 1 => 0 5 5 5 6 6
 truncate 1 2 /f; answered 1; replicated 1; crash 2; standing 2 => 0 7 6 0 2
