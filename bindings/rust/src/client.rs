@@ -17,7 +17,7 @@ use std::sync::MutexGuard;
 ///
 /// A clone is the same client. **Dropping it does nothing in the cluster**: the client stays open there, with its leases and with what it
 /// didn't sync, and its number is spent. Others still get at its files: the nodes make safe what they look at, and take its leases. The
-/// rest of what it didn't sync is on its node alone, and goes with it. So [`fsync`](Client::fsync) first; [`crash`](Client::crash) lets
+/// rest of what it didn't sync is on its node alone, and goes with it. So [`dsync`](Client::dsync) first; [`crash`](Client::crash) lets
 /// its leases go.
 ///
 /// # Errors
@@ -149,14 +149,27 @@ impl Client {
         }
     }
 
-    /// Returns once all full nodes have all that this client did so far, in whatever files.
+    /// Returns once all full nodes have all that this client did so far, in whatever files. Of a client that was opened
+    /// [optimistic](crate::Durability::Optimistic) it returns at once, and promises nothing.
     ///
     /// # Errors
     ///
     /// Those of each call.
     #[doc(alias = "sync_all")]
+    #[doc(alias = "assise_fsync")]
     pub fn fsync(&self) -> io::Result<()> {
         self.turn().ask(self.request(call::FSYNC)).map(drop)
+    }
+
+    /// Returns once all full nodes have all that this client did so far, in whatever files, however it was opened.
+    ///
+    /// # Errors
+    ///
+    /// Those of each call.
+    #[doc(alias = "sync_all")]
+    #[doc(alias = "assise_dsync")]
+    pub fn dsync(&self) -> io::Result<()> {
+        self.turn().ask(self.request(call::DSYNC)).map(drop)
     }
 
     /// The desk of the client's cluster, for one turn.

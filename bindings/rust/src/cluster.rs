@@ -2,39 +2,12 @@
 
 use crate::client::Client;
 use crate::desk::{turn, Desk, Request, Shared};
-use crate::numbers::{call, define, kind};
+use crate::faults::unknown;
+use crate::numbers::{call, define};
+use crate::options::{Options, Revoker};
+use crate::phase::Phase;
 use std::io;
 use std::sync::{Arc, Mutex};
-
-/// How much of a client's log is made safe before another client gets a lease of its.
-///
-/// ```
-/// # fn main() -> std::io::Result<()> {
-/// use assise::{Cluster, Revoker};
-///
-/// let cluster = Cluster::new(2, 64, 64)?;
-/// let writer = cluster.open_with(1, Revoker::Whole)?;
-/// writer.create("/seen")?;
-/// writer.create("/other")?;
-/// writer.write("/seen", "text", 0)?;
-/// writer.write("/other", "text", 0)?;
-///
-/// // Another client reads one file. By `Least`, the write behind would be lost with node 1.
-/// cluster.open(2)?.read_all("/seen")?;
-/// assert_eq!(cluster.fail(1)?, []);
-/// # Ok(())
-/// # }
-/// ```
-#[derive(Clone, Copy, Debug, PartialEq, Eq, Hash)]
-#[repr(u32)]
-pub enum Revoker {
-    /// What it wrote to the file or directory that the lease is of, and all before that.
-    Least = kind::LEAST,
-    /// All that it wrote.
-    Whole = kind::WHOLE,
-    /// As [`Revoker::Least`], and up to seven records more: to a multiple of 8, or to the log's end.
-    Eights = kind::EIGHTS,
-}
 
 /// What a client lost with its node.
 ///
@@ -103,8 +76,8 @@ impl Cluster {
         Ok(Cluster { desk: Arc::new(Mutex::new(desk)) })
     }
 
-    /// Opens a client on a full node, with [`Revoker::Least`]. A cluster has [`MOST_CLIENTS`](crate::limits::MOST_CLIENTS) in all, and no
-    /// number comes back.
+    /// Opens a client on a full node, with [`Revoker::Least`] and [`Durability::Pessimistic`](crate::Durability::Pessimistic). A cluster
+    /// has [`MOST_CLIENTS`](crate::limits::MOST_CLIENTS) in all, and no number comes back.
     ///
     /// # Errors
     ///
@@ -112,7 +85,7 @@ impl Cluster {
     /// [`BadClient`](crate::Refusal::BadClient) where all clients were opened, [`OutOfMemory`](crate::Refusal::OutOfMemory).
     #[doc(alias = "assise_open")]
     pub fn open(&self, node: u32) -> io::Result<Client> {
-        self.open_with(node, Revoker::Least)
+        self.open_as(node, Options::new())
     }
 
     /// Opens a client with a revoker of its own.
@@ -121,7 +94,18 @@ impl Cluster {
     ///
     /// Those of [`Cluster::open`].
     pub fn open_with(&self, node: u32, revoker: Revoker) -> io::Result<Client> {
-        let number = self.ask(Request { node, kind: revoker as u32, ..Request::new(call::OPEN) })?;
+        self.open_as(node, Options::new().revoker(revoker))
+    }
+
+    /// Opens a client with options of its own.
+    ///
+    /// # Errors
+    ///
+    /// Those of [`Cluster::open`].
+    #[doc(alias = "assise_open_as")]
+    pub fn open_as(&self, node: u32, options: Options) -> io::Result<Client> {
+        let (kind, durability) = (options.revoker as u32, options.durability as u64);
+        let number = self.ask(Request { node, kind, second: durability, ..Request::new(call::OPEN) })?;
         Ok(Client::new(Arc::clone(&self.desk), number as u32))
     }
 
@@ -162,6 +146,56 @@ impl Cluster {
         self.ask(Request { node, ..Request::new(call::BACK) }).map(drop)
     }
 
+    /// How a node stands.
+    ///
+    /// # Errors
+    ///
+    /// [`BadNode`](crate::Refusal::BadNode).
+    #[doc(alias = "assise_phase")]
+    pub fn phase(&self, node: u32) -> io::Result<Phase> {
+        let number = self.ask(Request { node, ..Request::new(call::PHASE) })?;
+        Phase::of_number(number).ok_or_else(|| unknown(number))
+    }
+
+    /// Sets how many files and directories a full node keeps hot, 1 to [`MOST_HOT`](crate::limits::MOST_HOT): from here on those that
+    /// were used last. Calls are answered as before.
+    ///
+    /// # Errors
+    ///
+    /// [`BadRequest`](crate::Refusal::BadRequest) where `hot` is out of range, [`BadNode`](crate::Refusal::BadNode),
+    /// [`WrongPhase`](crate::Refusal::WrongPhase) where the node isn't full; [`OutOfMemory`](crate::Refusal::OutOfMemory) where fewer are
+    /// to be hot than before, and as many stay hot then.
+    #[doc(alias = "assise_set_hot")]
+    pub fn set_hot(&self, node: u32, hot: u64) -> io::Result<()> {
+        self.ask(Request { node, first: hot, ..Request::new(call::SET_HOT) }).map(drop)
+    }
+
+    /// A full node reads version 2 of frames, beside version 1, and sends version 2 from here on. What it sends to a node that isn't
+    /// raised waits until that is, so raise all nodes: calls that wait for it are refused with [`Busy`](crate::Refusal::Busy) meanwhile,
+    /// after all their tries. Nothing is lost. A node stays raised when it fails, and one that comes back is raised where the node that
+    /// fills it is.
+    ///
+    /// ```
+    /// # fn main() -> std::io::Result<()> {
+    /// let cluster = assise::Cluster::new(2, 64, 64)?;
+    /// let client = cluster.open(1)?;
+    /// client.create("/letter")?;
+    /// cluster.raise(1)?;
+    /// cluster.raise(2)?;
+    /// client.fsync()?;
+    /// assert_eq!(cluster.fail(1)?, []);
+    /// # Ok(())
+    /// # }
+    /// ```
+    ///
+    /// # Errors
+    ///
+    /// [`BadNode`](crate::Refusal::BadNode), [`WrongPhase`](crate::Refusal::WrongPhase) where the node isn't full or was raised.
+    #[doc(alias = "assise_raise")]
+    pub fn raise(&self, node: u32) -> io::Result<()> {
+        self.ask(Request { node, ..Request::new(call::RAISE) }).map(drop)
+    }
+
     /// One round of all nodes: each sends what is to be replicated and digests what all have, and leases go that may. Says whether there
     /// was anything to do. Calls make rounds themselves where they wait.
     ///
@@ -180,8 +214,18 @@ impl Cluster {
     ///
     /// None: a cluster always answers it.
     #[doc(alias = "assise_entries")]
-    pub fn history_len(&self) -> io::Result<u64> {
+    pub fn entries(&self) -> io::Result<u64> {
         self.ask(Request::new(call::ENTRIES))
+    }
+
+    /// How many bytes the history's calls wrote, read and listed. They are kept in memory with its entries.
+    ///
+    /// # Errors
+    ///
+    /// None: a cluster always answers it.
+    #[doc(alias = "assise_payload")]
+    pub fn payload(&self) -> io::Result<u64> {
+        self.ask(Request::new(call::PAYLOAD))
     }
 
     /// Whether the history is legal, which it is: that is checked anew, and takes long where it is.

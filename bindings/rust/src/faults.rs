@@ -2,6 +2,7 @@
 
 use crate::numbers::FAULTS;
 use crate::refusal::Refusal;
+use std::fmt::Display;
 use std::io::{self, ErrorKind};
 
 /// What the header says of a result below 0.
@@ -22,8 +23,13 @@ pub(crate) fn error_of(result: i64) -> io::Error {
     match (Refusal::of_code(result), fault_of(result)) {
         (Some(refusal), _) => refusal.into(),
         (None, Some(fault)) => io::Error::from_raw_os_error(fault.errno),
-        (None, None) => io::Error::new(ErrorKind::Other, format!("result {result}")),
+        (None, None) => unknown(result),
     }
+}
+
+/// The error for a result that the header doesn't have.
+pub(crate) fn unknown(result: impl Display) -> io::Error {
+    io::Error::new(ErrorKind::Other, format!("result {result}"))
 }
 
 #[cfg(test)]

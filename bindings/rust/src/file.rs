@@ -56,7 +56,8 @@ impl File {
         &self.path
     }
 
-    /// Returns once all full nodes have all that its client did so far, in this file and in others.
+    /// Returns once all full nodes have all that its client did so far, in this file and in others. Of a client that was opened
+    /// [optimistic](crate::Durability::Optimistic) it returns at once, and promises nothing: there, [`Client::dsync`].
     ///
     /// # Errors
     ///

@@ -1,8 +1,9 @@
 //! A replicated file system as a library: a [`Cluster`] of nodes in this process, and the calls of its [`Client`]s.
 //!
-//! A client writes to its node; [`Client::fsync`] is answered once all full nodes have what it wrote. Where a node fails, its clients
-//! are over, and each loses at most a tail of its calls behind its last fsync, over all files, in order. A client that is opened on
-//! another node finds the rest.
+//! A client writes to its node; [`Client::fsync`] is answered once all full nodes have what it wrote, and is a sync, unless the client
+//! was opened [optimistic](Durability::Optimistic); [`Client::dsync`] is one always. Where a node fails, its clients are over, and each
+//! loses at most a tail of its calls behind its last sync, over all files, in order. A client that is opened on another node finds the
+//! rest. A program that goes on makes the lost calls again: [`Cluster::fail`] names the first of each client.
 //!
 //! ```
 //! use std::io::Write;
@@ -40,16 +41,22 @@ mod faults;
 mod file;
 pub mod limits;
 mod numbers;
+mod options;
+mod phase;
 mod read_dir;
 mod refusal;
+mod standing;
 mod stat;
 
 pub use client::Client;
-pub use cluster::{Cluster, Lost, Revoker};
+pub use cluster::{Cluster, Lost};
 pub use desk::version;
 pub use file::File;
+pub use options::{Durability, Options, Revoker};
+pub use phase::Phase;
 pub use read_dir::ReadDir;
 pub use refusal::Refusal;
+pub use standing::Standing;
 pub use stat::Stat;
 
 /// The programs of the page are tests.

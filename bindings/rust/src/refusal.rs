@@ -37,7 +37,8 @@ use std::io;
 pub enum Refusal {
     /// Memory was refused: call again.
     OutOfMemory = fault::OUT_OF_MEMORY,
-    /// The call was tried over and over, waited each time, and the nodes have nothing left to do: call again, or bring a node back.
+    /// The call was tried until the nodes had nothing left to do, or 100,000 times, and waited each time: call again, bring a node back,
+    /// or [`raise`](crate::Cluster::raise) those that aren't raised.
     Busy = fault::BUSY,
     /// The client's node has failed since the client was opened, or a client was to be opened on a node that isn't full. Open one on
     /// a full node.
@@ -54,11 +55,11 @@ pub enum Refusal {
     BadNode = fault::BAD_NODE,
     /// There is no such client, or [`MOST_CLIENTS`](crate::limits::MOST_CLIENTS) were opened, which is all that may be.
     BadClient = fault::BAD_CLIENT,
-    /// A node that is down can't fail, and only one that is down comes back.
+    /// A node that is down can't fail, and only one that is down comes back. Only a full one is set or raised, and it is raised once.
     WrongPhase = fault::WRONG_PHASE,
     /// A message of an earlier epoch, which no node takes. No call of this crate is refused so.
     StaleMessage = fault::STALE_MESSAGE,
-    /// The client's log has no room, and the nodes have nothing left to do.
+    /// The client's log has no room, and the nodes have nothing left to do: [`dsync`](crate::Client::dsync), and call again.
     LogFull = fault::LOG_FULL,
     /// A path begins with no slash.
     NotAbsolute = fault::NOT_ABSOLUTE,

@@ -136,7 +136,7 @@ fn a_crash_is_no_sync() {
 #[test]
 fn a_drop_does_nothing() {
     let cluster = Cluster::new(2, 64, 64).unwrap();
-    let before = cluster.history_len().unwrap();
+    let before = cluster.entries().unwrap();
     let writer = cluster.open(1).unwrap();
     writer.create("/seen").unwrap();
     writer.create("/other").unwrap();
@@ -144,7 +144,7 @@ fn a_drop_does_nothing() {
     writer.write("/seen", "text", 0).unwrap();
     writer.write("/other", "text", 0).unwrap();
     drop(writer);
-    assert_eq!(cluster.history_len().unwrap(), before + 6);
+    assert_eq!(cluster.entries().unwrap(), before + 6);
     let reader = cluster.open(2).unwrap();
     assert_eq!(reader.number(), 2);
     assert_eq!(reader.read_all("/seen").unwrap(), b"text");
@@ -170,7 +170,7 @@ fn a_log_that_is_full_is_synced() {
 #[test]
 fn a_history_has_an_entry_for_each_call() {
     let cluster = Cluster::new(2, 64, 64).unwrap();
-    let before = cluster.history_len().unwrap();
+    let before = cluster.entries().unwrap();
     let client = cluster.open(1).unwrap();
     client.create("/file").unwrap();
     assert!(client.create("/file").is_err());
@@ -178,6 +178,6 @@ fn a_history_has_an_entry_for_each_call() {
     cluster.fail(1).unwrap();
     cluster.back(1).unwrap();
     // The client, its two calls, which the tree answers, the failure, and the return.
-    assert_eq!(cluster.history_len().unwrap(), before + 5);
+    assert_eq!(cluster.entries().unwrap(), before + 5);
     assert!(cluster.is_legal().unwrap());
 }

@@ -71,6 +71,7 @@ fn all_refused(client: &Client, why: Refusal) {
         client.unlink("/file"),
         client.rmdir("/box"),
         client.fsync(),
+        client.dsync(),
     ];
     for result in done {
         assert_eq!(refusal(result), Some(why));

@@ -1,6 +1,6 @@
 //! Threads that share a cluster, and what holds it.
 
-use assise::{Client, Cluster, File, Lost, ReadDir, Refusal, Revoker, Stat};
+use assise::{Client, Cluster, Durability, File, Lost, Options, Phase, ReadDir, Refusal, Revoker, Standing, Stat};
 use std::io::Write;
 use std::panic::{catch_unwind, AssertUnwindSafe};
 use std::thread;
@@ -13,7 +13,8 @@ fn all_types_go_between_threads() {
     goes_between_threads::<Client>();
     goes_between_threads::<File>();
     goes_between_threads::<ReadDir>();
-    goes_between_threads::<(Lost, Refusal, Revoker, Stat)>();
+    goes_between_threads::<(Lost, Refusal, Stat)>();
+    goes_between_threads::<(Options, Revoker, Durability, Phase, Standing)>();
 }
 
 #[test]
