@@ -172,7 +172,7 @@ enum assise_fault {
     ASSISE_BAD_CLIENT = -109,    /* no such client, or all 32 were opened */
     ASSISE_WRONG_PHASE = -110,   /* the node is down, or isn't */
     ASSISE_STALE_MESSAGE = -111, /* never: a message of an earlier epoch */
-    ASSISE_LOG_FULL = -112,      /* the client's log is full, and nothing goes on */
+    ASSISE_LOG_FULL = -112,      /* the client's log is full, and nothing goes on: dsync, and call again */
     /* The bytes spell no path. */
     ASSISE_NOT_ABSOLUTE = -201,  /* it begins with no slash */
     ASSISE_EMPTY_NAME = -202,    /* a name without bytes */
@@ -314,8 +314,8 @@ static inline int64_t assise_fail(struct assise_desk *desk, uint32_t node) {
     return bytes < 0 ? bytes : bytes / ASSISE_LOSS_BYTES;
 }
 
-/* The loss at a place, counted from 0: it lies behind the client's last answered fsync. A call that found its log full asked for an
- * fsync, which counts as one of the client's calls if it was answered. */
+/* The loss at a place, counted from 0: it lies behind the client's last answered dsync, and fsync unless the client is optimistic. A
+ * call that found its log full asked for an fsync, which counts as one of the client's calls if it was answered. */
 static inline struct assise_loss assise_loss(const struct assise_desk *desk, uint32_t place) {
     const uint8_t *bytes = desk->bytes + (size_t)(place % (ASSISE_MOST_CLIENTS + 1)) * ASSISE_LOSS_BYTES;
     struct assise_loss loss = {0, 0};
@@ -329,12 +329,13 @@ static inline int64_t assise_back(struct assise_desk *desk, uint32_t node) {
     return assise_manage(desk, ASSISE_BACK, 0, node, 0, 0, 0);
 }
 
-/* How many inodes a node keeps hot, 1 to 4,096, is set. */
+/* How many inodes a full node keeps hot, 1 to 4,096, is set. */
 static inline int64_t assise_set_hot(struct assise_desk *desk, uint32_t node, uint64_t hot) {
     return assise_manage(desk, ASSISE_SET_HOT, 0, node, 0, hot, 0);
 }
 
-/* A full node reads and sends version 2 of frames from here on. What it sends is for nodes that were raised too: so raise all. */
+/* A full node reads version 2 of frames, too, and sends it from here on. What it sends to a node that isn't raised waits until that is,
+ * and calls that wait for it are ASSISE_BUSY behind all their tries: so raise all nodes. */
 static inline int64_t assise_raise(struct assise_desk *desk, uint32_t node) {
     return assise_manage(desk, ASSISE_RAISE, 0, node, 0, 0, 0);
 }
