@@ -64,16 +64,24 @@ static void sets_nodes(void) {
     SEE(ASSISE_BAD_REQUEST, assise_set_hot(&desk, 1, 0));
     SEE(ASSISE_BAD_REQUEST, assise_set_hot(&desk, 1, ASSISE_MOST_HOT + 1));
     SEE(ASSISE_BAD_NODE, assise_set_hot(&desk, 3, 1));
-    SEE(0, assise_raise(&desk, 1));
-    SEE(ASSISE_WRONG_PHASE, assise_raise(&desk, 1));
-    SEE(0, assise_raise(&desk, 2));
-    SEE(ASSISE_BAD_NODE, assise_raise(&desk, 3));
     SEE(ASSISE_FULL, assise_phase(&desk, 1));
     SEE(ASSISE_BAD_NODE, assise_phase(&desk, 3));
     SEE(ASSISE_BAD_NODE, assise_set_link(&desk, 3, ASSISE_LOSE, 0));
     SEE(ASSISE_BAD_REQUEST, assise_set_link(&desk, 1, ASSISE_FAULT + 1, 0));
     for (uint32_t kind = ASSISE_PERFECT; kind <= ASSISE_FAULT; kind++) SEE(0, assise_set_link(&desk, 1, kind, 100));
     SEE(0, assise_set_link(&desk, 1, ASSISE_PERFECT, 0));
+}
+
+/* What a raised node sends waits until the other is raised, too. */
+static void raises_nodes(void) {
+    SEE(0, assise_create(&desk, 1, "/waits"));
+    SEE(0, assise_raise(&desk, 1));
+    SEE(ASSISE_BUSY, assise_fsync(&desk, 1));
+    SEE(0, assise_raise(&desk, 2));
+    SEE(0, assise_fsync(&desk, 1));
+    SEE(0, assise_unlink(&desk, 1, "/waits"));
+    SEE(ASSISE_WRONG_PHASE, assise_raise(&desk, 1));
+    SEE(ASSISE_BAD_NODE, assise_raise(&desk, 3));
 }
 
 static void makes_files(void) {
@@ -168,6 +176,7 @@ int main(void) {
     makes_and_opens();
     tells_what_is_safe();
     sets_nodes();
+    raises_nodes();
     makes_files();
     writes_in_parts();
     fails_and_comes_back();
