@@ -121,7 +121,7 @@ impl Cluster {
     }
 
     /// A node stops, and the clients on it are over: what each lost, by their rising numbers. Of a client that isn't named no call is
-    /// lost.
+    /// lost. A program that goes on with a client on another node makes the lost calls again, or forgets what it knew of them.
     ///
     /// # Errors
     ///

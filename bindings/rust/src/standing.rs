@@ -71,8 +71,8 @@ impl Client {
         self.ask(call::ANSWERED)
     }
 
-    /// Of a client whose node is up: how many of its calls, from the first on, no failure can take any more. It never falls. What is
-    /// asked behind a sync is all of them, and without one it tells what other clients, a crash or a full log had made safe.
+    /// Of a client whose node is up: how many of its calls, from the first on, no failure can take any more. It never falls. Behind a
+    /// sync it is all of them, and it rises without one, too, as where another client looks at what this one did.
     ///
     /// Of a client whose node failed it doesn't tell what was lost: [`Cluster::fail`](crate::Cluster::fail) does.
     ///

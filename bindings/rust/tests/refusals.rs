@@ -1,5 +1,5 @@
-//! Each refusal that a program in Rust can come to while there is memory: the others need a million files, a write that no desk holds, a
-//! node that nothing goes on at, or no cluster.
+//! Each refusal that a program in Rust can come to while there is memory, but for those of a call that waits, which are in `standings.rs`
+//! and `safety.rs`. The others need a million files, a write that no desk holds, or no cluster.
 
 use assise::{limits, Client, Cluster, Refusal};
 use std::error::Error;
