@@ -57,9 +57,6 @@ pub enum Durability {
     Pessimistic = durability::PESSIMISTIC,
     /// Its fsync returns at once and promises nothing: a failure may take what was done before it. Its dsync leaves out what later calls
     /// made up for, as bytes that were overwritten, and so may have less to send.
-    ///
-    /// A call that finds the log full makes no room by itself: where it is refused with [`LogFull`](crate::Refusal::LogFull),
-    /// [`dsync`](crate::Client::dsync) and call again.
     Optimistic = durability::OPTIMISTIC,
 }
 

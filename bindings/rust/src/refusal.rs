@@ -59,7 +59,7 @@ pub enum Refusal {
     WrongPhase = fault::WRONG_PHASE,
     /// A message of an earlier epoch, which no node takes. No call of this crate is refused so.
     StaleMessage = fault::STALE_MESSAGE,
-    /// The client's log has no room, and the nodes have nothing left to do: [`dsync`](crate::Client::dsync), and call again.
+    /// The client's log has no room, and the nodes have nothing left to do: bring a node back, or raise one, and call again.
     LogFull = fault::LOG_FULL,
     /// A path begins with no slash.
     NotAbsolute = fault::NOT_ABSOLUTE,
