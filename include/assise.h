@@ -172,7 +172,7 @@ enum assise_fault {
     ASSISE_BAD_CLIENT = -109,    /* no such client, or all 32 were opened */
     ASSISE_WRONG_PHASE = -110,   /* the node is down, or isn't */
     ASSISE_STALE_MESSAGE = -111, /* never: a message of an earlier epoch */
-    ASSISE_LOG_FULL = -112,      /* the client's log is full, and nothing goes on: dsync, and call again */
+    ASSISE_LOG_FULL = -112,      /* the client's log is full, and nothing goes on */
     /* The bytes spell no path. */
     ASSISE_NOT_ABSOLUTE = -201,  /* it begins with no slash */
     ASSISE_EMPTY_NAME = -202,    /* a name without bytes */
@@ -315,7 +315,7 @@ static inline int64_t assise_fail(struct assise_desk *desk, uint32_t node) {
 }
 
 /* The loss at a place, counted from 0: it lies behind the client's last answered dsync, and fsync unless the client is optimistic. A
- * call that found its log full asked for an fsync, which counts as one of the client's calls if it was answered. */
+ * call that found its log full asked for a dsync, which counts as one of the client's calls if it was answered. */
 static inline struct assise_loss assise_loss(const struct assise_desk *desk, uint32_t place) {
     const uint8_t *bytes = desk->bytes + (size_t)(place % (ASSISE_MOST_CLIENTS + 1)) * ASSISE_LOSS_BYTES;
     struct assise_loss loss = {0, 0};
