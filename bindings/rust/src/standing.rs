@@ -60,7 +60,7 @@ impl Client {
     }
 
     /// How many of its calls were answered, with an error of the tree or without, and those that a failure took too. So it is the number
-    /// that its next call has. A refused call doesn't count; a long read, write or listing counts once for each of its parts, and an
+    /// that its next call has. A refused call doesn't count; a long read, write or listing counts once for each of its parts, and a
     /// dsync that a full log asked for, if it was answered.
     ///
     /// # Errors

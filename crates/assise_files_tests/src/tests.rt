@@ -44,7 +44,7 @@ fn what_is_asked_wrongly(rt: HostRuntime) {
         rt.alloc(),
         &rt,
         "\
-open 1; stat 1 /; 0; 31; 34; make 0 8 4; make 17 8 4 => -301 -301 -302 -302 -302 -302 -302
+open 1; stat 1 /; 0; 31; 35; make 0 8 4; make 17 8 4 => -301 -301 -302 -302 -302 -302 -302
 make 1 7 4; make 1 4097 4; make 1 8; make 1 8 4097; stat 1 / => -302 -302 -302 -302 -301
 make 2 8 4; open 3; open 1; open 2; stat 3 /; stat 1 a; stat 1 //; stat 1 /.. => 0 -108 1 2 -109 -201 -202 -203
 rename 1 a //; rename 1 // a => -201 -202
