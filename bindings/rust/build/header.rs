@@ -7,10 +7,11 @@ const PREFIX: &str = "ASSISE_";
 const UNUSED: &str = "#[allow(dead_code)]\n";
 
 /// Each enum of the header, the module that has its numbers in Rust, and their type there.
-const ENUMS: [(&str, &str, &str); 7] = [
+const ENUMS: [(&str, &str, &str); 8] = [
     ("enum assise_call", "call", "u32"),
     ("enum assise_kind", "kind", "u32"),
     ("enum assise_durability", "durability", "u64"),
+    ("enum assise_link", "link", "u32"),
     ("enum assise_phase", "phase", "u64"),
     ("enum assise_standing", "standing", "u64"),
     ("enum assise_stands", "stands", "u64"),

@@ -238,7 +238,7 @@ impl Cluster {
         Ok(self.ask(Request::new(call::LEGAL))? == 1)
     }
 
-    fn ask(&self, request: Request) -> io::Result<u64> {
+    pub(crate) fn ask(&self, request: Request) -> io::Result<u64> {
         turn(&self.desk).ask(request)
     }
 }

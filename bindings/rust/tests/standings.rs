@@ -1,6 +1,6 @@
 //! What a cluster tells of its nodes, clients and history, and what is set of its nodes.
 
-use assise::{limits, Cluster, Phase, Refusal, Standing};
+use assise::{limits, Cluster, Link, Phase, Refusal, Standing};
 use std::fmt::Debug;
 use std::io;
 
@@ -119,4 +119,29 @@ fn there_are_no_other_nodes() {
         assert_eq!(refusal(cluster.set_hot(node, 1)), Some(Refusal::BadNode));
         assert_eq!(refusal(cluster.raise(node)), Some(Refusal::BadNode));
     }
+}
+
+/// What a node's link loses, cuts or has a fault for comes to nobody; what it repeats or delays does, in the end.
+#[test]
+fn a_sync_waits_for_a_link() {
+    for link in [Link::Lose, Link::Cut(1), Link::Fault] {
+        let cluster = cluster();
+        let client = cluster.open(1).unwrap();
+        cluster.set_link(1, link).unwrap();
+        client.create("/letter").unwrap();
+        assert_eq!(refusal(client.fsync()), Some(Refusal::Busy), "{link:?}");
+        assert_eq!(client.replicated().unwrap(), 0, "{link:?}");
+        cluster.set_link(1, Link::Perfect).unwrap();
+        client.fsync().unwrap();
+        assert_eq!(client.replicated().unwrap(), 2, "{link:?}");
+    }
+    for link in [Link::Perfect, Link::Repeat, Link::Delay, Link::Cut(u64::MAX)] {
+        let cluster = cluster();
+        let client = cluster.open(1).unwrap();
+        cluster.set_link(1, link).unwrap();
+        client.create("/letter").unwrap();
+        client.fsync().unwrap();
+        assert_eq!(cluster.fail(1).unwrap(), [], "{link:?}");
+    }
+    assert_eq!(refusal(cluster().set_link(3, Link::Perfect)), Some(Refusal::BadNode));
 }
