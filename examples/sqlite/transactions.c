@@ -89,12 +89,12 @@ static int run_on_cluster(struct row *row, long count) {
     sqlite3 *bank = bank_open("cluster", "/bank.db", setting->pragmas);
     int is_done = bank && bank_fill(bank) == SQLITE_OK;
     row->fsyncs = 0;
-    row->entries = -(long)assise_history(&cluster.desk);
+    row->entries = -(long)assise_entries(&cluster.desk);
     row->bytes = -memory();
     cluster.before_change = count_fsync;
     cluster.watcher = &row->fsyncs;
     is_done = is_done && time_transfers(bank, row, count);
-    row->entries += (long)assise_history(&cluster.desk);
+    row->entries += (long)assise_entries(&cluster.desk);
     row->bytes += memory();
     sqlite3_close(bank);
     vfs_client_forget(&client);
