@@ -41,7 +41,7 @@ def compiled(kit, kept, folder, is_fast, change=lambda text: text):
         module = change(without_checks(file.read(), is_fast))
     with open(text, "w", encoding="utf-8", errors="surrogateescape") as file:
         file.write(module)
-    told = said([*clang, *CODE, "-O3" if is_fast else "-O1", "-c", "-x", "ir", text, "-o", made])
+    told = said([*clang, *CODE, "-O2" if is_fast else "-O1", "-c", "-x", "ir", text, "-o", made])
     if not os.path.exists(made):
         raise Unbuilt(told[-4000:])
     return made
