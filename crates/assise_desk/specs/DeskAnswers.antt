@@ -41,7 +41,7 @@ use Rattle.assise_desk.specs.CallNumbers.{desk_call_number}
 use Rattle.assise_desk.specs.FaultCodes.{fault_code, no_memory}
 use Rattle.assise_desk.specs.NamedKinds.{durability_named, kind_named, link_named}
 use Rattle.assise_desk.specs.Pages.{losses_bytes}
-use Rattle.assise_desk.specs.Queries.{Tells}
+use Rattle.assise_desk.specs.Queries.{AnswersQuery}
 use Rattle.assise_desk.specs.ShownReplies.{LeavesShown, ShowsReply, ShowsResult}
 use Rattle.assise_desk.specs.RequestedOps.{IsRequestedAt, MayAskForNone}
 
@@ -241,7 +241,7 @@ pub data AnswersRequest (d : CallerDesk) (result : Result ℕ DeskFault) (d' : C
   request_manages : (call : ClusterCall) (files left : Files) → desk_call_number (Cluster call) ≡ d.request.call → IsServedBy d d' files left →
       (es : Told) × DoesAt call d.request result d.bytes d'.bytes files es left → LeavesBytes call d.bytes d'.bytes → LeavesLinks call files left → d'.stands ≡ d.stands → AnswersRequest d result d'
   request_queries : (query : ClusterQuery) (files : Files) → desk_call_number (Query query) ≡ d.request.call → files_at d ≡ Some files → files_at d' ≡ Some files →
-      Tells query d.request files result → LeavesDesk d d' → AnswersRequest d result d'
+      AnswersQuery query d.request files result → LeavesDesk d d' → AnswersRequest d result d'
   request_calls : (call : ClientCall) (files left : Files) → desk_call_number (Client call) ≡ d.request.call → IsServedBy d d' files left →
       IsServedTo call d.request d.bytes d'.bytes d.stands d'.stands files result left → AnswersRequest d result d'
 

@@ -49,12 +49,12 @@ pub data TellsReplicated (files : Files) (c : ℕ) (result : Result ℕ DeskFaul
 -- ---- a query
 
 -- the history is legal, unless there is no memory to check it
-abbrev pub Tells : ClusterQuery → DeskRequest → Files → Result ℕ DeskFault → Type 0
-Tells Legal r files result = (result ≡ Ok 1) ⊎ (result ≡ Err no_memory)
-Tells Entries r files result = result ≡ Ok (length (cluster_seen files).history)
-Tells Payload r files result = result ≡ Ok (min (payloads (cluster_seen files).history) (2 ^ 64 - 1))
-Tells Phase r files result = result ≡ phase_told (phase_of (standing_of (cluster_seen files).members.nodes r.node))
-Tells Standing r files result = TellsKnown standing_number (cluster_seen files) r.client result
-Tells Home r files result = TellsKnown (λ known. known.home) (cluster_seen files) r.client result
-Tells Answered r files result = TellsKnown (λ known. known.next) (cluster_seen files) r.client result
-Tells Replicated r files result = TellsReplicated files r.client result
+abbrev pub AnswersQuery : ClusterQuery → DeskRequest → Files → Result ℕ DeskFault → Type 0
+AnswersQuery Legal r files result = (result ≡ Ok 1) ⊎ (result ≡ Err no_memory)
+AnswersQuery Entries r files result = result ≡ Ok (length (cluster_seen files).history)
+AnswersQuery Payload r files result = result ≡ Ok (min (payloads (cluster_seen files).history) (2 ^ 64 - 1))
+AnswersQuery Phase r files result = result ≡ phase_told (phase_of (standing_of (cluster_seen files).members.nodes r.node))
+AnswersQuery Standing r files result = TellsKnown standing_number (cluster_seen files) r.client result
+AnswersQuery Home r files result = TellsKnown (λ known. known.home) (cluster_seen files) r.client result
+AnswersQuery Answered r files result = TellsKnown (λ known. known.next) (cluster_seen files) r.client result
+AnswersQuery Replicated r files result = TellsReplicated files r.client result

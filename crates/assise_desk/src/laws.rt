@@ -19,7 +19,8 @@ pub fn a_request_is_a_trace_of_events()
         (before out : List ℕ) (files : Files) (es : Told) (left : Files) →
         DoesAt call r result before out files es left →
         IsEventTrace (cluster_seen files) es (cluster_seen left) }
-    ensures client { (links : List Kind) (turns : ℕ) (call : ClientCall) (r : DeskRequest) (bytes : List ℕ)
-        (result : Result Reply DeskFault) (m : Machine) (es : Told) (m' : Machine) →
+    ensures client { (links : List Kind) (turns : ℕ) (call : ClientCall) (r : DeskRequest)
+        (bytes : List ℕ) (result : Result Reply DeskFault) (m : Machine) (es : Told)
+        (m' : Machine) →
         CallsAt links turns call r bytes result m es m' → IsEventTrace m es m' }
 {}

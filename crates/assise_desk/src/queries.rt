@@ -1,6 +1,6 @@
 // What a desk tells of its cluster.
 ghost use Rattle.std.specs.Prelude.{◌≡◌};
-ghost use Rattle.assise_desk.specs.Queries.{Tells, phase_number, standing_number};
+ghost use Rattle.assise_desk.specs.Queries.{AnswersQuery, phase_number, standing_number};
 
 use crate::desk_call::ClusterQuery;
 use crate::desk_fault::DeskFault;
@@ -17,7 +17,7 @@ pub(crate) fn tell(
     query: ClusterQuery,
     request: &DeskRequest,
 ) -> Result<u64, DeskFault>
-    ensures { Tells query request.now files.now result }
+    ensures { AnswersQuery query request.now files.now result }
 {
     match query {
         ClusterQuery::Legal => Ok(u64::from(files.is_legal(alloc)?)),
