@@ -76,7 +76,7 @@ struct assise_desk {
     int64_t result;  /* a number from 0 on, or a fault's */
     uint64_t stands; /* of a stat 1 for a file, 2 for a directory; of a listing how many entries the directory has */
     uint8_t bytes[ASSISE_BYTES];
-    void *cluster[2]; /* the library's own */
+    void *cluster[4]; /* the library's own */
 };
 
 /* Version and commit of the library, and whether it is proved. */
@@ -120,9 +120,12 @@ enum assise_call {
     ASSISE_STAT = 25,
     ASSISE_FSYNC = 26,
     ASSISE_DSYNC = 27,
+    ASSISE_PRINT_HISTORY = 28,
+    ASSISE_PAGE = 30,
     ASSISE_SET_HOT = 32,
     ASSISE_RAISE = 33,
-    ASSISE_SET_LINK = 34
+    ASSISE_SET_LINK = 34,
+    ASSISE_REDO = 35
 };
 
 /* How much of its log a client hands on before a lease goes to another: what touches the inode, all of it, or the first and on to the
@@ -324,6 +327,12 @@ static inline struct assise_loss assise_loss(const struct assise_desk *desk, uin
     return loss;
 }
 
+/* A client makes again what a loss took: of the changes of files from that call on those that are lost, in their order. 0 where all are
+ * made. Else why one isn't, and assise_loss(desk, 0) is that one: go on from its call, or from the next. */
+static inline int64_t assise_redo(struct assise_desk *desk, struct assise_loss loss, uint32_t client) {
+    return assise_manage(desk, ASSISE_REDO, client, 0, loss.client, loss.call, 0);
+}
+
 /* A node that failed comes back. Where that is refused midway, for memory, let it fail and come back again. */
 static inline int64_t assise_back(struct assise_desk *desk, uint32_t node) {
     return assise_manage(desk, ASSISE_BACK, 0, node, 0, 0, 0);
@@ -358,6 +367,14 @@ static inline int64_t assise_entries(struct assise_desk *desk) { return assise_m
 
 /* How many bytes the history's calls wrote, read and listed. */
 static inline int64_t assise_payload(struct assise_desk *desk) { return assise_manage(desk, ASSISE_PAYLOAD, 0, 0, 0, 0, 0); }
+
+/* Prints the history, a line an entry, as a script's command does. The desk keeps the text in place of its last: how many bytes it has. */
+static inline int64_t assise_print_history(struct assise_desk *desk) {
+    return assise_manage(desk, ASSISE_PRINT_HISTORY, 0, 0, 0, 0, 0);
+}
+
+/* The desk's text from a place on, as much of it as the desk's bytes take: how many these are, and 0 at its end. */
+static inline int64_t assise_page(struct assise_desk *desk, uint64_t from) { return assise_manage(desk, ASSISE_PAGE, 0, 0, 0, from, 0); }
 
 /* How a node stands, one of `enum assise_phase`. */
 static inline int64_t assise_phase(struct assise_desk *desk, uint32_t node) {

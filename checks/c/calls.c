@@ -3,6 +3,7 @@
 #include <assise.h>
 #include <inttypes.h>
 #include <stdio.h>
+#include <stdlib.h>
 
 static struct assise_desk desk;
 static int passed, failed;
@@ -124,20 +125,40 @@ static void fails_and_comes_back(void) {
     SEE(0, assise_fsync(&desk, 1));
     SEE(0, assise_create(&desk, 1, "/lost"));
     SEE(1, assise_fail(&desk, 1));
-    SEE(1, assise_loss(&desk, 0).client);
-    SEE(1, assise_loss(&desk, 0).call > 0);
+    struct assise_loss loss = assise_loss(&desk, 0);
+    SEE(1, loss.client);
+    SEE(1, loss.call > 0);
     SEE(ASSISE_NODE_DOWN, assise_stat(&desk, 1, "/"));
     SEE(ASSISE_WRONG_PHASE, assise_fail(&desk, 1));
     SEE(ASSISE_DOWN, assise_phase(&desk, 1));
     SEE(ASSISE_CUT_OFF, assise_standing(&desk, 1));
     SEE(ASSISE_LAST_NODE, assise_fail(&desk, 2));
     SEE(ASSISE_NO_ENT, assise_stat(&desk, 2, "/lost"));
+    SEE(ASSISE_NODE_DOWN, assise_redo(&desk, loss, 1));
+    SEE((int64_t)loss.call, (int64_t)assise_loss(&desk, 0).call);
+    SEE(0, assise_redo(&desk, loss, 2));
+    SEE(0, assise_stat(&desk, 2, "/lost"));
+    SEE(ASSISE_EXISTS, assise_redo(&desk, loss, 2));
+    SEE((int64_t)loss.call, (int64_t)assise_loss(&desk, 0).call);
+    loss.call++;
+    SEE(0, assise_redo(&desk, loss, 2));
     SEE(0, assise_back(&desk, 1));
     SEE(0, assise_crash(&desk, 2));
     SEE(ASSISE_CLIENT_GONE, assise_stat(&desk, 2, "/"));
     SEE(1, assise_legal(&desk));
     SEE(1, assise_entries(&desk) > 0);
     SEE(1, assise_round(&desk) >= 0);
+}
+
+/* The history's text, in pages: its first line has the count of the entries. */
+static void prints_the_history(void) {
+    SEE(0, assise_page(&desk, 0));
+    int64_t length = assise_print_history(&desk), first = assise_page(&desk, 0), count, seen = 0;
+    SEE(1, first > 0 && !memcmp(desk.bytes, "history ", strlen("history ")));
+    SEE(strtoll((const char *)desk.bytes + strlen("history "), NULL, 10), assise_entries(&desk));
+    while ((count = assise_page(&desk, (uint64_t)seen)) > 0) seen += count;
+    SEE(length, seen);
+    SEE(0, assise_page(&desk, UINT64_MAX));
 }
 
 static void wrong_paths(void) {
@@ -180,6 +201,7 @@ int main(void) {
     makes_files();
     writes_in_parts();
     fails_and_comes_back();
+    prints_the_history();
     wrong_paths();
     tells_faults();
     SEE(0, assise_free(&desk));

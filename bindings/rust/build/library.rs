@@ -12,7 +12,7 @@ const LIBRARY: &str = "libassise.a";
 /// The two structs that a request crosses in, as `src/desk.rs` has them.
 const DESK: &str = "struct assise_request { uint32_t call; uint32_t client; uint32_t node; uint32_t path_bytes; \
     uint32_t other_bytes; uint32_t kind; uint64_t first; uint64_t second; } struct assise_desk { struct assise_request request; \
-    int64_t result; uint64_t stands; uint8_t bytes[ASSISE_BYTES]; void *cluster[2]; }";
+    int64_t result; uint64_t stands; uint8_t bytes[ASSISE_BYTES]; void *cluster[4]; }";
 
 /// Has the crate linked with the library, and answers the header that stands beside it.
 pub fn linked(manifest: &Path) -> Result<Header, String> {

@@ -134,6 +134,37 @@ impl Cluster {
         Ok(desk.answer(count).chunks_exact(define::LOSS_BYTES as usize).map(lost_of).collect())
     }
 
+    /// A client makes again what a failure took of another: of the changes of files from that call on those that are lost, in their
+    /// order. Behind a change that isn't made, go on from its call, or from the next.
+    ///
+    /// ```
+    /// # fn main() -> std::io::Result<()> {
+    /// let cluster = assise::Cluster::new(2, 64, 64)?;
+    /// cluster.open(1)?.create("/letter")?;
+    /// let lost = cluster.fail(1)?;
+    ///
+    /// let client = cluster.open(2)?;
+    /// for lost in lost {
+    ///     cluster.redo(lost, &client)?;
+    /// }
+    /// assert_eq!(client.list("/")?, ["letter"]);
+    /// # Ok(())
+    /// # }
+    /// ```
+    ///
+    /// # Errors
+    ///
+    /// [`Unmade`]: which change isn't made again, and why. An [`io::Error`] comes of it by `From`.
+    #[doc(alias = "assise_redo")]
+    pub fn redo(&self, lost: Lost, client: &Client) -> Result<(), Unmade> {
+        let request = Request { client: client.number(), kind: lost.client, first: lost.first_call, ..Request::new(call::REDO) };
+        let mut desk = turn(&self.desk);
+        match desk.ask(request) {
+            Ok(_) => Ok(()),
+            Err(error) => Err(Unmade { first: lost_of(desk.answer(define::LOSS_BYTES)), error }),
+        }
+    }
+
     /// A node that is down comes back: it is filled from the others, and full again. Where that is refused midway, for memory, let it
     /// fail and come back again.
     ///
@@ -216,6 +247,25 @@ impl Cluster {
     #[doc(alias = "assise_entries")]
     pub fn entries(&self) -> io::Result<u64> {
         self.ask(Request::new(call::ENTRIES))
+    }
+
+    /// The history as a text, a line an entry, as a script's command `history` prints it.
+    ///
+    /// ```
+    /// # fn main() -> std::io::Result<()> {
+    /// let cluster = assise::Cluster::new(1, 64, 64)?;
+    /// cluster.open(1)?.mkdir("/box")?;
+    /// assert_eq!(cluster.history()?, "history 2\nopen 1 1\ncall 1 0 mkdir /box = done");
+    /// # Ok(())
+    /// # }
+    /// ```
+    ///
+    /// # Errors
+    ///
+    /// [`OutOfMemory`](crate::Refusal::OutOfMemory).
+    #[doc(alias = "assise_print_history")]
+    pub fn history(&self) -> io::Result<String> {
+        turn(&self.desk).text(Request::new(call::PRINT_HISTORY))
     }
 
     /// How many bytes the history's calls wrote, read and listed. They are kept in memory with its entries.

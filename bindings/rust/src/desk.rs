@@ -42,7 +42,7 @@ struct Place {
     result: i64,
     stands: u64,
     bytes: [u8; CALL_BYTES],
-    cluster: [*mut c_void; 2],
+    cluster: [*mut c_void; 4],
 }
 
 extern "C" {
@@ -106,6 +106,17 @@ impl Desk {
     pub(crate) fn answer(&self, count: u64) -> &[u8] {
         let count = usize::try_from(count).unwrap_or(CALL_BYTES);
         &self.0.bytes[..count.min(CALL_BYTES)]
+    }
+
+    /// The text that a request prints.
+    pub(crate) fn text(&mut self, request: Request) -> io::Result<String> {
+        let length = self.ask(request)?;
+        let mut text = Vec::new();
+        while (text.len() as u64) < length {
+            let count = self.ask(Request { first: text.len() as u64, ..Request::new(call::PAGE) })?;
+            text.extend_from_slice(self.answer(count));
+        }
+        String::from_utf8(text).map_err(|error| io::Error::new(io::ErrorKind::InvalidData, error))
     }
 
     /// What stands at a path that was looked at, or how many entries a directory has that was listed.

@@ -48,6 +48,7 @@ mod read_dir;
 mod refusal;
 mod standing;
 mod stat;
+mod unmade;
 
 pub use client::Client;
 pub use cluster::{Cluster, Lost};
@@ -60,6 +61,7 @@ pub use read_dir::ReadDir;
 pub use refusal::Refusal;
 pub use standing::Standing;
 pub use stat::Stat;
+pub use unmade::Unmade;
 
 /// The programs of the page are tests.
 #[cfg(doctest)]

@@ -71,6 +71,66 @@ fn what_another_read_is_kept() {
     assert_eq!(reader.read_all("/file").unwrap(), b"seen");
 }
 
+/// Changes alone are made again, and such as were lost alone: an answer of the tree's error, a read and a sync aren't.
+#[test]
+fn what_is_lost_is_made_again() {
+    let cluster = Cluster::new(3, 64, 64).unwrap();
+    let writer = cluster.open(1).unwrap();
+    writer.write_all("/kept", "synced").unwrap();
+    writer.fsync().unwrap();
+    writer.mkdir("/box").unwrap();
+    writer.write_all("/box/letter", "first").unwrap();
+    writer.read_all("/box/letter").unwrap();
+    writer.mkdir("/box").unwrap_err();
+    writer.write("/box/letter", "F", 0).unwrap();
+    writer.rename("/box/letter", "/box/sent").unwrap();
+    writer.unlink("/kept").unwrap();
+    let [lost] = cluster.fail(1).unwrap()[..] else { panic!("one client lost calls") };
+
+    let client = cluster.open(2).unwrap();
+    assert_eq!(client.list("/").unwrap(), ["kept"]);
+    cluster.redo(lost, &client).unwrap();
+    assert_eq!(client.list("/").unwrap(), ["box"]);
+    assert_eq!(client.list("/box").unwrap(), ["sent"]);
+    assert_eq!(client.read_all("/box/sent").unwrap(), b"First");
+    assert!(cluster.is_legal().unwrap());
+}
+
+/// What another client did since is in the way: the second change isn't made, and who goes on with the next makes the third.
+#[test]
+fn a_change_that_cannot_be_made_is_told() {
+    let cluster = Cluster::new(2, 64, 64).unwrap();
+    let writer = cluster.open(1).unwrap();
+    writer.mkdir("/a").unwrap();
+    writer.mkdir("/b").unwrap();
+    writer.mkdir("/c").unwrap();
+    let [lost] = cluster.fail(1).unwrap()[..] else { panic!("one client lost calls") };
+
+    let client = cluster.open(2).unwrap();
+    client.create("/b").unwrap();
+    let unmade = cluster.redo(lost, &client).unwrap_err();
+    assert_eq!((unmade.first, unmade.error.raw_os_error()), (Lost { client: 1, first_call: 1 }, Some(errno::EEXIST)));
+    assert_eq!(client.list("/").unwrap(), ["a", "b"]);
+    cluster.redo(Lost { first_call: 2, ..unmade.first }, &client).unwrap();
+    assert_eq!(client.list("/").unwrap(), ["a", "b", "c"]);
+}
+
+/// A failure behind a redo takes of it what isn't synced, which is made again by a third client.
+#[test]
+fn what_is_made_again_may_be_lost_again() {
+    let cluster = Cluster::new(3, 64, 64).unwrap();
+    let writer = cluster.open(1).unwrap();
+    writer.write_all("/file", "text").unwrap();
+    let mut client = writer;
+    for node in [1, 2] {
+        let lost = cluster.fail(node).unwrap();
+        client = cluster.open(node + 1).unwrap();
+        assert!(client.list("/").unwrap().is_empty());
+        lost.iter().for_each(|lost| cluster.redo(*lost, &client).unwrap());
+    }
+    assert_eq!(client.read_all("/file").unwrap(), b"text");
+}
+
 /// What a client loses once another read what its first write behind an fsync wrote, which is its record 3, of eleven behind.
 fn loss_with(revoker: Revoker) -> Vec<Lost> {
     let cluster = Cluster::new(2, 64, 64).unwrap();

@@ -25,13 +25,13 @@ use Rattle.assise_files.specs.declared.cut_kind.CutKind.{CutKind}
 use Rattle.assise_files.specs.declared.files.Files.{Files}
 use Rattle.assise_desk.specs.declared.caller_desk.CallerDesk.{CallerDesk}
 use Rattle.assise_desk.specs.declared.desk_call.ClusterCall.{ClusterCall}
-use Rattle.assise_desk.specs.declared.desk_call.ClusterCall.TheVariants.{Open, Crash, Fail, Back, SetHot, Raise, SetLink}
+use Rattle.assise_desk.specs.declared.desk_call.ClusterCall.TheVariants.{Open, Crash, Fail, Back, SetHot, Raise, SetLink, Redo}
 use Rattle.assise_desk.specs.declared.desk_call.DeskCall.{DeskCall}
 use Rattle.assise_desk.specs.declared.desk_fault.DeskFault.{DeskFault}
 use Rattle.assise_desk.specs.declared.desk_request.DeskRequest.{DeskRequest}
 use Rattle.assise_desk.specs.CallNumbers.{desk_call_number}
 use Rattle.assise_desk.specs.NamedKinds.{durability_named, kind_named, link_named}
-use Rattle.assise_desk.specs.DeskAnswers.{AnswersAlone, AnswersRequest, DoesAt, IsOutOfRange, IsServedAt, ServesHot, ServesLink, ServesOpen, ShowsLosses, answers_alone, done_told, has_no_cluster, is_no_request, number_told, opens_as, owned, request_calls, request_frees, request_makes, request_makes_none, request_manages, request_queries, result_shown, links_no_node, sets_hot, sets_link}
+use Rattle.assise_desk.specs.DeskAnswers.{AnswersAlone, AnswersRequest, DoesAt, IsOutOfRange, IsServedAt, ServesHot, ServesLink, ServesOpen, ShowsLosses, TellsRedo, answers_alone, done_told, has_no_cluster, is_no_request, number_told, opens_as, owned, request_calls, request_frees, request_makes, request_makes_none, request_manages, request_pages, request_prints, request_queries, result_shown, links_no_node, sets_hot, sets_link}
 
 -- ---- one event
 
@@ -69,6 +69,10 @@ pub return_told : (call : ClusterCall) (r : DeskRequest) (result : Result ℕ De
     (es : Told) × ComesBack r.node told (cluster_seen files) es (cluster_seen left) → (es : Told) × DoesAt call r result before out files es left
 return_told call r result before out told files left is result_is (es, h) = rw is (es, record { returned = told; result_is = result_is; comes_back = h })
 
+pub redo_told : (call : ClusterCall) (r : DeskRequest) (result : Result ℕ DeskFault) (before out : List ℕ) (files left : Files) → call ≡ Redo → (es : Told) × TellsRedo r result before out files es left →
+    (es : Told) × DoesAt call r result before out files es left
+redo_told call r result before out files left is h = rw is h
+
 pub link_told : (call : ClusterCall) (r : DeskRequest) (result : Result ℕ DeskFault) (before out : List ℕ) (files left : Files) → call ≡ SetLink → ServesLink r result files left →
     cluster_seen left ≡ cluster_seen files → (es : Told) × DoesAt call r result before out files es left
 link_told call r result before out files left is h same = rw is ([], record { serves = h; nothing = record { told = refl; stays = same } })
@@ -103,19 +107,22 @@ owned_is files owner seen is same = ap owned is ∙ ap Some (sym same)
 
 -- the answer says nothing of the number that the desk shows
 alone_shown : (d d' : CallerDesk) (result : Result ℕ DeskFault) (n : ℤ) → AnswersAlone d result d' → AnswersAlone d result record d' { result = n }
-alone_shown d d' result n (is_no_request none is same) = is_no_request none is same
-alone_shown d d' result n (request_makes files number made is result_is) = request_makes files number made is result_is
-alone_shown d d' result n (request_makes_none fault number h same result_is) = request_makes_none fault number h same result_is
-alone_shown d d' result n (request_frees number none result_is) = request_frees number none result_is
-alone_shown d d' result n (has_no_cluster call number needs none still result_is) = has_no_cluster call number needs none still result_is
+alone_shown d d' result n (is_no_request none is same text) = is_no_request none is same text
+alone_shown d d' result n (request_makes files number made is text result_is) = request_makes files number made is text result_is
+alone_shown d d' result n (request_makes_none fault number h same text result_is) = request_makes_none fault number h same text result_is
+alone_shown d d' result n (request_frees number none text result_is) = request_frees number none text result_is
+alone_shown d d' result n (has_no_cluster call number needs none still text result_is) = has_no_cluster call number needs none still text result_is
 
 pub answered_shown : (d d' : CallerDesk) (result : Result ℕ DeskFault) (n : ℤ) → AnswersRequest d result d' → AnswersRequest d result record d' { result = n }
 answered_shown d d' result n (answers_alone h leaves) = answers_alone (alone_shown d d' result n h) leaves
 answered_shown d d' result n (request_manages call files left number served h bytes links stands) =
-    request_manages call files left number record { from = served.from; leaves = served.leaves; turns = served.turns } h bytes links stands
-answered_shown d d' result n (request_queries query files number from leaves tells stays) = request_queries query files number from leaves tells record { bytes = stays.bytes; stays = stays.stays }
+    request_manages call files left number record { from = served.from; leaves = served.leaves; turns = served.turns; text = served.text } h bytes links stands
+answered_shown d d' result n (request_queries query files number from leaves tells stays text) =
+    request_queries query files number from leaves tells record { bytes = stays.bytes; stays = stays.stays } text
 answered_shown d d' result n (request_calls call files left number served h) =
-    request_calls call files left number record { from = served.from; leaves = served.leaves; turns = served.turns } h
+    request_calls call files left number record { from = served.from; leaves = served.leaves; turns = served.turns; text = served.text } h
+answered_shown d d' result n (request_prints text number same keeps stays) = request_prints text number same keeps record { bytes = stays.bytes; stays = stays.stays }
+answered_shown d d' result n (request_pages number same text shows stands) = request_pages number same text shows stands
 
 pub served_at : (d d' : CallerDesk) (result : Result ℕ DeskFault) (n : ℤ) → n ≡ result_shown result → AnswersRequest d result d' → d'.request ≡ d.request → IsServedAt d record d' { result = n }
 served_at d d' result n shown answered same = record { result = result; shown = shown; answered = answered_shown d d' result n answered; request = same }

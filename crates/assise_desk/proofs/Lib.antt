@@ -1,5 +1,6 @@
 mod DeskTraces
 mod DeskSteps
 mod PathFaults
+mod TextPages
 mod TwoPieces
 mod Losses

@@ -3,11 +3,13 @@ use Rattle.std.specs.Prelude.{ℕ}
 use Rattle.assise_desk.specs.declared.desk_call.ClientCall.{ClientCall}
 use Rattle.assise_desk.specs.declared.desk_call.ClientCall.TheVariants.{Create, Mkdir, Read, Write, Truncate, Rename, Unlink, Rmdir, List, Stat, Fsync, Dsync}
 use Rattle.assise_desk.specs.declared.desk_call.ClusterCall.{ClusterCall}
-use Rattle.assise_desk.specs.declared.desk_call.ClusterCall.TheVariants.{Open, Crash, Fail, Back, Round, SetHot, Raise, SetLink}
+use Rattle.assise_desk.specs.declared.desk_call.ClusterCall.TheVariants.{Open, Crash, Fail, Back, Round, SetHot, Raise, SetLink, Redo}
 use Rattle.assise_desk.specs.declared.desk_call.ClusterQuery.{ClusterQuery}
 use Rattle.assise_desk.specs.declared.desk_call.ClusterQuery.TheVariants.{Legal, Entries, Payload, Phase, Standing, Home, Answered, Replicated}
 use Rattle.assise_desk.specs.declared.desk_call.DeskCall.{DeskCall}
-use Rattle.assise_desk.specs.declared.desk_call.DeskCall.TheVariants.{Make, Free, Cluster, Query, Client}
+use Rattle.assise_desk.specs.declared.desk_call.DeskCall.TheVariants.{Make, Free, Cluster, Query, Client, Print, Page}
+use Rattle.assise_desk.specs.declared.desk_call.DeskText.{DeskText}
+use Rattle.assise_desk.specs.declared.desk_call.DeskText.TheVariants.{History}
 
 abbrev pub cluster_call_number : ClusterCall → ℕ
 cluster_call_number Open = 3
@@ -18,6 +20,7 @@ cluster_call_number Round = 8
 cluster_call_number SetHot = 32
 cluster_call_number Raise = 33
 cluster_call_number SetLink = 34
+cluster_call_number Redo = 35
 
 abbrev pub query_number : ClusterQuery → ℕ
 query_number Legal = 7
@@ -43,9 +46,14 @@ client_call_number Stat = 25
 client_call_number Fsync = 26
 client_call_number Dsync = 27
 
+abbrev pub text_number : DeskText → ℕ
+text_number History = 28
+
 abbrev pub desk_call_number : DeskCall → ℕ
 desk_call_number Make = 1
 desk_call_number Free = 2
 desk_call_number (Cluster call) = cluster_call_number call
 desk_call_number (Query query) = query_number query
 desk_call_number (Client call) = client_call_number call
+desk_call_number (Print text) = text_number text
+desk_call_number Page = 30

@@ -1,5 +1,5 @@
 -- What the request of a desk does to its cluster, and what it is answered with.
-use Rattle.std.specs.Prelude.{◌≡◌, ◌≢◌, ℕ, ℤ, pos, min, ◌+◌, ◌-◌, ◌^◌, ◌<◌, ◌≤◌, ◌⊎◌, Bool, true, false, List, length, replicate, take, slice_set, OnOk, IsSome, Option, None, Some, Result, Ok, Err, ⊤}
+use Rattle.std.specs.Prelude.{◌≡◌, ◌≢◌, ℕ, ℤ, pos, min, ◌+◌, ◌-◌, ◌^◌, ◌<◌, ◌≤◌, ◌⊎◌, Bool, true, false, List, [], length, replicate, take, slice_set, OnOk, IsSome, Option, None, Some, Result, Ok, Err, ⊤}
 use Rattle.std.specs.Global.{Box, Vec}
 use Rattle.std.specs.Option.{option_map}
 use Rattle.assise_link.specs.Kinds.{Kind, perfect}
@@ -9,6 +9,7 @@ use Rattle.assise_names.specs.declared.call.Op.{Op}
 use Rattle.assise_names.specs.declared.refusal.Refusal.{Refusal}
 use Rattle.assise_names.specs.declared.refusal.Refusal.TheVariants.{BadNode}
 use Rattle.assise_names.specs.declared.reply.Reply.{Reply}
+use Rattle.assise_names.specs.declared.reply.Reply.TheVariants.{Error}
 use Rattle.assise_machine_calls.specs.Answers.{crashing_answer}
 use Rattle.assise_names.specs.declared.durability.Durability.{Durability}
 use Rattle.assise_names.specs.declared.limits.TheConstants.{MOST_NODES}
@@ -23,27 +24,32 @@ use Rattle.assise_rounds.specs.NodeLinks.{FaithfulAt}
 use Rattle.assise_rounds.specs.Rounds.{RoundsOver}
 use Rattle.assise_files.specs.CallTries.{IsTriedOut}
 use Rattle.assise_files.specs.FilesSeen.{cluster_seen, kinds_seen, links_seen, most_tries}
+use Rattle.assise_files.specs.LostChanges.{lost_changes}
+use Rattle.assise_files.specs.Redo.{MakesAgain}
+use Rattle.assise_files.specs.declared.redo.Unmade.{Unmade}
 use Rattle.assise_files.specs.declared.cut_kind.CutKind.{CutKind}
 use Rattle.assise_files.specs.declared.files.Files.{Files}
 use Rattle.assise_desk.specs.declared.caller_desk.CallerDesk.{CallerDesk}
 use Rattle.assise_desk.specs.declared.caller_desk.TheConstants.{MOST_TRIES}
 use Rattle.assise_desk.specs.declared.desk_call.ClientCall.{ClientCall}
 use Rattle.assise_desk.specs.declared.desk_call.ClusterCall.{ClusterCall}
-use Rattle.assise_desk.specs.declared.desk_call.ClusterCall.TheVariants.{Open, Crash, Fail, Back, Round, SetHot, Raise, SetLink}
+use Rattle.assise_desk.specs.declared.desk_call.ClusterCall.TheVariants.{Open, Crash, Fail, Back, Round, SetHot, Raise, SetLink, Redo}
 use Rattle.assise_desk.specs.declared.desk_call.ClusterQuery.{ClusterQuery}
 use Rattle.assise_desk.specs.declared.desk_call.DeskCall.{DeskCall}
-use Rattle.assise_desk.specs.declared.desk_call.DeskCall.TheVariants.{Make, Free, Cluster, Query, Client}
+use Rattle.assise_desk.specs.declared.desk_call.DeskCall.TheVariants.{Make, Free, Cluster, Query, Client, Print, Page}
+use Rattle.assise_desk.specs.declared.desk_call.DeskText.{DeskText}
 use Rattle.assise_desk.specs.declared.desk_fault.DeskFault.{DeskFault}
-use Rattle.assise_desk.specs.declared.desk_fault.DeskFault.TheVariants.{Refused, NoCluster, BadRequest, NoRoom}
+use Rattle.assise_desk.specs.declared.desk_fault.DeskFault.TheVariants.{Refused, Tree, NoCluster, BadRequest, NoRoom}
 use Rattle.assise_desk.specs.declared.desk_request.TheConstants.{DESK_BYTES}
 use Rattle.assise_desk.specs.declared.desk_request.DeskRequest.{DeskRequest}
 use Rattle.assise_desk.specs.CallNumbers.{desk_call_number}
 use Rattle.assise_desk.specs.FaultCodes.{fault_code, no_memory}
 use Rattle.assise_desk.specs.NamedKinds.{durability_named, kind_named, link_named}
-use Rattle.assise_desk.specs.Pages.{losses_bytes}
+use Rattle.assise_desk.specs.Pages.{loss_bytes, losses_bytes}
 use Rattle.assise_desk.specs.Queries.{AnswersQuery}
 use Rattle.assise_desk.specs.ShownReplies.{LeavesShown, ShowsReply, ShowsResult}
 use Rattle.assise_desk.specs.RequestedOps.{IsRequestedAt, MayAskForNone}
+use Rattle.assise_desk.specs.Texts.{KeepsText, ShowsPageOf, text_kept}
 
 -- ---- numbers
 
@@ -143,6 +149,23 @@ pub record SetsLinkAt (r : DeskRequest) (result : Result ℕ DeskFault) (files :
   pub serves : ServesLink r result files left
   pub nothing : Nothing (cluster_seen files) es (cluster_seen left)
 
+-- why a change isn't made again; it is answered Done or an error
+abbrev pub redo_fault : Result Reply Refusal → DeskFault
+redo_fault (Err refusal) = Refused refusal
+redo_fault (Ok (Error error)) = Tree error
+redo_fault (Ok _) = BadRequest
+
+-- of a client's changes the first that isn't made again stands in the bytes, as a lost call
+abbrev pub ShowsUnmade : (lost : ℕ) → Result ⊤ Unmade → Result ℕ DeskFault → List ℕ → List ℕ → Type 0
+ShowsUnmade lost (Ok done) result before out = (result ≡ Ok 0) × (out ≡ before)
+ShowsUnmade lost (Err unmade) result before out = (result ≡ Err (redo_fault unmade.came)) × (take 12 out ≡ loss_bytes (lost, unmade.call))
+
+-- the request's client makes again what a failure took of another, whose number is in the place of the kind
+pub record TellsRedo (r : DeskRequest) (result : Result ℕ DeskFault) (before out : List ℕ) (files : Files) (es : Told) (left : Files) : Type 0 where
+  pub redone : Result ⊤ Unmade
+  pub shown : ShowsUnmade r.kind redone result before out
+  pub made : MakesAgain (FaithfulAt (links_seen files)) (most_tries files) r.first r.client (lost_changes r.kind r.first (cluster_seen files).history) redone (cluster_seen files) es (cluster_seen left)
+
 -- what it does, with its result, and with the bytes before it and then
 abbrev pub DoesAt : ClusterCall → DeskRequest → Result ℕ DeskFault → List ℕ → List ℕ → Files → Told → Files → Type 0
 DoesAt Open r result before out files es left = ServesOpen r result files es left
@@ -153,15 +176,17 @@ DoesAt Round r result before out files es left = TellsRound (links_seen files) r
 DoesAt SetHot r result before out files es left = ServesHot r result (cluster_seen files) es (cluster_seen left)
 DoesAt Raise r result before out files es left = TellsEvent done_told raising_answer (raise r.node) result (cluster_seen files) es (cluster_seen left)
 DoesAt SetLink r result before out files es left = SetsLinkAt r result files es left
+DoesAt Redo r result before out files es left = TellsRedo r result before out files es left
 
 -- but for a request that sets one, the links stay
 abbrev pub LeavesLinks : ClusterCall → Files → Files → Type 0
 LeavesLinks SetLink files left = Unit {0}
 LeavesLinks _ files left = links_seen left ≡ links_seen files
 
--- but for a failure, which shows who lost calls, the bytes stay
+-- but for a failure, which shows who lost calls, and a redo, which shows a call, the bytes stay
 abbrev pub LeavesBytes : ClusterCall → List ℕ → List ℕ → Type 0
 LeavesBytes Fail before out = Unit {0}
+LeavesBytes Redo before out = Unit {0}
 LeavesBytes Open before out = out ≡ before
 LeavesBytes Crash before out = out ≡ before
 LeavesBytes Back before out = out ≡ before
@@ -209,6 +234,10 @@ files_at desk = owned desk.files
 abbrev pub cluster_at : CallerDesk → Option Machine
 cluster_at desk = option_map cluster_seen (files_at desk)
 
+-- the text that was printed last
+abbrev pub text_at : CallerDesk → List ℕ
+text_at desk = text_kept desk.text
+
 -- the bytes, and what stands at the path, are as they were
 abbrev pub LeavesDesk : CallerDesk → CallerDesk → Type 0
 LeavesDesk d d' = LeavesShown d.bytes d'.bytes d.stands d'.stands
@@ -220,20 +249,23 @@ NeedsCluster Free = ⊥
 NeedsCluster (Cluster call) = Unit {0}
 NeedsCluster (Query query) = Unit {0}
 NeedsCluster (Client call) = Unit {0}
+NeedsCluster (Print text) = ⊥
+NeedsCluster Page = ⊥
 
 -- a request that no cluster serves: the bytes, and what stands at the path, are as they were
 pub data AnswersAlone (d : CallerDesk) (result : Result ℕ DeskFault) (d' : CallerDesk) : Type 0 where
-  is_no_request : ((call : DeskCall) → desk_call_number call ≢ d.request.call) → result ≡ Err BadRequest → files_at d' ≡ files_at d → AnswersAlone d result d'
-  request_makes : (files : Files) → desk_call_number Make ≡ d.request.call → IsClusterMade d.request files → files_at d' ≡ Some files → result ≡ Ok 0 → AnswersAlone d result d'
-  request_makes_none : (fault : DeskFault) → desk_call_number Make ≡ d.request.call → MayNotMake d.request fault → files_at d' ≡ files_at d → result ≡ Err fault → AnswersAlone d result d'
-  request_frees : desk_call_number Free ≡ d.request.call → files_at d' ≡ None → result ≡ Ok 0 → AnswersAlone d result d'
-  has_no_cluster : (call : DeskCall) → desk_call_number call ≡ d.request.call → NeedsCluster call → files_at d ≡ None → files_at d' ≡ None → result ≡ Err NoCluster → AnswersAlone d result d'
+  is_no_request : ((call : DeskCall) → desk_call_number call ≢ d.request.call) → result ≡ Err BadRequest → files_at d' ≡ files_at d → text_at d' ≡ text_at d → AnswersAlone d result d'
+  request_makes : (files : Files) → desk_call_number Make ≡ d.request.call → IsClusterMade d.request files → files_at d' ≡ Some files → text_at d' ≡ text_at d → result ≡ Ok 0 → AnswersAlone d result d'
+  request_makes_none : (fault : DeskFault) → desk_call_number Make ≡ d.request.call → MayNotMake d.request fault → files_at d' ≡ files_at d → text_at d' ≡ text_at d → result ≡ Err fault → AnswersAlone d result d'
+  request_frees : desk_call_number Free ≡ d.request.call → files_at d' ≡ None → text_at d' ≡ [] → result ≡ Ok 0 → AnswersAlone d result d'
+  has_no_cluster : (call : DeskCall) → desk_call_number call ≡ d.request.call → NeedsCluster call → files_at d ≡ None → files_at d' ≡ None → text_at d' ≡ text_at d → result ≡ Err NoCluster → AnswersAlone d result d'
 
 -- a cluster that serves a request, and what it is then: a call is tried as often as before
 pub record IsServedBy (d d' : CallerDesk) (files left : Files) : Type 0 where
   pub from : files_at d ≡ Some files
   pub leaves : files_at d' ≡ Some left
   pub turns : most_tries left ≡ most_tries files
+  pub text : text_at d' ≡ text_at d
 
 -- what a desk's request is answered with, and what is left of the desk
 pub data AnswersRequest (d : CallerDesk) (result : Result ℕ DeskFault) (d' : CallerDesk) : Type 0 where
@@ -241,9 +273,13 @@ pub data AnswersRequest (d : CallerDesk) (result : Result ℕ DeskFault) (d' : C
   request_manages : (call : ClusterCall) (files left : Files) → desk_call_number (Cluster call) ≡ d.request.call → IsServedBy d d' files left →
       (es : Told) × DoesAt call d.request result d.bytes d'.bytes files es left → LeavesBytes call d.bytes d'.bytes → LeavesLinks call files left → d'.stands ≡ d.stands → AnswersRequest d result d'
   request_queries : (query : ClusterQuery) (files : Files) → desk_call_number (Query query) ≡ d.request.call → files_at d ≡ Some files → files_at d' ≡ Some files →
-      AnswersQuery query d.request files result → LeavesDesk d d' → AnswersRequest d result d'
+      AnswersQuery query d.request files result → LeavesDesk d d' → text_at d' ≡ text_at d → AnswersRequest d result d'
   request_calls : (call : ClientCall) (files left : Files) → desk_call_number (Client call) ≡ d.request.call → IsServedBy d d' files left →
       IsServedTo call d.request d.bytes d'.bytes d.stands d'.stands files result left → AnswersRequest d result d'
+  request_prints : (text : DeskText) → desk_call_number (Print text) ≡ d.request.call → files_at d' ≡ files_at d → KeepsText text (files_at d) (text_at d) result (text_at d') → LeavesDesk d d' →
+      AnswersRequest d result d'
+  request_pages : desk_call_number Page ≡ d.request.call → files_at d' ≡ files_at d → text_at d' ≡ text_at d → ShowsPageOf (text_at d) d.request.first result d'.bytes → d'.stands ≡ d.stands →
+      AnswersRequest d result d'
 
 -- a desk, and what it is when its request is served
 pub record IsServedAt (d d' : CallerDesk) : Type 0 where

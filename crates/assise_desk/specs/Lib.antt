@@ -4,5 +4,6 @@ pub mod RequestedOps
 pub mod NamedKinds
 pub mod Pages
 pub mod ShownReplies
+pub mod Texts
 pub mod DeskAnswers
 pub mod Queries

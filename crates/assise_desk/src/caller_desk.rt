@@ -5,14 +5,16 @@ ghost use Rattle.assise_link.specs.TestLinks.{kind_of_link};
 ghost use Rattle.assise_files.specs.FilesSeen.{cluster_seen, links_seen, most_tries};
 ghost use Rattle.assise_rounds.specs.Traces.{Told};
 ghost use Rattle.assise_desk.specs.NamedKinds.{durability_named, kind_named, link_named};
-ghost use Rattle.assise_desk.specs.DeskAnswers.{CallsAt, DoesAt, AnswersRequest, IsClusterMade, IsServedAt, IsServedTo, LeavesBytes, LeavesLinks, MayNotMake, ServesHot, ServesLink, ServesOpen, ShowsLosses, cluster_at, number_told, done_told, replied_at, result_shown};
+ghost use Rattle.assise_desk.specs.DeskAnswers.{CallsAt, DoesAt, AnswersRequest, IsClusterMade, IsServedAt, IsServedTo, LeavesBytes, LeavesLinks, MayNotMake, ServesHot, ServesLink, ServesOpen, ShowsLosses, TellsRedo, cluster_at, number_told, done_told, owned, redo_fault, replied_at, result_shown};
+ghost use Rattle.assise_desk.specs.Texts.{KeepsText, text_kept};
 
-use crate::desk_call::{ClientCall, ClusterCall, DeskCall};
+use crate::desk_call::{ClientCall, ClusterCall, DeskCall, DeskText};
 use crate::desk_fault::DeskFault;
 use crate::desk_request::{DESK_BYTES, DeskRequest};
-use crate::page::place_losses;
+use crate::page::{place_loss, place_losses};
 use crate::queries::tell;
 use crate::reply_shown::show_reply;
+use crate::texts::{place_text, print};
 use assise_files::cut_kind::CutKind;
 use assise_files::files::Files;
 use assise_link::test_link::TestLink;
@@ -35,9 +37,10 @@ pub struct CallerDesk {
     pub result: i64,
     /// Of a stat, what stands at the path: 1 is a file, 2 a directory. Of a listing, how many entries the directory has.
     pub stands: u64,
-    /// A path, and then another path or what is written. Then what is read, a page of names, or who lost calls.
+    /// A path, and then another path or what is written. Then what is read, a page of names or of a text, or who lost calls.
     pub bytes: [u8; DESK_BYTES],
     files: Option<Box<Files>>,
+    text: Option<Box<String>>,
 }
 
 impl CallerDesk {
@@ -60,6 +63,7 @@ impl CallerDesk {
             stands: 0,
             bytes: [0; DESK_BYTES],
             files: None,
+            text: None,
         }
     }
 }
@@ -98,6 +102,7 @@ fn answer_request(alloc: Global, desk: &mut CallerDesk) -> Result<u64, DeskFault
         },
         Some(DeskCall::Free) => {
             desk.files = None;
+            desk.text = None;
             Ok(0)
         }
         Some(DeskCall::Cluster(call)) => match &mut desk.files {
@@ -121,6 +126,30 @@ fn answer_request(alloc: Global, desk: &mut CallerDesk) -> Result<u64, DeskFault
                 )
             }
         },
+        Some(DeskCall::Print(text)) => keep_text(alloc, &desk.files, text, &mut desk.text),
+        Some(DeskCall::Page) => Ok(place_text(&desk.text, request.first, &mut desk.bytes) as u64),
+    }
+}
+
+/// Keeps a text of a desk's cluster in place of the text that it had, and answers how many bytes it has.
+fn keep_text(
+    alloc: Global,
+    files: &Option<Box<Files>>,
+    text: DeskText,
+    kept: &mut Option<Box<String>>,
+) -> Result<u64, DeskFault>
+    ensures { KeepsText text (owned files.now) (text_kept kept.old) result (text_kept kept.new) }
+{
+    let Some(files) = files else {
+        return Err(DeskFault::NoCluster);
+    };
+    match print(alloc, files, text) {
+        Ok(text) => {
+            let length = text.len() as u64;
+            *kept = Some(text);
+            Ok(length)
+        }
+        Err(fault) => Err(fault),
     }
 }
 
@@ -160,6 +189,7 @@ fn manage(
         ClusterCall::SetHot => set_hot(files, request),
         ClusterCall::Raise => done_told(files.raise(request.node)),
         ClusterCall::SetLink => set_link(files, request),
+        ClusterCall::Redo => redo(alloc, files, request, out),
     }
 }
 
@@ -176,6 +206,38 @@ fn open_client(alloc: Global, files: &mut Files, request: &DeskRequest) -> Resul
         return Err(DeskFault::BadRequest);
     };
     number_told(files.open(alloc, request.node, kind, durability))
+}
+
+/// Changes that a failure took are made again. The desk's bytes tell the first that isn't, as a lost call.
+fn redo(
+    alloc: Global,
+    files: &mut Files,
+    request: &DeskRequest,
+    out: &mut [u8; DESK_BYTES],
+) -> Result<u64, DeskFault>
+    ensures tells { (es : Told) × TellsRedo request.now result out.old out.new
+        files.old es files.new }
+    ensures turns { most_tries files.new ≡ most_tries files.old }
+    ensures links { links_seen files.new ≡ links_seen files.old }
+{
+    match files.redo(alloc, request.kind, request.first, request.client) {
+        Ok(()) => Ok(0),
+        Err(unmade) => {
+            let _ = place_loss(request.kind, unmade.call, out, 0);
+            Err(redo_fault(&unmade.came))
+        }
+    }
+}
+
+/// Why a change isn't made again.
+fn redo_fault(came: &Result<Reply, Refusal>) -> DeskFault
+    ensures { result ≡ redo_fault came.now }
+{
+    match came {
+        Ok(Reply::Error(error)) => DeskFault::Tree(*error),
+        Ok(_) => DeskFault::BadRequest,
+        Err(refusal) => DeskFault::Refused(*refusal),
+    }
 }
 
 /// How many inodes a node keeps hot is set as a request asks for it.

@@ -16,6 +16,17 @@ pub enum DeskCall {
     Query(ClusterQuery),
     /// What a client of the desk's cluster calls.
     Client(ClientCall),
+    /// A text of the desk's cluster is printed, and kept in place of the desk's own if it has one.
+    Print(DeskText),
+    /// A page of the desk's text is shown (30).
+    Page,
+}
+
+/// What is printed of a cluster.
+#[derive(Clone, Copy, PartialEq, Eq, Debug)]
+pub enum DeskText {
+    /// What was answered and what happened (28).
+    History,
 }
 
 /// What a cluster does that no client calls.
@@ -37,6 +48,8 @@ pub enum ClusterCall {
     Raise,
     /// What a node sends goes over another link from here on (34).
     SetLink,
+    /// A client makes changes again that a failure took (35).
+    Redo,
 }
 
 /// What is asked of a cluster, which changes nothing.
@@ -123,9 +136,12 @@ impl DeskCall {
             25 => Some(DeskCall::Client(ClientCall::Stat)),
             26 => Some(DeskCall::Client(ClientCall::Fsync)),
             27 => Some(DeskCall::Client(ClientCall::Dsync)),
+            28 => Some(DeskCall::Print(DeskText::History)),
+            30 => Some(DeskCall::Page),
             32 => Some(DeskCall::Cluster(ClusterCall::SetHot)),
             33 => Some(DeskCall::Cluster(ClusterCall::Raise)),
             34 => Some(DeskCall::Cluster(ClusterCall::SetLink)),
+            35 => Some(DeskCall::Cluster(ClusterCall::Redo)),
             _ => None,
         }
     }

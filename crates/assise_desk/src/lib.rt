@@ -10,3 +10,4 @@ pub mod laws;
 mod page;
 mod queries;
 mod reply_shown;
+mod texts;

@@ -78,7 +78,12 @@ pub(crate) fn place_losses(
 
 /// Puts a client with the number of its first lost call at a place of a desk's bytes, and answers the place behind it, or nothing where
 /// there is no room.
-fn place_loss(client: u32, call: u64, out: &mut [u8; DESK_BYTES], at: usize) -> Option<usize>
+pub(crate) fn place_loss(
+    client: u32,
+    call: u64,
+    out: &mut [u8; DESK_BYTES],
+    at: usize,
+) -> Option<usize>
     requires { at ≤ DESK_BYTES }
     ensures place { MatchOption result (DESK_BYTES < at + 12) (λ next. next ≡ at + 12) }
     ensures few { IfSome result (λ next. next ≤ DESK_BYTES) }
@@ -90,7 +95,7 @@ fn place_loss(client: u32, call: u64, out: &mut [u8; DESK_BYTES], at: usize) -> 
 }
 
 /// Puts bytes at a place of a desk's, and answers the place behind them, or nothing where there is no room.
-fn place_at(bytes: &[u8], out: &mut [u8; DESK_BYTES], at: usize) -> Option<usize>
+pub(crate) fn place_at(bytes: &[u8], out: &mut [u8; DESK_BYTES], at: usize) -> Option<usize>
     requires { at ≤ DESK_BYTES }
     ensures place { MatchOption result (DESK_BYTES < at + length bytes.now)
         (λ next. next ≡ at + length bytes.now) }

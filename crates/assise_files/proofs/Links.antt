@@ -1,8 +1,7 @@
 -- The links of the nodes that there are.
-use Rattle.std.proofs.Common.{◌≡◌, ℕ, zero, suc, ◌+◌, ◌-◌, ◌<◌, ◌≤◌, List, [], ◌∷◌, Option, Some, None, Result, Ok, length, map, replicate, slice_set, slice_index_or, slice_get, refl, ap, sym, ◌∙◌, arith}
+use Rattle.std.proofs.Common.{◌≡◌, ℕ, zero, suc, ◌-◌, ◌<◌, List, [], ◌∷◌, Option, Some, None, Ok, length, map, replicate, slice_set, slice_index_or, slice_get, refl, ap, arith}
 use Rattle.std.proofs.lemmas.Option.{slice_get_within}
 use Rattle.assise_names.specs.declared.limits.TheConstants.{MOST_NODES}
-use Rattle.assise_names.specs.declared.refusal.Refusal.{Refusal}
 use Rattle.assise_manager.specs.declared.phase.Phase.{Phase}
 use Rattle.assise_manager.specs.Standings.{Standing, phase_of, standing_of}
 use Rattle.assise_machine.specs.Clusters.{machine}

@@ -1,3 +1,6 @@
 pub mod CutKinds
 pub mod FilesSeen
 pub mod CallTries
+pub mod LostChanges
+pub mod LostSearch
+pub mod Redo

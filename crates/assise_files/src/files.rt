@@ -1,6 +1,7 @@
 // A cluster that one caller uses.
 use crate::attempts::settle_call;
 use crate::cut_kind::CutKind;
+use crate::redo::{Unmade, is_done, lost_changes};
 use assise_history::check::check;
 use assise_history::history::History;
 use assise_link::test_link::TestLink;
@@ -50,6 +51,8 @@ impl Files {
     ghost use Rattle.assise_names.specs.declared.limits.TheConstants.{MOST_NODES};
     ghost use Rattle.assise_files.specs.FilesSeen.{cluster_seen, kinds_seen, links_seen, most_tries, replicated_seen};
     ghost use Rattle.assise_files.specs.CallTries.{IsTriedOut};
+    ghost use Rattle.assise_files.specs.LostChanges.{lost_changes, tree_with};
+    ghost use Rattle.assise_files.specs.Redo.{MakesAgain, tree_kept};
 
     /// A cluster in which nothing happened: 1 to `MOST_NODES` nodes, logs of 8 to 4,096 records, and 1 to 4,096 inodes that a node keeps hot. A
     /// call is tried at most `turns` times. The one refusal is [`Refusal::OutOfMemory`].
@@ -223,6 +226,42 @@ impl Files {
         ensures only_bad { IsOkUnless result BadClient }
     {
         self.cluster.replicated_to(client)
+    }
+
+    /// Makes a client's changes again that a failure took, by another client: those from call `first` on, which [`Files::fail`] told, in
+    /// their order. It ends with the first that isn't answered [`Reply::Done`]: [`Unmade`] says which that is, and what came. Who goes on
+    /// calls again from its number on, or from the next. Where there is no memory to find them it is `first`, and none is made. Nothing
+    /// is made again that wasn't lost, that only read, or that was answered an error. It costs the entries behind that call besides the
+    /// calls.
+    pub fn redo(&mut self, alloc: Global, lost: u32, first: u64, client: u32) -> Result<(), Unmade>
+        ensures made { (es : Told) × MakesAgain (FaithfulAt (links_seen self.old))
+            (most_tries self.old) first client
+            (lost_changes lost first (cluster_seen self.old).history) result
+            (cluster_seen self.old) es (cluster_seen self.new) }
+        ensures tree { OnOk result (tree_kept (cluster_seen self.new) ≡
+            tree_with (tree_kept (cluster_seen self.old))
+            (lost_changes lost first (cluster_seen self.old).history)) }
+        ensures turns { most_tries self.new ≡ most_tries self.old }
+        ensures links { links_seen self.new ≡ links_seen self.old }
+    {
+        let entries = self.cluster.history().entries();
+        let mut left = match lost_changes(alloc, entries, lost, first) {
+            Ok(left) => left,
+            Err(refusal) => {
+                return Err(Unmade {
+                    call: first,
+                    came: Err(refusal),
+                });
+            }
+        };
+        while let Some(change) = left.pop() {
+            let came = self.call(alloc, client, &change.op);
+            if !is_done(&came) {
+                let call = change.number;
+                return Err(Unmade { call, came });
+            }
+        }
+        Ok(())
     }
 
     /// What was answered and what happened, in order.

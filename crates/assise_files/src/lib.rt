@@ -5,3 +5,4 @@ mod attempts;
 pub mod cut_kind;
 pub mod files;
 pub mod laws;
+pub mod redo;

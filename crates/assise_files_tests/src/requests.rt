@@ -7,6 +7,9 @@ use std::alloc::Global;
 /// The number of a listing.
 const LIST: u32 = 24;
 
+/// The number of a redo.
+const REDO: u32 = 35;
+
 /// A desk at which requests are served.
 #[derive(Drop)]
 pub(crate) struct Requests {
@@ -107,6 +110,8 @@ fn small(number: u64) -> u32 {
 fn request(call: u32, numbers: [u64; 3]) -> DeskRequest {
     let [who, first, second] = numbers;
     let (client, kind) = (small(who), small(first));
+    // The first number of a redo is the client that lost calls.
+    let first = if call == REDO { second } else { first };
     DeskRequest {
         call,
         client,
@@ -149,9 +154,12 @@ fn call_named(word: &str) -> Option<u32> {
         "stat" => Some(25),
         "fsync" => Some(26),
         "dsync" => Some(27),
+        "history" => Some(28),
+        "page" => Some(30),
         "hot" => Some(32),
         "raise" => Some(33),
         "link" => Some(34),
+        "redo" => Some(REDO),
         _ => word.parse::<u32>().ok(),
     }
 }

@@ -44,7 +44,7 @@ fn what_is_asked_wrongly(rt: HostRuntime) {
         rt.alloc(),
         &rt,
         "\
-open 1; stat 1 /; 0; 31; 35; make 0 8 4; make 17 8 4 => -301 -301 -302 -302 -302 -302 -302
+open 1; stat 1 /; 0; 31; 37; make 0 8 4; make 17 8 4 => -301 -301 -302 -302 -302 -302 -302
 make 1 7 4; make 1 4097 4; make 1 8; make 1 8 4097; stat 1 / => -302 -302 -302 -302 -301
 make 2 8 4; open 3; open 1; open 2; stat 3 /; stat 1 a; stat 1 //; stat 1 /.. => 0 -108 1 2 -109 -201 -202 -203
 rename 1 a //; rename 1 // a => -201 -202
@@ -98,6 +98,34 @@ dsync 1; answered 1; replicated 1; stat 1 /f; answered 1; replicated 1 => 0 5 5 
 truncate 1 2 /f; answered 1; replicated 1; crash 2; standing 2 => 0 7 6 0 2
 phase 1; phase 2; phase 3; phase 0; fail 1; phase 1; standing 1; answered 1; replicated 1; legal => 1 1 -108 -108 12 2 3 7 7 1
 back 1; phase 1; standing 1; open 1; standing 3; home 3 => 0 1 3 3 1 1
+",
+    );
+}
+
+// Client 1 loses its calls from 2 on: a change, an error, a read, and two changes. A directory is in the way then. What client 2 made
+// again is lost with its own directory.
+#[test]
+fn what_is_lost_is_made_again(rt: HostRuntime) {
+    show(
+        rt.alloc(),
+        &rt,
+        "\
+make 3 64 8; open 1; mkdir 1 /d; fsync 1; create 1 /d/f; create 1 /d/f; read 1 0 9 /d/f; write 1 0 /d/f hello; rename 1 /d/f /d/g; fail 1 => 0 1 0 0 0 -2 0 0 0 12
+open 2; list 2 /d; redo 2 1 2; list 2 /d; read 2 0 9 /d/g; answered 2; legal => 2 0 of 0 0 2 of 1 5 6 1
+mkdir 2 /d/f; redo 2 1 2; redo 2 1 5; redo 2 1 6; redo 2 1 7; redo 2 2; redo 9 1 2; redo 1 1 2 => 0 -2 -4 -3 0 0 -109 -103
+fail 2; open 3; list 3 /d; redo 3 2; list 3 /d; read 3 0 9 /d/g; legal => 12 3 0 of 0 0 4 of 2 5 1
+",
+    );
+}
+
+#[test]
+fn a_history_is_printed_and_shown(rt: HostRuntime) {
+    show(
+        rt.alloc(),
+        &rt,
+        "\
+history; make 1 8 8; page; open 1; history; page; bytes history 1; page 0 8; bytes 1; page 0 18; page 0 17 => -301 0 0 1 18 18 true 10 true 0 1
+create 1 /f; page; history; page; bytes history 2; free; page => 0 18 44 44 true 0 0
 ",
     );
 }

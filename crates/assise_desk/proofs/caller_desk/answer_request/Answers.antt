@@ -1,24 +1,24 @@
 use Rattle.std.proofs.Common.{refl, ap}
-use Rattle.assise_desk.specs.declared.desk_call.DeskCall.TheVariants.{Client, Cluster, Make, Query}
-use Rattle.assise_desk.specs.DeskAnswers.{answers_alone, request_calls, has_no_cluster, request_makes, request_makes_none, request_manages, request_queries, owned}
+use Rattle.assise_desk.specs.declared.desk_call.DeskCall.TheVariants.{Client, Cluster, Make, Print, Query}
+use Rattle.assise_desk.specs.DeskAnswers.{answers_alone, request_calls, has_no_cluster, request_makes, request_makes_none, request_manages, request_prints, request_queries, owned}
 use Rattle.assise_desk.proofs.DeskSteps.{number_is, owned_is}
 use Rattle.assise_desk.proofs.caller_desk.answer_request.Goals as goal
 
 pub returns-in-Ok-clause-answered : goal.returns-in-Ok-clause-answered
 returns-in-Ok-clause-answered c =
-    answers_alone (request_makes c.in-Ok.files.value (number_is c.in-Some-Make.field-0 Make c.args.desk.now.request.call c.in-Some-Make.field-0-is c.in-Some-Make.ensures) c.in-Ok.ensures.made refl refl)
+    answers_alone (request_makes c.in-Ok.files.value (number_is c.in-Some-Make.field-0 Make c.args.desk.now.request.call c.in-Some-Make.field-0-is c.in-Some-Make.ensures) c.in-Ok.ensures.made refl refl refl)
     record { bytes = refl; stays = refl }
 
 pub returns-in-Err-clause-answered : goal.returns-in-Err-clause-answered
 returns-in-Err-clause-answered c =
-    answers_alone (request_makes_none c.in-Err.fault (number_is c.in-Some-Make.field-0 Make c.args.desk.now.request.call c.in-Some-Make.field-0-is c.in-Some-Make.ensures) c.in-Err.ensures.fault refl refl)
+    answers_alone (request_makes_none c.in-Err.fault (number_is c.in-Some-Make.field-0 Make c.args.desk.now.request.call c.in-Some-Make.field-0-is c.in-Some-Make.ensures) c.in-Err.ensures.fault refl refl refl)
     record { bytes = refl; stays = refl }
 
 pub returns-in-None-files-clause-answered : goal.returns-in-None-files-clause-answered
 returns-in-None-files-clause-answered c =
     answers_alone (has_no_cluster (Cluster c.in-Some-Cluster.call)
     (number_is c.in-Some-Cluster.field-0 (Cluster c.in-Some-Cluster.call) c.args.desk.now.request.call c.in-Some-Cluster.field-0-is c.in-Some-Cluster.ensures) tt
-    (ap owned c.in-None-files.is) (ap owned c.in-None-files.is) refl) record { bytes = refl; stays = refl }
+    (ap owned c.in-None-files.is) (ap owned c.in-None-files.is) refl refl) record { bytes = refl; stays = refl }
 
 pub returns-in-Some-clause-answered : goal.returns-in-Some-clause-answered
 returns-in-Some-clause-answered c =
@@ -28,26 +28,27 @@ returns-in-Some-clause-answered c =
       from = owned_is c.args.desk.now.files c.in-Some.files c.deref_mut.result.now c.in-Some.is c.deref_mut.ensures.value;
       leaves = refl;
       turns = c.manage.ensures.turns;
+      text = refl;
     } c.manage.ensures.does c.manage.ensures.bytes c.manage.ensures.links refl
 
 pub returns-in-None-files-2-clause-answered : goal.returns-in-None-files-2-clause-answered
 returns-in-None-files-2-clause-answered c =
     answers_alone (has_no_cluster (Query c.in-Some-Query.query)
     (number_is c.in-Some-Query.field-0 (Query c.in-Some-Query.query) c.args.desk.now.request.call c.in-Some-Query.field-0-is c.in-Some-Query.ensures) tt
-    (ap owned c.in-None-files-2.is) (ap owned c.in-None-files-2.is) refl) record { bytes = refl; stays = refl }
+    (ap owned c.in-None-files-2.is) (ap owned c.in-None-files-2.is) refl refl) record { bytes = refl; stays = refl }
 
 pub returns-in-Some-files-clause-answered : goal.returns-in-Some-files-clause-answered
 returns-in-Some-files-clause-answered c =
     let there = owned_is c.args.desk.now.files c.in-Some-files.files c.deref.result.now c.in-Some-files.is c.deref.ensures in
     request_queries c.in-Some-Query.query c.deref.result.now
     (number_is c.in-Some-Query.field-0 (Query c.in-Some-Query.query) c.args.desk.now.request.call c.in-Some-Query.field-0-is c.in-Some-Query.ensures)
-    there there c.tell.ensures record { bytes = refl; stays = refl }
+    there there c.tell.ensures record { bytes = refl; stays = refl } refl
 
 pub returns-in-None-files-3-clause-answered : goal.returns-in-None-files-3-clause-answered
 returns-in-None-files-3-clause-answered c =
     answers_alone (has_no_cluster (Client c.in-Some-Client.call)
     (number_is c.in-Some-Client.field-0 (Client c.in-Some-Client.call) c.args.desk.now.request.call c.in-Some-Client.field-0-is c.in-Some-Client.ensures) tt
-    (ap owned c.in-None-files-3.is) (ap owned c.in-None-files-3.is) refl) record { bytes = refl; stays = refl }
+    (ap owned c.in-None-files-3.is) (ap owned c.in-None-files-3.is) refl refl) record { bytes = refl; stays = refl }
 
 pub returns-in-Some-files-2-clause-answered : goal.returns-in-Some-files-2-clause-answered
 returns-in-Some-files-2-clause-answered c =
@@ -57,4 +58,11 @@ returns-in-Some-files-2-clause-answered c =
       from = owned_is c.args.desk.now.files c.in-Some-files-2.files c.deref_mut-in-Some-files-2.result.now c.in-Some-files-2.is c.deref_mut-in-Some-files-2.ensures.value;
       leaves = refl;
       turns = c.serve_client.ensures.turns;
+      text = refl;
     } c.serve_client.ensures.served
+
+pub returns-in-Some-Print-clause-answered : goal.returns-in-Some-Print-clause-answered
+returns-in-Some-Print-clause-answered c =
+    request_prints c.in-Some-Print.text
+    (number_is c.in-Some-Print.field-0 (Print c.in-Some-Print.text) c.args.desk.now.request.call c.in-Some-Print.field-0-is c.in-Some-Print.ensures)
+    refl c.keep_text.ensures record { bytes = refl; stays = refl }

@@ -1,4 +1,4 @@
-use Rattle.assise_desk.proofs.DeskSteps.{crashing_told, failing_told, hot_told, link_told, opening_told, raising_told, return_told}
+use Rattle.assise_desk.proofs.DeskSteps.{crashing_told, failing_told, hot_told, link_told, opening_told, raising_told, redo_told, return_told}
 use Rattle.assise_desk.proofs.caller_desk.manage.Goals as goal
 
 pub returns-in-Open-clause-does : goal.returns-in-Open-clause-does
@@ -32,3 +32,7 @@ returns-in-Raise-clause-does c =
 pub returns-in-SetLink-clause-does : goal.returns-in-SetLink-clause-does
 returns-in-SetLink-clause-does c =
     link_told c.args.call c.args.request.now c.set_link.result c.args.out.now c.args.out.now c.args.files.now c.set_link.new.files c.in-SetLink.is c.set_link.ensures.serves c.set_link.ensures.cluster
+
+pub returns-in-Redo-clause-does : goal.returns-in-Redo-clause-does
+returns-in-Redo-clause-does c =
+    redo_told c.args.call c.args.request.now c.redo.result c.args.out.now c.redo.new.out c.args.files.now c.redo.new.files c.in-Redo.is c.redo.ensures.tells

@@ -1,6 +1,9 @@
 use Rattle.assise_rounds.specs.NodeLinks.{FaithfulAt}
-use Rattle.assise_files.proofs.TriesTrace.{call_trace}
+use Rattle.assise_files.proofs.TriesTrace.{call_trace, redo_trace}
 use Rattle.assise_files.proofs.laws.a_call_is_a_trace_of_events.Goals as goal
 
-pub returns : goal.returns
-returns c = λ links. call_trace (FaithfulAt links)
+pub returns-clause-call : goal.returns-clause-call
+returns-clause-call c = λ links. call_trace (FaithfulAt links)
+
+pub returns-clause-redo : goal.returns-clause-redo
+returns-clause-redo c = λ links. redo_trace (FaithfulAt links)

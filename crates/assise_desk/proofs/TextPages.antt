@@ -1,0 +1,17 @@
+-- A page of a text.
+use Rattle.std.proofs.Common.{◌≡◌, ◌∙◌, ℕ, ◌+◌, ◌<◌, min, List, ◌++◌, length, take, Option, None, Some, MatchOption, ap, sym, arith, inl, inr, length-take}
+use Rattle.std.proofs.lemmas.Bool.{cases_lt}
+use Rattle.std.proofs.lemmas.List.{take_all}
+
+pub page_shown : (place : Option ℕ) (most n : ℕ) (old out page left : List ℕ) → page ≡ take n left → n ≡ min (length left) most → MatchOption place (most < 0 + length page) (λ next. next ≡ 0 + length page) →
+    MatchOption place (out ≡ old) (λ next. take next out ≡ take 0 old ++ page) → take n out ≡ take most left
+page_shown None most n old out page left is count none written = absurd (omega (arith, none, count, ap length is ∙ length-take n left))
+page_shown (Some next) most n old out page left is count at written =
+    let long : length page ≡ n = omega (arith, count, ap length is ∙ length-take n left) in
+    let end : next ≡ n = omega (arith, at, long) in
+    let all : take n left ≡ take most left =
+    elim (cases_lt most (length left)) [
+      | inl less ↦ let same : n ≡ most = omega (arith, count, less) in ap (λ k. take k left) same
+      | inr more ↦ let same : n ≡ length left = omega (arith, count, more) in ap (λ k. take k left) same ∙ take_all (length left) left (omega arith) ∙ sym (take_all most left (omega (arith, more)))
+    ] in
+    ap (λ k. take k out) (sym end) ∙ written ∙ is ∙ all

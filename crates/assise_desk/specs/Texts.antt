@@ -1,0 +1,39 @@
+-- Texts of a cluster, which a desk keeps and shows in pages.
+use Rattle.std.specs.Prelude.{◌≡◌, ℕ, ◌-◌, min, List, [], length, take, drop, Option, None, Some, Result, Ok, Err}
+use Rattle.std.specs.Global.{Box, Global}
+use Rattle.std.specs.Prelude.{String, string_bytes}
+use Rattle.assise_history.specs.Text.{history_text}
+use Rattle.assise_files.specs.FilesSeen.{cluster_seen}
+use Rattle.assise_files.specs.declared.files.Files.{Files}
+use Rattle.assise_desk.specs.declared.desk_call.DeskText.{DeskText}
+use Rattle.assise_desk.specs.declared.desk_call.DeskText.TheVariants.{History}
+use Rattle.assise_desk.specs.declared.desk_fault.DeskFault.{DeskFault}
+use Rattle.assise_desk.specs.declared.desk_fault.DeskFault.TheVariants.{NoCluster}
+use Rattle.assise_desk.specs.declared.desk_request.TheConstants.{DESK_BYTES}
+use Rattle.assise_desk.specs.FaultCodes.{no_memory}
+
+-- the bytes that are kept, and none where no text is
+abbrev pub text_kept : Option (Box (String Global)) → List ℕ
+text_kept None = []
+text_kept (Some text) = string_bytes text.value
+
+-- the text of this kind
+abbrev pub IsTextOf : DeskText → Files → List ℕ → Type 0
+IsTextOf History files bytes = bytes ≡ history_text (cluster_seen files).history
+
+-- it is kept, and its length told; or there is no memory for it, and what was kept stays
+pub data PrintsText (text : DeskText) (files : Files) (before : List ℕ) (result : Result ℕ DeskFault) (kept : List ℕ) : Type 0 where
+  prints_text : IsTextOf text files kept → result ≡ Ok (length kept) → PrintsText text files before result kept
+  lacks_room : result ≡ Err no_memory → kept ≡ before → PrintsText text files before result kept
+
+-- the same of a desk's cluster, if it has one
+pub data KeepsText (text : DeskText) (owned : Option Files) (before : List ℕ) (result : Result ℕ DeskFault) (kept : List ℕ) : Type 0 where
+  keeps_text : (files : Files) → owned ≡ Some files → PrintsText text files before result kept → KeepsText text owned before result kept
+  owns_none : owned ≡ None → result ≡ Err NoCluster → kept ≡ before → KeepsText text owned before result kept
+
+-- what is kept from place `first` on, as much as there is room for
+pub record ShowsPageOf (kept : List ℕ) (first : ℕ) (result : Result ℕ DeskFault) (out : List ℕ) : Type 0 where
+  pub count : ℕ
+  pub result_is : result ≡ Ok count
+  pub count_is : count ≡ min DESK_BYTES (length kept - first)
+  pub shown : take count out ≡ take DESK_BYTES (drop first kept)
