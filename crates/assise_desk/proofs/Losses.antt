@@ -1,4 +1,4 @@
--- How many bytes lost calls have, and that one has room.
+-- How many bytes lost calls have.
 use Rattle.std.proofs.Common.{◌≡◌, ◌∙◌, ℕ, ◌+◌, ◌*◌, ◌<◌, List, [], ◌∷◌, ◌++◌, length, take, Option, None, Some, IfSome, MatchOption, refl, ap, sym, arith, length-append}
 use Rattle.std.specs.Int.{to_le_bytes, w32, w64}
 use Rattle.assise_desk.specs.declared.desk_request.TheConstants.{DESK_BYTES}
