@@ -1,0 +1,6 @@
+pub mod Led
+mod Added
+mod SameTree
+mod OneClient
+mod AllReplicated
+mod Acked

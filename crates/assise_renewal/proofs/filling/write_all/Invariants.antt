@@ -1,0 +1,6 @@
+use Rattle.assise_machine.specs.Clusters.{machine}
+use Rattle.assise_renewal.specs.Led.{IsLedBy, IsOfFirst}
+use Rattle.assise_renewal.proofs.filling.write_all.Given as goal
+
+abbrev pub invariant-loop-piece : goal.invariant-loop-piece
+invariant-loop-piece g l = IsLedBy IsOfFirst (machine l.fn.cluster) (machine l.cluster)

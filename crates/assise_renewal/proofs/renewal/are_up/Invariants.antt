@@ -1,0 +1,5 @@
+use Rattle.assise_renewal.specs.Renewal.{AreUp}
+use Rattle.assise_renewal.proofs.renewal.are_up.Given as goal
+
+abbrev pub invariant-loop-node : goal.invariant-loop-node
+invariant-loop-node g l = AreUp l.cluster l.node

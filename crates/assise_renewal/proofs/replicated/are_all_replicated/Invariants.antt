@@ -1,0 +1,7 @@
+use Rattle.std.proofs.Common.{ℕ, ◌≤◌}
+use Rattle.assise_renewal.specs.ReplicatedClients.{HasReplicatedAll}
+use Rattle.assise_renewal.proofs.replicated.are_all_replicated.Given as goal
+
+-- so far no client has a call that some full node may lack
+abbrev pub invariant-loop-client : goal.invariant-loop-client
+invariant-loop-client g l = (c : ℕ) → 1 ≤ c → c ≤ l.client → HasReplicatedAll l.cluster c

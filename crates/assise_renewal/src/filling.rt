@@ -1,0 +1,134 @@
+// Client 1 makes a tree. No clause says which tree its calls leave: who asks for it compares.
+ghost use Rattle.assise_machine.specs.Clusters.{machine};
+ghost use Rattle.assise_renewal.specs.Led.{IsLedBy, IsOfFirst};
+
+use crate::calls::make_call;
+use assise_lease_table::revoker::Revokes;
+use assise_machine::cluster::ClusterOf;
+use assise_names::byte_string::ByteString;
+use assise_names::call::Op;
+use assise_names::path::{Path, PathFault};
+use assise_names::refusal::Refusal;
+use assise_rounds::rounds::round;
+use assise_seq_tree::contents::copied;
+use assise_seq_tree::tree::Tree;
+use std::alloc::Global;
+
+/// The client that makes the tree.
+const FIRST: u32 = 1;
+
+/// The most bytes of a write.
+const MOST_WRITTEN: usize = 65_536;
+
+/// Client 1 makes what a tree has, each directory before its entries, and waits until all of it is replicated.
+pub(crate) fn fill<C: Revokes + Drop>(
+    alloc: Global,
+    cluster: &mut ClusterOf<C>,
+    tree: &Tree,
+    turns: u32,
+) -> Result<(), Refusal>
+    ensures { IsLedBy IsOfFirst (machine cluster.old) (machine cluster.new) }
+{
+    fill_below(alloc, cluster, "", tree, turns)?;
+    make(alloc, cluster, &Op::Dsync, turns)
+}
+
+/// Client 1 makes what a tree has below a path.
+fn fill_below<C: Revokes + Drop>(
+    alloc: Global,
+    cluster: &mut ClusterOf<C>,
+    above: &str,
+    tree: &Tree,
+    turns: u32,
+) -> Result<(), Refusal>
+    ensures { IsLedBy IsOfFirst (machine cluster.old) (machine cluster.new) }
+{
+    if let Ok(entries) = tree.entries() {
+        for (name, child) in entries {
+            let path = format!(in alloc; "{above}/{name}")?;
+            make_one(alloc, cluster, path.as_str(), child, turns)?;
+            fill_below(alloc, cluster, path.as_str(), child, turns)?;
+        }
+    }
+    Ok(())
+}
+
+/// Client 1 makes a file with its bytes, or a directory.
+fn make_one<C: Revokes + Drop>(
+    alloc: Global,
+    cluster: &mut ClusterOf<C>,
+    path: &str,
+    tree: &Tree,
+    turns: u32,
+) -> Result<(), Refusal>
+    ensures { IsLedBy IsOfFirst (machine cluster.old) (machine cluster.new) }
+{
+    match tree.bytes() {
+        Ok(bytes) => {
+            let op = Op::Create(path_of(alloc, path)?);
+            make(alloc, cluster, &op, turns)?;
+            write_all(alloc, cluster, path, bytes, turns)
+        }
+        Err(_) => {
+            let op = Op::Mkdir(path_of(alloc, path)?);
+            make(alloc, cluster, &op, turns)
+        }
+    }
+}
+
+/// Client 1 writes a file's bytes, in pieces.
+fn write_all<C: Revokes + Drop>(
+    alloc: Global,
+    cluster: &mut ClusterOf<C>,
+    path: &str,
+    bytes: &[u8],
+    turns: u32,
+) -> Result<(), Refusal>
+    ensures { IsLedBy IsOfFirst (machine cluster.old) (machine cluster.new) }
+{
+    let mut offset: u64 = 0;
+    for piece in bytes.chunks(MOST_WRITTEN) {
+        let new = ByteString::from_vec(copied(alloc, piece)?)?;
+        let op = Op::Write(path_of(alloc, path)?, offset, new);
+        make(alloc, cluster, &op, turns)?;
+        offset = offset.saturating_add(piece.len() as u64);
+    }
+    Ok(())
+}
+
+/// The path that a text spells. What has more than 32 names, as a directory that was moved below another may, is
+/// [`Refusal::TooLarge`].
+fn path_of(alloc: Global, text: &str) -> Result<Path, Refusal> {
+    match Path::parse(alloc, text) {
+        Ok(path) => Ok(path),
+        Err(PathFault::Memory) => Err(Refusal::OutOfMemory),
+        Err(_) => Err(Refusal::TooLarge),
+    }
+}
+
+/// Client 1 makes a call. Where its log is full it tries a dsync, and all nodes make a round, before the call is made again, at most
+/// `turns` times. Refused as [`make_call`], and with [`Refusal::Busy`] where the log stays full.
+fn make<C: Revokes + Drop>(
+    alloc: Global,
+    cluster: &mut ClusterOf<C>,
+    op: &Op,
+    turns: u32,
+) -> Result<(), Refusal>
+    ensures { IsLedBy IsOfFirst (machine cluster.old) (machine cluster.new) }
+{
+    for _ in 0..turns {
+        match make_call(alloc, cluster, FIRST, op, turns) {
+            Ok(_) => return Ok(()),
+            Err(refusal) => {
+                if refusal != Refusal::LogFull {
+                    return Err(refusal);
+                }
+            }
+        }
+        let _ = cluster.try_call(alloc, FIRST, &Op::Dsync);
+        if !round(alloc, cluster) {
+            return Err(Refusal::Busy);
+        }
+    }
+    Err(Refusal::Busy)
+}
