@@ -50,7 +50,7 @@ extern "C" {
 
 /* Limits. */
 #define ASSISE_MOST_NODES 16           /* of a cluster */
-#define ASSISE_MOST_CLIENTS 32         /* opened on a cluster, ever */
+#define ASSISE_MOST_CLIENTS 32         /* opened on a cluster, until it is renewed */
 #define ASSISE_LEAST_LOG 8             /* records in a client's log, at least */
 #define ASSISE_MOST_LOG 4096           /* and at most */
 #define ASSISE_MOST_HOT 4096           /* inodes that a node keeps hot */
@@ -66,7 +66,7 @@ struct assise_request {
     uint32_t node;        /* from 1 */
     uint32_t path_bytes;  /* how many bytes of the desk are the path's */
     uint32_t other_bytes; /* and how many behind these are the other path's, or are to be written */
-    uint32_t kind;        /* the revoker of a client that is opened, or the kind of a link */
+    uint32_t kind;        /* the revoker of a client that is opened, also by a renewal; or the kind of a link */
     uint64_t first;
     uint64_t second;
 };
@@ -125,7 +125,8 @@ enum assise_call {
     ASSISE_SET_HOT = 32,
     ASSISE_RAISE = 33,
     ASSISE_SET_LINK = 34,
-    ASSISE_REDO = 35
+    ASSISE_REDO = 35,
+    ASSISE_RENEW = 36
 };
 
 /* How much of its log a client hands on before a lease goes to another: what touches the inode, all of it, or the first and on to the
@@ -169,7 +170,7 @@ enum assise_fault {
     ASSISE_NODE_DOWN = -103,     /* the client's node failed, or the node isn't full: open another client */
     ASSISE_CLIENT_GONE = -104,   /* the client crashed */
     ASSISE_INODES_SPENT = -105,  /* the client made 1,048,576 inodes */
-    ASSISE_TOO_LARGE = -106,     /* a write over 65,536 bytes */
+    ASSISE_TOO_LARGE = -106,     /* a write over 65,536 bytes; a renewal of what lies deeper than 32 names */
     ASSISE_LAST_NODE = -107,     /* the only full node can't fail */
     ASSISE_BAD_NODE = -108,      /* no such node */
     ASSISE_BAD_CLIENT = -109,    /* no such client, or all 32 were opened */
@@ -292,6 +293,21 @@ static inline int64_t assise_make(struct assise_desk *desk, uint32_t nodes, uint
 /* Lets the cluster go. */
 static inline int64_t assise_free(struct assise_desk *desk) { return assise_manage(desk, ASSISE_FREE, 0, 0, 0, 0, 0); }
 
+/* A new cluster with the same files and directories comes in place of the desk's, of this many nodes, log records and hot inodes, as for
+ * assise_make. Its one client is open: number 1, on node 1, pessimistic, with a revoker of this kind. The history begins anew and the old
+ * one's memory is free again, and 31 more clients may be opened.
+ *
+ * All clients of before are over, with their numbers: who goes on with one speaks as the new client that has it. No call is lost, whether
+ * it was synced or not. Links stay; no node is raised. It takes the memory of the new cluster, and twice that of the files, beside the old
+ * one's.
+ *
+ * What is refused leaves the old cluster: each of its clients that may call was asked for a dsync, unless all calls were replicated. It is
+ * ASSISE_BUSY where that can't be, as where not all nodes are raised; ASSISE_TOO_LARGE, or ASSISE_INODES_SPENT where one client can't make
+ * as many files and directories. */
+static inline int64_t assise_renew(struct assise_desk *desk, uint32_t nodes, uint64_t log, uint64_t hot, uint32_t kind) {
+    return assise_manage(desk, ASSISE_RENEW, 0, nodes, kind, log, hot);
+}
+
 /* Opens a client on a node, whose fsyncs have this durability: its number. There are 32 in all, and the number of one that is gone
  * doesn't come back. */
 static inline int64_t assise_open_as(struct assise_desk *desk, uint32_t node, uint32_t kind, uint64_t durability) {
@@ -362,7 +378,7 @@ static inline int64_t assise_round(struct assise_desk *desk) { return assise_man
 
 /* ---- What is asked of the cluster, which changes nothing. */
 
-/* How many entries the history has. It is kept in memory, each call with its bytes. */
+/* How many entries the history has. It is kept in memory, each call with its bytes, until the cluster is renewed. */
 static inline int64_t assise_entries(struct assise_desk *desk) { return assise_manage(desk, ASSISE_ENTRIES, 0, 0, 0, 0, 0); }
 
 /* How many bytes the history's calls wrote, read and listed. */

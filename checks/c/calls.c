@@ -181,6 +181,22 @@ static void wrong_paths(void) {
     SEE(ASSISE_BAD_REQUEST, assise_manage(&desk, 99, 0, 0, 0, 0, 0));
 }
 
+/* The clients of before are over, and number 1 is the new one's. */
+static void renews(void) {
+    SEE(ASSISE_BAD_REQUEST, assise_renew(&desk, 0, 64, 16, ASSISE_LEAST));
+    SEE(ASSISE_BAD_REQUEST, assise_renew(&desk, 2, 64, 16, ASSISE_EIGHTS + 1));
+    SEE(0, assise_mkdir(&desk, 5, "/kept"));
+    SEE(0, assise_renew(&desk, 3, 8, 4, ASSISE_WHOLE));
+    SEE(ASSISE_BAD_CLIENT, assise_stat(&desk, 5, "/kept"));
+    SEE(0, assise_stat(&desk, 1, "/kept"));
+    SEE(ASSISE_MOST_FILE_BYTES - 4, assise_stat(&desk, 1, "/big"));
+    SEE(1, assise_home(&desk, 1));
+    SEE(ASSISE_FULL, assise_phase(&desk, 3));
+    SEE(2, assise_open(&desk, 3, ASSISE_LEAST));
+    SEE(0, assise_stat(&desk, 2, "/kept"));
+    SEE(1, assise_legal(&desk));
+}
+
 static void tells_faults(void) {
     SEE(ENOENT, assise_errno(ASSISE_NO_ENT));
     SEE(ENOSPC, assise_errno(ASSISE_DIR_FULL));
@@ -203,6 +219,7 @@ int main(void) {
     fails_and_comes_back();
     prints_the_history();
     wrong_paths();
+    renews();
     tells_faults();
     SEE(0, assise_free(&desk));
     printf("%d passed, %d failed\n", passed, failed);

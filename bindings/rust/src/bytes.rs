@@ -47,7 +47,7 @@ impl Client {
     #[doc(alias = "read_at")]
     pub fn read(&self, path: impl AsRef<str>, buffer: &mut [u8], offset: u64) -> io::Result<usize> {
         let path = path.as_ref();
-        let (mut desk, mut done) = (self.turn(), 0);
+        let (mut desk, mut done) = (self.turn()?, 0);
         loop {
             let want = CALL_BYTES.min(buffer.len() - done);
             let found = self.read_part(&mut desk, path, want, offset.saturating_add(done as u64))?;
@@ -72,7 +72,7 @@ impl Client {
 
     /// Reads from an offset to the file's end, behind what there is. Where a part of it is refused, those before it stand there.
     pub(crate) fn read_on(&self, path: &str, offset: u64, bytes: &mut Vec<u8>) -> io::Result<()> {
-        let (mut desk, mut at) = (self.turn(), offset);
+        let (mut desk, mut at) = (self.turn()?, offset);
         loop {
             let found = self.read_part(&mut desk, path, CALL_BYTES, at)?;
             bytes.extend_from_slice(found);
@@ -101,7 +101,7 @@ impl Client {
     #[doc(alias = "write_all_at")]
     pub fn write(&self, path: impl AsRef<str>, bytes: impl AsRef<[u8]>, offset: u64) -> io::Result<()> {
         let (path, bytes) = (path.as_ref(), bytes.as_ref());
-        let (mut desk, mut done) = (self.turn(), 0);
+        let (mut desk, mut done) = (self.turn()?, 0);
         loop {
             done += self.write_part(&mut desk, path, &bytes[done..], offset.saturating_add(done as u64))?;
             if done == bytes.len() {
@@ -112,7 +112,7 @@ impl Client {
 
     /// What [`Client::read`] does, by one call, which may read less.
     pub(crate) fn read_once(&self, path: &str, buffer: &mut [u8], offset: u64) -> io::Result<usize> {
-        let mut desk = self.turn();
+        let mut desk = self.turn()?;
         let found = self.read_part(&mut desk, path, CALL_BYTES.min(buffer.len()), offset)?;
         buffer[..found.len()].copy_from_slice(found);
         Ok(found.len())
@@ -120,7 +120,7 @@ impl Client {
 
     /// What [`Client::write`] does, by one call, which may write less. Says how many bytes it wrote.
     pub(crate) fn write_once(&self, path: &str, bytes: &[u8], offset: u64) -> io::Result<usize> {
-        self.write_part(&mut self.turn(), path, bytes, offset)
+        self.write_part(&mut self.turn()?, path, bytes, offset)
     }
 
     fn write_part(&self, desk: &mut Desk, path: &str, bytes: &[u8], offset: u64) -> io::Result<usize> {

@@ -1,14 +1,16 @@
 //! A client's calls.
 
 use crate::desk::{turn, Desk, Request, Shared};
-use crate::numbers::{call, stands};
+use crate::faults::error_of;
+use crate::numbers::{call, fault, stands};
 use crate::stat::Stat;
 use std::io;
 use std::sync::MutexGuard;
 
 /// A client on a node, and the calls of the file system.
 ///
-/// It is over once its node fails, also where the node comes back; files stay, and another client finds them.
+/// It is over once its node fails, also where the node comes back, and once its cluster is
+/// [renewed](crate::Cluster::renew); files stay, and another client finds them.
 ///
 /// A path is text: `/`, or a slash before each of its names, which are [`MOST_NAMES`](crate::limits::MOST_NAMES) at most, of 1 to
 /// [`MOST_NAME_BYTES`](crate::limits::MOST_NAME_BYTES) each.
@@ -48,11 +50,13 @@ use std::sync::MutexGuard;
 pub struct Client {
     desk: Shared,
     number: u32,
+    /// How often its cluster had been renewed when it was opened.
+    renewals: u64,
 }
 
 impl Client {
-    pub(crate) fn new(desk: Shared, number: u32) -> Client {
-        Client { desk, number }
+    pub(crate) fn new(desk: Shared, number: u32, renewals: u64) -> Client {
+        Client { desk, number, renewals }
     }
 
     /// Its number, 1 to [`MOST_CLIENTS`](crate::limits::MOST_CLIENTS).
@@ -77,10 +81,11 @@ impl Client {
     ///
     /// # Errors
     ///
-    /// [`ClientGone`](crate::Refusal::ClientGone) where it crashed before, [`NodeDown`](crate::Refusal::NodeDown).
+    /// [`ClientGone`](crate::Refusal::ClientGone) where it crashed before or the cluster was renewed,
+    /// [`NodeDown`](crate::Refusal::NodeDown).
     #[doc(alias = "assise_crash")]
     pub fn crash(self) -> io::Result<()> {
-        self.turn().ask(self.request(call::CRASH)).map(drop)
+        self.turn()?.ask(self.request(call::CRASH)).map(drop)
     }
 
     /// Makes a file without bytes.
@@ -141,7 +146,7 @@ impl Client {
     #[doc(alias = "metadata")]
     pub fn stat(&self, path: impl AsRef<str>) -> io::Result<Stat> {
         let path = path.as_ref();
-        let mut desk = self.turn();
+        let mut desk = self.turn()?;
         let count = desk.ask_at(self.request(call::STAT), path, &[])?;
         match desk.stands() {
             stands::DIR => Ok(Stat::Directory { entries: count }),
@@ -158,7 +163,7 @@ impl Client {
     #[doc(alias = "sync_all")]
     #[doc(alias = "assise_fsync")]
     pub fn fsync(&self) -> io::Result<()> {
-        self.turn().ask(self.request(call::FSYNC)).map(drop)
+        self.turn()?.ask(self.request(call::FSYNC)).map(drop)
     }
 
     /// Returns once all full nodes have all that this client did so far, in whatever files, however it was opened.
@@ -169,12 +174,16 @@ impl Client {
     #[doc(alias = "sync_all")]
     #[doc(alias = "assise_dsync")]
     pub fn dsync(&self) -> io::Result<()> {
-        self.turn().ask(self.request(call::DSYNC)).map(drop)
+        self.turn()?.ask(self.request(call::DSYNC)).map(drop)
     }
 
-    /// The desk of the client's cluster, for one turn.
-    pub(crate) fn turn(&self) -> MutexGuard<'_, Desk> {
-        turn(&self.desk)
+    /// The desk of the client's cluster, for one turn, unless that was renewed since: then another client may have its number.
+    pub(crate) fn turn(&self) -> io::Result<MutexGuard<'_, Desk>> {
+        let desk = turn(&self.desk);
+        if desk.renewals() != self.renewals {
+            return Err(error_of(fault::CLIENT_GONE));
+        }
+        Ok(desk)
     }
 
     /// A request of the client, by a number of `call`.
@@ -184,6 +193,6 @@ impl Client {
 
     /// Serves a request that answers with a number of no meaning.
     pub(crate) fn done(&self, request: Request, path: &str, other: &[u8]) -> io::Result<()> {
-        self.turn().ask_at(request, path, other).map(drop)
+        self.turn()?.ask_at(request, path, other).map(drop)
     }
 }

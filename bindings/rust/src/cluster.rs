@@ -35,7 +35,8 @@ pub struct Lost {
 
 /// A cluster of nodes, numbered from 1.
 ///
-/// A clone is the same cluster. It goes with the last clone, client and file, and all that it holds with it.
+/// A clone is the same cluster. It goes with the last clone, client and file, and all that it holds with it. Till then it keeps each
+/// call in memory, unless it is [renewed](Cluster::renew).
 ///
 /// Threads may share it: one request is served at a time, and who comes meanwhile waits.
 ///
@@ -77,7 +78,7 @@ impl Cluster {
     }
 
     /// Opens a client on a full node, with [`Revoker::Least`] and [`Durability::Pessimistic`](crate::Durability::Pessimistic). A cluster
-    /// has [`MOST_CLIENTS`](crate::limits::MOST_CLIENTS) in all, and no number comes back.
+    /// has [`MOST_CLIENTS`](crate::limits::MOST_CLIENTS) in all, and no number comes back, until it is [renewed](Cluster::renew).
     ///
     /// # Errors
     ///
@@ -105,8 +106,46 @@ impl Cluster {
     #[doc(alias = "assise_open_as")]
     pub fn open_as(&self, node: u32, options: Options) -> io::Result<Client> {
         let (kind, durability) = (options.revoker as u32, options.durability as u64);
-        let number = self.ask(Request { node, kind, second: durability, ..Request::new(call::OPEN) })?;
-        Ok(Client::new(Arc::clone(&self.desk), number as u32))
+        let mut desk = turn(&self.desk);
+        let number = desk.ask(Request { node, kind, second: durability, ..Request::new(call::OPEN) })?;
+        Ok(Client::new(Arc::clone(&self.desk), number as u32, desk.renewals()))
+    }
+
+    /// A new cluster with the same files and directories comes in place of this one, of these sizes, for which [`Cluster::new`] has the
+    /// ranges. Its one client, on node 1, with this revoker and [`Durability::Pessimistic`](crate::Durability::Pessimistic), is returned.
+    ///
+    /// The history begins anew, and its memory is free again, so that a program may run for ever; and
+    /// [`MOST_CLIENTS`](crate::limits::MOST_CLIENTS) may be opened again. **All clients of before are over**, with their files: each of
+    /// their calls is refused with [`ClientGone`](crate::Refusal::ClientGone). No call is lost, whether it was synced or not. Links stay
+    /// as they were set, and no node is raised. It takes the memory of the new cluster, and twice that of the files, beside the old one.
+    ///
+    /// ```
+    /// # fn main() -> std::io::Result<()> {
+    /// use assise::{Cluster, Refusal, Revoker};
+    ///
+    /// let cluster = Cluster::new(2, 64, 64)?;
+    /// let before = cluster.open(2)?;
+    /// before.write_all("/letter", "hello")?;
+    ///
+    /// let client = cluster.renew(3, 64, 64, Revoker::Least)?;
+    /// assert_eq!(client.read_all("/letter")?, b"hello");
+    /// let error = before.read_all("/letter").unwrap_err();
+    /// assert_eq!(Refusal::of(&error), Some(Refusal::ClientGone));
+    /// # Ok(())
+    /// # }
+    /// ```
+    ///
+    /// # Errors
+    ///
+    /// Then all is as it was, but that clients may have made a dsync. [`BadRequest`](crate::Refusal::BadRequest) where a number is out of
+    /// range; [`Busy`](crate::Refusal::Busy) where a call can't be replicated, as where not all nodes are raised;
+    /// [`TooLarge`](crate::Refusal::TooLarge), [`InodesSpent`](crate::Refusal::InodesSpent),
+    /// [`OutOfMemory`](crate::Refusal::OutOfMemory).
+    #[doc(alias = "assise_renew")]
+    pub fn renew(&self, nodes: u32, log: u64, hot: u64, revoker: Revoker) -> io::Result<Client> {
+        let mut desk = turn(&self.desk);
+        desk.renew(Request { node: nodes, kind: revoker as u32, first: log, second: hot, ..Request::new(call::RENEW) })?;
+        Ok(Client::new(Arc::clone(&self.desk), 1, desk.renewals()))
     }
 
     /// Crashes a client by its number: for one whose [`Client`] was dropped. [`Client::crash`] says what comes of it.

@@ -64,7 +64,11 @@ pub fn version() -> &'static str {
 }
 
 /// A desk, whose cluster goes with it.
-pub(crate) struct Desk(Box<Place>);
+pub(crate) struct Desk {
+    place: Box<Place>,
+    /// How often its cluster was renewed.
+    renewals: u64,
+}
 
 // SAFETY: a cluster is memory of its own, by malloc and free, and the library keeps nothing of it elsewhere: not in a thread's memory, and
 // not in the process's. It isn't `Sync`: who asks has it alone, as `&mut`.
@@ -77,16 +81,16 @@ impl Desk {
         // SAFETY: the memory is the box's, and `assise_begin` writes all of it.
         unsafe {
             assise_begin(place);
-            Desk(Box::from_raw(place))
+            Desk { place: Box::from_raw(place), renewals: 0 }
         }
     }
 
     /// Serves a request: a result of 0 or more, or the error for another.
     pub(crate) fn ask(&mut self, request: Request) -> io::Result<u64> {
-        self.0.request = request;
+        self.place.request = request;
         // SAFETY: the desk was begun, nobody else has it, and its cluster is the library's own.
-        unsafe { assise_serve(&mut *self.0) };
-        u64::try_from(self.0.result).map_err(|_| error_of(self.0.result))
+        unsafe { assise_serve(&mut *self.place) };
+        u64::try_from(self.place.result).map_err(|_| error_of(self.place.result))
     }
 
     /// Serves a request with a path, and behind it other bytes: what is written, or a second path.
@@ -95,8 +99,8 @@ impl Desk {
         if end > CALL_BYTES {
             return Err(error_of(fault::BAD_REQUEST));
         }
-        self.0.bytes[..path.len()].copy_from_slice(path.as_bytes());
-        self.0.bytes[path.len()..end].copy_from_slice(other);
+        self.place.bytes[..path.len()].copy_from_slice(path.as_bytes());
+        self.place.bytes[path.len()..end].copy_from_slice(other);
         request.path_bytes = path.len() as u32;
         request.other_bytes = other.len() as u32;
         self.ask(request)
@@ -105,7 +109,19 @@ impl Desk {
     /// The first bytes of the answer.
     pub(crate) fn answer(&self, count: u64) -> &[u8] {
         let count = usize::try_from(count).unwrap_or(CALL_BYTES);
-        &self.0.bytes[..count.min(CALL_BYTES)]
+        &self.place.bytes[..count.min(CALL_BYTES)]
+    }
+
+    /// How often its cluster was renewed: a client of before has no number in it.
+    pub(crate) fn renewals(&self) -> u64 {
+        self.renewals
+    }
+
+    /// Serves a request for a renewal.
+    pub(crate) fn renew(&mut self, request: Request) -> io::Result<()> {
+        self.ask(request)?;
+        self.renewals += 1;
+        Ok(())
     }
 
     /// The text that a request prints.
@@ -121,7 +137,7 @@ impl Desk {
 
     /// What stands at a path that was looked at, or how many entries a directory has that was listed.
     pub(crate) fn stands(&self) -> u64 {
-        self.0.stands
+        self.place.stands
     }
 }
 

@@ -26,7 +26,8 @@
 //! The cluster itself is proved; this crate isn't. It adds a lock, so that threads may share a cluster, and puts errors in
 //! [`io::Error`](std::io::Error)s: those of the tree are the system's, as `ENOENT`, and of all others [`Refusal::of`] says which.
 //!
-//! The cluster keeps each call, and the bytes of each write, in its history: in memory, as long as it is there.
+//! The cluster keeps each call, and the bytes of each write, in its history: in memory, as long as it is there. [`Cluster::renew`] lets
+//! all of that go, and keeps the files.
 
 #![warn(missing_docs)]
 #![deny(unsafe_code)]

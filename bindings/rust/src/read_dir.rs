@@ -42,7 +42,7 @@ impl Client {
     /// `ENOENT`, `ENOTDIR`.
     pub fn list(&self, path: impl AsRef<str>) -> io::Result<Vec<String>> {
         let path = path.as_ref();
-        let (mut desk, mut names) = (self.turn(), Vec::new());
+        let (mut desk, mut names) = (self.turn()?, Vec::new());
         loop {
             let (page, is_last) = self.page(&mut desk, path, names.len() as u64)?;
             names.extend(page);
@@ -59,7 +59,7 @@ impl Client {
     /// `ENOENT`, `ENOTDIR`. Each later page may come to any error of a call, in the place of a name.
     pub fn read_dir(&self, path: impl AsRef<str>) -> io::Result<ReadDir> {
         let path = path.as_ref().to_string();
-        let (page, is_over) = self.page(&mut self.turn(), &path, 0)?;
+        let (page, is_over) = self.page(&mut self.turn()?, &path, 0)?;
         Ok(ReadDir { client: self.clone(), path, passed: page.len() as u64, page: page.into_iter(), is_over })
     }
 
@@ -75,7 +75,7 @@ impl Client {
 
 impl ReadDir {
     fn turn_page(&mut self) -> io::Result<()> {
-        let read = self.client.page(&mut self.client.turn(), &self.path, self.passed);
+        let read = self.client.turn().and_then(|mut desk| self.client.page(&mut desk, &self.path, self.passed));
         self.is_over = read.as_ref().map_or(true, |page| page.1);
         self.page = read?.0.into_iter();
         self.passed = self.passed.saturating_add(self.page.len() as u64);

@@ -43,11 +43,13 @@ pub enum Refusal {
     /// The client's node has failed since the client was opened, or a client was to be opened on a node that isn't full. Open one on
     /// a full node.
     NodeDown = fault::NODE_DOWN,
-    /// The client has crashed: open another.
+    /// The client has crashed, or its cluster was renewed: open another.
     ClientGone = fault::CLIENT_GONE,
-    /// The client has made [`MOST_INODES`](crate::limits::MOST_INODES) files and directories: open another.
+    /// The client has made [`MOST_INODES`](crate::limits::MOST_INODES) files and directories: open another. A cluster that has more of
+    /// them isn't renewed.
     InodesSpent = fault::INODES_SPENT,
-    /// A single write is too long. No write of this crate is, since it goes in parts.
+    /// A single write is too long. No write of this crate is, since it goes in parts. Or a cluster is to be renewed in which something
+    /// lies deeper than a path goes.
     TooLarge = fault::TOO_LARGE,
     /// The only full node can't fail.
     LastNode = fault::LAST_NODE,

@@ -42,7 +42,7 @@ impl Client {
     ///
     /// # Errors
     ///
-    /// None: a cluster always answers it.
+    /// [`ClientGone`](crate::Refusal::ClientGone) where the cluster was renewed since it was opened.
     #[doc(alias = "assise_standing")]
     pub fn standing(&self) -> io::Result<Standing> {
         let number = self.ask(call::STANDING)?;
@@ -53,7 +53,7 @@ impl Client {
     ///
     /// # Errors
     ///
-    /// None: a cluster always answers it.
+    /// [`ClientGone`](crate::Refusal::ClientGone) where the cluster was renewed since it was opened.
     #[doc(alias = "assise_home")]
     pub fn home(&self) -> io::Result<u32> {
         self.ask(call::HOME).map(|node| node as u32)
@@ -65,7 +65,7 @@ impl Client {
     ///
     /// # Errors
     ///
-    /// None: a cluster always answers it.
+    /// [`ClientGone`](crate::Refusal::ClientGone) where the cluster was renewed since it was opened.
     #[doc(alias = "assise_answered")]
     pub fn answered(&self) -> io::Result<u64> {
         self.ask(call::ANSWERED)
@@ -93,13 +93,13 @@ impl Client {
     ///
     /// # Errors
     ///
-    /// None: a cluster always answers it.
+    /// [`ClientGone`](crate::Refusal::ClientGone) where the cluster was renewed since it was opened.
     #[doc(alias = "assise_replicated")]
     pub fn replicated(&self) -> io::Result<u64> {
         self.ask(call::REPLICATED)
     }
 
     fn ask(&self, call: u32) -> io::Result<u64> {
-        self.turn().ask(self.request(call))
+        self.turn()?.ask(self.request(call))
     }
 }

@@ -7,7 +7,7 @@ use Rattle.assise_desk.specs.declared.desk_call.ClusterCall.TheVariants.{Open, C
 use Rattle.assise_desk.specs.declared.desk_call.ClusterQuery.{ClusterQuery}
 use Rattle.assise_desk.specs.declared.desk_call.ClusterQuery.TheVariants.{Legal, Entries, Payload, Phase, Standing, Home, Answered, Replicated}
 use Rattle.assise_desk.specs.declared.desk_call.DeskCall.{DeskCall}
-use Rattle.assise_desk.specs.declared.desk_call.DeskCall.TheVariants.{Make, Free, Cluster, Query, Client, Print, Page}
+use Rattle.assise_desk.specs.declared.desk_call.DeskCall.TheVariants.{Make, Free, Cluster, Query, Client, Print, Page, Renew}
 use Rattle.assise_desk.specs.declared.desk_call.DeskText.{DeskText}
 use Rattle.assise_desk.specs.declared.desk_call.DeskText.TheVariants.{History}
 
@@ -52,6 +52,7 @@ text_number History = 28
 abbrev pub desk_call_number : DeskCall → ℕ
 desk_call_number Make = 1
 desk_call_number Free = 2
+desk_call_number Renew = 36
 desk_call_number (Cluster call) = cluster_call_number call
 desk_call_number (Query query) = query_number query
 desk_call_number (Client call) = client_call_number call

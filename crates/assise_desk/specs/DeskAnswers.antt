@@ -23,10 +23,13 @@ use Rattle.assise_rounds.specs.Returning.{ComesBack}
 use Rattle.assise_rounds.specs.NodeLinks.{FaithfulAt}
 use Rattle.assise_rounds.specs.Rounds.{RoundsOver}
 use Rattle.assise_files.specs.CallTries.{IsTriedOut}
-use Rattle.assise_files.specs.FilesSeen.{cluster_seen, kinds_seen, links_seen, most_tries}
+use Rattle.assise_files.specs.FilesSeen.{cluster_seen, kinds_seen, links_seen, most_tries, own_cluster, tree_seen}
 use Rattle.assise_files.specs.LostChanges.{lost_changes}
 use Rattle.assise_files.specs.Redo.{MakesAgain}
 use Rattle.assise_files.specs.declared.redo.Unmade.{Unmade}
+use Rattle.assise_renewal.specs.Led.{IsDsync, IsLedBy}
+use Rattle.assise_renewal.specs.Renewal.{IsRenewed}
+use Rattle.assise_renewal.specs.declared.renewal.Sizes.{Sizes}
 use Rattle.assise_files.specs.declared.cut_kind.CutKind.{CutKind}
 use Rattle.assise_files.specs.declared.files.Files.{Files}
 use Rattle.assise_desk.specs.declared.caller_desk.CallerDesk.{CallerDesk}
@@ -36,7 +39,7 @@ use Rattle.assise_desk.specs.declared.desk_call.ClusterCall.{ClusterCall}
 use Rattle.assise_desk.specs.declared.desk_call.ClusterCall.TheVariants.{Open, Crash, Fail, Back, Round, SetHot, Raise, SetLink, Redo}
 use Rattle.assise_desk.specs.declared.desk_call.ClusterQuery.{ClusterQuery}
 use Rattle.assise_desk.specs.declared.desk_call.DeskCall.{DeskCall}
-use Rattle.assise_desk.specs.declared.desk_call.DeskCall.TheVariants.{Make, Free, Cluster, Query, Client, Print, Page}
+use Rattle.assise_desk.specs.declared.desk_call.DeskCall.TheVariants.{Make, Free, Cluster, Query, Client, Print, Page, Renew}
 use Rattle.assise_desk.specs.declared.desk_call.DeskText.{DeskText}
 use Rattle.assise_desk.specs.declared.desk_fault.DeskFault.{DeskFault}
 use Rattle.assise_desk.specs.declared.desk_fault.DeskFault.TheVariants.{Refused, Tree, NoCluster, BadRequest, NoRoom}
@@ -86,6 +89,20 @@ IsOutOfRange r = (r.node < 1) ⊎ (MOST_NODES < r.node) ⊎ (r.first < 8) ⊎ (4
 pub data MayNotMake (r : DeskRequest) (fault : DeskFault) : Type 0 where
   is_out_of_range : IsOutOfRange r → fault ≡ BadRequest → MayNotMake r fault
   cluster_lacks_memory : (IsOutOfRange r → ⊥) → fault ≡ no_memory → MayNotMake r fault
+
+-- ---- a cluster is renewed
+
+-- the sizes of a new cluster
+abbrev pub sizes_asked : DeskRequest → Sizes
+sizes_asked r = record { nodes = r.node; log = r.first; hot = r.second }
+
+-- A new cluster with the tree of the old one's kept calls comes in its place; or the old one stays, whose clients made dsyncs at most; or
+-- a number of the request is out of range, or names no revoker.
+pub data RenewsAt (r : DeskRequest) (result : Result ℕ DeskFault) (files left : Files) : Type 0 where
+  is_renewed : result ≡ Ok 0 → IsRenewed (tree_seen files) (sizes_asked r) (own_cluster left) → RenewsAt r result files left
+  is_not_renewed : (refusal : Refusal) → result ≡ Err (Refused refusal) → IsLedBy IsDsync (cluster_seen files) (cluster_seen left) → tree_seen left ≡ tree_seen files →
+      RenewsAt r result files left
+  renewal_is_out_of_range : IsOutOfRange r ⊎ (kind_named r.kind ≡ None) → result ≡ Err BadRequest → left ≡ files → RenewsAt r result files left
 
 -- ---- what a cluster does that no client calls
 
@@ -246,6 +263,7 @@ LeavesDesk d d' = LeavesShown d.bytes d'.bytes d.stands d'.stands
 abbrev pub NeedsCluster : DeskCall → Type 0
 NeedsCluster Make = ⊥
 NeedsCluster Free = ⊥
+NeedsCluster Renew = Unit {0}
 NeedsCluster (Cluster call) = Unit {0}
 NeedsCluster (Query query) = Unit {0}
 NeedsCluster (Client call) = Unit {0}
@@ -270,6 +288,8 @@ pub record IsServedBy (d d' : CallerDesk) (files left : Files) : Type 0 where
 -- what a desk's request is answered with, and what is left of the desk
 pub data AnswersRequest (d : CallerDesk) (result : Result ℕ DeskFault) (d' : CallerDesk) : Type 0 where
   answers_alone : AnswersAlone d result d' → LeavesDesk d d' → AnswersRequest d result d'
+  request_renews : (files left : Files) → desk_call_number Renew ≡ d.request.call → IsServedBy d d' files left → RenewsAt d.request result files left → links_seen left ≡ links_seen files →
+      LeavesDesk d d' → AnswersRequest d result d'
   request_manages : (call : ClusterCall) (files left : Files) → desk_call_number (Cluster call) ≡ d.request.call → IsServedBy d d' files left →
       (es : Told) × DoesAt call d.request result d.bytes d'.bytes files es left → LeavesBytes call d.bytes d'.bytes → LeavesLinks call files left → d'.stands ≡ d.stands → AnswersRequest d result d'
   request_queries : (query : ClusterQuery) (files : Files) → desk_call_number (Query query) ≡ d.request.call → files_at d ≡ Some files → files_at d' ≡ Some files →

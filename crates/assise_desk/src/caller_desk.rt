@@ -1,11 +1,11 @@
 // A place in a caller's memory at which requests are served.
-ghost use Rattle.std.specs.Prelude.{◌≡◌, IfErr, IfOk, None};
+ghost use Rattle.std.specs.Prelude.{◌≡◌, IfErr, IfOk, None, Ok};
 ghost use Rattle.std.specs.Option.{option_map};
 ghost use Rattle.assise_link.specs.TestLinks.{kind_of_link};
 ghost use Rattle.assise_files.specs.FilesSeen.{cluster_seen, links_seen, most_tries};
 ghost use Rattle.assise_rounds.specs.Traces.{Told};
 ghost use Rattle.assise_desk.specs.NamedKinds.{durability_named, kind_named, link_named};
-ghost use Rattle.assise_desk.specs.DeskAnswers.{CallsAt, DoesAt, AnswersRequest, IsClusterMade, IsServedAt, IsServedTo, LeavesBytes, LeavesLinks, MayNotMake, ServesHot, ServesLink, ServesOpen, ShowsLosses, TellsRedo, cluster_at, number_told, done_told, owned, redo_fault, replied_at, result_shown};
+ghost use Rattle.assise_desk.specs.DeskAnswers.{CallsAt, DoesAt, AnswersRequest, IsClusterMade, IsServedAt, IsServedTo, LeavesBytes, LeavesLinks, MayNotMake, ServesHot, ServesLink, ServesOpen, ShowsLosses, TellsRedo, cluster_at, number_told, done_told, owned, redo_fault, replied_at, result_shown, RenewsAt};
 ghost use Rattle.assise_desk.specs.Texts.{KeepsText, text_kept};
 
 use crate::desk_call::{ClientCall, ClusterCall, DeskCall, DeskText};
@@ -22,6 +22,7 @@ use assise_names::durability::Durability;
 use assise_names::limits::MOST_NODES;
 use assise_names::refusal::Refusal;
 use assise_names::reply::Reply;
+use assise_renewal::renewal::Sizes;
 use std::alloc::Global;
 
 /// How often a call is tried at most.
@@ -100,11 +101,7 @@ fn answer_request(alloc: Global, desk: &mut CallerDesk) -> Result<u64, DeskFault
             }
             Err(fault) => Err(fault),
         },
-        Some(DeskCall::Free) => {
-            desk.files = None;
-            desk.text = None;
-            Ok(0)
-        }
+        Some(DeskCall::Free) => free(&mut desk.files, &mut desk.text),
         Some(DeskCall::Cluster(call)) => match &mut desk.files {
             None => Err(DeskFault::NoCluster),
             Some(files) => manage(alloc, files, call, &request, &mut desk.bytes),
@@ -126,9 +123,24 @@ fn answer_request(alloc: Global, desk: &mut CallerDesk) -> Result<u64, DeskFault
                 )
             }
         },
+        Some(DeskCall::Renew) => match &mut desk.files {
+            None => Err(DeskFault::NoCluster),
+            Some(files) => renew_cluster(alloc, files, &request),
+        },
         Some(DeskCall::Print(text)) => keep_text(alloc, &desk.files, text, &mut desk.text),
         Some(DeskCall::Page) => Ok(place_text(&desk.text, request.first, &mut desk.bytes) as u64),
     }
+}
+
+/// Lets a desk's cluster go, and its text.
+fn free(files: &mut Option<Box<Files>>, text: &mut Option<Box<String>>) -> Result<u64, DeskFault>
+    ensures files { files.new ≡ None }
+    ensures text { text.new ≡ None }
+    ensures ok { result ≡ Ok 0 }
+{
+    *files = None;
+    *text = None;
+    Ok(0)
 }
 
 /// Keeps a text of a desk's cluster in place of the text that it had, and answers how many bytes it has.
@@ -164,6 +176,27 @@ fn make_cluster(alloc: Global, request: &DeskRequest) -> Result<Box<Files>, Desk
     }
     let files = Files::new(alloc, nodes, log as usize, hot as usize, MOST_TRIES)?;
     Ok(Box::new(alloc, files)?)
+}
+
+/// A new cluster with the same tree comes in place of this one, as a request asks for it.
+fn renew_cluster(alloc: Global, files: &mut Files, request: &DeskRequest) -> Result<u64, DeskFault>
+    ensures renews { RenewsAt request.now result files.old files.new }
+    ensures turns { most_tries files.new ≡ most_tries files.old }
+    ensures links { links_seen files.new ≡ links_seen files.old }
+{
+    let (nodes, log, hot) = (request.node, request.first, request.second);
+    if nodes == 0 || nodes > MOST_NODES || log < 8 || log > 4096 || hot < 1 || hot > 4096 {
+        return Err(DeskFault::BadRequest);
+    }
+    let Some(kind) = kind_named(request.kind) else {
+        return Err(DeskFault::BadRequest);
+    };
+    let sizes = Sizes {
+        nodes,
+        log: log as usize,
+        hot: hot as usize,
+    };
+    done_told(files.renew(alloc, sizes, kind))
 }
 
 /// What a cluster does that no client calls.

@@ -10,6 +10,8 @@ pub enum DeskCall {
     Make,
     /// The desk's cluster goes (2).
     Free,
+    /// A new cluster with the same tree comes in place of the desk's (36).
+    Renew,
     /// What the desk's cluster does.
     Cluster(ClusterCall),
     /// What is asked of the desk's cluster.
@@ -142,6 +144,7 @@ impl DeskCall {
             33 => Some(DeskCall::Cluster(ClusterCall::Raise)),
             34 => Some(DeskCall::Cluster(ClusterCall::SetLink)),
             35 => Some(DeskCall::Cluster(ClusterCall::Redo)),
+            36 => Some(DeskCall::Renew),
             _ => None,
         }
     }

@@ -28,12 +28,12 @@ pub struct DeskRequest {
     pub path_bytes: u32,
     /// How many bytes behind these are the other path's, or are to be written.
     pub other_bytes: u32,
-    /// The revoker of a client that is opened: 0 is least, 1 whole, 2 eights. The kind of a link: 0 is perfect, 1 loses, 2 repeats, 3
-    /// delays, 4 cuts, 5 faults. Of a redo the client whose changes a failure took.
+    /// The revoker of a client that is opened, or of a renewed cluster's: 0 is least, 1 whole, 2 eights. The kind of a link: 0 is perfect,
+    /// 1 loses, 2 repeats, 3 delays, 4 cuts, 5 faults. Of a redo the client whose changes a failure took.
     pub kind: u32,
-    /// The offset in bytes of a read or write, the size of a truncation, how many names a listing passes over; the place in a text from which on a page is shown; of a new cluster the
-    /// most records of a log, 8 to 4,096; how many inodes a node keeps hot, 1 to 4,096; how many bytes a cutting link lets through; of a
-    /// redo the number of the first lost call.
+    /// The offset in bytes of a read or write, the size of a truncation, how many names a listing passes over; of a new cluster the most
+    /// records of a log, 8 to 4,096; how many inodes a node keeps hot, 1 to 4,096; how many bytes a cutting link lets through; of a redo
+    /// the number of the first lost call; the place in a text from which on a page is shown.
     pub first: u64,
     /// The most bytes of a read; of a new cluster the most hot inodes of a node, 1 to 4,096; of a client that is opened its fsyncs: 0 is
     /// pessimistic, 1 optimistic.

@@ -13,7 +13,7 @@ ghost use Rattle.assise_desk.specs.declared.desk_fault.DeskFault.{DeskFault};
 ghost use Rattle.assise_desk.specs.declared.desk_request.DeskRequest.{DeskRequest};
 
 /// What a request does to the cluster that it finds is a trace of events: so over it the history stays legal, and gets exactly their
-/// entries (`a_trace_keeps_the_history_legal` of `assise_rounds`). A request that makes a cluster, or lets it go, is none.
+/// entries (`a_trace_keeps_the_history_legal` of `assise_rounds`). A request that makes a cluster, renews it, or lets it go, is none.
 pub fn a_request_is_a_trace_of_events()
     ensures cluster { (call : ClusterCall) (r : DeskRequest) (result : Result ℕ DeskFault)
         (before out : List ℕ) (files : Files) (es : Told) (left : Files) →

@@ -21,7 +21,7 @@ use Rattle.assise_history.proofs.Legality.{fits_in, legal-last, legal-prefix, le
 use Rattle.assise_history.proofs.LivesOneMore.{one_place}
 use Rattle.assise_history.proofs.Lost.{kept-append, taken}
 use Rattle.assise_history.proofs.Runs.{is_lost-append}
-use Rattle.assise_files.specs.LostChanges.{TakesLast, change_of, is_change, is_done, is_lost_change, is_sync, lost_changes, tree_with}
+use Rattle.assise_files.specs.LostChanges.{TakesLastKept, change_of, is_change, says_done, is_lost_change, is_sync_call, lost_changes, tree_with}
 
 -- ---- tests
 
@@ -48,20 +48,20 @@ twice false b = refl
 
 -- ---- only changes change the tree
 
-done_or_same : {X : Type 0} (t : Tree) (r : Result X TreeError) (f : X → Tree) → is_done (reply_and_tree t (r >>= λ x. Ok (Done, f x))).0 ≡ false → (reply_and_tree t (r >>= λ x. Ok (Done, f x))).1 ≡ t
+done_or_same : {X : Type 0} (t : Tree) (r : Result X TreeError) (f : X → Tree) → says_done (reply_and_tree t (r >>= λ x. Ok (Done, f x))).0 ≡ false → (reply_and_tree t (r >>= λ x. Ok (Done, f x))).1 ≡ t
 done_or_same t (Ok x) f h = cc
 done_or_same t (Err e) f h = refl
 
-done_if : (t : Tree) (b : Bool) (u : Tree) (e : TreeError) → is_done (reply_and_tree t (if b then Ok (Done, u) else Err e)).0 ≡ false → (reply_and_tree t (if b then Ok (Done, u) else Err e)).1 ≡ t
+done_if : (t : Tree) (b : Bool) (u : Tree) (e : TreeError) → says_done (reply_and_tree t (if b then Ok (Done, u) else Err e)).0 ≡ false → (reply_and_tree t (if b then Ok (Done, u) else Err e)).1 ≡ t
 done_if t true u e h = cc
 done_if t false u e h = refl
 
-done_within : {X : Type 0} (t : Tree) (r : Result X TreeError) (b : X → Bool) (f : X → Tree) (e : TreeError) → is_done (reply_and_tree t (r >>= λ x. if b x then Ok (Done, f x) else Err e)).0 ≡ false →
+done_within : {X : Type 0} (t : Tree) (r : Result X TreeError) (b : X → Bool) (f : X → Tree) (e : TreeError) → says_done (reply_and_tree t (r >>= λ x. if b x then Ok (Done, f x) else Err e)).0 ≡ false →
     (reply_and_tree t (r >>= λ x. if b x then Ok (Done, f x) else Err e)).1 ≡ t
 done_within t (Ok x) b f e h = done_if t (b x) (f x) e h
 done_within t (Err d) b f e h = refl
 
-done_behind : {X Y : Type 0} (t : Tree) (r : Result X TreeError) (s : Result Y TreeError) (f : Y → Tree) → is_done (reply_and_tree t (r >>= λ _. s >>= λ y. Ok (Done, f y))).0 ≡ false →
+done_behind : {X Y : Type 0} (t : Tree) (r : Result X TreeError) (s : Result Y TreeError) (f : Y → Tree) → says_done (reply_and_tree t (r >>= λ _. s >>= λ y. Ok (Done, f y))).0 ≡ false →
     (reply_and_tree t (r >>= λ _. s >>= λ y. Ok (Done, f y))).1 ≡ t
 done_behind t (Ok x) s f h = done_or_same t s f h
 done_behind t (Err e) s f h = refl
@@ -70,7 +70,7 @@ told_same : {X : Type 0} (t : Tree) (r : Result X TreeError) (f : X → Reply) �
 told_same t (Ok x) f = refl
 told_same t (Err e) f = refl
 
-undone_same : (t : Tree) (op : Op) → is_done (answer t op).0 ≡ false → (answer t op).1 ≡ t
+undone_same : (t : Tree) (op : Op) → says_done (answer t op).0 ≡ false → (answer t op).1 ≡ t
 undone_same t (Create p) h = done_or_same t (room_at t p) _ h
 undone_same t (Mkdir p) h = done_or_same t (room_at t p) _ h
 undone_same t (Read p offset most) h = told_same t (file_at t p) _
@@ -84,7 +84,7 @@ undone_same t (Stat p) h = told_same t (at t p) _
 undone_same t Fsync h = refl
 undone_same t Dsync h = refl
 
-sync_same : (t : Tree) (op : Op) → is_sync op ≡ true → (answer t op).1 ≡ t
+sync_same : (t : Tree) (op : Op) → is_sync_call op ≡ true → (answer t op).1 ≡ t
 sync_same t Fsync h = refl
 sync_same t Dsync h = refl
 sync_same t (Create p) h = cc
@@ -100,9 +100,9 @@ sync_same t (Stat p) h = cc
 
 unchanged : (t : Tree) (x : Call) → x.reply ≡ (answer t x.op).0 → is_change x ≡ false → (answer t x.op).1 ≡ t
 unchanged t x is none =
-    elim (cases_Bool (is_sync x.op)) [
+    elim (cases_Bool (is_sync_call x.op)) [
       | inl sync ↦ sync_same t x.op sync
-      | inr other ↦ undone_same t x.op (ap is_done (sym is) ∙ sym (and_true (is_done x.reply)) ∙ ap (λ b. is_done x.reply && not b) (sym other) ∙ none)
+      | inr other ↦ undone_same t x.op (ap says_done (sym is) ∙ sym (and_true (says_done x.reply)) ∙ ap (λ b. says_done x.reply && not b) (sym other) ∙ none)
     ]
 
 -- ---- the changes alone give the tree
@@ -221,7 +221,7 @@ module _ (h : List EntryValue) (c n first : ℕ) (legal : IsLegal (h ++ fails n 
     all_go [] all = refl
     all_go (x ∷ xs) all = let goes : is_lost behind x ≡ true = lost_then x ∙ all.0 in rw goes (all_go xs all.1)
 
-    pub tree_again : (left lost : List Call) → TakesLast h losses left lost → tree_with (tree_after opening (kept (h ++ behind))) (lost_changes c first (h ++ behind)) ≡ tree_after opening (kept h)
+    pub tree_again : (left lost : List Call) → TakesLastKept h losses left lost → tree_with (tree_after opening (kept (h ++ behind))) (lost_changes c first (h ++ behind)) ≡ tree_after opening (kept h)
     tree_again left lost last =
         let keeps : Call → Bool = λ x. not (is_lost behind x) in
         let left_then : kept (h ++ behind) ≡ left =

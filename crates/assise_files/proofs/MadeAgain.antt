@@ -18,16 +18,16 @@ use Rattle.assise_files.specs.declared.redo.LostChange.{LostChange}
 use Rattle.assise_files.specs.CallTries.{IsTriedOut, ends_full, ends_waiting, settles_at_last, spends_all}
 use Rattle.assise_files.specs.LostSearch.{IsNumbered}
 use Rattle.assise_files.specs.LostChanges.{tree_with}
-use Rattle.assise_files.specs.Redo.{AreMade, MakesAgain, makes_all, stops_at, tree_kept, unmade}
-use Rattle.assise_files.proofs.QuietRounds.{call_tree, vain_tree}
+use Rattle.assise_files.specs.Redo.{MakesEach, MakesAgain, makes_all, stops_at, unmade}
+use Rattle.assise_files.proofs.QuietRounds.{call_tree, machine_tree, vain_tree}
 
 pub numbered : (h : List EntryValue) → ∥ IsLegal h ∥₁ → IsNumbered h
 numbered h legal before later x split = ∥∥₁_elim legal (ℕ_set x.number (calls_made x.client before)) (λ l. number_in h before later x l split)
 
 -- ---- one more
 
-pub made_more : (faithful : ℕ → Type 0) (turns c : ℕ) (made : List LostChange) (x : LostChange) (m v m' : Machine) (es fs : Told) → AreMade faithful turns c made m es v → IsTriedOut faithful turns c x.op (Ok Done) v fs m' →
-    (gs : Told) × AreMade faithful turns c (made ++ x ∷ []) m gs m'
+pub made_more : (faithful : ℕ → Type 0) (turns c : ℕ) (made : List LostChange) (x : LostChange) (m v m' : Machine) (es fs : Told) → MakesEach faithful turns c made m es v → IsTriedOut faithful turns c x.op (Ok Done) v fs m' →
+    (gs : Told) × MakesEach faithful turns c (made ++ x ∷ []) m gs m'
 made_more faithful turns c [] x m v m' es fs none h =
     (fs ++ [], record { between = m'; before = fs; after = []; told = refl; first = subst (λ u. IsTriedOut faithful turns c x.op (Ok Done) u fs m') none.stays h; second = record { told = refl; stays = refl } })
 made_more faithful turns c (y ∷ ys) x m v m' es fs made h =
@@ -39,7 +39,7 @@ pub record AreMadeSoFar (faithful : ℕ → Type 0) (turns c : ℕ) (xs left : L
   pub made : List LostChange
   pub split : made ++ reverse left ≡ xs
   pub events : Told
-  pub are : AreMade faithful turns c made m events v
+  pub are : MakesEach faithful turns c made m events v
 
 pub none_made : (faithful : ℕ → Type 0) (turns c : ℕ) (xs left : List LostChange) (m : Machine) → left ≡ reverse xs → AreMadeSoFar faithful turns c xs left m m
 none_made faithful turns c xs left m is = record { made = []; split = ap reverse is ∙ reverse-reverse xs; events = []; are = record { told = refl; stays = refl } }
@@ -63,27 +63,27 @@ pub stopped : (faithful : ℕ → Type 0) (turns first c : ℕ) (xs left rest : 
 stopped faithful turns first c xs left rest x r m v m' so_far is (fs, h) other =
     (_, stops_at so_far.made x (reverse rest) r (sym (next_split so_far.made rest left xs x so_far.split is)) other refl record { between = v; before = so_far.events; after = fs; told = refl; first = so_far.are; second = h })
 
-all_of : (faithful : ℕ → Type 0) (turns c : ℕ) (xs left : List LostChange) (m v : Machine) → AreMadeSoFar faithful turns c xs left m v → left ≡ [] → (es : Told) × AreMade faithful turns c xs m es v
+all_of : (faithful : ℕ → Type 0) (turns c : ℕ) (xs left : List LostChange) (m v : Machine) → AreMadeSoFar faithful turns c xs left m v → left ≡ [] → (es : Told) × MakesEach faithful turns c xs m es v
 all_of faithful turns c xs left m v so_far none =
     let all : so_far.made ≡ xs = sym (append-nil so_far.made) ∙ ap (λ ys. so_far.made ++ reverse ys) (sym none) ∙ so_far.split in
-    (so_far.events, subst (λ ys. AreMade faithful turns c ys m so_far.events v) all so_far.are)
+    (so_far.events, subst (λ ys. MakesEach faithful turns c ys m so_far.events v) all so_far.are)
 
 pub all_made : (faithful : ℕ → Type 0) (turns first c : ℕ) (xs left : List LostChange) (m v : Machine) (done : ⊤) → AreMadeSoFar faithful turns c xs left m v → left ≡ [] → (es : Told) × MakesAgain faithful turns first c xs (Ok done) m es v
 all_made faithful turns first c xs left m v done so_far none = let all = all_of faithful turns c xs left m v so_far none in (all.0, makes_all done refl all.1)
 
 -- ---- the tree
 
-tried_tree : (faithful : ℕ → Type 0) (turns c : ℕ) (op : Op) (reply : Reply) (m : Machine) (es : Told) (m' : Machine) → IsTriedOut faithful turns c op (Ok reply) m es m' → tree_kept m' ≡ (answer (tree_kept m) op).1
+tried_tree : (faithful : ℕ → Type 0) (turns c : ℕ) (op : Op) (reply : Reply) (m : Machine) (es : Told) (m' : Machine) → IsTriedOut faithful turns c op (Ok reply) m es m' → machine_tree m' ≡ (answer (machine_tree m) op).1
 tried_tree faithful turns c op reply m es m' (settles_at_last k few other h) =
     call_tree c op reply h.between h.after m' h.second ∙ ap (λ t. (answer t op).1) (vain_tree faithful c op k m h.before h.between h.first)
 tried_tree faithful turns c op reply m es m' (ends_waiting k few is h) = cc
 tried_tree faithful turns c op reply m es m' (ends_full k few is h) = cc
 tried_tree faithful turns c op reply m es m' (spends_all is h) = cc
 
-pub made_tree : (faithful : ℕ → Type 0) (turns c : ℕ) (xs : List LostChange) (m : Machine) (es : Told) (m' : Machine) → AreMade faithful turns c xs m es m' → tree_kept m' ≡ tree_with (tree_kept m) xs
-made_tree faithful turns c [] m es m' h = ap tree_kept h.stays
+pub made_tree : (faithful : ℕ → Type 0) (turns c : ℕ) (xs : List LostChange) (m : Machine) (es : Told) (m' : Machine) → MakesEach faithful turns c xs m es m' → machine_tree m' ≡ tree_with (machine_tree m) xs
+made_tree faithful turns c [] m es m' h = ap machine_tree h.stays
 made_tree faithful turns c (x ∷ xs) m es m' h =
     made_tree faithful turns c xs h.between h.after m' h.second ∙ ap (λ t. tree_with t xs) (tried_tree faithful turns c x.op Done m h.before h.between h.first)
 
-pub all_tree : (faithful : ℕ → Type 0) (turns c : ℕ) (xs left : List LostChange) (m v : Machine) → AreMadeSoFar faithful turns c xs left m v → left ≡ [] → tree_kept v ≡ tree_with (tree_kept m) xs
+pub all_tree : (faithful : ℕ → Type 0) (turns c : ℕ) (xs left : List LostChange) (m v : Machine) → AreMadeSoFar faithful turns c xs left m v → left ≡ [] → machine_tree v ≡ tree_with (machine_tree m) xs
 all_tree faithful turns c xs left m v so_far none = let all = all_of faithful turns c xs left m v so_far none in made_tree faithful turns c xs m all.0 v all.1

@@ -6,7 +6,7 @@ use Rattle.assise_names.specs.declared.refusal.Refusal.{Refusal}
 use Rattle.assise_names.specs.declared.reply.Reply.{Reply}
 use Rattle.assise_names.specs.declared.limits.TheConstants.{MOST_NODES}
 use Rattle.assise_seq_tree.specs.Answer.{answer}
-use Rattle.assise_seq_tree.specs.Tree.{opening}
+use Rattle.assise_seq_tree.specs.Tree.{Tree, opening}
 use Rattle.assise_history.specs.declared.call.Call.{Call}
 use Rattle.assise_history.specs.Entries.{EntryValue}
 use Rattle.assise_history.specs.Kept.{kept, tree_after}
@@ -21,8 +21,18 @@ use Rattle.assise_machine.proofs.EventLists.{served_told}
 use Rattle.assise_rounds.specs.Traces.{IsEvent, Nothing, Then, Told}
 use Rattle.assise_rounds.specs.Rounds.{Carried, DigestsOnce, EachFull, IsRound, ReleasesOnce, RoundsOver, TakesTurn, UnlessAtFault, deliveries, delivery, is_refused, replicates}
 use Rattle.assise_rounds.proofs.Traces.{trace_of, trace_told}
+use Rattle.assise_machine_state.specs.Observed.{observed}
+use Rattle.assise_files.specs.FilesSeen.{cluster_seen, tree_seen}
+use Rattle.assise_files.specs.declared.files.Files.{Files}
 use Rattle.assise_files.specs.CallTries.{FindsFull, InVain, MakesRoom, TriesInVain, WaitsOnce, full_in_vain, waits_in_vain}
-use Rattle.assise_files.specs.Redo.{tree_kept}
+
+-- the tree of all calls that no failure took
+abbrev pub machine_tree : Machine → Tree
+machine_tree m = tree_after opening (kept m.history)
+
+pub tree_is : (files : Files) → tree_seen files ≡ machine_tree (cluster_seen files)
+unfolding observed
+tree_is files = refl
 
 -- ---- no entry
 
@@ -79,16 +89,16 @@ quiet_over faithful busy m es m' h = quiet_round faithful m es m' h.does
 
 -- ---- a try
 
-same_tree : (m m' : Machine) → m'.history ≡ m.history → tree_kept m' ≡ tree_kept m
+same_tree : (m m' : Machine) → m'.history ≡ m.history → machine_tree m' ≡ machine_tree m
 same_tree m m' same = ap (λ h. tree_after opening (kept h)) same
 
 -- an answered call changes it as the call does
-pub call_tree : (c : ℕ) (op : Op) (reply : Reply) (m : Machine) (es : Told) (m' : Machine) → IsEvent (try_call c op) (replied reply) m es m' → tree_kept m' ≡ (answer (tree_kept m) op).1
+pub call_tree : (c : ℕ) (op : Op) (reply : Reply) (m : Machine) (es : Told) (m' : Machine) → IsEvent (try_call c op) (replied reply) m es m' → machine_tree m' ≡ (answer (machine_tree m) op).1
 call_tree c op reply m es m' h =
     let x : Call = record { client = c; number = calls_made c m.history; op = op; reply = reply } in
     ap (λ h. tree_after opening (kept h)) (event_told (try_call c op) (replied reply) m es m' h) ∙ ap (tree_after opening) (kept-call m.history x) ∙ tree_after-push opening (kept m.history) x
 
-dsync_tree : (c : ℕ) (a : Answer) (m : Machine) (es : Told) (m' : Machine) → IsEvent (try_call c Dsync) a m es m' → tree_kept m' ≡ tree_kept m
+dsync_tree : (c : ℕ) (a : Answer) (m : Machine) (es : Told) (m' : Machine) → IsEvent (try_call c Dsync) a m es m' → machine_tree m' ≡ machine_tree m
 dsync_tree c (replied reply) m es m' h = call_tree c Dsync reply m es m' h
 dsync_tree c (opened e) m es m' h = same_tree m m' (quiet_event (try_call c Dsync) (opened e) (λ h. refl) m es m' h)
 dsync_tree c (refused r) m es m' h = same_tree m m' (quiet_event (try_call c Dsync) (refused r) (λ h. refl) m es m' h)
@@ -107,22 +117,22 @@ dsync_tree c raised m es m' h = same_tree m m' (quiet_event (try_call c Dsync) r
 
 -- ---- tries in vain
 
-room_tree : (faithful : ℕ → Type 0) (busy : Bool) (c : ℕ) (m : Machine) (es : Told) (m' : Machine) → MakesRoom faithful busy c m es m' → tree_kept m' ≡ tree_kept m
+room_tree : (faithful : ℕ → Type 0) (busy : Bool) (c : ℕ) (m : Machine) (es : Told) (m' : Machine) → MakesRoom faithful busy c m es m' → machine_tree m' ≡ machine_tree m
 room_tree faithful busy c m es m' h =
     same_tree h.trace.between m' (quiet_over faithful busy h.trace.between h.trace.after m' h.trace.second) ∙ dsync_tree c h.answer m h.trace.before h.trace.between h.trace.first
 
-waits_tree : (faithful : ℕ → Type 0) (busy : Bool) (c : ℕ) (op : Op) (m : Machine) (es : Told) (m' : Machine) → WaitsOnce faithful busy c op m es m' → tree_kept m' ≡ tree_kept m
+waits_tree : (faithful : ℕ → Type 0) (busy : Bool) (c : ℕ) (op : Op) (m : Machine) (es : Told) (m' : Machine) → WaitsOnce faithful busy c op m es m' → machine_tree m' ≡ machine_tree m
 waits_tree faithful busy c op m es m' h =
     same_tree h.between m' (quiet_over faithful busy h.between h.after m' h.second) ∙ same_tree m h.between (quiet_event (try_call c op) not_yet (λ h. refl) m h.before h.between h.first)
 
-full_tree : (faithful : ℕ → Type 0) (busy : Bool) (c : ℕ) (op : Op) (m : Machine) (es : Told) (m' : Machine) → FindsFull faithful busy c op m es m' → tree_kept m' ≡ tree_kept m
+full_tree : (faithful : ℕ → Type 0) (busy : Bool) (c : ℕ) (op : Op) (m : Machine) (es : Told) (m' : Machine) → FindsFull faithful busy c op m es m' → machine_tree m' ≡ machine_tree m
 full_tree faithful busy c op m es m' h =
     room_tree faithful busy c h.between h.after m' h.second ∙ same_tree m h.between (quiet_event (try_call c op) (refused _) (λ h. refl) m h.before h.between h.first)
 
-try_tree : (faithful : ℕ → Type 0) (c : ℕ) (op : Op) (m : Machine) (es : Told) (m' : Machine) → TriesInVain faithful c op m es m' → tree_kept m' ≡ tree_kept m
+try_tree : (faithful : ℕ → Type 0) (c : ℕ) (op : Op) (m : Machine) (es : Told) (m' : Machine) → TriesInVain faithful c op m es m' → machine_tree m' ≡ machine_tree m
 try_tree faithful c op m es m' (waits_in_vain h) = waits_tree faithful _ c op m es m' h
 try_tree faithful c op m es m' (full_in_vain h) = full_tree faithful _ c op m es m' h
 
-pub vain_tree : (faithful : ℕ → Type 0) (c : ℕ) (op : Op) (k : ℕ) (m : Machine) (es : Told) (m' : Machine) → InVain faithful c op k m es m' → tree_kept m' ≡ tree_kept m
+pub vain_tree : (faithful : ℕ → Type 0) (c : ℕ) (op : Op) (k : ℕ) (m : Machine) (es : Told) (m' : Machine) → InVain faithful c op k m es m' → machine_tree m' ≡ machine_tree m
 vain_tree faithful c op zero m es m' h = same_tree m m' (quiet_nothing m es m' h)
 vain_tree faithful c op (suc k) m es m' h = try_tree faithful c op h.between h.after m' h.second ∙ vain_tree faithful c op k m h.before h.between h.first

@@ -9,7 +9,7 @@ use Rattle.assise_model_events.specs.Machine.{Machine}
 use Rattle.assise_rounds.specs.Traces.{IsEventTrace, IsEvent, Told}
 use Rattle.assise_rounds.specs.Rounds.{RoundsOver}
 use Rattle.assise_rounds.proofs.Traces.{event_trace, nothing_trace, round_trace, then_trace}
-use Rattle.assise_files.specs.Redo.{AreMade, MakesAgain, finds_none, makes_all, stops_at}
+use Rattle.assise_files.specs.Redo.{MakesEach, MakesAgain, finds_none, makes_all, stops_at}
 use Rattle.assise_files.specs.declared.redo.LostChange.{LostChange}
 use Rattle.assise_files.specs.declared.redo.Unmade.{Unmade}
 use Rattle.assise_files.specs.CallTries.{FindsFull, InVain, IsTriedOut, MakesRoom, TriesInVain, WaitsOnce, waits_in_vain, full_in_vain, settles_at_last, spends_all, ends_full, ends_waiting}
@@ -42,13 +42,13 @@ call_trace faithful turns c op r m es m' (spends_all is h) = vain_trace faithful
 
 -- ---- changes that are made again
 
-made_trace : (faithful : ℕ → Type 0) (turns c : ℕ) (xs : List LostChange) (m : Machine) (es : Told) (m' : Machine) → AreMade faithful turns c xs m es m' → IsEventTrace m es m'
+made_trace : (faithful : ℕ → Type 0) (turns c : ℕ) (xs : List LostChange) (m : Machine) (es : Told) (m' : Machine) → MakesEach faithful turns c xs m es m' → IsEventTrace m es m'
 made_trace faithful turns c [] m es m' h = nothing_trace m es m' h
-made_trace faithful turns c (x ∷ xs) m es m' h = then_trace (IsTriedOut faithful turns c x.op (Ok Done)) (AreMade faithful turns c xs) (call_trace faithful turns c x.op (Ok Done)) (made_trace faithful turns c xs) m es m' h
+made_trace faithful turns c (x ∷ xs) m es m' h = then_trace (IsTriedOut faithful turns c x.op (Ok Done)) (MakesEach faithful turns c xs) (call_trace faithful turns c x.op (Ok Done)) (made_trace faithful turns c xs) m es m' h
 
 pub redo_trace : (faithful : ℕ → Type 0) (turns first c : ℕ) (xs : List LostChange) (result : Result ⊤ Unmade) (m : Machine) (es : Told) (m' : Machine) → MakesAgain faithful turns first c xs result m es m' →
     IsEventTrace m es m'
 redo_trace faithful turns first c xs result m es m' (makes_all done is h) = made_trace faithful turns c xs m es m' h
 redo_trace faithful turns first c xs result m es m' (stops_at made x left came split other is h) =
-    then_trace (AreMade faithful turns c made) (IsTriedOut faithful turns c x.op came) (made_trace faithful turns c made) (call_trace faithful turns c x.op came) m es m' h
+    then_trace (MakesEach faithful turns c made) (IsTriedOut faithful turns c x.op came) (made_trace faithful turns c made) (call_trace faithful turns c x.op came) m es m' h
 redo_trace faithful turns first c xs result m es m' (finds_none is h) = nothing_trace m es m' h

@@ -2,9 +2,12 @@
 use Rattle.std.specs.Prelude.{ℕ, List, Option, map}
 use Rattle.assise_link.specs.Kinds.{Kind}
 use Rattle.assise_link.specs.TestLinks.{kind_of_link}
+use Rattle.assise_machine.specs.declared.cluster.ClusterOf.{ClusterOf}
 use Rattle.assise_machine.specs.Clusters.{machine, revokers}
 use Rattle.assise_machine.specs.Headline.{replicated_to}
 use Rattle.assise_model_events.specs.Machine.{Machine}
+use Rattle.assise_renewal.specs.Renewal.{tree_kept}
+use Rattle.assise_seq_tree.specs.Tree.{Tree}
 use Rattle.assise_files.specs.declared.cut_kind.CutKind.{CutKind}
 use Rattle.assise_files.specs.declared.files.Files.{Files}
 
@@ -27,3 +30,10 @@ kinds_seen files = revokers files.cluster
 -- how many calls of each client are replicated
 abbrev pub replicated_seen : Files → ℕ → ℕ
 replicated_seen files c = replicated_to files.cluster c
+
+-- its cluster, and the tree of all calls of it that no failure took
+abbrev pub own_cluster : Files → ClusterOf CutKind
+own_cluster files = files.cluster
+
+abbrev pub tree_seen : Files → Tree
+tree_seen files = tree_kept files.cluster

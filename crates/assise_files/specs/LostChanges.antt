@@ -15,18 +15,18 @@ use Rattle.assise_history.specs.declared.call.Loss.{Loss}
 use Rattle.assise_history.specs.Kept.{is_lost, kept, loses}
 use Rattle.assise_files.specs.declared.redo.LostChange.{LostChange}
 
-abbrev pub is_done : Reply → Bool
-is_done Done = true
-is_done _ = false
+abbrev pub says_done : Reply → Bool
+says_done Done = true
+says_done _ = false
 
-abbrev pub is_sync : Op → Bool
-is_sync Dsync = true
-is_sync Fsync = true
-is_sync _ = false
+abbrev pub is_sync_call : Op → Bool
+is_sync_call Dsync = true
+is_sync_call Fsync = true
+is_sync_call _ = false
 
 -- the call changed files: syncs are answered Done too, and what only reads never is
 abbrev pub is_change : Call → Bool
-is_change x = is_done x.reply && not (is_sync x.op)
+is_change x = says_done x.reply && not (is_sync_call x.op)
 
 -- one of the client's changes from this number on, which a failure behind it took
 abbrev pub is_lost_change : (c first : ℕ) → List EntryValue → Call → Bool
@@ -48,7 +48,7 @@ abbrev pub tree_with : Tree → List LostChange → Tree
 tree_with t xs = tree_after_calls t (map (λ x. x.op) xs)
 
 -- a failure with these losses takes the last of the kept calls, and leaves all in front of them
-pub record TakesLast (h : List EntryValue) (losses : List Loss) (left lost : List Call) : Type 0 where
+pub record TakesLastKept (h : List EntryValue) (losses : List Loss) (left lost : List Call) : Type 0 where
   pub split : kept h ≡ left ++ lost
   pub stay : AllByRecursion (λ x. loses losses x ≡ false) left
   pub go : AllByRecursion (λ x. loses losses x ≡ true) lost

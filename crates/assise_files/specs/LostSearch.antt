@@ -19,18 +19,18 @@ abbrev pub are_taken : List Loss → (c number : ℕ) → Bool
 are_taken losses c number = list_any (λ l. (l.client == c) && nat_le l.first number) losses
 
 -- it is at or behind the first that is taken
-abbrev pub is_taken : Option ℕ → ℕ → Bool
-is_taken None number = false
-is_taken (Some first) number = nat_le first number
+abbrev pub is_taken_from : Option ℕ → ℕ → Bool
+is_taken_from None number = false
+is_taken_from (Some first) number = nat_le first number
 
 -- the change that the call of the client is, if it is one that is lost
 abbrev pub change_found : ℕ → Option ℕ → Call → List LostChange
-change_found first taken x = if (nat_le first x.number && is_change x) && is_taken taken x.number then change_of x ∷ [] else []
+change_found first taken x = if (nat_le first x.number && is_change x) && is_taken_from taken x.number then change_of x ∷ [] else []
 
 -- what is found in these entries: from which number on failures take the client's calls in front of them, and the lost changes, the last
 -- first
 pub record AreFound (c first : ℕ) (later : List EntryValue) (lost : Lost) : Type 0 where
-  pub taken : (x : Call) → c ≡ x.client → is_lost later x ≡ is_taken lost.taken x.number
+  pub taken : (x : Call) → c ≡ x.client → is_lost later x ≡ is_taken_from lost.taken x.number
   pub changes : lost.changes.items ≡ reverse (lost_changes c first later)
 
 -- the entry is a call of the client up to this number

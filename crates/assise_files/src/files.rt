@@ -13,6 +13,7 @@ use assise_names::durability::Durability;
 use assise_names::limits::MOST_NODES;
 use assise_names::refusal::Refusal;
 use assise_names::reply::Reply;
+use assise_renewal::renewal::{Sizes, renewed};
 use assise_rounds::returning::return_node;
 use assise_rounds::rounds::round_over;
 use std::alloc::Global;
@@ -49,10 +50,12 @@ impl Files {
     ghost use Rattle.assise_link.specs.Kinds.{perfect};
     ghost use Rattle.assise_link.specs.TestLinks.{kind_of_link};
     ghost use Rattle.assise_names.specs.declared.limits.TheConstants.{MOST_NODES};
-    ghost use Rattle.assise_files.specs.FilesSeen.{cluster_seen, kinds_seen, links_seen, most_tries, replicated_seen};
+    ghost use Rattle.assise_files.specs.FilesSeen.{cluster_seen, kinds_seen, links_seen, most_tries, own_cluster, replicated_seen, tree_seen};
+    ghost use Rattle.assise_renewal.specs.Led.{IsDsync, IsLedBy};
+    ghost use Rattle.assise_renewal.specs.Renewal.{IsRenewed};
     ghost use Rattle.assise_files.specs.CallTries.{IsTriedOut};
     ghost use Rattle.assise_files.specs.LostChanges.{lost_changes, tree_with};
-    ghost use Rattle.assise_files.specs.Redo.{MakesAgain, tree_kept};
+    ghost use Rattle.assise_files.specs.Redo.{MakesAgain};
 
     /// A cluster in which nothing happened: 1 to `MOST_NODES` nodes, logs of 8 to 4,096 records, and 1 to 4,096 inodes that a node keeps hot. A
     /// call is tried at most `turns` times. The one refusal is [`Refusal::OutOfMemory`].
@@ -161,6 +164,31 @@ impl Files {
         return_node(alloc, &mut self.cluster, node)
     }
 
+    /// A new cluster with the same tree comes in place of this one, which goes with its history and its clients: client 1 of the new
+    /// one is open, on node 1 and pessimistic, with a revoker of this kind. How often a call is tried stays, and so do the nodes' links,
+    /// which aren't used for it. Refused as [`renewed`](fn@renewed), and the old cluster stays then: where its calls weren't all
+    /// replicated, its clients made a dsync.
+    pub fn renew(&mut self, alloc: Global, sizes: Sizes, kind: CutKind) -> Result<(), Refusal>
+        requires some_nodes { 0 < sizes.nodes }
+        requires few_nodes { sizes.nodes ≤ MOST_NODES }
+        requires least_log { 8 ≤ sizes.log }
+        requires most_log { sizes.log ≤ 4096 }
+        requires least_hot { 1 ≤ sizes.hot }
+        requires most_hot { sizes.hot ≤ 4096 }
+        ensures renewed { OnOk result (IsRenewed (tree_seen self.old) sizes
+            (own_cluster self.new)) }
+        ensures settles { OnErr result (IsLedBy IsDsync
+            (cluster_seen self.old) (cluster_seen self.new)) }
+        ensures stays { OnErr result (tree_seen self.new ≡ tree_seen self.old) }
+        ensures turns { most_tries self.new ≡ most_tries self.old }
+        ensures links { links_seen self.new ≡ links_seen self.old }
+    {
+        let turns = self.turns;
+        let new = renewed(alloc, &mut self.cluster, sizes, kind, turns)?;
+        self.cluster = new;
+        Ok(())
+    }
+
     /// Sets how many inodes may be hot at a node, 1 to 4,096. Refused as [`ClusterOf::set_hot`](ClusterOf::set_hot).
     pub fn set_hot(&mut self, node: u32, capacity: usize) -> Result<(), Refusal>
         requires least { 1 ≤ capacity }
@@ -238,8 +266,7 @@ impl Files {
             (most_tries self.old) first client
             (lost_changes lost first (cluster_seen self.old).history) result
             (cluster_seen self.old) es (cluster_seen self.new) }
-        ensures tree { OnOk result (tree_kept (cluster_seen self.new) ≡
-            tree_with (tree_kept (cluster_seen self.old))
+        ensures tree { OnOk result (tree_seen self.new ≡ tree_with (tree_seen self.old)
             (lost_changes lost first (cluster_seen self.old).history)) }
         ensures turns { most_tries self.new ≡ most_tries self.old }
         ensures links { links_seen self.new ≡ links_seen self.old }

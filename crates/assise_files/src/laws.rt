@@ -14,7 +14,7 @@ ghost use Rattle.assise_model_events.specs.Machine.{Machine};
 ghost use Rattle.assise_rounds.specs.NodeLinks.{FaithfulAt};
 ghost use Rattle.assise_rounds.specs.Traces.{IsEventTrace, Told};
 ghost use Rattle.assise_files.specs.CallTries.{IsTriedOut};
-ghost use Rattle.assise_files.specs.LostChanges.{TakesLast, failed_over, lost_changes, tree_with};
+ghost use Rattle.assise_files.specs.LostChanges.{TakesLastKept, failed_over, lost_changes, tree_with};
 ghost use Rattle.assise_files.specs.Redo.{MakesAgain};
 ghost use Rattle.assise_files.specs.declared.redo.LostChange.{LostChange};
 ghost use Rattle.assise_files.specs.declared.redo.Unmade.{Unmade};
@@ -37,7 +37,7 @@ pub fn what_is_made_again_gives_the_tree_that_was()
     ensures { (h : List EntryValue) (c n first : ℕ) (d m : ℕ) (u : Durability)
         (left lost : List Call) →
         IsLegal (h ++ fails n (record { client = c; first = first } ∷ []) ∷ []) →
-        TakesLast h (record { client = c; first = first } ∷ []) left lost →
+        TakesLastKept h (record { client = c; first = first } ∷ []) left lost →
         tree_with (tree_after opening (kept (failed_over h c n first d m u)))
         (lost_changes c first (failed_over h c n first d m u)) ≡ tree_after opening (kept h) }
 {}

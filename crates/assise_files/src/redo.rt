@@ -3,7 +3,7 @@ ghost use Rattle.std.specs.Prelude.{◌≡◌, ◌↔◌, ◌||◌, IsTrue, Ok, 
 ghost use Rattle.assise_names.specs.declared.refusal.Refusal.TheVariants.{OutOfMemory};
 ghost use Rattle.assise_names.specs.declared.reply.Reply.TheVariants.{Done};
 ghost use Rattle.assise_history.specs.Entries.{EntryValue};
-ghost use Rattle.assise_files.specs.LostSearch.{AreFound, IsNumbered, are_taken, change_found, is_call_to, is_taken};
+ghost use Rattle.assise_files.specs.LostSearch.{AreFound, IsNumbered, are_taken, change_found, is_call_to, is_taken_from};
 ghost use Rattle.assise_files.specs.LostChanges.{is_change, lost_changes};
 
 use assise_history::call::{Call, Loss};
@@ -44,7 +44,7 @@ impl Lost {
     ghost use Rattle.std.specs.Prelude.{◌≡◌, ◌||◌, ℕ, ◌∷◌, ◌++◌, IsOkUnless, List, OnOk};
     ghost use Rattle.assise_names.specs.declared.refusal.Refusal.TheVariants.{OutOfMemory};
     ghost use Rattle.assise_history.specs.Entries.{EntryValue};
-    ghost use Rattle.assise_files.specs.LostSearch.{AreFound, are_taken, change_found, is_taken};
+    ghost use Rattle.assise_files.specs.LostSearch.{AreFound, are_taken, change_found, is_taken_from};
 
     /// Notes the entry in front of those that were noted, for a client's changes from a number on. The one refusal is
     /// [`Refusal::OutOfMemory`].
@@ -80,7 +80,7 @@ impl Lost {
         ensures only_memory { IsOkUnless result OutOfMemory }
     {
         let number = call.number;
-        if first <= number && is_change(call) && is_taken(self.taken, number) {
+        if first <= number && is_change(call) && is_taken_from(self.taken, number) {
             let op = call.op.copy()?;
             self.changes.push(LostChange { number, op })?;
         }
@@ -89,8 +89,8 @@ impl Lost {
 
     /// Notes what a failure took.
     fn note_losses(&mut self, losses: &[Loss], client: u32)
-        ensures taken { (number : ℕ) → is_taken self.new.taken number ≡
-            (are_taken losses.now client number || is_taken self.old.taken number) }
+        ensures taken { (number : ℕ) → is_taken_from self.new.taken number ≡
+            (are_taken losses.now client number || is_taken_from self.old.taken number) }
         ensures changes { self.new.changes.items ≡ self.old.changes.items }
     {
         for loss in losses {
@@ -103,7 +103,8 @@ impl Lost {
 
 /// The lower of two numbers, of which one may be missing.
 fn lower(taken: Option<u64>, first: u64) -> u64
-    ensures { (number : ℕ) → nat_le result number ≡ (nat_le first number || is_taken taken number) }
+    ensures { (number : ℕ) →
+        nat_le result number ≡ (nat_le first number || is_taken_from taken number) }
 {
     match taken {
         Some(taken) => taken.min(first),
@@ -112,8 +113,8 @@ fn lower(taken: Option<u64>, first: u64) -> u64
 }
 
 /// Whether a number is at or behind the first that is taken.
-fn is_taken(taken: Option<u64>, number: u64) -> bool
-    ensures { result ≡ is_taken taken number }
+fn is_taken_from(taken: Option<u64>, number: u64) -> bool
+    ensures { result ≡ is_taken_from taken number }
 {
     match taken {
         Some(first) => first <= number,

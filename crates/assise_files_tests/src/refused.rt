@@ -5,7 +5,7 @@ use std::alloc::Global;
 /// What a request that finds no memory is answered with.
 const NO_MEMORY: i64 = -101;
 
-/// Two nodes, whose logs get full; what is handed over, lost, listed and brought back.
+/// Two nodes, whose logs get full; what is handed over, lost, listed, brought back and renewed.
 const STEPS: &str = "\
 make 2 8 4 => 0
 open 1 => 1
@@ -31,6 +31,8 @@ stat 3 /lost => -1
 back 1 => 0
 open 1 => 4
 read 4 2 64 /d/f => 4
+renew 3 8 4 => 0
+read 1 2 64 /d/f => 4
 legal => 1
 free => 0
 ";

@@ -10,6 +10,9 @@ const LIST: u32 = 24;
 /// The number of a redo.
 const REDO: u32 = 35;
 
+/// The number of a renewal.
+const RENEW: u32 = 36;
+
 /// A desk at which requests are served.
 #[derive(Drop)]
 pub(crate) struct Requests {
@@ -109,8 +112,10 @@ fn small(number: u64) -> u32 {
 
 fn request(call: u32, numbers: [u64; 3]) -> DeskRequest {
     let [who, first, second] = numbers;
-    let (client, kind) = (small(who), small(first));
-    // The first number of a redo is the client that lost calls.
+    let client = small(who);
+    // The first number of a renewal is how many records a log has.
+    let kind = if call == RENEW { 0 } else { small(first) };
+    // That of a redo is the client that lost calls.
     let first = if call == REDO { second } else { first };
     DeskRequest {
         call,
@@ -160,6 +165,7 @@ fn call_named(word: &str) -> Option<u32> {
         "raise" => Some(33),
         "link" => Some(34),
         "redo" => Some(REDO),
+        "renew" => Some(RENEW),
         _ => word.parse::<u32>().ok(),
     }
 }

@@ -144,6 +144,34 @@ hot 1 0; hot 1 4097; hot 3 1; hot 1 1; hot 2 4096; raise 3; raise 1; raise 2; ra
     );
 }
 
+// Client 2 made no sync. The new cluster's entries are an open, three calls that make the file, and a dsync.
+#[test]
+fn a_renewed_cluster_has_the_same_tree(rt: HostRuntime) {
+    show(
+        rt.alloc(),
+        &rt,
+        "\
+make 2 8 4; open 1; mkdir 1 /d; create 1 /d/f; write 1 /d/f hello; open 2; rename 2 /d/f /d/g; renew 3 16 8; entries => 0 1 0 0 0 2 0 0 5
+list 1 /; read 1 0 9 /d/g; bytes hello; stat 2 /d; home 1; replicated 1; open 3; stat 2 /d/g; legal => 2 of 1 5 true -109 1 6 2 5 1
+renew 0 8 4; renew 17 8 4; renew 2 7 4; renew 2 8; entries; free; renew 2 8 4 => -302 -302 -302 -302 9 0 -301
+",
+    );
+}
+
+// A client lost a call with its node, and another crashed. Where node 2 isn't raised what node 1 sends waits, and so does a renewal.
+#[test]
+fn a_cluster_is_renewed_once_its_calls_are_safe(rt: HostRuntime) {
+    show(
+        rt.alloc(),
+        &rt,
+        "\
+make 2 64 8; open 1; create 1 /kept; dsync 1; create 1 /lost; fail 1; open 2; mkdir 2 /d; crash 2; renew 1 8 1 => 0 1 0 0 0 12 2 0 0 0
+list 1 /; phase 1; phase 2; standing 1; legal => 7 of 2 1 -108 1 1
+make 2 64 8; open 1; create 1 /f; raise 1; renew 2 64 8; stat 1 /f; raise 2; renew 2 64 8; stat 1 /f => 0 1 0 0 -102 0 0 0 0
+",
+    );
+}
+
 // Node 1 alone has the client's records while its link loses all, so an fsync waits until nothing can be done: F2.
 #[test]
 fn what_goes_over_links(rt: HostRuntime) {

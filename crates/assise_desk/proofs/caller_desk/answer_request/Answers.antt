@@ -1,6 +1,6 @@
 use Rattle.std.proofs.Common.{refl, ap}
-use Rattle.assise_desk.specs.declared.desk_call.DeskCall.TheVariants.{Client, Cluster, Make, Print, Query}
-use Rattle.assise_desk.specs.DeskAnswers.{answers_alone, request_calls, has_no_cluster, request_makes, request_makes_none, request_manages, request_prints, request_queries, owned}
+use Rattle.assise_desk.specs.declared.desk_call.DeskCall.TheVariants.{Client, Cluster, Make, Print, Query, Renew}
+use Rattle.assise_desk.specs.DeskAnswers.{answers_alone, request_calls, has_no_cluster, request_makes, request_makes_none, request_manages, request_prints, request_queries, owned, request_renews}
 use Rattle.assise_desk.proofs.DeskSteps.{number_is, owned_is}
 use Rattle.assise_desk.proofs.caller_desk.answer_request.Goals as goal
 
@@ -66,3 +66,20 @@ returns-in-Some-Print-clause-answered c =
     request_prints c.in-Some-Print.text
     (number_is c.in-Some-Print.field-0 (Print c.in-Some-Print.text) c.args.desk.now.request.call c.in-Some-Print.field-0-is c.in-Some-Print.ensures)
     refl c.keep_text.ensures record { bytes = refl; stays = refl }
+
+pub returns-in-None-files-4-clause-answered : goal.returns-in-None-files-4-clause-answered
+returns-in-None-files-4-clause-answered c =
+    answers_alone (has_no_cluster Renew
+    (number_is c.in-Some-Renew.field-0 Renew c.args.desk.now.request.call c.in-Some-Renew.field-0-is c.in-Some-Renew.ensures) tt
+    (ap owned c.in-None-files-4.is) (ap owned c.in-None-files-4.is) refl refl) record { bytes = refl; stays = refl }
+
+pub returns-in-Some-files-3-clause-answered : goal.returns-in-Some-files-3-clause-answered
+returns-in-Some-files-3-clause-answered c =
+    request_renews c.deref_mut-in-Some-files-3.result.now c.renew_cluster.new.files
+    (number_is c.in-Some-Renew.field-0 Renew c.args.desk.now.request.call c.in-Some-Renew.field-0-is c.in-Some-Renew.ensures)
+    record {
+      from = owned_is c.args.desk.now.files c.in-Some-files-3.files c.deref_mut-in-Some-files-3.result.now c.in-Some-files-3.is c.deref_mut-in-Some-files-3.ensures.value;
+      leaves = refl;
+      turns = c.renew_cluster.ensures.turns;
+      text = refl;
+    } c.renew_cluster.ensures.renews c.renew_cluster.ensures.links record { bytes = refl; stays = refl }

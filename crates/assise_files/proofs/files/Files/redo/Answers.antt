@@ -1,11 +1,12 @@
-use Rattle.std.proofs.Common.{rules, ◌≡◌, ◌++◌, ◌∷◌, [], sym, subst, true, false}
+use Rattle.std.proofs.Common.{rules, ◌≡◌, ◌∙◌, ◌++◌, ◌∷◌, [], ap, sym, subst, true, false}
 use Rattle.assise_rounds.specs.NodeLinks.{FaithfulAt}
 use Rattle.assise_rounds.specs.Traces.{Told}
 use Rattle.assise_files.specs.CallTries.{IsTriedOut}
 use Rattle.assise_files.specs.FilesSeen.{cluster_seen, links_seen, most_tries}
-use Rattle.assise_files.specs.LostChanges.{lost_changes}
+use Rattle.assise_files.specs.LostChanges.{lost_changes, tree_with}
 use Rattle.assise_files.specs.LostSearch.{IsNumbered}
 use Rattle.assise_files.proofs.MadeAgain.{all_made, all_tree, made_next, numbered, stopped}
+use Rattle.assise_files.proofs.QuietRounds.{tree_is}
 use Rattle.assise_files.proofs.files.Files.redo.Goals as goal
 
 pub lost_changes-requires : goal.lost_changes-requires
@@ -47,5 +48,8 @@ returns-clause-made c =
 pub returns-clause-tree : goal.returns-clause-tree
 returns-clause-tree c =
     let none : c.loop-change.left.items ≡ [] = search rules in
-    all_tree (FaithfulAt (links_seen c.args.self.now)) (most_tries c.args.self.now) c.args.client (lost_changes c.args.lost c.args.first (cluster_seen c.args.self.now).history)
+    let changes = lost_changes c.args.lost c.args.first (cluster_seen c.args.self.now).history in
+    tree_is c.loop-change.self
+    ∙ all_tree (FaithfulAt (links_seen c.args.self.now)) (most_tries c.args.self.now) c.args.client (lost_changes c.args.lost c.args.first (cluster_seen c.args.self.now).history)
     c.loop-change.left.items (cluster_seen c.args.self.now) (cluster_seen c.loop-change.self) c.loop-change.invariant.made none
+    ∙ ap (λ t. tree_with t changes) (sym (tree_is c.args.self.now))
