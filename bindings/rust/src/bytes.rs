@@ -120,7 +120,7 @@ impl Client {
 
     /// What [`Client::write`] does, by one call, which may write less. Says how many bytes it wrote.
     pub(crate) fn write_once(&self, path: &str, bytes: &[u8], offset: u64) -> io::Result<usize> {
-        self.write_part(&mut self.turn()?, path, bytes, offset)
+        self.write_part(&mut *self.turn()?, path, bytes, offset)
     }
 
     fn write_part(&self, desk: &mut Desk, path: &str, bytes: &[u8], offset: u64) -> io::Result<usize> {

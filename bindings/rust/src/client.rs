@@ -1,9 +1,11 @@
 //! A client's calls.
 
+use crate::cluster::{lost_of, Lost};
 use crate::desk::{turn, Desk, Request, Shared};
 use crate::faults::error_of;
-use crate::numbers::{call, fault, stands};
+use crate::numbers::{call, define, fault, stands};
 use crate::stat::Stat;
+use crate::unmade::Unmade;
 use std::io;
 use std::sync::MutexGuard;
 
@@ -175,6 +177,37 @@ impl Client {
     #[doc(alias = "assise_dsync")]
     pub fn dsync(&self) -> io::Result<()> {
         self.turn()?.ask(self.request(call::DSYNC)).map(drop)
+    }
+
+    /// Makes again what a failure took of another client: of the changes of files from that call on those that are lost, in their order.
+    /// Behind a change that isn't made, go on from its call, or from the next.
+    ///
+    /// ```
+    /// # fn main() -> std::io::Result<()> {
+    /// let cluster = assise::Cluster::new(2, 64, 64)?;
+    /// cluster.open(1)?.create("/letter")?;
+    /// let lost = cluster.fail(1)?;
+    ///
+    /// let client = cluster.open(2)?;
+    /// for lost in lost {
+    ///     client.redo(lost)?;
+    /// }
+    /// assert_eq!(client.list("/")?, ["letter"]);
+    /// # Ok(())
+    /// # }
+    /// ```
+    ///
+    /// # Errors
+    ///
+    /// [`Unmade`]: which change isn't made again, and why. `?` makes an [`io::Error`] of it.
+    #[doc(alias = "assise_redo")]
+    pub fn redo(&self, lost: Lost) -> Result<(), Unmade> {
+        let mut desk = self.turn().map_err(|error| Unmade { first: lost, error })?;
+        let request = Request { kind: lost.client, first: lost.first_call, ..self.request(call::REDO) };
+        match desk.ask(request) {
+            Ok(_) => Ok(()),
+            Err(error) => Err(Unmade { first: lost_of(desk.answer(define::LOSS_BYTES)), error }),
+        }
     }
 
     /// The desk of the client's cluster, for one turn, unless that was renewed since: then another client may have its number.

@@ -173,37 +173,6 @@ impl Cluster {
         Ok(desk.answer(count).chunks_exact(define::LOSS_BYTES as usize).map(lost_of).collect())
     }
 
-    /// A client makes again what a failure took of another: of the changes of files from that call on those that are lost, in their
-    /// order. Behind a change that isn't made, go on from its call, or from the next.
-    ///
-    /// ```
-    /// # fn main() -> std::io::Result<()> {
-    /// let cluster = assise::Cluster::new(2, 64, 64)?;
-    /// cluster.open(1)?.create("/letter")?;
-    /// let lost = cluster.fail(1)?;
-    ///
-    /// let client = cluster.open(2)?;
-    /// for lost in lost {
-    ///     cluster.redo(lost, &client)?;
-    /// }
-    /// assert_eq!(client.list("/")?, ["letter"]);
-    /// # Ok(())
-    /// # }
-    /// ```
-    ///
-    /// # Errors
-    ///
-    /// [`Unmade`]: which change isn't made again, and why. An [`io::Error`] comes of it by `From`.
-    #[doc(alias = "assise_redo")]
-    pub fn redo(&self, lost: Lost, client: &Client) -> Result<(), Unmade> {
-        let request = Request { client: client.number(), kind: lost.client, first: lost.first_call, ..Request::new(call::REDO) };
-        let mut desk = turn(&self.desk);
-        match desk.ask(request) {
-            Ok(_) => Ok(()),
-            Err(error) => Err(Unmade { first: lost_of(desk.answer(define::LOSS_BYTES)), error }),
-        }
-    }
-
     /// A node that is down comes back: it is filled from the others, and full again. Where that is refused midway, for memory, let it
     /// fail and come back again.
     ///
@@ -333,7 +302,7 @@ impl Cluster {
 }
 
 /// A client's number in 4 bytes and that of its first lost call in 8, the lowest first.
-fn lost_of(bytes: &[u8]) -> Lost {
+pub(crate) fn lost_of(bytes: &[u8]) -> Lost {
     let number = |bytes: &[u8]| bytes.iter().rev().fold(0, |sum, byte| sum << 8 | u64::from(*byte));
     let (client, first_call) = bytes.split_at(4);
     Lost { client: number(client) as u32, first_call: number(first_call) }

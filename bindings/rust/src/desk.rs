@@ -171,7 +171,7 @@ mod tests {
     #[test]
     fn a_desk_lies_as_in_c() {
         assert_eq!((size_of::<Request>(), align_of::<Request>()), (6 * 4 + 2 * 8, 8));
-        assert_eq!((size_of::<Place>(), align_of::<Place>()), (size_of::<Request>() + 2 * 8 + CALL_BYTES + 2 * size_of::<usize>(), 8));
+        assert_eq!((size_of::<Place>(), align_of::<Place>()), (size_of::<Request>() + 2 * 8 + CALL_BYTES + 4 * size_of::<usize>(), 8));
     }
 
     #[test]

@@ -59,7 +59,7 @@ impl Client {
     /// `ENOENT`, `ENOTDIR`. Each later page may come to any error of a call, in the place of a name.
     pub fn read_dir(&self, path: impl AsRef<str>) -> io::Result<ReadDir> {
         let path = path.as_ref().to_string();
-        let (page, is_over) = self.page(&mut self.turn()?, &path, 0)?;
+        let (page, is_over) = self.page(&mut *self.turn()?, &path, 0)?;
         Ok(ReadDir { client: self.clone(), path, passed: page.len() as u64, page: page.into_iter(), is_over })
     }
 

@@ -5,7 +5,7 @@ use std::error::Error;
 use std::fmt::{self, Display, Formatter};
 use std::io;
 
-/// Why [`redo`](crate::Cluster::redo) ended before all was made again.
+/// Why [`redo`](crate::Client::redo) ended before all was made again.
 #[derive(Debug)]
 pub struct Unmade {
     /// The first change that isn't made. All in front of it are.

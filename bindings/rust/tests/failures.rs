@@ -89,7 +89,7 @@ fn what_is_lost_is_made_again() {
 
     let client = cluster.open(2).unwrap();
     assert_eq!(client.list("/").unwrap(), ["kept"]);
-    cluster.redo(lost, &client).unwrap();
+    client.redo(lost).unwrap();
     assert_eq!(client.list("/").unwrap(), ["box"]);
     assert_eq!(client.list("/box").unwrap(), ["sent"]);
     assert_eq!(client.read_all("/box/sent").unwrap(), b"First");
@@ -108,10 +108,10 @@ fn a_change_that_cannot_be_made_is_told() {
 
     let client = cluster.open(2).unwrap();
     client.create("/b").unwrap();
-    let unmade = cluster.redo(lost, &client).unwrap_err();
+    let unmade = client.redo(lost).unwrap_err();
     assert_eq!((unmade.first, unmade.error.raw_os_error()), (Lost { client: 1, first_call: 1 }, Some(errno::EEXIST)));
     assert_eq!(client.list("/").unwrap(), ["a", "b"]);
-    cluster.redo(Lost { first_call: 2, ..unmade.first }, &client).unwrap();
+    client.redo(Lost { first_call: 2, ..unmade.first }).unwrap();
     assert_eq!(client.list("/").unwrap(), ["a", "b", "c"]);
 }
 
@@ -126,7 +126,7 @@ fn what_is_made_again_may_be_lost_again() {
         let lost = cluster.fail(node).unwrap();
         client = cluster.open(node + 1).unwrap();
         assert!(client.list("/").unwrap().is_empty());
-        lost.iter().for_each(|lost| cluster.redo(*lost, &client).unwrap());
+        lost.iter().for_each(|lost| client.redo(*lost).unwrap());
     }
     assert_eq!(client.read_all("/file").unwrap(), b"text");
 }
