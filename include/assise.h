@@ -121,6 +121,7 @@ enum assise_call {
     ASSISE_FSYNC = 26,
     ASSISE_DSYNC = 27,
     ASSISE_PRINT_HISTORY = 28,
+    ASSISE_PRINT_TREE = 29,
     ASSISE_PAGE = 30,
     ASSISE_SET_HOT = 32,
     ASSISE_RAISE = 33,
@@ -387,6 +388,11 @@ static inline int64_t assise_payload(struct assise_desk *desk) { return assise_m
 /* Prints the history, a line an entry, as a script's command does. The desk keeps the text in place of its last: how many bytes it has. */
 static inline int64_t assise_print_history(struct assise_desk *desk) {
     return assise_manage(desk, ASSISE_PRINT_HISTORY, 0, 0, 0, 0, 0);
+}
+
+/* Prints the tree that a full node alone gives, which is that of all replicated calls, and keeps it in the same way. */
+static inline int64_t assise_print_tree(struct assise_desk *desk, uint32_t node) {
+    return assise_manage(desk, ASSISE_PRINT_TREE, 0, node, 0, 0, 0);
 }
 
 /* The desk's text from a place on, as much of it as the desk's bytes take: how many these are, and 0 at its end. */

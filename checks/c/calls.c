@@ -159,6 +159,9 @@ static void prints_the_history(void) {
     while ((count = assise_page(&desk, (uint64_t)seen)) > 0) seen += count;
     SEE(length, seen);
     SEE(0, assise_page(&desk, UINT64_MAX));
+    SEE(ASSISE_BAD_NODE, assise_print_tree(&desk, 3));
+    SEE(1, assise_print_tree(&desk, 2) > 0);
+    SEE(1, assise_page(&desk, 0) > 0 && !memcmp(desk.bytes, "tree ", strlen("tree ")));
 }
 
 static void wrong_paths(void) {

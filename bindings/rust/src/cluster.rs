@@ -276,6 +276,29 @@ impl Cluster {
         turn(&self.desk).text(Request::new(call::PRINT_HISTORY))
     }
 
+    /// The tree that a node alone gives, that of all replicated calls, as a script's command `tree` prints it.
+    ///
+    /// ```
+    /// # fn main() -> std::io::Result<()> {
+    /// let cluster = assise::Cluster::new(2, 64, 64)?;
+    /// let client = cluster.open(1)?;
+    /// client.mkdir("/box")?;
+    /// assert_eq!(cluster.tree(2)?, "tree 0");
+    /// client.fsync()?;
+    /// assert_eq!(cluster.tree(2)?, "tree 1\n/box dir");
+    /// # Ok(())
+    /// # }
+    /// ```
+    ///
+    /// # Errors
+    ///
+    /// [`BadNode`](crate::Refusal::BadNode), [`WrongPhase`](crate::Refusal::WrongPhase) where it isn't full,
+    /// [`OutOfMemory`](crate::Refusal::OutOfMemory).
+    #[doc(alias = "assise_print_tree")]
+    pub fn tree(&self, node: u32) -> io::Result<String> {
+        turn(&self.desk).text(Request { node, ..Request::new(call::PRINT_TREE) })
+    }
+
     /// How many bytes the history's calls wrote, read and listed. They are kept in memory with its entries.
     ///
     /// # Errors

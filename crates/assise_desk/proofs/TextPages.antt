@@ -1,5 +1,8 @@
--- A page of a text.
-use Rattle.std.proofs.Common.{◌≡◌, ◌∙◌, ℕ, ◌+◌, ◌<◌, min, List, ◌++◌, length, take, Option, None, Some, MatchOption, ap, sym, arith, inl, inr, length-take}
+-- A page of a text, and why there is no text of a tree.
+use Rattle.std.proofs.Common.{◌≡◌, ◌∙◌, ℕ, ◌+◌, ◌<◌, min, List, ◌++◌, length, take, Option, None, Some, MatchOption, ◌⊎◌, Result, Ok, Err, IsOkUnless, refl, ap, sym, arith, inl, inr, length-take}
+use Rattle.assise_names.specs.declared.refusal.Refusal.{Refusal}
+use Rattle.assise_names.specs.declared.refusal.Refusal.TheVariants.{OutOfMemory}
+use Rattle.assise_seq_tree.specs.Tree.{Tree}
 use Rattle.std.proofs.lemmas.Bool.{cases_lt}
 use Rattle.std.proofs.lemmas.List.{take_all}
 
@@ -15,3 +18,10 @@ page_shown (Some next) most n old out page left is count at written =
       | inr more ↦ let same : n ≡ length left = omega (arith, count, more) in ap (λ k. take k left) same ∙ take_all (length left) left (omega arith) ∙ sym (take_all most left (omega (arith, more)))
     ] in
     ap (λ k. take k out) (sym end) ∙ written ∙ is ∙ all
+
+-- why a node has no tree
+pub why_no_tree : (r : Result Tree Refusal) (refusal : Refusal) (fault : Option Refusal) → r ≡ Err refusal → ((e : Refusal) → fault ≡ Some e → r ≡ Err e) → (fault ≡ None → IsOkUnless r OutOfMemory) →
+    (refusal ≡ OutOfMemory) ⊎ (fault ≡ Some refusal)
+why_no_tree (Ok tree) refusal fault is faulty only = cc
+why_no_tree (Err e) refusal None is faulty only = let lacks : e ≡ OutOfMemory = only refl in inl (cc (is, lacks))
+why_no_tree (Err e) refusal (Some f) is faulty only = inr (cc (is, faulty f refl))

@@ -9,7 +9,7 @@ use Rattle.assise_desk.specs.declared.desk_call.ClusterQuery.TheVariants.{Legal,
 use Rattle.assise_desk.specs.declared.desk_call.DeskCall.{DeskCall}
 use Rattle.assise_desk.specs.declared.desk_call.DeskCall.TheVariants.{Make, Free, Cluster, Query, Client, Print, Page, Renew}
 use Rattle.assise_desk.specs.declared.desk_call.DeskText.{DeskText}
-use Rattle.assise_desk.specs.declared.desk_call.DeskText.TheVariants.{History}
+use Rattle.assise_desk.specs.declared.desk_call.DeskText.TheVariants.{History, Tree}
 
 abbrev pub cluster_call_number : ClusterCall → ℕ
 cluster_call_number Open = 3
@@ -48,6 +48,7 @@ client_call_number Dsync = 27
 
 abbrev pub text_number : DeskText → ℕ
 text_number History = 28
+text_number Tree = 29
 
 abbrev pub desk_call_number : DeskCall → ℕ
 desk_call_number Make = 1

@@ -296,7 +296,7 @@ pub data AnswersRequest (d : CallerDesk) (result : Result ℕ DeskFault) (d' : C
       AnswersQuery query d.request files result → LeavesDesk d d' → text_at d' ≡ text_at d → AnswersRequest d result d'
   request_calls : (call : ClientCall) (files left : Files) → desk_call_number (Client call) ≡ d.request.call → IsServedBy d d' files left →
       IsServedTo call d.request d.bytes d'.bytes d.stands d'.stands files result left → AnswersRequest d result d'
-  request_prints : (text : DeskText) → desk_call_number (Print text) ≡ d.request.call → files_at d' ≡ files_at d → KeepsText text (files_at d) (text_at d) result (text_at d') → LeavesDesk d d' →
+  request_prints : (text : DeskText) → desk_call_number (Print text) ≡ d.request.call → files_at d' ≡ files_at d → KeepsText text d.request.node (files_at d) (text_at d) result (text_at d') → LeavesDesk d d' →
       AnswersRequest d result d'
   request_pages : desk_call_number Page ≡ d.request.call → files_at d' ≡ files_at d → text_at d' ≡ text_at d → ShowsPageOf (text_at d) d.request.first result d'.bytes → d'.stands ≡ d.stands →
       AnswersRequest d result d'

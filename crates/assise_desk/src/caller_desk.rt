@@ -127,7 +127,7 @@ fn answer_request(alloc: Global, desk: &mut CallerDesk) -> Result<u64, DeskFault
             None => Err(DeskFault::NoCluster),
             Some(files) => renew_cluster(alloc, files, &request),
         },
-        Some(DeskCall::Print(text)) => keep_text(alloc, &desk.files, text, &mut desk.text),
+        Some(DeskCall::Print(text)) => keep(alloc, &desk.files, text, &request, &mut desk.text),
         Some(DeskCall::Page) => Ok(place_text(&desk.text, request.first, &mut desk.bytes) as u64),
     }
 }
@@ -144,18 +144,20 @@ fn free(files: &mut Option<Box<Files>>, text: &mut Option<Box<String>>) -> Resul
 }
 
 /// Keeps a text of a desk's cluster in place of the text that it had, and answers how many bytes it has.
-fn keep_text(
+fn keep(
     alloc: Global,
     files: &Option<Box<Files>>,
     text: DeskText,
+    request: &DeskRequest,
     kept: &mut Option<Box<String>>,
 ) -> Result<u64, DeskFault>
-    ensures { KeepsText text (owned files.now) (text_kept kept.old) result (text_kept kept.new) }
+    ensures { KeepsText text request.now.node (owned files.now) (text_kept kept.old) result
+        (text_kept kept.new) }
 {
     let Some(files) = files else {
         return Err(DeskFault::NoCluster);
     };
-    match print(alloc, files, text) {
+    match print(alloc, files, text, request.node) {
         Ok(text) => {
             let length = text.len() as u64;
             *kept = Some(text);

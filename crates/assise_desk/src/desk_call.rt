@@ -29,6 +29,8 @@ pub enum DeskCall {
 pub enum DeskText {
     /// What was answered and what happened (28).
     History,
+    /// The tree that a node gives (29).
+    Tree,
 }
 
 /// What a cluster does that no client calls.
@@ -139,6 +141,7 @@ impl DeskCall {
             26 => Some(DeskCall::Client(ClientCall::Fsync)),
             27 => Some(DeskCall::Client(ClientCall::Dsync)),
             28 => Some(DeskCall::Print(DeskText::History)),
+            29 => Some(DeskCall::Print(DeskText::Tree)),
             30 => Some(DeskCall::Page),
             32 => Some(DeskCall::Cluster(ClusterCall::SetHot)),
             33 => Some(DeskCall::Cluster(ClusterCall::Raise)),

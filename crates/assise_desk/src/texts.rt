@@ -1,7 +1,6 @@
 // Texts of a cluster, and their pages.
 ghost use Rattle.std.specs.Prelude.{◌≡◌, ◌-◌, ◌≤◌, IfOk, IfErr, drop, length, min, string_bytes, take};
-ghost use Rattle.assise_desk.specs.FaultCodes.{no_memory};
-ghost use Rattle.assise_desk.specs.Texts.{IsTextOf, text_kept};
+ghost use Rattle.assise_desk.specs.Texts.{IsTextOf, MayNotPrint, text_kept};
 
 use crate::desk_call::DeskText;
 use crate::desk_fault::DeskFault;
@@ -10,16 +9,26 @@ use crate::page::place_at;
 use assise_files::files::Files;
 use std::alloc::Global;
 
-/// Prints a text of a cluster. Where there is no memory for it, that is the fault.
-pub(crate) fn print(alloc: Global, files: &Files, text: DeskText) -> Result<Box<String>, DeskFault>
-    ensures printed { IfOk result (λ owner. IsTextOf text files.now (string_bytes owner.value)) }
-    ensures fault { IfErr result (λ fault. fault ≡ no_memory) }
+/// Prints a text of a cluster, of a node where it is a tree. The fault is that there is no memory for it, or why the node has no tree.
+pub(crate) fn print(
+    alloc: Global,
+    files: &Files,
+    text: DeskText,
+    node: u32,
+) -> Result<Box<String>, DeskFault>
+    ensures printed { IfOk result (λ owner.
+        IsTextOf text node files.now (string_bytes owner.value)) }
+    ensures fault { IfErr result (MayNotPrint text node files.now) }
 {
     let printed = match text {
         DeskText::History => {
             let history = files.history();
             format!(in alloc; "{history}")?
         }
+        DeskText::Tree => match files.tree(alloc, node) {
+            Ok(tree) => format!(in alloc; "{tree}")?,
+            Err(refusal) => return Err(DeskFault::Refused(refusal)),
+        },
     };
     Ok(Box::new(alloc, printed)?)
 }

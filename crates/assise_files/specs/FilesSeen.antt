@@ -4,10 +4,11 @@ use Rattle.assise_link.specs.Kinds.{Kind}
 use Rattle.assise_link.specs.TestLinks.{kind_of_link}
 use Rattle.assise_machine.specs.declared.cluster.ClusterOf.{ClusterOf}
 use Rattle.assise_machine.specs.Clusters.{machine, revokers}
-use Rattle.assise_machine.specs.Headline.{replicated_to}
+use Rattle.assise_machine.specs.Headline.{replicated_calls, replicated_to}
 use Rattle.assise_model_events.specs.Machine.{Machine}
 use Rattle.assise_renewal.specs.Renewal.{tree_kept}
-use Rattle.assise_seq_tree.specs.Tree.{Tree}
+use Rattle.assise_history.specs.Kept.{tree_after}
+use Rattle.assise_seq_tree.specs.Tree.{Tree, opening}
 use Rattle.assise_files.specs.declared.cut_kind.CutKind.{CutKind}
 use Rattle.assise_files.specs.declared.files.Files.{Files}
 
@@ -37,3 +38,7 @@ own_cluster files = files.cluster
 
 abbrev pub tree_seen : Files → Tree
 tree_seen files = tree_kept files.cluster
+
+-- the tree of all replicated calls
+abbrev pub safe_tree_seen : Files → Tree
+safe_tree_seen files = tree_after opening (replicated_calls files.cluster)

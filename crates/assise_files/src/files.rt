@@ -14,8 +14,10 @@ use assise_names::limits::MOST_NODES;
 use assise_names::refusal::Refusal;
 use assise_names::reply::Reply;
 use assise_renewal::renewal::{Sizes, renewed};
+use assise_renewal::trees::tree_at;
 use assise_rounds::returning::return_node;
 use assise_rounds::rounds::round_over;
+use assise_seq_tree::tree::Tree;
 use std::alloc::Global;
 use std::array;
 
@@ -28,7 +30,7 @@ pub struct Files {
 }
 
 impl Files {
-    ghost use Rattle.std.specs.Prelude.{◌≡◌, ◌↔◌, ◌+◌, ◌-◌, ◌<◌, ◌≤◌, IfOk, IsOk, IsOkUnless, IsSome, IsTrue, OnErr, OnOk, replicate, slice_set};
+    ghost use Rattle.std.specs.Prelude.{◌≡◌, ◌↔◌, ◌+◌, ◌-◌, ◌<◌, ◌≤◌, Err, IfOk, IsOk, IsOkUnless, IsSome, IsTrue, None, OnErr, OnOk, Some, replicate, slice_set};
     ghost use Rattle.assise_names.specs.declared.refusal.Refusal.TheVariants.{BadClient, BadNode, OutOfMemory};
     ghost use Rattle.assise_history.specs.Legal.{IsLegal};
     ghost use Rattle.assise_lease_table.specs.Tables.{Enrols};
@@ -50,7 +52,9 @@ impl Files {
     ghost use Rattle.assise_link.specs.Kinds.{perfect};
     ghost use Rattle.assise_link.specs.TestLinks.{kind_of_link};
     ghost use Rattle.assise_names.specs.declared.limits.TheConstants.{MOST_NODES};
-    ghost use Rattle.assise_files.specs.FilesSeen.{cluster_seen, kinds_seen, links_seen, most_tries, own_cluster, replicated_seen, tree_seen};
+    ghost use Rattle.assise_files.specs.FilesSeen.{cluster_seen, kinds_seen, links_seen, most_tries, own_cluster, replicated_seen, safe_tree_seen, tree_seen};
+    ghost use Rattle.assise_names.specs.declared.refusal.Refusal.{Refusal as Refused};
+    ghost use Rattle.assise_model_events.specs.Faults.{node_fault};
     ghost use Rattle.assise_renewal.specs.Led.{IsDsync, IsLedBy};
     ghost use Rattle.assise_renewal.specs.Renewal.{IsRenewed};
     ghost use Rattle.assise_files.specs.CallTries.{IsTriedOut};
@@ -289,6 +293,17 @@ impl Files {
             }
         }
         Ok(())
+    }
+
+    /// The tree that a node alone gives: that of all replicated calls. Refused as [`tree_at`](fn@tree_at).
+    pub fn tree(&self, alloc: Global, node: u32) -> Result<Tree, Refusal>
+        ensures tree { IfOk result (λ tree. tree ≡ safe_tree_seen self.now) }
+        ensures fault { (e : Refused) → node_fault (cluster_seen self.now) node ≡ Some e →
+            result ≡ Err e }
+        ensures only_memory { node_fault (cluster_seen self.now) node ≡ None →
+            IsOkUnless result OutOfMemory }
+    {
+        tree_at(alloc, &self.cluster, node)
     }
 
     /// What was answered and what happened, in order.

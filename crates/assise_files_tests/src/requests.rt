@@ -160,6 +160,7 @@ fn call_named(word: &str) -> Option<u32> {
         "fsync" => Some(26),
         "dsync" => Some(27),
         "history" => Some(28),
+        "tree" => Some(29),
         "page" => Some(30),
         "hot" => Some(32),
         "raise" => Some(33),

@@ -118,14 +118,17 @@ fail 2; open 3; list 3 /d; redo 3 2; list 3 /d; read 3 0 9 /d/g; legal => 12 3 0
     );
 }
 
+// Node 2 has the file once it is synced.
 #[test]
-fn a_history_is_printed_and_shown(rt: HostRuntime) {
+fn texts_are_printed_and_shown(rt: HostRuntime) {
     show(
         rt.alloc(),
         &rt,
         "\
 history; make 1 8 8; page; open 1; history; page; bytes history 1; page 0 8; bytes 1; page 0 18; page 0 17 => -301 0 0 1 18 18 true 10 true 0 1
 create 1 /f; page; history; page; bytes history 2; free; page => 0 18 44 44 true 0 0
+make 2 8 8; open 1; create 1 /f; tree 2; page; bytes tree 0; dsync 1; tree 2; page 0 7; bytes /f file 0 => 0 1 0 6 6 true 0 16 9 true
+fail 2; tree 2; tree 3; page 0 7 => 0 -110 -108 9
 ",
     );
 }

@@ -7,4 +7,4 @@ mod filling;
 pub mod renewal;
 mod replicated;
 mod settling;
-mod trees;
+pub mod trees;

@@ -65,7 +65,7 @@ pub returns-in-Some-Print-clause-answered : goal.returns-in-Some-Print-clause-an
 returns-in-Some-Print-clause-answered c =
     request_prints c.in-Some-Print.text
     (number_is c.in-Some-Print.field-0 (Print c.in-Some-Print.text) c.args.desk.now.request.call c.in-Some-Print.field-0-is c.in-Some-Print.ensures)
-    refl c.keep_text.ensures record { bytes = refl; stays = refl }
+    refl c.keep.ensures record { bytes = refl; stays = refl }
 
 pub returns-in-None-files-4-clause-answered : goal.returns-in-None-files-4-clause-answered
 returns-in-None-files-4-clause-answered c =

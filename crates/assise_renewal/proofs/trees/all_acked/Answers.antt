@@ -17,5 +17,5 @@ loop-client-preserved g c =
       | in_default w ↦ rw w.acked-is (no_more_acked cluster i c.loop-client.acked.items c.loop-client.invariant (λ there. false≢true (w.in_default.ensures.ok.1 (omega arith, there))))
     ]
 
-pub returns : goal.returns
-returns g c = each_acked c.args.cluster.now c.loop-client.client c.loop-client.acked.items (omega (arith, c.loop-client-test.false)) c.loop-client.invariant
+pub returns-clause-acked : goal.returns-clause-acked
+returns-clause-acked g c = each_acked c.args.cluster.now c.loop-client.client c.loop-client.acked.items (omega (arith, c.loop-client-test.false)) c.loop-client.invariant

@@ -1,7 +1,7 @@
-use Rattle.std.proofs.Common.{rules, ◌≡◌, Ok, Err, length, string_bytes, refl, ap}
-use Rattle.assise_desk.specs.Texts.{keeps_text, lacks_room, prints_text}
+use Rattle.std.proofs.Common.{rules, ◌≡◌, Ok, length, string_bytes, refl, ap}
+use Rattle.assise_desk.specs.Texts.{keeps_text, prints_none, prints_text}
 use Rattle.assise_desk.proofs.DeskSteps.{owned_is}
-use Rattle.assise_desk.proofs.caller_desk.keep_text.Goals as goal
+use Rattle.assise_desk.proofs.caller_desk.keep.Goals as goal
 
 pub returns-in-Ok : goal.returns-in-Ok
 returns-in-Ok c =
@@ -12,4 +12,4 @@ returns-in-Ok c =
 pub returns-in-Err : goal.returns-in-Err
 returns-in-Err c =
     let there = owned_is c.args.files.now c.in-Some.files c.deref.result.now c.in-Some.is c.deref.ensures in
-    keeps_text c.deref.result.now there (lacks_room (ap Err c.in-Err.ensures.fault) refl)
+    keeps_text c.deref.result.now there (prints_none c.in-Err.fault c.in-Err.ensures.fault refl refl)
