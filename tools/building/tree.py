@@ -14,13 +14,18 @@ HEADER = os.path.join(ROOT, "include/assise.h")
 
 
 def crates():
-    """What each crate of crates.txt stands on, by its name."""
+    """What each crate of the repository stands on, by its name."""
+    return listed(os.path.join(ROOT, "crates.txt"))
+
+
+def listed(path):
+    """What each crate of such a list stands on, by its name."""
     found = {}
-    with open(os.path.join(ROOT, "crates.txt")) as file:
+    with open(path) as file:
         for line in file:
-            listed = re.match(r"(\w+)[^:#]*:([^#]*)", line)
-            if listed:
-                found[listed[1]] = listed[2].split()
+            row = re.match(r"(\w+)[^:#]*:([^#]*)", line)
+            if row:
+                found[row[1]] = row[2].split()
     return found
 
 
