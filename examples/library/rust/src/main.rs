@@ -1,4 +1,4 @@
-//! A node fails: what was synced is there on another, and what wasn't is gone.
+//! A cluster of two nodes: node 1 fails, and node 2 has what was synced.
 
 use assise::Cluster;
 use std::io::{self, Write};
@@ -9,7 +9,9 @@ fn main() -> io::Result<()> {
     letter.write_all(b"synced")?;
     letter.sync_all()?;
     letter.write_all(b", and lost")?;
-    println!("{:?}", cluster.fail(1)?);
+    for lost in cluster.fail(1)? {
+        println!("client {} loses its calls from {} on", lost.client, lost.first_call);
+    }
     let text = cluster.open(2)?.read_all("/letter")?;
     println!("{}", String::from_utf8_lossy(&text));
     Ok(())
