@@ -37,10 +37,10 @@ pub struct Sizes {
 /// on either cluster; a call is tried at most `turns` times, over links that lose nothing.
 ///
 /// First the old one's calls are made safe: where some aren't replicated each of its clients makes a dsync, with rounds. Nothing else
-/// happens to it, also where the new one is refused: with [`Refusal::Busy`] where a call of the old one isn't replicated then, so a node
-/// has to come back first; with [`Refusal::TooLarge`] where something lies deeper than a path goes; with [`Refusal::InodesSpent`] where
-/// there are more files and directories than one client may make; and with [`Refusal::OutOfMemory`]: beside the old cluster it takes the
-/// new one and twice the tree.
+/// happens to it, also where the new one is refused: with [`Refusal::Busy`] where a call of the old one isn't replicated then, as where
+/// what one node sends waits until another is raised; with [`Refusal::TooLarge`] where something lies deeper than a path goes; with
+/// [`Refusal::InodesSpent`] where there are more files and directories than one client may make; and with [`Refusal::OutOfMemory`]:
+/// beside the old cluster it takes the new one and twice the tree.
 pub fn renewed<C: Revokes + Drop>(
     alloc: Global,
     old: &mut ClusterOf<C>,
