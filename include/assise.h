@@ -138,6 +138,7 @@ enum assise_call {
     ASSISE_PRINT_HISTORY = 28,
     ASSISE_PRINT_TREE = 29,
     ASSISE_PAGE = 30,
+    ASSISE_LISTED = 31,
     ASSISE_SET_HOT = 32,
     ASSISE_RAISE = 33,
     ASSISE_SET_LINK = 34,
@@ -412,6 +413,12 @@ static inline int64_t assise_print_tree(struct assise_desk *desk, uint32_t node)
 
 /* The desk's text from a place on, as much of it as the desk's bytes take: how many these are, and 0 at its end. */
 static inline int64_t assise_page(struct assise_desk *desk, uint64_t from) { return assise_manage(desk, ASSISE_PAGE, 0, 0, 0, from, 0); }
+
+/* A page of what a call listed, from name `from` on, as assise_list has it, but without a call: it costs what it gives, and what was made
+ * or removed since shifts nothing. The call's place in the history is counted from 0; behind a listing it is assise_entries() - 1. */
+static inline int64_t assise_listed(struct assise_desk *desk, uint64_t place, uint64_t from) {
+    return assise_manage(desk, ASSISE_LISTED, 0, 0, 0, from, place);
+}
 
 /* How a node stands, one of `enum assise_phase`. */
 static inline int64_t assise_phase(struct assise_desk *desk, uint32_t node) {

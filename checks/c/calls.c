@@ -98,6 +98,10 @@ static void makes_files(void) {
     SEE(0, assise_truncate(&desk, 1, "/d/f", 2));
     SEE(2, assise_stat(&desk, 2, "/d/f"));
     SEE(2, assise_list(&desk, 2, "/d", 0));
+    uint64_t place = (uint64_t)assise_entries(&desk) - 1;
+    SEE(2, assise_listed(&desk, place, 0));
+    SEE(0, assise_listed(&desk, place, 1));
+    SEE(ASSISE_BAD_REQUEST, assise_listed(&desk, place + 1, 0));
     SEE(0, memcmp(desk.bytes, "f", 2));
     SEE(0, assise_rename(&desk, 2, "/d/f", "/g"));
     SEE(ASSISE_NO_ENT, assise_stat(&desk, 1, "/d/f"));

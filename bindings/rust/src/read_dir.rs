@@ -9,8 +9,7 @@ use std::vec;
 
 /// The names in a directory, a page at a time: what [`Client::read_dir`] gives.
 ///
-/// Other calls come between two pages. One that makes or removes a name then shifts those behind it, so that one may be left out, or come
-/// twice: [`Client::list`] has all names as they stand at once. Behind an error comes no more.
+/// They are those that stood there at once, whatever is made or removed between two pages. Behind an error comes no more.
 ///
 /// ```
 /// # fn main() -> std::io::Result<()> {
@@ -27,7 +26,8 @@ use std::vec;
 #[derive(Debug)]
 pub struct ReadDir {
     client: Client,
-    path: String,
+    /// Where the history has the listing, counted from 0.
+    place: u64,
     page: vec::IntoIter<String>,
     /// How many names of the directory came with this page and those before it.
     passed: u64,
@@ -42,14 +42,14 @@ impl Client {
     /// `ENOENT`, `ENOTDIR`.
     pub fn list(&self, path: impl AsRef<str>) -> io::Result<Vec<String>> {
         let path = path.as_ref();
-        let (mut desk, mut names) = (self.turn()?, Vec::new());
-        loop {
-            let (page, is_last) = self.page(&mut desk, path, names.len() as u64)?;
+        let mut desk = self.turn()?;
+        let (place, mut names, mut is_last) = self.first_page(&mut desk, path)?;
+        while !is_last {
+            let (page, is_over) = next_page(&mut desk, place, names.len() as u64)?;
             names.extend(page);
-            if is_last {
-                return Ok(names);
-            }
+            is_last = is_over;
         }
+        Ok(names)
     }
 
     /// The names in a directory, rising by their bytes, a page at a time. The first page is read at once.
@@ -58,24 +58,37 @@ impl Client {
     ///
     /// `ENOENT`, `ENOTDIR`. Each later page may come to any error of a call, in the place of a name.
     pub fn read_dir(&self, path: impl AsRef<str>) -> io::Result<ReadDir> {
-        let path = path.as_ref().to_string();
-        let (page, is_over) = self.page(&mut *self.turn()?, &path, 0)?;
-        Ok(ReadDir { client: self.clone(), path, passed: page.len() as u64, page: page.into_iter(), is_over })
+        let path = path.as_ref();
+        let (place, page, is_over) = self.first_page(&mut *self.turn()?, path)?;
+        Ok(ReadDir { client: self.clone(), place, passed: page.len() as u64, page: page.into_iter(), is_over })
     }
 
-    /// The page of names from number `first` on, and whether it is the last.
-    fn page(&self, desk: &mut Desk, path: &str, first: u64) -> io::Result<(Vec<String>, bool)> {
-        let count = desk.ask_at(Request { first, ..self.request(call::LIST) }, path, &[])?;
-        let names = names_of(desk.answer(count))?;
-        let passed = first.saturating_add(names.len() as u64);
-        let is_last = names.is_empty() || passed >= desk.stands();
-        Ok((names, is_last))
+    /// Where the history has a listing that is made now, with its first page of names, and whether it is the last.
+    fn first_page(&self, desk: &mut Desk, path: &str) -> io::Result<(u64, Vec<String>, bool)> {
+        let count = desk.ask_at(self.request(call::LIST), path, &[])?;
+        let (names, is_last) = page_of(desk, count, 0)?;
+        let place = desk.ask(Request::new(call::ENTRIES))?.saturating_sub(1);
+        Ok((place, names, is_last))
     }
+}
+
+/// The page of a listing from name `first` on, and whether it is the last.
+fn next_page(desk: &mut Desk, place: u64, first: u64) -> io::Result<(Vec<String>, bool)> {
+    let count = desk.ask(Request { first, second: place, ..Request::new(call::LISTED) })?;
+    page_of(desk, count, first)
+}
+
+/// The names in these first bytes of the answer, and whether they are the last.
+fn page_of(desk: &Desk, count: u64, first: u64) -> io::Result<(Vec<String>, bool)> {
+    let names = names_of(desk.answer(count))?;
+    let passed = first.saturating_add(names.len() as u64);
+    let is_last = names.is_empty() || passed >= desk.stands();
+    Ok((names, is_last))
 }
 
 impl ReadDir {
     fn turn_page(&mut self) -> io::Result<()> {
-        let read = self.client.turn().and_then(|mut desk| self.client.page(&mut desk, &self.path, self.passed));
+        let read = self.client.turn().and_then(|mut desk| next_page(&mut desk, self.place, self.passed));
         self.is_over = read.as_ref().map_or(true, |page| page.1);
         self.page = read?.0.into_iter();
         self.passed = self.passed.saturating_add(self.page.len() as u64);

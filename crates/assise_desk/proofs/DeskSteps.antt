@@ -33,7 +33,7 @@ use Rattle.assise_desk.specs.declared.desk_fault.DeskFault.{DeskFault}
 use Rattle.assise_desk.specs.declared.desk_request.DeskRequest.{DeskRequest}
 use Rattle.assise_desk.specs.CallNumbers.{desk_call_number}
 use Rattle.assise_desk.specs.NamedKinds.{durability_named, kind_named, link_named}
-use Rattle.assise_desk.specs.DeskAnswers.{AnswersAlone, AnswersRequest, DoesAt, IsOutOfRange, IsServedAt, ServesHot, ServesLink, ServesOpen, ShowsLosses, TellsRedo, answers_alone, done_told, has_no_cluster, is_no_request, number_told, opens_as, owned, request_calls, request_frees, request_makes, request_makes_none, request_manages, request_pages, request_prints, request_queries, result_shown, links_no_node, sets_hot, sets_link, RenewsAt, is_not_renewed, is_renewed, request_renews, sizes_asked}
+use Rattle.assise_desk.specs.DeskAnswers.{AnswersAlone, AnswersRequest, DoesAt, IsOutOfRange, IsServedAt, ServesHot, ServesLink, ServesOpen, ShowsLosses, TellsRedo, answers_alone, done_told, has_no_cluster, is_no_request, number_told, opens_as, owned, request_calls, request_frees, request_makes, request_manages, request_pages, request_prints, request_queries, result_shown, links_no_node, sets_hot, sets_link, RenewsAt, is_not_renewed, is_renewed, request_renews, request_shows_listed, sizes_asked}
 
 -- ---- one event
 
@@ -118,8 +118,7 @@ owned_is files owner seen is same = ap owned is ∙ ap Some (sym same)
 -- the answer says nothing of the number that the desk shows
 alone_shown : (d d' : CallerDesk) (result : Result ℕ DeskFault) (n : ℤ) → AnswersAlone d result d' → AnswersAlone d result record d' { result = n }
 alone_shown d d' result n (is_no_request none is same text) = is_no_request none is same text
-alone_shown d d' result n (request_makes files number made is text result_is) = request_makes files number made is text result_is
-alone_shown d d' result n (request_makes_none fault number h same text result_is) = request_makes_none fault number h same text result_is
+alone_shown d d' result n (request_makes number makes text) = request_makes number makes text
 alone_shown d d' result n (request_frees number none text result_is) = request_frees number none text result_is
 alone_shown d d' result n (has_no_cluster call number needs none still text result_is) = has_no_cluster call number needs none still text result_is
 
@@ -134,6 +133,7 @@ answered_shown d d' result n (request_queries query files number from leaves tel
 answered_shown d d' result n (request_calls call files left number served h) =
     request_calls call files left number record { from = served.from; leaves = served.leaves; turns = served.turns; text = served.text } h
 answered_shown d d' result n (request_prints text number same keeps stays) = request_prints text number same keeps record { bytes = stays.bytes; stays = stays.stays }
+answered_shown d d' result n (request_shows_listed files number from leaves shows text) = request_shows_listed files number from leaves shows text
 answered_shown d d' result n (request_pages number same text shows stands) = request_pages number same text shows stands
 
 pub served_at : (d d' : CallerDesk) (result : Result ℕ DeskFault) (n : ℤ) → n ≡ result_shown result → AnswersRequest d result d' → d'.request ≡ d.request → IsServedAt d record d' { result = n }

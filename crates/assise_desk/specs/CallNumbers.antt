@@ -7,7 +7,7 @@ use Rattle.assise_desk.specs.declared.desk_call.ClusterCall.TheVariants.{Open, C
 use Rattle.assise_desk.specs.declared.desk_call.ClusterQuery.{ClusterQuery}
 use Rattle.assise_desk.specs.declared.desk_call.ClusterQuery.TheVariants.{Legal, Entries, Payload, Phase, Standing, Home, Answered, Replicated}
 use Rattle.assise_desk.specs.declared.desk_call.DeskCall.{DeskCall}
-use Rattle.assise_desk.specs.declared.desk_call.DeskCall.TheVariants.{Make, Free, Cluster, Query, Client, Print, Page, Renew}
+use Rattle.assise_desk.specs.declared.desk_call.DeskCall.TheVariants.{Make, Free, Cluster, Query, Client, Print, Page, Listed, Renew}
 use Rattle.assise_desk.specs.declared.desk_call.DeskText.{DeskText}
 use Rattle.assise_desk.specs.declared.desk_call.DeskText.TheVariants.{History, Tree}
 
@@ -59,3 +59,4 @@ desk_call_number (Query query) = query_number query
 desk_call_number (Client call) = client_call_number call
 desk_call_number (Print text) = text_number text
 desk_call_number Page = 30
+desk_call_number Listed = 31

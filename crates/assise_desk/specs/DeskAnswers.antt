@@ -39,7 +39,7 @@ use Rattle.assise_desk.specs.declared.desk_call.ClusterCall.{ClusterCall}
 use Rattle.assise_desk.specs.declared.desk_call.ClusterCall.TheVariants.{Open, Crash, Fail, Back, Round, SetHot, Raise, SetLink, Redo}
 use Rattle.assise_desk.specs.declared.desk_call.ClusterQuery.{ClusterQuery}
 use Rattle.assise_desk.specs.declared.desk_call.DeskCall.{DeskCall}
-use Rattle.assise_desk.specs.declared.desk_call.DeskCall.TheVariants.{Make, Free, Cluster, Query, Client, Print, Page, Renew}
+use Rattle.assise_desk.specs.declared.desk_call.DeskCall.TheVariants.{Make, Free, Cluster, Query, Client, Print, Page, Listed, Renew}
 use Rattle.assise_desk.specs.declared.desk_call.DeskText.{DeskText}
 use Rattle.assise_desk.specs.declared.desk_fault.DeskFault.{DeskFault}
 use Rattle.assise_desk.specs.declared.desk_fault.DeskFault.TheVariants.{Refused, Tree, NoCluster, BadRequest, NoRoom}
@@ -52,6 +52,7 @@ use Rattle.assise_desk.specs.Pages.{loss_bytes, losses_bytes}
 use Rattle.assise_desk.specs.Queries.{AnswersQuery}
 use Rattle.assise_desk.specs.ShownReplies.{LeavesShown, ShowsReply, ShowsResult}
 use Rattle.assise_desk.specs.RequestedOps.{IsRequestedAt, MayAskForNone}
+use Rattle.assise_desk.specs.Listings.{ShowsListed}
 use Rattle.assise_desk.specs.Texts.{KeepsText, ShowsPageOf, text_kept}
 
 -- ---- numbers
@@ -89,6 +90,11 @@ IsOutOfRange r = (r.node < 1) ⊎ (MOST_NODES < r.node) ⊎ (r.first < 8) ⊎ (4
 pub data MayNotMake (r : DeskRequest) (fault : DeskFault) : Type 0 where
   is_out_of_range : IsOutOfRange r → fault ≡ BadRequest → MayNotMake r fault
   cluster_lacks_memory : (IsOutOfRange r → ⊥) → fault ≡ no_memory → MayNotMake r fault
+
+-- one comes in place of the desk's own if it has one; or there is a fault, and that stays
+pub data MakesCluster (r : DeskRequest) (before : Option Files) (result : Result ℕ DeskFault) (after : Option Files) : Type 0 where
+  makes_cluster : (files : Files) → IsClusterMade r files → after ≡ Some files → result ≡ Ok 0 → MakesCluster r before result after
+  makes_no_cluster : (fault : DeskFault) → MayNotMake r fault → after ≡ before → result ≡ Err fault → MakesCluster r before result after
 
 -- ---- a cluster is renewed
 
@@ -269,12 +275,12 @@ NeedsCluster (Query query) = Unit {0}
 NeedsCluster (Client call) = Unit {0}
 NeedsCluster (Print text) = ⊥
 NeedsCluster Page = ⊥
+NeedsCluster Listed = Unit {0}
 
 -- a request that no cluster serves: the bytes, and what stands at the path, are as they were
 pub data AnswersAlone (d : CallerDesk) (result : Result ℕ DeskFault) (d' : CallerDesk) : Type 0 where
   is_no_request : ((call : DeskCall) → desk_call_number call ≢ d.request.call) → result ≡ Err BadRequest → files_at d' ≡ files_at d → text_at d' ≡ text_at d → AnswersAlone d result d'
-  request_makes : (files : Files) → desk_call_number Make ≡ d.request.call → IsClusterMade d.request files → files_at d' ≡ Some files → text_at d' ≡ text_at d → result ≡ Ok 0 → AnswersAlone d result d'
-  request_makes_none : (fault : DeskFault) → desk_call_number Make ≡ d.request.call → MayNotMake d.request fault → files_at d' ≡ files_at d → text_at d' ≡ text_at d → result ≡ Err fault → AnswersAlone d result d'
+  request_makes : desk_call_number Make ≡ d.request.call → MakesCluster d.request (files_at d) result (files_at d') → text_at d' ≡ text_at d → AnswersAlone d result d'
   request_frees : desk_call_number Free ≡ d.request.call → files_at d' ≡ None → text_at d' ≡ [] → result ≡ Ok 0 → AnswersAlone d result d'
   has_no_cluster : (call : DeskCall) → desk_call_number call ≡ d.request.call → NeedsCluster call → files_at d ≡ None → files_at d' ≡ None → text_at d' ≡ text_at d → result ≡ Err NoCluster → AnswersAlone d result d'
 
@@ -298,6 +304,8 @@ pub data AnswersRequest (d : CallerDesk) (result : Result ℕ DeskFault) (d' : C
       IsServedTo call d.request d.bytes d'.bytes d.stands d'.stands files result left → AnswersRequest d result d'
   request_prints : (text : DeskText) → desk_call_number (Print text) ≡ d.request.call → files_at d' ≡ files_at d → KeepsText text d.request.node (files_at d) (text_at d) result (text_at d') → LeavesDesk d d' →
       AnswersRequest d result d'
+  request_shows_listed : (files : Files) → desk_call_number Listed ≡ d.request.call → files_at d ≡ Some files → files_at d' ≡ Some files →
+      ShowsListed (cluster_seen files).history d.request.second d.request.first result d.bytes d'.bytes d.stands d'.stands → text_at d' ≡ text_at d → AnswersRequest d result d'
   request_pages : desk_call_number Page ≡ d.request.call → files_at d' ≡ files_at d → text_at d' ≡ text_at d → ShowsPageOf (text_at d) d.request.first result d'.bytes → d'.stands ≡ d.stands →
       AnswersRequest d result d'
 

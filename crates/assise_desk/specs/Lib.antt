@@ -5,5 +5,6 @@ pub mod NamedKinds
 pub mod Pages
 pub mod ShownReplies
 pub mod Texts
+pub mod Listings
 pub mod DeskAnswers
 pub mod Queries

@@ -5,12 +5,13 @@ ghost use Rattle.assise_link.specs.TestLinks.{kind_of_link};
 ghost use Rattle.assise_files.specs.FilesSeen.{cluster_seen, links_seen, most_tries};
 ghost use Rattle.assise_rounds.specs.Traces.{Told};
 ghost use Rattle.assise_desk.specs.NamedKinds.{durability_named, kind_named, link_named};
-ghost use Rattle.assise_desk.specs.DeskAnswers.{CallsAt, DoesAt, AnswersRequest, IsClusterMade, IsServedAt, IsServedTo, LeavesBytes, LeavesLinks, MayNotMake, ServesHot, ServesLink, ServesOpen, ShowsLosses, TellsRedo, cluster_at, number_told, done_told, owned, redo_fault, replied_at, result_shown, RenewsAt};
+ghost use Rattle.assise_desk.specs.DeskAnswers.{CallsAt, DoesAt, AnswersRequest, IsClusterMade, IsServedAt, IsServedTo, LeavesBytes, LeavesLinks, MakesCluster, MayNotMake, ServesHot, ServesLink, ServesOpen, ShowsLosses, TellsRedo, cluster_at, number_told, done_told, owned, redo_fault, replied_at, result_shown, RenewsAt};
 ghost use Rattle.assise_desk.specs.Texts.{KeepsText, text_kept};
 
 use crate::desk_call::{ClientCall, ClusterCall, DeskCall, DeskText};
 use crate::desk_fault::DeskFault;
 use crate::desk_request::{DESK_BYTES, DeskRequest};
+use crate::listings::show_listed;
 use crate::page::{place_loss, place_losses};
 use crate::queries::tell;
 use crate::reply_shown::show_reply;
@@ -94,13 +95,7 @@ fn answer_request(alloc: Global, desk: &mut CallerDesk) -> Result<u64, DeskFault
     let request = desk.request;
     match DeskCall::of_number(request.call) {
         None => Err(DeskFault::BadRequest),
-        Some(DeskCall::Make) => match make_cluster(alloc, &request) {
-            Ok(files) => {
-                desk.files = Some(files);
-                Ok(0)
-            }
-            Err(fault) => Err(fault),
-        },
+        Some(DeskCall::Make) => make(alloc, &request, &mut desk.files),
         Some(DeskCall::Free) => free(&mut desk.files, &mut desk.text),
         Some(DeskCall::Cluster(call)) => match &mut desk.files {
             None => Err(DeskFault::NoCluster),
@@ -127,8 +122,31 @@ fn answer_request(alloc: Global, desk: &mut CallerDesk) -> Result<u64, DeskFault
             None => Err(DeskFault::NoCluster),
             Some(files) => renew_cluster(alloc, files, &request),
         },
+        Some(DeskCall::Listed) => match &desk.files {
+            None => Err(DeskFault::NoCluster),
+            Some(files) => {
+                show_listed(files.history(), &request, &mut desk.bytes, &mut desk.stands)
+            }
+        },
         Some(DeskCall::Print(text)) => keep(alloc, &desk.files, text, &request, &mut desk.text),
         Some(DeskCall::Page) => Ok(place_text(&desk.text, request.first, &mut desk.bytes) as u64),
+    }
+}
+
+/// The cluster that a request asks for comes in place of a desk's own.
+fn make(
+    alloc: Global,
+    request: &DeskRequest,
+    files: &mut Option<Box<Files>>,
+) -> Result<u64, DeskFault>
+    ensures { MakesCluster request.now (owned files.old) result (owned files.new) }
+{
+    match make_cluster(alloc, request) {
+        Ok(made) => {
+            *files = Some(made);
+            Ok(0)
+        }
+        Err(fault) => Err(fault),
     }
 }
 

@@ -22,6 +22,8 @@ pub enum DeskCall {
     Print(DeskText),
     /// A page of the desk's text is shown (30).
     Page,
+    /// A page of what a call of the history listed is shown (31).
+    Listed,
 }
 
 /// What is printed of a cluster.
@@ -143,6 +145,7 @@ impl DeskCall {
             28 => Some(DeskCall::Print(DeskText::History)),
             29 => Some(DeskCall::Print(DeskText::Tree)),
             30 => Some(DeskCall::Page),
+            31 => Some(DeskCall::Listed),
             32 => Some(DeskCall::Cluster(ClusterCall::SetHot)),
             33 => Some(DeskCall::Cluster(ClusterCall::Raise)),
             34 => Some(DeskCall::Cluster(ClusterCall::SetLink)),

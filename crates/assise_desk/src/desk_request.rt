@@ -35,7 +35,7 @@ pub struct DeskRequest {
     /// records of a log, 8 to 4,096; how many inodes a node keeps hot, 1 to 4,096; how many bytes a cutting link lets through; of a redo
     /// the number of the first lost call; the place in a text from which on a page is shown.
     pub first: u64,
-    /// The most bytes of a read; of a new cluster the most hot inodes of a node, 1 to 4,096; of a client that is opened its fsyncs: 0 is
+    /// The most bytes of a read; the place of a listing in the history, from 0; of a new cluster the most hot inodes of a node, 1 to 4,096; of a client that is opened its fsyncs: 0 is
     /// pessimistic, 1 optimistic.
     pub second: u64,
 }

@@ -7,6 +7,7 @@ pub mod desk_call;
 pub mod desk_fault;
 pub mod desk_request;
 pub mod laws;
+mod listings;
 mod page;
 mod queries;
 mod reply_shown;

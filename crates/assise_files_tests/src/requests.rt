@@ -7,6 +7,9 @@ use std::alloc::Global;
 /// The number of a listing.
 const LIST: u32 = 24;
 
+/// The number of a listing that goes on.
+const LISTED: u32 = 31;
+
 /// The number of a redo.
 const REDO: u32 = 35;
 
@@ -96,7 +99,7 @@ impl Subject for Requests {
                 _ => self.step(alloc, step)?,
             }
             let (result, names) = (self.desk.result, self.desk.stands);
-            if self.desk.request.call == LIST {
+            if self.desk.request.call == LIST || self.desk.request.call == LISTED {
                 write!(text, " {result} of {names}").ok()?;
             } else {
                 write!(text, " {result}").ok()?;
@@ -162,6 +165,7 @@ fn call_named(word: &str) -> Option<u32> {
         "history" => Some(28),
         "tree" => Some(29),
         "page" => Some(30),
+        "listed" => Some(LISTED),
         "hot" => Some(32),
         "raise" => Some(33),
         "link" => Some(34),

@@ -33,6 +33,7 @@ fn a_long_listing_comes_in_pages(rt: HostRuntime) {
         &rt,
         "\
 make 1 64 8; open 1; mkdir 1 /d; files /d; list 1 /d; list 1 61 /d => 0 1 0 0 12261 of 100 7839 of 100
+listed 0 61 102; listed 0 99 102; listed 0 100 102; entries; listed 0 0 101; listed 0 0 0; listed 0 0 104 => 7839 of 100 201 of 100 0 of 100 104 -302 of 100 -302 of 100 -302 of 100
 list 1 99 /d; list 1 100 /d; list 1 101 /d; mkdir 1 /d/e; list 1 /; list 1 1 / => 201 of 100 0 of 100 0 of 100 0 2 of 1 0 of 1
 ",
     );
@@ -44,7 +45,7 @@ fn what_is_asked_wrongly(rt: HostRuntime) {
         rt.alloc(),
         &rt,
         "\
-open 1; stat 1 /; 0; 31; 37; make 0 8 4; make 17 8 4 => -301 -301 -302 -302 -302 -302 -302
+open 1; stat 1 /; 0; 38; 37; make 0 8 4; make 17 8 4 => -301 -301 -302 -302 -302 -302 -302
 make 1 7 4; make 1 4097 4; make 1 8; make 1 8 4097; stat 1 / => -302 -302 -302 -302 -301
 make 2 8 4; open 3; open 1; open 2; stat 3 /; stat 1 a; stat 1 //; stat 1 /.. => 0 -108 1 2 -109 -201 -202 -203
 rename 1 a //; rename 1 // a => -201 -202

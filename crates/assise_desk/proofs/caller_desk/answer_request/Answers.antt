@@ -1,18 +1,13 @@
-use Rattle.std.proofs.Common.{refl, ap}
-use Rattle.assise_desk.specs.declared.desk_call.DeskCall.TheVariants.{Client, Cluster, Make, Print, Query, Renew}
-use Rattle.assise_desk.specs.DeskAnswers.{answers_alone, request_calls, has_no_cluster, request_makes, request_makes_none, request_manages, request_prints, request_queries, owned, request_renews}
+use Rattle.std.proofs.Common.{refl, ap, subst}
+use Rattle.assise_desk.specs.declared.desk_call.DeskCall.TheVariants.{Client, Cluster, Listed, Make, Print, Query, Renew}
+use Rattle.assise_desk.specs.DeskAnswers.{answers_alone, request_calls, has_no_cluster, request_makes, request_manages, request_prints, request_queries, request_renews, request_shows_listed, owned}
+use Rattle.assise_desk.specs.Listings.{ShowsListed}
 use Rattle.assise_desk.proofs.DeskSteps.{number_is, owned_is}
 use Rattle.assise_desk.proofs.caller_desk.answer_request.Goals as goal
 
-pub returns-in-Ok-clause-answered : goal.returns-in-Ok-clause-answered
-returns-in-Ok-clause-answered c =
-    answers_alone (request_makes c.in-Ok.files.value (number_is c.in-Some-Make.field-0 Make c.args.desk.now.request.call c.in-Some-Make.field-0-is c.in-Some-Make.ensures) c.in-Ok.ensures.made refl refl refl)
-    record { bytes = refl; stays = refl }
-
-pub returns-in-Err-clause-answered : goal.returns-in-Err-clause-answered
-returns-in-Err-clause-answered c =
-    answers_alone (request_makes_none c.in-Err.fault (number_is c.in-Some-Make.field-0 Make c.args.desk.now.request.call c.in-Some-Make.field-0-is c.in-Some-Make.ensures) c.in-Err.ensures.fault refl refl refl)
-    record { bytes = refl; stays = refl }
+pub returns-in-Some-Make-clause-answered : goal.returns-in-Some-Make-clause-answered
+returns-in-Some-Make-clause-answered c =
+    answers_alone (request_makes (number_is c.in-Some-Make.field-0 Make c.args.desk.now.request.call c.in-Some-Make.field-0-is c.in-Some-Make.ensures) c.make.ensures refl) record { bytes = refl; stays = refl }
 
 pub returns-in-None-files-clause-answered : goal.returns-in-None-files-clause-answered
 returns-in-None-files-clause-answered c =
@@ -83,3 +78,17 @@ returns-in-Some-files-3-clause-answered c =
       turns = c.renew_cluster.ensures.turns;
       text = refl;
     } c.renew_cluster.ensures.renews c.renew_cluster.ensures.links record { bytes = refl; stays = refl }
+
+pub returns-in-None-files-5-clause-answered : goal.returns-in-None-files-5-clause-answered
+returns-in-None-files-5-clause-answered c =
+    answers_alone (has_no_cluster Listed
+    (number_is c.in-Some-Listed.field-0 Listed c.args.desk.now.request.call c.in-Some-Listed.field-0-is c.in-Some-Listed.ensures) tt
+    (ap owned c.in-None-files-5.is) (ap owned c.in-None-files-5.is) refl refl) record { bytes = refl; stays = refl }
+
+pub returns-in-Some-files-4-clause-answered : goal.returns-in-Some-files-4-clause-answered
+returns-in-Some-files-4-clause-answered c =
+    let there = owned_is c.args.desk.now.files c.in-Some-files-4.files c.deref-in-Some-files-4.result.now c.in-Some-files-4.is c.deref-in-Some-files-4.ensures in
+    let d = c.args.desk.now in
+    request_shows_listed c.deref-in-Some-files-4.result.now
+    (number_is c.in-Some-Listed.field-0 Listed c.args.desk.now.request.call c.in-Some-Listed.field-0-is c.in-Some-Listed.ensures) there there
+    (subst (λ h. ShowsListed h d.request.second d.request.first c.show_listed.result d.bytes c.show_listed.new.out d.stands c.show_listed.new.stands) c.history.ensures c.show_listed.ensures) refl
