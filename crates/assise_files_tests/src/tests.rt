@@ -26,6 +26,7 @@ make 3 8 4; open 3 2; open 2 1; create 1 /f; often write 2 /f x; often write 1 /
     );
 }
 
+// The log takes 64 records, so a dsync stands between the 102 calls in front of the first listing.
 #[test]
 fn a_long_listing_comes_in_pages(rt: HostRuntime) {
     show(
@@ -33,7 +34,7 @@ fn a_long_listing_comes_in_pages(rt: HostRuntime) {
         &rt,
         "\
 make 1 64 8; open 1; mkdir 1 /d; files /d; list 1 /d; list 1 61 /d => 0 1 0 0 12261 of 100 7839 of 100
-listed 0 61 102; listed 0 99 102; listed 0 100 102; entries; listed 0 0 101; listed 0 0 0; listed 0 0 104 => 7839 of 100 201 of 100 0 of 100 104 -302 of 100 -302 of 100 -302 of 100
+listed 0 61 103; listed 0 99 103; listed 0 100 103; entries; listed 0 0 102; listed 0 0 0; listed 0 0 105 => 7839 of 100 201 of 100 0 of 100 105 -302 of 100 -302 of 100 -302 of 100
 list 1 99 /d; list 1 100 /d; list 1 101 /d; mkdir 1 /d/e; list 1 /; list 1 1 / => 201 of 100 0 of 100 0 of 100 0 2 of 1 0 of 1
 ",
     );
