@@ -1,8 +1,6 @@
 // A thread that delivers or reads, with its client.
-ghost use Rattle.std.specs.Prelude.{◌≡◌};
 ghost use Rattle.assise_keeper.specs.Clients.{MayOpenClients};
 ghost use Rattle.assise_keeper.specs.Passes.{IsPassOf, opens};
-ghost use Rattle.assise_keeper.specs.declared.view.Opens.TheVariants.{AmongOthers};
 
 use assise_keeper::keeper::Keeper;
 use assise_keeper::pass::Pass;
@@ -20,52 +18,34 @@ pub const SURVIVOR: u32 = 2;
 /// The turns of a call.
 const TURNS: u32 = 1_000_000;
 
-/// A thread's client, and what it takes to open another where the client's node fails: a pass that may, and a revoker.
+/// A thread's client, and one on the node that doesn't fail, with which it goes on where the client's node fails.
+#[derive(Drop)]
 pub struct Mailer<'a, S: Served>
 where
     S::Stored: Drop,
 {
-    keeper: &'a Keeper<S>,
-    pass: Pass<S>,
-    spare: Option<S::Stored>,
     pub files: LibFs<'a, S>,
-    ghost ours: { IsPassOf keeper.now pass },
-    ghost right: { opens pass ≡ AmongOthers },
+    spare: Option<LibFs<'a, S>>,
 }
 
-// One call lets go of it, wherever it is owned.
-impl<S: Served> Drop for Mailer<'_, S>
-where
-    S::Stored: Drop,
-{
-    fn drop(self) {
-        let Mailer {
-            keeper: _,
-            pass: _,
-            spare: _,
-            files: _,
-        } = self;
-    }
-}
-
-/// Opens a client on a node, with a revoker, if there is one left.
+/// Opens a client on a node, with one of the revokers, if there is one left.
 fn open_files<'a, S: Served, R: Wait>(
     rt: &R,
     alloc: Global,
     keeper: &'a Keeper<S>,
-    pass: &mut Pass<S>,
+    main: &mut Pass<S>,
+    revokers: &mut Vec<S::Stored>,
     node: u32,
-    revoker: Option<S::Stored>,
 ) -> Result<LibFs<'a, S>, MailFault>
 where
     S::Stored: Drop,
-    requires { IsPassOf keeper.now pass.old × MayOpenClients (opens pass.old) }
-    ensures { IsPassOf keeper.now pass.new × (opens pass.new ≡ AmongOthers) }
+    requires { IsPassOf keeper.now main.old × MayOpenClients (opens main.old) }
+    ensures { IsPassOf keeper.now main.new × MayOpenClients (opens main.new) }
 {
-    let own = keeper.split_sharing(pass);
-    let Some(revoker) = revoker else {
+    let Some(revoker) = revokers.pop() else {
         return Err(MailFault::Refused(Refusal::BadClient));
     };
+    let own = keeper.split_sharing(main);
     let durability = Durability::Pessimistic;
     match LibFs::open(rt, alloc, keeper, own, node, revoker, durability, TURNS) {
         Ok(files) => Ok(files),
@@ -80,7 +60,7 @@ where
     ghost use Rattle.assise_keeper.specs.Clients.{MayOpenClients};
     ghost use Rattle.assise_keeper.specs.Passes.{IsPassOf, opens};
 
-    /// With a client on a node, and two of the revokers: one for the client, one to spare.
+    /// With a client on a node, and one to spare, each of which has one of the revokers.
     pub fn new<R: Wait>(
         rt: &R,
         alloc: Global,
@@ -92,20 +72,20 @@ where
         requires { IsPassOf keeper.now main.old × MayOpenClients (opens main.old) }
         ensures { IsPassOf keeper.now main.new × MayOpenClients (opens main.new) }
     {
-        let mut pass = keeper.split_sharing(main);
-        let files = open_files(rt, alloc, keeper, &mut pass, node, revokers.pop())?;
+        let files = open_files(rt, alloc, keeper, main, revokers, node)?;
+        let spare = open_files(rt, alloc, keeper, main, revokers, SURVIVOR)?;
         Ok(Mailer {
-            keeper,
-            pass,
-            spare: revokers.pop(),
             files,
+            spare: Some(spare),
         })
     }
 
-    /// Goes on with a client on the node that doesn't fail.
-    pub fn go_on<R: Wait>(&mut self, rt: &R, alloc: Global) -> Result<(), MailFault> {
-        let revoker = self.spare.take();
-        self.files = open_files(rt, alloc, self.keeper, &mut self.pass, SURVIVOR, revoker)?;
+    /// Goes on with the client on the node that doesn't fail.
+    pub fn go_on(&mut self) -> Result<(), MailFault> {
+        let Some(spare) = self.spare.take() else {
+            return Err(MailFault::Refused(Refusal::BadClient));
+        };
+        self.files = spare;
         Ok(())
     }
 }

@@ -29,7 +29,7 @@ where
         match look(rt, alloc, &mut mailer.files) {
             Ok(ALL) => return Ok(mailer.files.node()),
             Ok(_) => thread::yield_now(),
-            Err(MailFault::Refused(Refusal::NodeDown)) => mailer.go_on(rt, alloc)?,
+            Err(MailFault::Refused(Refusal::NodeDown)) => mailer.go_on()?,
             Err(fault) => return Err(fault),
         }
     }

@@ -47,7 +47,7 @@ where
 {
     match deliver(rt, alloc, &mut mailer.files, name, 1) {
         Err(MailFault::Refused(Refusal::NodeDown)) => {
-            mailer.go_on(rt, alloc)?;
+            mailer.go_on()?;
             deliver_unless_there(rt, alloc, &mut mailer.files, name)
         }
         came => came,
