@@ -1,4 +1,4 @@
-"""What bench/run --budget measures: for each table of docs/PERFORMANCE.md one ratio, of instructions where valgrind can count
+"""What bench/run --budget measures: for tables of docs/PERFORMANCE.md one ratio each, of instructions where valgrind can count
 them, else of processor time, and the most that it may be."""
 
 from measure import COMPARED, Bench, plain_program

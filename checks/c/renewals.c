@@ -1,14 +1,13 @@
 /* renewals: trees by chance, with clients that crash and nodes that fail, and renewals to other sizes. What a walk finds has to be the same
  * before and behind each, at each node of the new cluster, and where its first node fails. Prints each step that comes to something else,
  * and last `N passed, M failed`. */
-#include <assise.h>
+#include "walk.h"
 #include <inttypes.h>
 #include <stdio.h>
 #include <stdlib.h>
 
 #define RENEWALS 24
 #define CALLS 400
-#define MOST_PATH 2048
 
 static struct assise_desk desk;
 static int passed, failed;
@@ -37,7 +36,7 @@ static void put_path(char *path, uint32_t deep) {
 
 static void make_calls(uint32_t client, int calls, uint32_t deep) {
     static uint8_t data[3 * ASSISE_BYTES];
-    char path[MOST_PATH], other[MOST_PATH];
+    char path[WALK_MOST_PATH], other[WALK_MOST_PATH];
     for (int k = 0; k < calls; k++) {
         put_path(path, deep);
         put_path(other, deep);
@@ -53,33 +52,6 @@ static void make_calls(uint32_t client, int calls, uint32_t deep) {
     }
 }
 
-static uint64_t mixed(uint64_t sum, const void *bytes, size_t count) {
-    for (size_t k = 0; k < count; k++) sum = (sum ^ ((const uint8_t *)bytes)[k]) * 1099511628211u;
-    return sum;
-}
-
-/* A sum of all that lies at a path and below: names, kinds, sizes and bytes. */
-static uint64_t walk(uint32_t client, char *path, uint64_t sum) {
-    static uint8_t data[ASSISE_MOST_FILE_BYTES];
-    size_t end = strlen(path);
-    int64_t size = assise_stat(&desk, client, end ? path : "/");
-    uint64_t stands = desk.stands;
-    sum = mixed(mixed(mixed(sum, path, end), &stands, sizeof stands), &size, sizeof size);
-    if (stands == ASSISE_FILE) return mixed(sum, data, (size_t)assise_read(&desk, client, path, data, (uint64_t)size, 0));
-    for (int64_t name = 0; name < size; name++) {
-        if (assise_list(&desk, client, end ? path : "/", (uint64_t)name) <= 0) return 0;
-        sprintf(path + end, "/%s", (const char *)desk.bytes);
-        sum = walk(client, path, sum);
-        path[end] = 0;
-    }
-    return sum;
-}
-
-static int64_t sum_of(uint32_t client) {
-    char path[MOST_PATH] = "";
-    return (int64_t)(walk(client, path, 1) >> 1);
-}
-
 /* A client on the second node makes calls, and crashes, loses its node, or goes on. */
 static void trouble(void) {
     int64_t other = assise_open(&desk, 2, below(3));
@@ -91,12 +63,17 @@ static void trouble(void) {
     }
 }
 
+/* What a new client finds at a node. */
+static int64_t walk_at(uint32_t node) {
+    return walk(&desk, (uint32_t)assise_open(&desk, node, ASSISE_LEAST));
+}
+
 /* Each node has the tree, and so has the second where the first fails. */
 static void see_nodes(int renewal, uint32_t nodes, int64_t sum) {
-    for (uint32_t node = 2; node <= nodes; node++) see("a node", renewal, sum_of((uint32_t)assise_open(&desk, node, ASSISE_LEAST)), sum);
+    for (uint32_t node = 2; node <= nodes; node++) see("a node", renewal, walk_at(node), sum);
     if (nodes == 1 || below(2)) return;
     see("a failure", renewal, assise_fail(&desk, 1), 0);
-    see("behind it", renewal, sum_of((uint32_t)assise_open(&desk, 2, ASSISE_LEAST)), sum);
+    see("behind it", renewal, walk_at(2), sum);
     see("a return", renewal, assise_back(&desk, 1), 0);
 }
 
@@ -108,10 +85,10 @@ int main(void) {
         int64_t client = assise_open(&desk, 1, below(3));
         make_calls((uint32_t)client, CALLS, 1 + below(16));
         trouble();
-        int64_t sum = sum_of((uint32_t)client);
+        int64_t sum = walk(&desk, (uint32_t)client);
         uint32_t nodes = 1 + below(4);
         see("renew", renewal, assise_renew(&desk, nodes, logs[below(4)], 1 + below(64), below(3)), 0);
-        see("client 1", renewal, sum_of(1), sum);
+        see("client 1", renewal, walk(&desk, 1), sum);
         see("legal", renewal, assise_legal(&desk), 1);
         see_nodes(renewal, nodes, sum);
     }

@@ -40,9 +40,17 @@ static unsigned chance(unsigned long seed, unsigned limit) {
     return (unsigned)((seed * 6364136223846793005UL + 1442695040888963407UL) >> 33) % limit;
 }
 
-int bank_transfer(sqlite3 *bank, long number) {
+struct bank_terms bank_terms(long number) {
     unsigned long seed = (unsigned long)number * 3;
-    unsigned source = chance(seed, BANK_ACCOUNTS), target = chance(seed + 1, BANK_ACCOUNTS), amount = chance(seed + 2, 50);
+    return (struct bank_terms){
+        .source = chance(seed, BANK_ACCOUNTS),
+        .target = chance(seed + 1, BANK_ACCOUNTS),
+        .amount = chance(seed + 2, 50),
+    };
+}
+
+int bank_transfer(sqlite3 *bank, long number) {
+    struct bank_terms terms = bank_terms(number);
     char sql[SQL_BYTES];
     snprintf(sql, sizeof sql,
              "BEGIN IMMEDIATE;"
@@ -50,7 +58,8 @@ int bank_transfer(sqlite3 *bank, long number) {
              "UPDATE account SET balance = balance + %u WHERE id = %u;"
              "INSERT INTO transfer VALUES(%ld, %u, %u, %u);"
              "COMMIT",
-             amount, source, amount, target, number, source, target, amount);
+             terms.amount, terms.source, terms.amount, terms.target, number, terms.source, terms.target,
+             terms.amount);
     int code = run(bank, sql);
     if (code != SQLITE_OK)
         run(bank, "ROLLBACK");

@@ -16,11 +16,19 @@ struct bank_state {
     int has_no_gap;  /* they are numbered from 0 on */
 };
 
+/* What a transfer moves, from one account to another. */
+struct bank_terms {
+    unsigned source, target, amount;
+};
+
 /* Opens a database of a VFS with these pragmas, or answers NULL. */
 sqlite3 *bank_open(const char *vfs_name, const char *path, const char *pragmas);
 
 /* Makes the tables and the accounts: SQLite's code. */
 int bank_fill(sqlite3 *bank);
+
+/* What the transfer of this number moves. */
+struct bank_terms bank_terms(long number);
 
 /* Makes the transfer of this number in one transaction: SQLite's code. A transfer that isn't made is rolled back. */
 int bank_transfer(sqlite3 *bank, long number);

@@ -391,6 +391,17 @@ int64_t vfs_client_open(struct vfs_client *client, struct vfs_cluster *cluster, 
     return sqlite3_vfs_register(&client->base, 0) == SQLITE_OK ? number : ASSISE_OUT_OF_MEMORY;
 }
 
+int64_t vfs_client_renew(struct vfs_client *client, uint32_t nodes, uint64_t log, uint64_t hot) {
+    struct assise_desk *desk = take_turn(client);
+    int64_t result = ASSISE_NODE_DOWN;
+    if (assise_standing(desk, client->number) == ASSISE_ALIVE)
+        result = assise_renew(desk, nodes, log, hot, ASSISE_LEAST);
+    if (result >= 0)
+        client->number = 1;
+    end_turn(client);
+    return result;
+}
+
 void vfs_client_forget(struct vfs_client *client) {
     sqlite3_vfs_unregister(&client->base);
 }

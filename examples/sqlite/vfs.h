@@ -58,6 +58,12 @@ void vfs_cluster_end(struct vfs_cluster *cluster);
 /* Opens a client on a node, registers it under a name that outlives it, and answers the client's number or a fault. */
 int64_t vfs_client_open(struct vfs_client *client, struct vfs_cluster *cluster, uint32_t node, const char *name, unsigned options);
 
+/* Renews a client's cluster, to these sizes, and answers 0; or a fault, and the client goes on as
+ * before. Behind it the client is the new cluster's first, and its databases stay open. All other
+ * clients of the cluster are over: close their databases and forget them before. A client whose
+ * node has failed is refused, since what its databases hold in memory may be lost. */
+int64_t vfs_client_renew(struct vfs_client *client, uint32_t nodes, uint64_t log, uint64_t hot);
+
 /* Takes a client's name from SQLite. Its databases are closed. */
 void vfs_client_forget(struct vfs_client *client);
 
