@@ -7,12 +7,15 @@ use assise_lease_table::revoker::Revokes;
 use assise_machine::cluster::ClusterOf;
 use assise_names::byte_string::ByteString;
 use assise_names::call::Op;
+use assise_names::name::Name;
 use assise_names::path::{Path, PathFault};
 use assise_names::refusal::Refusal;
 use assise_rounds::rounds::round;
 use assise_seq_tree::contents::copied;
+use assise_seq_tree::traversal::Traversal;
 use assise_seq_tree::tree::Tree;
 use std::alloc::Global;
+use std::collections::BTreeMap;
 
 /// The client that makes the tree.
 const FIRST: u32 = 1;
@@ -29,27 +32,44 @@ pub(crate) fn fill<C: Revokes + Drop>(
 ) -> Result<(), Refusal>
     ensures { IsLedBy IsOfFirst (machine cluster.old) (machine cluster.new) }
 {
-    fill_below(alloc, cluster, "", tree, turns)?;
+    if let Ok(entries) = tree.entries() {
+        fill_directory(alloc, cluster, entries, turns)?;
+    }
     make(alloc, cluster, &Op::Dsync, turns)
 }
 
-/// Client 1 makes what a tree has below a path.
-fn fill_below<C: Revokes + Drop>(
+/// Client 1 makes what a directory has, at every depth.
+fn fill_directory<C: Revokes + Drop>(
     alloc: Global,
     cluster: &mut ClusterOf<C>,
-    above: &str,
-    tree: &Tree,
+    entries: &BTreeMap<Name, Tree>,
     turns: u32,
 ) -> Result<(), Refusal>
     ensures { IsLedBy IsOfFirst (machine cluster.old) (machine cluster.new) }
 {
-    if let Ok(entries) = tree.entries() {
-        for (name, child) in entries {
-            let path = format!(in alloc; "{above}/{name}")?;
-            make_one(alloc, cluster, path.as_str(), child, turns)?;
-            fill_below(alloc, cluster, path.as_str(), child, turns)?;
-        }
+    let mut traversal = Traversal::new(alloc, entries);
+    while let Some((name, tree)) = traversal.next() {
+        let path = spelled(alloc, traversal.path(), name)?;
+        make_one(alloc, cluster, path.as_str(), tree, turns)?;
+        traversal.enter(name, tree)?;
     }
+    Ok(())
+}
+
+/// How the path of an entry is spelled, of the directory at a path.
+fn spelled(alloc: Global, path: &[&Name], name: &Name) -> Result<String, Refusal> {
+    let mut text = String::new(alloc);
+    for above in path {
+        push(&mut text, above)?;
+    }
+    push(&mut text, name)?;
+    Ok(text)
+}
+
+/// A slash, and then a name.
+fn push(text: &mut String, name: &Name) -> Result<(), Refusal> {
+    text.push_str("/")?;
+    text.push_str(name.as_str())?;
     Ok(())
 }
 

@@ -149,7 +149,7 @@ fn has_tree<C: Revokes + Drop>(
         return Ok(false);
     }
     let made = replicated_tree(alloc, cluster)?;
-    Ok(is_same(&made, tree))
+    is_same(alloc, &made, tree)
 }
 
 /// Whether nodes 1 to `nodes` are up.

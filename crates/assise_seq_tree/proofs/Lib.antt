@@ -22,4 +22,7 @@ pub mod CallOrder
 pub mod EntryAdded
 pub mod TreePrinted
 pub mod Placed
+mod FirstEntry
+mod LastEntry
+mod Traversed
 mod SameTrees

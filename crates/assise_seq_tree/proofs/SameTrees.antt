@@ -1,7 +1,8 @@
 -- Two trees that are compared entry by entry.
-use Rattle.std.proofs.Common.{◌≡◌, ◌↔◌, List, [], ◌∷◌, Ok, refl, ap, sym, ◌∙◌}
+use Rattle.std.proofs.Common.{◌≡◌, ◌↔◌, ◌+◌, ℕ, List, [], ◌∷◌, ◌++◌, Bor, Ok, Err, Result, Bool, IfOk, IsTrue, refl, ap, sym, ◌∙◌, arith}
+use Rattle.assise_seq_tree.specs.Sameness.{AreSame, size_of_pairs}
 use Rattle.assise_seq_tree.specs.Answer.{as_directory}
-use Rattle.assise_seq_tree.specs.Tree.{Tree, file, dir, Entries}
+use Rattle.assise_seq_tree.specs.Tree.{Tree, file, dir, Entries, size_of}
 use Rattle.assise_seq_tree.specs.View.{map_entries}
 use Rattle.assise_seq_tree.proofs.Entries.{Stored}
 
@@ -29,3 +30,47 @@ same_directories t u es fs is other = (
       let entries : map_entries es ≡ map_entries fs = cc in
       same_stored es fs entries,
 )
+
+-- ---- the pairs that are pending
+
+abbrev pub Pair : Type 0
+Pair = Bor Tree × Bor Tree
+
+same_front : (pairs : List Pair) (pair : Pair) → AreSame (pairs ++ pair ∷ []) → AreSame pairs × (pair.0.now ≡ pair.1.now)
+same_front [] pair same = (tt, same.0)
+same_front (p ∷ pairs) pair same = let rest = same_front pairs pair same.1 in ((same.0, rest.0), rest.1)
+
+same_more : (pairs : List Pair) (pair : Pair) → AreSame pairs → pair.0.now ≡ pair.1.now → AreSame (pairs ++ pair ∷ [])
+same_more [] pair same is = (is, tt)
+same_more (p ∷ pairs) pair same is = (same.0, same_more pairs pair same.1 is)
+
+pub same_last : (all pairs : List Pair) (pair : Pair) → all ≡ pairs ++ pair ∷ [] → AreSame all ↔ ((pair.0.now ≡ pair.1.now) × AreSame pairs)
+same_last all pairs pair is = (
+  λ same. let both = same_front pairs pair (rw is at same) in (both.1, both.0),
+  λ both. rw is (same_more pairs pair both.1 both.0),
+)
+
+pub size_more : (pairs : List Pair) (pair : Pair) → size_of_pairs (pairs ++ pair ∷ []) ≡ size_of_pairs pairs + size_of pair.0.now + 1
+size_more [] pair = omega arith
+size_more (p ∷ pairs) pair = omega (arith, size_more pairs pair)
+
+-- entries of one name: what they lead to is pending
+pub names_more : (left right es fs : List Stored) (n m : List ℕ) (t u : Bor Tree) (pairs more : List Pair) {Q : Type 0} → left ≡ (n, t.now) ∷ es → right ≡ (m, u.now) ∷ fs → n ≡ m → more ≡ pairs ++ (t, u) ∷ [] → ((left ≡ right) × AreSame pairs) ↔ Q → ((es ≡ fs) × AreSame more) ↔ Q
+names_more left right es fs n m t u pairs more one two name all before =
+    let (apart, together) = same_last more pairs (t, u) all in (
+      λ same.
+          let (trees, rest) = apart same.1 in
+          before.0 (one ∙ (λ i. (name i, trees i) ∷ same.0 i) ∙ sym two, rest),
+      λ q.
+          let (is, rest) = before.1 q in
+          let both : (n, t.now) ∷ es ≡ (m, u.now) ∷ fs = sym one ∙ is ∙ two in
+          let heads : ◌≡◌ {A = Stored} (n, t.now) (m, u.now) = cc in
+          let trees : t.now ≡ u.now = ap (λ e. e.1) heads in
+          let others : es ≡ fs = cc in
+          (others, together (trees, rest)),
+    )
+
+-- what is said of the entries of two directories is said of the directories
+pub on_same : {E P Q : Type 0} (R S : Type 0) (result : Result Bool E) → P ↔ Q → IfOk result (λ same. (IsTrue same × R) ↔ (P × S)) → IfOk result (λ same. (IsTrue same × R) ↔ (Q × S))
+on_same R S (Ok same) (there, back) said = (λ r. let both = said.0 r in (there both.0, both.1), λ both. said.1 (back both.0, both.1))
+on_same R S (Err e) (there, back) said = tt

@@ -7,4 +7,5 @@ pub mod Answer
 pub mod Memory
 pub mod Runs
 pub mod Lines
-pub mod Ways
+pub mod Traversals
+pub mod Sameness

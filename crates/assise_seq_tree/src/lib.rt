@@ -7,4 +7,5 @@ pub mod laws;
 mod lines;
 mod renaming;
 pub mod sameness;
+pub mod traversal;
 pub mod tree;

@@ -1,10 +1,10 @@
 // A tree of files and directories, and the walks along a path.
-ghost use Rattle.std.specs.Prelude.{◌≡◌, ◌∷◌, ◌+◌, ◌^◌, ◌<◌, IsErr, IsOkUnless, List, MatchResult, OnErr, OnOk, [], length, ℕ};
+ghost use Rattle.std.specs.Prelude.{◌≡◌, ◌∷◌, ◌+◌, ◌^◌, ◌<◌, ◌≤◌, IfNone, IfSome, IsErr, IsFalse, IsOkUnless, IsTrue, List, MatchResult, OnErr, OnOk, [], length, ℕ};
 ghost use Rattle.assise_names.specs.declared.refusal.Refusal.TheVariants.{OutOfMemory};
 ghost use Rattle.assise_seq_tree.specs.Answer.{as_directory, as_file, description_of, may_replace, parent_of};
 ghost use Rattle.assise_seq_tree.specs.Contents.{overwritten, resized};
-ghost use Rattle.assise_seq_tree.specs.Tree.{AreDisjointPaths, at, dir, file, opening, put, without};
-ghost use Rattle.assise_seq_tree.specs.View.{map_entries};
+ghost use Rattle.assise_seq_tree.specs.Tree.{AreDisjointPaths, AreOrdered, IsOrdered, at, dir, file, opening, put, size_of, sizes_of, without};
+ghost use Rattle.assise_seq_tree.specs.View.{map_entries, tree_of};
 
 use crate::answer::vacant;
 use crate::contents;
@@ -19,9 +19,10 @@ use std::mem;
 /// A file with its bytes, or a directory with a tree under each of its names. A contract sees the plain tree,
 /// and nothing of how it is held.
 #[cycle(tree)]
-#[derive(Drop)]
 pub struct Tree {
     node: Node,
+    // For the walks over it.
+    pub(crate) alloc: Global,
 }
 
 /// What stands at the top of a tree.
@@ -30,6 +31,82 @@ pub struct Tree {
 enum Node {
     File(Vec<u8>),
     Directory(BTreeMap<Name, Tree>),
+}
+
+// A tree goes by a loop, however deep it is, and takes no memory for it: what is left of a directory waits in the next one.
+impl Drop for Tree {
+    #[cycle(tree)]
+    fn drop(mut self) {
+        let alloc = self.alloc;
+        loop {
+            match self.into_node() {
+                Node::File(_) => return,
+                Node::Directory(mut entries) => match pop_tree(&mut entries) {
+                    None => return,
+                    Some(last) => {
+                        if entries.is_empty() {
+                            drop(entries);
+                            self = last;
+                        } else {
+                            self = left_of(Tree::of_entries(alloc, entries), last);
+                        }
+                    }
+                },
+            }
+        }
+    }
+}
+
+/// What is left of two trees without a file or a directory that has no entries: the way goes down the second by first entries, and the first
+/// waits there.
+#[cycle(tree)]
+fn left_of(waiting: Tree, tree: Tree) -> Tree
+    ensures { size_of result ≤ size_of waiting + size_of tree }
+{
+    let alloc = tree.alloc;
+    let (mut waiting, mut tree) = (waiting, tree);
+    loop {
+        match tree.into_node() {
+            Node::File(_) => return waiting,
+            Node::Directory(mut entries) => {
+                tree = waiting;
+                if !swap_first(&mut entries, &mut tree) {
+                    return tree;
+                }
+                waiting = Tree::of_entries(alloc, entries);
+            }
+        }
+    }
+}
+
+/// Takes the last entry out, and answers its tree.
+fn pop_tree(entries: &mut BTreeMap<Name, Tree>) -> Option<Tree>
+    requires { AreOrdered (map_entries entries.old.entries) }
+    ensures ordered { AreOrdered (map_entries entries.new.entries) }
+    ensures sum { IfSome result (λ tree. sizes_of (map_entries entries.old.entries) ≡
+        sizes_of (map_entries entries.new.entries) + size_of tree + 1) }
+    ensures none { IfNone result (entries.new.entries ≡ []) }
+{
+    let (_, tree) = entries.pop_last()?;
+    Some(tree)
+}
+
+/// Exchanges the tree of the first entry with another. Without an entry it answers false.
+fn swap_first(entries: &mut BTreeMap<Name, Tree>, tree: &mut Tree) -> bool
+    requires { AreOrdered (map_entries entries.old.entries) }
+    ensures ordered { AreOrdered (map_entries entries.new.entries) }
+    ensures sum { sizes_of (map_entries entries.new.entries) + size_of tree.new ≡
+        sizes_of (map_entries entries.old.entries) + size_of tree.old }
+    ensures falls { IsTrue result → size_of tree.new < sizes_of (map_entries entries.old.entries) }
+    ensures none { IsFalse result → (entries.new.entries ≡ []) × (tree.new ≡ tree.old) }
+{
+    // A look at the field tells the proof that the tree is ordered.
+    let _ = &tree.node;
+    let Some(first) = entries.first_entry() else {
+        return false;
+    };
+    mem::swap(first.into_mut(), tree);
+    true
 }
 
 impl Model for Tree {
@@ -58,12 +135,33 @@ impl Model for Tree {
 }
 
 impl Tree {
+    /// What stands at its top.
+    fn into_node(self) -> Node
+        ensures node { tree_of result ≡ self }
+        ensures ordered { IsOrdered (tree_of result) }
+    {
+        let Tree { node, alloc: _ } = self;
+        node
+    }
+
+    /// A directory with these entries.
+    fn of_entries(alloc: Global, entries: BTreeMap<Name, Tree>) -> Tree
+        requires { AreOrdered (map_entries entries.entries) }
+        ensures { result ≡ dir (map_entries entries.entries) }
+    {
+        Tree {
+            node: Node::Directory(entries),
+            alloc,
+        }
+    }
+
     /// The opening tree: a directory without entries.
     pub fn new(alloc: Global) -> Tree
         ensures { result ≡ opening }
     {
         Tree {
             node: Node::Directory(BTreeMap::new(alloc)),
+            alloc,
         }
     }
 
@@ -71,8 +169,10 @@ impl Tree {
     pub fn of_bytes(bytes: Vec<u8>) -> Tree
         ensures { result ≡ file bytes.items }
     {
+        let alloc = *bytes.allocator();
         Tree {
             node: Node::File(bytes),
+            alloc,
         }
     }
 
@@ -82,6 +182,7 @@ impl Tree {
     {
         Tree {
             node: Node::File(Vec::new(alloc)),
+            alloc,
         }
     }
 
@@ -159,6 +260,8 @@ impl Tree {
         ensures asked { OnErr result (IsErr (at self.old names.now)) }
         ensures only_memory { IsOkUnless result OutOfMemory }
     {
+        // A look at the field tells the proof that the new tree is ordered.
+        let _ = &tree.node;
         let [name, rest @ ..] = names else {
             *self = tree;
             return Ok(());

@@ -1,6 +1,8 @@
 // Worked examples of the calls.
 use assise_names::call::Op;
+use assise_names::name::Name;
 use assise_seq_tree::answer::answer;
+use assise_seq_tree::sameness::is_same;
 use assise_seq_tree::tree::Tree;
 use assise_test_rows::calls::call_in;
 use assise_test_rows::{Subject, show};
@@ -316,4 +318,38 @@ fn calls_are_answered(rt: HostRuntime) {
         let shown = show(rt.alloc(), &mut OnTree { tree }, rows);
         assert_eq!(rt; shown.as_str(), "right");
     }
+}
+
+/// Directories that lie one in the other, each beside two files, whose names come before its own and behind it.
+fn directories(alloc: Global, depth: u32) -> Option<Tree> {
+    let mut tree = Tree::new(alloc);
+    for _ in 0..depth {
+        let mut above = Tree::new(alloc);
+        for name in &["a", "c"] {
+            let file = Tree::of_bytes(Vec::new(alloc));
+            above.insert(Name::of_text(alloc, name).ok()?, file).ok()?;
+        }
+        above.insert(Name::of_text(alloc, "b").ok()?, tree).ok()?;
+        tree = above;
+    }
+    Some(tree)
+}
+
+/// Whether two trees of these depths are the same.
+fn are_same(alloc: Global, depth: u32, other: u32) -> Option<bool> {
+    let tree = directories(alloc, depth)?;
+    is_same(alloc, &tree, &directories(alloc, other)?).ok()
+}
+
+#[test]
+fn a_tree_is_printed_by_paths(rt: HostRuntime) {
+    let text = directories(rt.alloc(), 2).and_then(|tree| format!(in rt.alloc(); "{tree}").ok());
+    let lines = "tree 6\n/a file 0\n/b dir\n/b/a file 0\n/b/b dir\n/b/c file 0\n/c file 0";
+    assert_eq!(rt; text.as_ref().map(|text| text.as_str()), Some(lines));
+}
+
+#[test]
+fn deep_trees_are_compared_and_let_go_of(rt: HostRuntime) {
+    assert_eq!(rt; are_same(rt.alloc(), 200_000, 200_000), Some(true));
+    assert_eq!(rt; are_same(rt.alloc(), 200_000, 199_999), Some(false));
 }

@@ -6,7 +6,7 @@ use Rattle.assise_seq_tree.specs.View.{tree_of}
 use Rattle.assise_seq_tree.proofs.Walk.{no_items, first_and_rest, found_mut, missing_mut, at_missing, at_below, fails_at_none, put_root, put_file, put_found, put_missing, kept_found}
 use Rattle.std.proofs.lemmas.Result.{on_ok_weaker, on_err_weaker}
 use Rattle.assise_seq_tree.proofs.tree.Tree.+put.Goals as goal
-use Rattle.assise_seq_tree.proofs.tree.Tree.+put.Goals.{in-File+in-File-1, in-File+in-Directory-1, in-Directory+in-Some, in-Directory+in-None+in_ok-put-in-None+in_ok-key-in-None+in_ok-insert-in-None, in-Some+in-File-1, in-Some+in-Directory-1, in-None-1}
+use Rattle.assise_seq_tree.proofs.tree.Tree.+put.Goals.{in-File, in-Directory+in-Some, in-Directory+in-None+in_ok-put-in-None+in_ok-key-in-None+in_ok-insert-in-None}
 
 pub returns-in_default-clause-ok : goal.returns-in_default-clause-ok
 returns-in_default-clause-ok t c = c.tree.view_is ∙ put_root _ _ _ (no_items c.args.names.now c.in_default.len_below)
@@ -15,8 +15,7 @@ pub returns-clause-ok : goal.returns-clause-ok
 returns-clause-ok t c =
     let step = first_and_rest _ _ c.in-len1-up.len_at_least c.name-item.is in
     elim c.match-self.branch [
-      | in-File+in-File-1 w ↦ rw (w.result-is, w.self-inside-is) (c.self.view_is ∙ put_file _ _ _ _ _ _ step (sym c.self.view_is ∙ ap tree_of w.in-File.is))
-      | in-File+in-Directory-1 w ↦ rw (w.result-is, w.self-inside-is) (c.self.view_is ∙ put_file _ _ _ _ _ _ step (sym c.self.view_is ∙ ap tree_of w.in-File.is))
+      | in-File w ↦ rw (w.result-is, w.self-inside-is) (c.self.view_is ∙ put_file _ _ _ _ _ _ step (sym c.self.view_is ∙ ap tree_of w.in-File.is))
       | in-Directory+in-Some w ↦
           let is = sym c.self.view_is ∙ ap tree_of w.in-Directory.is in
           let value = w.get_mut.ensures.value in
@@ -34,8 +33,7 @@ returns-clause-ok t c =
 pub returns-clause-err : goal.returns-clause-err
 returns-clause-err t c =
     elim c.match-self.branch [
-      | in-File+in-File-1 w ↦ rw w.result-is tt
-      | in-File+in-Directory-1 w ↦ rw w.result-is tt
+      | in-File w ↦ rw w.result-is tt
       | in-Directory+in-Some w ↦
           let is = sym c.self.view_is ∙ ap tree_of w.in-Directory.is in
           let value = w.get_mut.ensures.value in
@@ -62,8 +60,7 @@ returns-in_err-insert-in-None-clause-asked t c =
 pub returns-clause-asked : goal.returns-clause-asked
 returns-clause-asked t c =
     elim c.match-self.branch [
-      | in-File+in-File-1 w ↦ rw w.result-is tt
-      | in-File+in-Directory-1 w ↦ rw w.result-is tt
+      | in-File w ↦ rw w.result-is tt
       | in-Directory+in-Some w ↦
           let is = sym c.self.view_is ∙ ap tree_of w.in-Directory.is in
           let below = at_below _ _ _ _ _ _ (first_and_rest _ _ c.in-len1-up.len_at_least c.name-item.is) is (found_mut _ w.in-Directory.entries w.get_mut.result _ w.in-Some.is w.get_mut.ensures.value) in
