@@ -13,6 +13,7 @@ struct attributes {
     mode_t mode; /* permission bits alone */
     uid_t owner;
     gid_t group;
+    bool is_directory;
     struct timespec accessed, modified, changed;
 };
 

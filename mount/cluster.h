@@ -24,7 +24,7 @@ struct mount {
     const char *folder;
     uint32_t node;
     uint32_t client;     /* 0 while it has none */
-    uint64_t generation; /* how often it was stopped: what was opened before is over */
+    uint64_t generation; /* how often it was stopped and went on: what was opened before is over */
     bool is_stopped;
     bool has_lost; /* `lost` isn't made again yet */
     struct assise_loss lost;

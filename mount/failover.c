@@ -1,4 +1,5 @@
 #include "failover.h"
+#include "locks.h"
 #include "notes.h"
 #include "renewal.h"
 #include <inttypes.h>
@@ -83,6 +84,8 @@ static void lose_client(struct mount *mount, const struct assise_loss *lost) {
     mount->client = 0;
     mount->is_stopped = cluster->mode == MODE_STOP;
     mount->generation += mount->is_stopped;
+    if (mount->is_stopped)
+        locks_drop(mount);
     mount->has_lost = lost && !mount->is_stopped;
     if (lost)
         mount->lost = *lost;
@@ -139,5 +142,6 @@ int64_t go_on(struct mount *mount) {
         return 0;
     int64_t result = open_client(mount);
     mount->is_stopped = result < 0;
+    mount->generation += result >= 0;
     return result;
 }

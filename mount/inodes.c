@@ -24,16 +24,22 @@ static void fill_in(const struct attributes *attributes, bool is_directory, stru
     found->st_ctim = attributes ? attributes->changed : began;
 }
 
-/* The root is there also where the mount is stopped, since the way to `.assise` leads over it. */
+/* Directories can be found and opened also where the mount is stopped. The way to `.assise` leads over the root; and SQLite takes a directory
+ * that it can't open for one that it needn't sync, so that it would see no error. */
+static bool is_known(const struct mount *mount, const char *path) {
+    const struct attributes *attributes = attributes_at(path);
+    return path[1] == 0 || (mount->is_stopped && attributes && attributes->is_directory);
+}
+
 static int stat_in_turn(struct mount *mount, const char *path, struct stat *found) {
     memset(found, 0, sizeof *found);
     if (is_control(path))
         return control_stat(path, found);
-    bool is_root = path[1] == 0;
-    int64_t size = is_root ? 0 : cluster_call(mount, ASSISE_STAT, path, 0, 0);
+    bool is_directory = is_known(mount, path);
+    int64_t size = is_directory ? 0 : cluster_call(mount, ASSISE_STAT, path, 0, 0);
     if (size < 0)
         return answered(size);
-    bool is_directory = is_root || mount->cluster->desk.stands == ASSISE_DIR;
+    is_directory = is_directory || mount->cluster->desk.stands == ASSISE_DIR;
     fill_in(attributes_at(path), is_directory, found);
     found->st_nlink = 1;
     found->st_size = is_directory ? BLOCK_BYTES : size;
@@ -60,6 +66,7 @@ static struct attributes *changing(struct mount *mount, const char *path, int *w
         *why = attributes ? 0 : -ENOMEM;
         if (!attributes)
             return NULL;
+        attributes->is_directory = S_ISDIR(found.st_mode);
         attributes->accessed = found.st_atim;
         attributes->modified = found.st_mtim;
         attributes_put(attributes);

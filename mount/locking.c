@@ -15,6 +15,8 @@ int lock_range(const char *path, struct fuse_file_info *file, int command, struc
     int result = 0;
     if (is_control(path))
         result = -EPERM;
+    else if (mount->is_stopped)
+        result = wanted->l_type == F_UNLCK ? 0 : -EIO;
     else if (command == F_GETLK)
         locks_get(path, locker, wanted);
     else
@@ -29,6 +31,8 @@ int lock_whole(const char *path, struct fuse_file_info *file, int operation) {
         return -EPERM;
     struct mount *mount = take_turn();
     bool waits = !(operation & LOCK_NB);
+    if (mount->is_stopped)
+        return end_turn(mount, type == F_UNLCK ? 0 : -EIO);
     return end_turn(mount, locks_set(&mount->cluster->turn, path, locker_of(mount, file, true), &wanted, waits));
 }
 

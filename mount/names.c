@@ -16,6 +16,7 @@ static int make_directory(struct mount *mount, const char *path, mode_t mode) {
         attributes_free(attributes);
         return answered(result);
     }
+    attributes->is_directory = true;
     attributes_put(attributes);
     touch_above(path);
     return 0;
@@ -28,8 +29,9 @@ int name_directory(const char *path, mode_t mode) {
 
 int name_open(const char *path, struct fuse_file_info *file) {
     struct mount *mount = take_turn();
+    (void)path;
     file->fh = mount->generation;
-    return end_turn(mount, mount->is_stopped && !is_control(path) ? -EIO : 0);
+    return end_turn(mount, 0);
 }
 
 /* Fills in a page of names that the desk has: how many, or -ENOMEM. */
