@@ -36,14 +36,13 @@ struct attributes *attributes_at(const char *path) {
 
 struct attributes *attributes_new(const char *path, mode_t mode, uid_t owner, gid_t group) {
     struct attributes *attributes = calloc(1, sizeof *attributes);
-    size_t bytes = strlen(path) + 1;
-    char *copy = malloc(bytes);
-    if (!attributes || !copy) {
+    if (!attributes)
+        return NULL;
+    attributes->path = moved_path("", "", path);
+    if (!attributes->path) {
         free(attributes);
-        free(copy);
         return NULL;
     }
-    attributes->path = memcpy(copy, path, bytes);
     attributes->mode = mode & 07777;
     attributes->owner = owner;
     attributes->group = group;

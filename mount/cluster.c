@@ -35,6 +35,11 @@ int64_t cluster_call(struct mount *mount, uint32_t call, const char *path, uint6
     return call_ready(mount, call, path, NULL, 0, first, second);
 }
 
+int64_t cluster_read(struct mount *mount, const char *path, void *data, size_t bytes, uint64_t offset) {
+    int64_t result = make_ready(mount);
+    return result < 0 ? result : assise_read(&mount->cluster->desk, mount->client, path, data, bytes, offset);
+}
+
 /* A failure that was ordered comes behind the last of so many changes and syncs. */
 static void count_down(struct cluster *cluster) {
     if (cluster->failing_after && --cluster->failing_after == 0)

@@ -68,6 +68,9 @@ void cluster_end(struct cluster *cluster);
 /* A call of a mount's client. Its answer is in the desk. */
 int64_t cluster_call(struct mount *mount, uint32_t call, const char *path, uint64_t first, uint64_t second);
 
+/* Reads up to `bytes` bytes of a file: how many there were. */
+int64_t cluster_read(struct mount *mount, const char *path, void *data, size_t bytes, uint64_t offset);
+
 /* A call that changes the tree: a failure may come behind it. */
 int64_t cluster_change(struct mount *mount, uint32_t call, const char *path, const void *other, size_t other_bytes,
                        uint64_t first);

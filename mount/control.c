@@ -38,11 +38,22 @@ int control_stat(const char *path, struct stat *found) {
 
 /* ---- what is read */
 
+static struct text *texts;
+
 void text_free(struct text *text) {
-    if (!text)
+    struct text **place = &texts;
+    while (*place && *place != text)
+        place = &(*place)->next;
+    if (!*place)
         return;
+    *place = text->next;
     free(text->data);
     free(text);
+}
+
+void texts_end(void) {
+    while (texts)
+        text_free(texts);
 }
 
 static void print_nodes(struct cluster *cluster, FILE *out) {
@@ -107,7 +118,10 @@ int control_text(struct mount *mount, const char *path, struct text **text) {
     }
     print(mount, path + strlen(FOLDER) + 1, out);
     bool is_whole = !ferror(out);
-    if (fclose(out) != 0 || !is_whole) {
+    is_whole = fclose(out) == 0 && is_whole;
+    made->next = texts;
+    texts = made;
+    if (!is_whole) {
         text_free(made);
         return -ENOMEM;
     }
@@ -175,13 +189,13 @@ int control_do(struct mount *mount, const char *data, size_t bytes) {
     int64_t result = fail_or_back(mount, words, &is_known);
     if (!is_known)
         result = set_link(mount->cluster, words, &is_known);
-    if (!is_known && (is_known = strcmp(words, "go on") == 0))
-        result = go_on(mount);
-    if (!is_known && (is_known = strcmp(words, "renew") == 0))
-        result = renew(mount->cluster);
-    if (!is_known && (is_known = strcmp(words, "legal") == 0))
-        result = assise_legal(&mount->cluster->desk);
-    if (!is_known)
-        return -EINVAL;
-    return -assise_errno(result);
+    if (is_known)
+        return -assise_errno(result);
+    if (strcmp(words, "go on") == 0)
+        return -assise_errno(go_on(mount));
+    if (strcmp(words, "renew") == 0)
+        return -assise_errno(renew(mount->cluster));
+    if (strcmp(words, "legal") == 0)
+        return -assise_errno(assise_legal(&mount->cluster->desk));
+    return -EINVAL;
 }

@@ -7,6 +7,7 @@
 
 /* A text that an open file of `.assise` has. */
 struct text {
+    struct text *next;
     size_t bytes;
     char *data;
 };
@@ -23,6 +24,9 @@ extern const char *const control_names[];
 int control_text(struct mount *mount, const char *path, struct text **text);
 
 void text_free(struct text *text);
+
+/* Texts go that are still open. */
+void texts_end(void);
 
 /* Does what is written to `control`, in words that end or have a line's end behind them: 0, or an errno below 0. */
 int control_do(struct mount *mount, const char *data, size_t bytes);

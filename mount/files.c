@@ -18,7 +18,7 @@ static int open_in_turn(struct mount *mount, const char *path, struct fuse_file_
     file->fh = mount->generation;
     if (mount->is_stopped)
         return -EIO;
-    return file->flags & O_TRUNC ? resize(mount, path, 0) : 0;
+    return (file->flags & O_TRUNC) ? resize(mount, path, 0) : 0;
 }
 
 static int open_control(struct mount *mount, const char *path, struct fuse_file_info *file) {
@@ -64,18 +64,8 @@ int file_make(const char *path, mode_t mode, dev_t device) {
 }
 
 static int read_in_turn(struct mount *mount, const char *path, char *data, size_t bytes, off_t offset) {
-    size_t done = 0;
-    while (done < bytes) {
-        size_t want = bytes - done < ASSISE_BYTES ? bytes - done : ASSISE_BYTES;
-        int64_t got = cluster_call(mount, ASSISE_READ, path, (uint64_t)offset + done, want);
-        if (got < 0)
-            return answered(got);
-        memcpy(data + done, mount->cluster->desk.bytes, (size_t)got);
-        done += (size_t)got;
-        if ((size_t)got < want)
-            break;
-    }
-    return (int)done;
+    int64_t count = cluster_read(mount, path, data, bytes, (uint64_t)offset);
+    return count < 0 ? answered(count) : (int)count;
 }
 
 static int read_text(const struct text *text, char *data, size_t bytes, off_t offset) {
@@ -147,11 +137,10 @@ int file_sync(const char *path, int data_only, struct fuse_file_info *file) {
 }
 
 int file_release(const char *path, struct fuse_file_info *file) {
-    if (is_control(path)) {
-        text_free((struct text *)(uintptr_t)file->fh);
-        return 0;
-    }
     struct mount *mount = take_turn();
-    lock_release(mount, path, file);
+    if (is_control(path))
+        text_free((struct text *)(uintptr_t)file->fh);
+    else
+        lock_release(mount, path, file);
     return end_turn(mount, 0);
 }

@@ -25,7 +25,7 @@ int lock_range(const char *path, struct fuse_file_info *file, int command, struc
 }
 
 int lock_whole(const char *path, struct fuse_file_info *file, int operation) {
-    short type = operation & LOCK_UN ? F_UNLCK : operation & LOCK_EX ? F_WRLCK : F_RDLCK;
+    short type = (operation & LOCK_UN) ? F_UNLCK : (operation & LOCK_EX) ? F_WRLCK : F_RDLCK;
     const struct flock wanted = {.l_type = type, .l_whence = SEEK_SET};
     if (is_control(path))
         return -EPERM;

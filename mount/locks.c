@@ -73,15 +73,16 @@ static struct locked_file *file_for(const char *path) {
     if (file)
         return file;
     file = calloc(1, sizeof *file);
-    char *copy = moved_path("", "", path);
-    if (!file || !copy) {
+    if (!file)
+        return NULL;
+    file->path = moved_path("", "", path);
+    if (!file->path) {
         free(file);
-        free(copy);
         return NULL;
     }
-    file->path = copy;
     file->next = files;
-    return files = file;
+    files = file;
+    return file;
 }
 
 /* A file without locks goes. */

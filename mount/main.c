@@ -1,5 +1,6 @@
 /* assise_mount: a new cluster, mounted. The process ends with its first mount, and the cluster with the process. */
 #include "attributes.h"
+#include "control.h"
 #include "locks.h"
 #include "operations.h"
 #include "options.h"
@@ -99,6 +100,7 @@ static void let_go(void) {
         free((char *)cluster.mounts[place].folder);
     }
     attributes_end();
+    texts_end();
 }
 
 /* Serves all mounts, until the first is unmounted or a signal comes: a status. */

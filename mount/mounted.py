@@ -19,6 +19,7 @@ class Mounted:
     def __init__(self, program, words=(), at=()):
         self.program, self.words, self.at = program, list(words), list(at)
         self.above = self.process = None
+        self.wrong = ""
         self.folders = []
 
     def __enter__(self):
@@ -43,26 +44,30 @@ class Mounted:
         until = time.monotonic() + SECONDS
         while not all(map(os.path.ismount, self.folders)):
             if self.process.poll() is not None or time.monotonic() > until:
-                self.process.kill()
-                raise Unmounted(self.process.communicate()[0].decode(errors="replace").strip() or "nothing was mounted in time")
+                self.end_process()
+                raise Unmounted(self.wrong or "nothing was mounted in time")
             time.sleep(0.002)
 
     def end(self):
         """The mount's process unmounts what it has; what it leaves is unmounted from outside."""
-        if self.process and self.process.poll() is None:
-            self.process.terminate()
-            try:
-                self.process.wait(SECONDS)
-            except subprocess.TimeoutExpired:
-                self.process.kill()
-                self.process.wait()
         if self.process:
-            self.process.stdout.close()
+            self.end_process()
         for folder in self.folders:
             if is_mounted(folder):
                 subprocess.run(["fusermount3", "-u", "-z", folder], stderr=subprocess.DEVNULL)
         if not any(map(is_mounted, self.folders)):
             shutil.rmtree(self.above, ignore_errors=True)
+
+    def end_process(self):
+        """`wrong` is what the process said, where it doesn't end well."""
+        self.process.terminate()
+        try:
+            said = self.process.communicate(timeout=SECONDS)[0]
+        except subprocess.TimeoutExpired:
+            self.process.kill()
+            said = self.process.communicate()[0]
+        if self.process.returncode != 0:
+            self.wrong = f"status {self.process.returncode}: {said.decode(errors='replace')}"
 
     def order(self, words, place=0):
         """Writes words to the control file of a mount. An OSError says that it is refused."""

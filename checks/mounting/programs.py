@@ -20,9 +20,11 @@ cd $D
 
 PROGRAMS = [
     Program("sqlite3", "sqlite3", """
-        sqlite3 s.db "create table t(a integer primary key, b text); with recursive c(i) as (select 1 union all select i+1 from c where i<2000)
-            insert into t select i, hex(randomblob(20)) from c;"
-        for i in 1 2 3 4 5; do sqlite3 s.db "begin; update t set b=b||$i where a%7=$i; insert into t(b) values(hex(randomblob(100))); commit"; done
+        sqlite3 s.db "create table t(a integer primary key, b text);
+            with recursive c(i) as (select 1 union all select i+1 from c where i<2000) insert into t select i, hex(randomblob(20)) from c;"
+        for i in 1 2 3 4 5; do
+            sqlite3 s.db "begin; update t set b=b||$i where a%7=$i; insert into t(b) values(hex(randomblob(100))); commit"
+        done
         same "$(sqlite3 s.db "pragma integrity_check; select count(*) from t" | xargs)" "ok 2005" """),
     Program("sqlite3, WAL", "sqlite3", """
         sqlite3 w.db "pragma journal_mode=wal; create table t(a,b);"
@@ -89,7 +91,8 @@ PROGRAMS = [
         vim -Es -u NONE -N -c 'set backup writebackup swapfile' -c 'normal oNEW' -c wq v; grep -q NEW v"""),
     Program("sed -i", "sed", "seq 1000 > n; chmod 640 n; sed -i s/5/five/ n; same $(grep -c five n) 271; same $(stat -c %a n) 640"),
     Program("make and gcc", "make gcc", r"""
-        printf '#include <stdio.h>\nint f(void);int main(void){printf("%%d\\n",f());return 0;}\n' > m.c; echo 'int f(void){return 42;}' > f.c
+        printf '#include <stdio.h>\nint f(void);int main(void){printf("%%d\\n",f());return 0;}\n' > m.c
+        echo 'int f(void){return 42;}' > f.c
         printf 'p: m.o f.o\n\tcc -o p m.o f.o\n' > Makefile; make; same $(./p) 42; make | grep 'up to date'
         sleep 0.1; touch f.c; make | grep 'f.o'; same $(./p) 42"""),
     Program("make -j4 and ar", "make gcc", r"""
@@ -154,7 +157,8 @@ PROGRAMS = [
         rm -r d"""),
     Program("a folder 31 deep", "mkdir", "p=$(printf 'd/%.0s' $(seq 29)); mkdir -p $p; echo x > ${p}f; same $(cat ${p}f) x; rm -r d"),
     Program("a folder 40 deep", "mkdir", "mkdir -p $(printf 'd/%.0s' $(seq 40))", "File name too long"),
-    Program("temporary files", "python3", "rm $(mktemp -p .); python3 -c 'import tempfile; tempfile.TemporaryFile(dir=\".\").write(b\"x\")'"),
+    Program("temporary files", "python3", """
+        rm $(mktemp -p .); python3 -c 'import tempfile; tempfile.TemporaryFile(dir=".").write(b"x")'"""),
     Program("modes, and a program that runs", "chmod", """
         printf '#!/bin/sh\\necho hi\\n' > e; chmod 755 e; same $(./e) hi; chmod 4755 e; same $(stat -c %a e) 4755"""),
     Program("an owner", "chown", "touch o; chown nobody o; same $(stat -c %U o) nobody"),
@@ -163,7 +167,8 @@ PROGRAMS = [
     Program("a name in Latin-1", "python3", "python3 -c 'open(b\"caf\\xe9\", \"w\")'", "Invalid or incomplete multibyte"),
     Program("four that append to one file", "cat", """
         for k in 1 2 3 4; do (for i in $(seq 50); do echo "line $k $i" >> a; done) & done; wait; same $(wc -l < a) 200"""),
-    Program("sync of files and folders", "sync", "echo x > n; sync n; sync -d n; python3 -c 'import os; os.fsync(os.open(\".\", os.O_RDONLY))'"),
+    Program("sync of files and folders", "sync", """
+        echo x > n; sync n; sync -d n; python3 -c 'import os; os.fsync(os.open(".", os.O_RDONLY))'"""),
     Program("df", "df", "df . | tail -1 | grep -q '%'; stat -f ."),
     Program("a file over 1 MiB", "dd", "dd if=/dev/zero of=d bs=1M count=2 status=none", "File too large"),
     Program("ln -s", "ln", "touch n; ln -s n l", "Operation not permitted"),
