@@ -67,7 +67,7 @@ class Mounted:
             self.process.kill()
             said = self.process.communicate()[0]
         if self.process.returncode != 0:
-            self.wrong = f"status {self.process.returncode}: {said.decode(errors='replace')}"
+            self.wrong = f"status {self.process.returncode}: {said.decode(errors='replace').strip()}"
 
     def order(self, words, place=0):
         """Writes words to the control file of a mount. An OSError says that it is refused."""
