@@ -48,10 +48,11 @@ static int stat_in_turn(struct mount *mount, const char *path, struct stat *foun
     return 0;
 }
 
+/* The kernel looks at an open file before it reads what it keeps of it: so it reads nothing that a stop took. */
 int inode_stat(const char *path, struct stat *found, struct fuse_file_info *file) {
     struct mount *mount = take_turn();
-    (void)file;
-    return end_turn(mount, stat_in_turn(mount, path, found));
+    bool is_over = !is_control(path) && !is_of_now(mount, file);
+    return end_turn(mount, is_over ? -EIO : stat_in_turn(mount, path, found));
 }
 
 /* The attributes of a path to be changed, made where it has none yet; NULL, and why. */
