@@ -1,5 +1,5 @@
-/* Modes, owners and times, by path. They are the mounts' own, in their memory: the library has none, and no failure takes them. Who calls any
- * of these has the cluster's turn. */
+/* Modes, owners and times, by path. They are the mounts' own, in their memory: the library has
+ * none, and no failure takes them. Who calls any of these has the cluster's turn. */
 #ifndef MOUNT_ATTRIBUTES_H
 #define MOUNT_ATTRIBUTES_H
 #include <stdbool.h>
@@ -33,7 +33,8 @@ void attributes_free(struct attributes *attributes);
 
 void attributes_drop(const char *path);
 
-/* Notes what is to move with a path, and below it where it is a directory: false for want of memory, and then nothing is noted. */
+/* Notes what is to move with a path, and below it where it is a directory: false for want of
+ * memory, and then nothing is noted. */
 bool attributes_plan(const char *from, const char *to, bool is_directory);
 
 /* What is noted moves, or stays. */

@@ -19,25 +19,30 @@ void cluster_end(struct cluster *cluster) {
 }
 
 /* A call, tried once more where the client can make no more files and a renewal gives another. */
-static int64_t call_ready(struct mount *mount, uint32_t call, const char *path, const void *other, size_t other_bytes,
-                          uint64_t first, uint64_t second) {
+static int64_t call_ready(struct mount *mount, uint32_t call, const char *path, const void *other,
+                          size_t other_bytes, uint64_t first, uint64_t second) {
     struct cluster *cluster = mount->cluster;
     int64_t result = make_ready(mount);
     if (result < 0)
         return result;
-    result = assise_at(&cluster->desk, call, mount->client, path, other, other_bytes, first, second);
+    result = assise_at(&cluster->desk, call, mount->client, path, other, other_bytes, first,
+                       second);
     if (result != ASSISE_INODES_SPENT || renew(cluster) < 0 || make_ready(mount) < 0)
         return result;
     return assise_at(&cluster->desk, call, mount->client, path, other, other_bytes, first, second);
 }
 
-int64_t cluster_call(struct mount *mount, uint32_t call, const char *path, uint64_t first, uint64_t second) {
+int64_t cluster_call(struct mount *mount, uint32_t call, const char *path, uint64_t first,
+                     uint64_t second) {
     return call_ready(mount, call, path, NULL, 0, first, second);
 }
 
-int64_t cluster_read(struct mount *mount, const char *path, void *data, size_t bytes, uint64_t offset) {
+int64_t cluster_read(struct mount *mount, const char *path, void *data, size_t bytes,
+                     uint64_t offset) {
     int64_t result = make_ready(mount);
-    return result < 0 ? result : assise_read(&mount->cluster->desk, mount->client, path, data, bytes, offset);
+    return result < 0
+               ? result
+               : assise_read(&mount->cluster->desk, mount->client, path, data, bytes, offset);
 }
 
 /* A failure that was ordered comes behind the last of so many changes and syncs. */
@@ -46,8 +51,8 @@ static void count_down(struct cluster *cluster) {
         fail_node(cluster, cluster->failing_node);
 }
 
-int64_t cluster_change(struct mount *mount, uint32_t call, const char *path, const void *other, size_t other_bytes,
-                       uint64_t first) {
+int64_t cluster_change(struct mount *mount, uint32_t call, const char *path, const void *other,
+                       size_t other_bytes, uint64_t first) {
     int64_t result = call_ready(mount, call, path, other, other_bytes, first, 0);
     if (result < 0)
         return result;

@@ -1,4 +1,5 @@
-/* The cluster of this process, its mounts, and the calls that they make. Who calls any of these has the cluster's turn. */
+/* The cluster of this process, its mounts, and the calls that they make. Who calls any of these has
+ * the cluster's turn. */
 #ifndef MOUNT_CLUSTER_H
 #define MOUNT_CLUSTER_H
 #include "assise.h"
@@ -60,20 +61,22 @@ struct cluster {
     struct notes notes;
 };
 
-/* Makes the cluster, with a client for each mount: 0, or a fault, and then nothing is to be let go. */
+/* Makes the cluster, with a client for each mount: 0, or a fault, and then it isn't there. */
 int64_t cluster_begin(struct cluster *cluster);
 
 void cluster_end(struct cluster *cluster);
 
 /* A call of a mount's client. Its answer is in the desk. */
-int64_t cluster_call(struct mount *mount, uint32_t call, const char *path, uint64_t first, uint64_t second);
+int64_t cluster_call(struct mount *mount, uint32_t call, const char *path, uint64_t first,
+                     uint64_t second);
 
 /* Reads up to `bytes` bytes of a file: how many there were. */
-int64_t cluster_read(struct mount *mount, const char *path, void *data, size_t bytes, uint64_t offset);
+int64_t cluster_read(struct mount *mount, const char *path, void *data, size_t bytes,
+                     uint64_t offset);
 
 /* A call that changes the tree: a failure may come behind it. */
-int64_t cluster_change(struct mount *mount, uint32_t call, const char *path, const void *other, size_t other_bytes,
-                       uint64_t first);
+int64_t cluster_change(struct mount *mount, uint32_t call, const char *path, const void *other,
+                       size_t other_bytes, uint64_t first);
 
 /* An fsync. */
 int64_t cluster_sync(struct mount *mount);

@@ -67,8 +67,9 @@ static void print_nodes(struct cluster *cluster, FILE *out) {
 static void print_mounts(const struct cluster *cluster, FILE *out) {
     for (unsigned place = 0; place < cluster->mount_count; place++) {
         const struct mount *mount = &cluster->mounts[place];
-        fprintf(out, "mount %s node %" PRIu32 " client %" PRIu32 "%s%s\n", mount->folder, mount->node, mount->client,
-                mount->is_stopped ? " stopped" : "", mount->has_lost ? " losing" : "");
+        fprintf(out, "mount %s node %" PRIu32 " client %" PRIu32 "%s%s\n", mount->folder,
+                mount->node, mount->client, mount->is_stopped ? " stopped" : "",
+                mount->has_lost ? " losing" : "");
     }
 }
 
@@ -79,12 +80,16 @@ static void print_status(struct mount *mount, FILE *out) {
     print_mounts(cluster, out);
     fprintf(out, "mode %s\n", cluster->mode == MODE_REDO ? "redo" : "stop");
     fprintf(out, "changes %" PRIu64 "\nsyncs %" PRIu64 "\n", cluster->changes, cluster->syncs);
-    fprintf(out, "failures %" PRIu64 "\nlost_calls %" PRIu64 "\n", cluster->failures, cluster->lost_calls);
+    fprintf(out, "failures %" PRIu64 "\nlost_calls %" PRIu64 "\n", cluster->failures,
+            cluster->lost_calls);
     fprintf(out, "unmade %" PRIu64 "\n", cluster->unmade);
     if (cluster->failing_after)
-        fprintf(out, "failing %" PRIu32 " after %" PRIu64 "\n", cluster->failing_node, cluster->failing_after);
-    fprintf(out, "entries %" PRId64 "\nkept_bytes %" PRIu64 "\n", assise_entries(&cluster->desk), kept_bytes(cluster));
-    fprintf(out, "renewals %" PRIu64 "\nlongest_renewal_us %" PRIu64 "\n", renewals->count, renewals->longest / 1000);
+        fprintf(out, "failing %" PRIu32 " after %" PRIu64 "\n", cluster->failing_node,
+                cluster->failing_after);
+    fprintf(out, "entries %" PRId64 "\nkept_bytes %" PRIu64 "\n", assise_entries(&cluster->desk),
+            kept_bytes(cluster));
+    fprintf(out, "renewals %" PRIu64 "\nlongest_renewal_us %" PRIu64 "\n", renewals->count,
+            renewals->longest / 1000);
     fprintf(out, "clients %" PRIu32 " of %d\n", cluster->clients, ASSISE_MOST_CLIENTS);
 }
 
@@ -138,7 +143,8 @@ static int64_t fail_or_back(struct mount *mount, const char *words, bool *is_kno
     uint64_t after;
     int end = -1;
     *is_known = true;
-    if (sscanf(words, "fail %" SCNu32 " after %" SCNu64 " %n", &node, &after, &end) == 2 && end >= 0 && !words[end]) {
+    if (sscanf(words, "fail %" SCNu32 " after %" SCNu64 " %n", &node, &after, &end) == 2 &&
+        end >= 0 && !words[end]) {
         if (node < 1 || node > cluster->nodes || after < 1)
             return ASSISE_BAD_NODE;
         cluster->failing_node = node;
@@ -167,7 +173,8 @@ static int64_t set_link(struct cluster *cluster, const char *words, bool *is_kno
     if (sscanf(words, "link %" SCNu32 " %15s %n", &node, kind, &end) != 2 || end < 0)
         return 0;
     int more = end;
-    if (words[end] && (sscanf(words + end, "%" SCNu64 " %n", &most, &more) != 1 || words[end + more]))
+    if (words[end] &&
+        (sscanf(words + end, "%" SCNu64 " %n", &most, &more) != 1 || words[end + more]))
         return 0;
     for (uint32_t at = 0; at < sizeof kinds / sizeof *kinds; at++) {
         if (strcmp(kind, kinds[at]) != 0)

@@ -1,5 +1,5 @@
-/* The directory `.assise` in the root of each mount, which no listing shows: what is read from its files, and written to `control`. Who calls
- * any of these has the cluster's turn. */
+/* The directory `.assise` in the root of each mount, which no listing shows: what is read from its
+ * files, and written to `control`. Who calls any of these has the cluster's turn. */
 #ifndef MOUNT_CONTROL_H
 #define MOUNT_CONTROL_H
 #include "cluster.h"
@@ -28,7 +28,8 @@ void text_free(struct text *text);
 /* Texts go that are still open. */
 void texts_end(void);
 
-/* Does what is written to `control`, in words that end or have a line's end behind them: 0, or an errno below 0. */
+/* Does what is written to `control`, in words that end or have a line's end behind them: 0, or an
+ * errno below 0. */
 int control_do(struct mount *mount, const char *data, size_t bytes);
 
 #endif

@@ -25,7 +25,8 @@ static bool is_answer(int64_t fault) {
     return fault <= ASSISE_NO_ENT && fault >= ASSISE_DIR_FULL;
 }
 
-/* Makes again what a mount has lost, as far as that isn't refused. What the tree doesn't do is passed over. */
+/* Makes again what a mount has lost, as far as that isn't refused. What the tree doesn't do is
+ * passed over. */
 static int64_t make_again(struct mount *mount) {
     struct assise_desk *desk = &mount->cluster->desk;
     while (mount->has_lost) {
@@ -33,12 +34,13 @@ static int64_t make_again(struct mount *mount) {
         mount->has_lost = result < 0;
         if (result >= 0)
             return 0;
-        if (is_answer(result) || result == ASSISE_OUT_OF_MEMORY || result == ASSISE_BUSY || result == ASSISE_LOG_FULL)
+        if (is_answer(result) || result == ASSISE_OUT_OF_MEMORY || result == ASSISE_BUSY ||
+            result == ASSISE_LOG_FULL)
             mount->lost = assise_loss(desk, 0);
         if (!is_answer(result))
             return result;
-        note(&mount->cluster->notes, "%s: call %" PRIu64 " isn't made again: %s\n", mount->folder, mount->lost.call,
-             assise_text(result));
+        note(&mount->cluster->notes, "%s: call %" PRIu64 " isn't made again: %s\n", mount->folder,
+             mount->lost.call, assise_text(result));
         mount->lost.call++;
         mount->cluster->unmade++;
     }
@@ -78,7 +80,9 @@ static void lose_client(struct mount *mount, const struct assise_loss *lost) {
     if (lost) {
         uint64_t calls = (uint64_t)assise_answered(&cluster->desk, lost->client) - lost->call;
         cluster->lost_calls += calls;
-        note(&cluster->notes, "  %s: client %" PRIu32 " loses %" PRIu64 " calls, from %" PRIu64 " on; its changes are %s\n",
+        note(&cluster->notes,
+             "  %s: client %" PRIu32 " loses %" PRIu64 " calls, from %" PRIu64
+             " on; its changes are %s\n",
              mount->folder, lost->client, calls, lost->call, what);
     }
     mount->client = 0;
@@ -92,7 +96,8 @@ static void lose_client(struct mount *mount, const struct assise_loss *lost) {
 }
 
 /* The losses that a failure left in the desk, which is used again. */
-static uint32_t keep_losses(const struct assise_desk *desk, int64_t losers, struct assise_loss *losses) {
+static uint32_t keep_losses(const struct assise_desk *desk, int64_t losers,
+                            struct assise_loss *losses) {
     uint32_t count = losers < ASSISE_MOST_CLIENTS ? (uint32_t)losers : ASSISE_MOST_CLIENTS;
     for (uint32_t place = 0; place < count; place++)
         losses[place] = assise_loss(desk, place);
@@ -100,7 +105,8 @@ static uint32_t keep_losses(const struct assise_desk *desk, int64_t losers, stru
 }
 
 /* The loss of a client, or none. */
-static const struct assise_loss *loss_of(uint32_t client, const struct assise_loss *losses, uint32_t count) {
+static const struct assise_loss *loss_of(uint32_t client, const struct assise_loss *losses,
+                                         uint32_t count) {
     for (uint32_t place = 0; place < count; place++)
         if (losses[place].client == client)
             return &losses[place];
@@ -125,8 +131,9 @@ int64_t fail_node(struct cluster *cluster, uint32_t node) {
     }
     uint32_t count = keep_losses(&cluster->desk, losers, losses);
     cluster->failures++;
-    note(&cluster->notes, "node %" PRIu32 " fails behind %" PRIu64 " changes and %" PRIu64 " syncs\n", node, cluster->changes,
-         cluster->syncs);
+    note(&cluster->notes,
+         "node %" PRIu32 " fails behind %" PRIu64 " changes and %" PRIu64 " syncs\n", node,
+         cluster->changes, cluster->syncs);
     for (unsigned place = 0; place < cluster->mount_count; place++) {
         struct mount *mount = &cluster->mounts[place];
         if (mount->node == node && mount->client)

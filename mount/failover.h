@@ -6,8 +6,8 @@
 /* Opens a client for a mount: on its node, or on the next one that is full. */
 int64_t open_client(struct mount *mount);
 
-/* Whether a mount may call: it isn't stopped, has a client, and nothing that it lost is left to be made again. Else a fault. A renewal that
- * is due is made on the way. */
+/* Whether a mount may call: it isn't stopped, has a client, and nothing that it lost is left to be
+ * made again. Else a fault. A renewal that is due is made on the way. */
 int64_t make_ready(struct mount *mount);
 
 /* Makes again what mounts have lost and couldn't make again when they lost it. */

@@ -31,11 +31,13 @@ static int open_control(struct mount *mount, const char *path, struct fuse_file_
 
 int file_open(const char *path, struct fuse_file_info *file) {
     struct mount *mount = take_turn();
-    return end_turn(mount, is_control(path) ? open_control(mount, path, file) : open_in_turn(mount, path, file));
+    return end_turn(mount, is_control(path) ? open_control(mount, path, file)
+                                            : open_in_turn(mount, path, file));
 }
 
 /* The attributes come first, since they may be refused for memory. */
-static int create_in_turn(struct mount *mount, const char *path, mode_t mode, struct fuse_file_info *file) {
+static int create_in_turn(struct mount *mount, const char *path, mode_t mode,
+                          struct fuse_file_info *file) {
     const struct fuse_context *context = fuse_get_context();
     file->fh = mount->generation;
     struct attributes *attributes = attributes_new(path, mode, context->uid, context->gid);
@@ -63,7 +65,8 @@ int file_make(const char *path, mode_t mode, dev_t device) {
     return S_ISREG(mode) ? file_create(path, mode, &file) : -EPERM;
 }
 
-static int read_in_turn(struct mount *mount, const char *path, char *data, size_t bytes, off_t offset) {
+static int read_in_turn(struct mount *mount, const char *path, char *data, size_t bytes,
+                        off_t offset) {
     int64_t count = cluster_read(mount, path, data, bytes, (uint64_t)offset);
     return count < 0 ? answered(count) : (int)count;
 }
@@ -75,21 +78,25 @@ static int read_text(const struct text *text, char *data, size_t bytes, off_t of
     return (int)some;
 }
 
-int file_read(const char *path, char *data, size_t bytes, off_t offset, struct fuse_file_info *file) {
+int file_read(const char *path, char *data, size_t bytes, off_t offset,
+              struct fuse_file_info *file) {
     if (is_control(path))
         return read_text((const struct text *)(uintptr_t)file->fh, data, bytes, offset);
     struct mount *mount = take_turn();
-    return end_turn(mount, is_of_now(mount, file) ? read_in_turn(mount, path, data, bytes, offset) : -EIO);
+    return end_turn(mount,
+                    is_of_now(mount, file) ? read_in_turn(mount, path, data, bytes, offset) : -EIO);
 }
 
 /* Another mount may have written since the kernel looked for the end. */
-static int64_t offset_of(struct mount *mount, const char *path, off_t offset, const struct fuse_file_info *file) {
+static int64_t offset_of(struct mount *mount, const char *path, off_t offset,
+                         const struct fuse_file_info *file) {
     bool is_at_end = file->flags & O_APPEND && mount->cluster->mount_count > 1;
     return is_at_end ? cluster_call(mount, ASSISE_STAT, path, 0, 0) : offset;
 }
 
 /* Writes as much as a file may have, each part of it whole or not at all. */
-static int write_in_turn(struct mount *mount, const char *path, const char *data, size_t bytes, int64_t offset) {
+static int write_in_turn(struct mount *mount, const char *path, const char *data, size_t bytes,
+                         int64_t offset) {
     if (offset < 0)
         return answered(offset);
     size_t room = offset < ASSISE_MOST_FILE_BYTES ? (size_t)(ASSISE_MOST_FILE_BYTES - offset) : 0;
@@ -99,7 +106,8 @@ static int write_in_turn(struct mount *mount, const char *path, const char *data
     size_t most = ASSISE_BYTES - strlen(path), done = 0;
     while (done < bytes) {
         size_t some = bytes - done < most ? bytes - done : most;
-        int64_t result = cluster_change(mount, ASSISE_WRITE, path, data + done, some, (uint64_t)offset + done);
+        int64_t result = cluster_change(mount, ASSISE_WRITE, path, data + done, some,
+                                        (uint64_t)offset + done);
         if (result < 0 && !done)
             return answered(result);
         if (result < 0)
@@ -110,7 +118,8 @@ static int write_in_turn(struct mount *mount, const char *path, const char *data
     return (int)done;
 }
 
-int file_write(const char *path, const char *data, size_t bytes, off_t offset, struct fuse_file_info *file) {
+int file_write(const char *path, const char *data, size_t bytes, off_t offset,
+               struct fuse_file_info *file) {
     struct mount *mount = take_turn();
     if (is_control(path)) {
         int result = control_do(mount, data, bytes);
@@ -118,7 +127,8 @@ int file_write(const char *path, const char *data, size_t bytes, off_t offset, s
     }
     if (!is_of_now(mount, file))
         return end_turn(mount, -EIO);
-    return end_turn(mount, write_in_turn(mount, path, data, bytes, offset_of(mount, path, offset, file)));
+    return end_turn(mount,
+                    write_in_turn(mount, path, data, bytes, offset_of(mount, path, offset, file)));
 }
 
 int file_truncate(const char *path, off_t size, struct fuse_file_info *file) {

@@ -1,4 +1,5 @@
-/* What stands at a path: its size from the library, its mode, owner and times from the mounts' own table; and the limits. */
+/* What stands at a path: its size from the library, its mode, owner and times from the mounts' own
+ * table; and the limits. */
 #include "attributes.h"
 #include "control.h"
 #include "operations.h"
@@ -24,8 +25,9 @@ static void fill_in(const struct attributes *attributes, bool is_directory, stru
     found->st_ctim = attributes ? attributes->changed : began;
 }
 
-/* Directories can be found and opened also where the mount is stopped. The way to `.assise` leads over the root; and SQLite takes a directory
- * that it can't open for one that it needn't sync, so that it would see no error. */
+/* Directories can be found and opened also where the mount is stopped. The way to `.assise` leads
+ * over the root; and SQLite takes a directory that it can't open for one that it needn't sync, so
+ * that it would see no error. */
 static bool is_known(const struct mount *mount, const char *path) {
     const struct attributes *attributes = attributes_at(path);
     return path[1] == 0 || (mount->is_stopped && attributes && attributes->is_directory);
@@ -48,7 +50,8 @@ static int stat_in_turn(struct mount *mount, const char *path, struct stat *foun
     return 0;
 }
 
-/* The kernel looks at an open file before it reads what it keeps of it: so it reads nothing that a stop took. */
+/* The kernel looks at an open file before it reads what it keeps of it: so it reads nothing that a
+ * stop took. */
 int inode_stat(const char *path, struct stat *found, struct fuse_file_info *file) {
     struct mount *mount = take_turn();
     bool is_over = !is_control(path) && !is_of_now(mount, file);
@@ -123,7 +126,8 @@ int inode_limits(const char *path, struct statvfs *found) {
     memset(found, 0, sizeof *found);
     found->f_bsize = found->f_frsize = BLOCK_BYTES;
     found->f_blocks = (uint64_t)sysconf(_SC_PHYS_PAGES) * page / BLOCK_BYTES / nodes;
-    found->f_bfree = found->f_bavail = (uint64_t)sysconf(_SC_AVPHYS_PAGES) * page / BLOCK_BYTES / nodes;
+    found->f_bfree = found->f_bavail = (uint64_t)sysconf(_SC_AVPHYS_PAGES) * page / BLOCK_BYTES /
+                                       nodes;
     found->f_files = found->f_ffree = found->f_favail = ASSISE_MOST_INODES;
     found->f_namemax = ASSISE_MOST_NAME_BYTES;
     return end_turn(mount, 0);

@@ -5,7 +5,8 @@
 #include <errno.h>
 #include <sys/file.h>
 
-static struct locker locker_of(const struct mount *mount, const struct fuse_file_info *file, bool is_whole) {
+static struct locker locker_of(const struct mount *mount, const struct fuse_file_info *file,
+                               bool is_whole) {
     return (struct locker){mount, file->lock_owner, is_whole};
 }
 
@@ -33,7 +34,8 @@ int lock_whole(const char *path, struct fuse_file_info *file, int operation) {
     bool waits = !(operation & LOCK_NB);
     if (mount->is_stopped)
         return end_turn(mount, type == F_UNLCK ? 0 : -EIO);
-    return end_turn(mount, locks_set(&mount->cluster->turn, path, locker_of(mount, file, true), &wanted, waits));
+    return end_turn(mount, locks_set(&mount->cluster->turn, path, locker_of(mount, file, true),
+                                     &wanted, waits));
 }
 
 void lock_release(struct mount *mount, const char *path, const struct fuse_file_info *file) {

@@ -45,12 +45,14 @@ static uint64_t last_of(const struct flock *wanted) {
 }
 
 /* The first lock in the way of another's, or NULL. */
-static struct lock *in_the_way(const struct locked_file *file, struct locker locker, const struct flock *wanted) {
+static struct lock *in_the_way(const struct locked_file *file, struct locker locker,
+                               const struct flock *wanted) {
     struct lock *lock = file && wanted->l_type != F_UNLCK ? file->locks : NULL;
     for (; lock; lock = lock->next) {
         bool meet = lock->first <= last_of(wanted) && (uint64_t)wanted->l_start <= lock->last;
         bool exclude = lock->type == F_WRLCK || wanted->l_type == F_WRLCK;
-        if (meet && exclude && lock->locker.is_whole == locker.is_whole && !is_same(lock->locker, locker))
+        if (meet && exclude && lock->locker.is_whole == locker.is_whole &&
+            !is_same(lock->locker, locker))
             return lock;
     }
     return NULL;
@@ -99,7 +101,8 @@ static void tidy(struct locked_file *file) {
 }
 
 /* Takes a range out of a locker's locks; `*rest` is used for what is left behind it of one. */
-static void clear(struct locked_file *file, struct locker locker, uint64_t first, uint64_t last, struct lock **rest) {
+static void clear(struct locked_file *file, struct locker locker, uint64_t first, uint64_t last,
+                  struct lock **rest) {
     struct lock **place = &file->locks;
     while (*place) {
         struct lock *lock = *place;
@@ -139,12 +142,13 @@ static int set(struct locked_file *file, struct locker locker, const struct floc
         free(made);
         return 0;
     }
-    *made = (struct lock){file->locks, locker, (uint64_t)wanted->l_start, last_of(wanted), wanted->l_type, wanted->l_pid};
+    *made = (struct lock){file->locks,     locker,         (uint64_t)wanted->l_start,
+                          last_of(wanted), wanted->l_type, wanted->l_pid};
     file->locks = made;
     return 0;
 }
 
-/* Waits for a while, or until a lock goes: 0, or -EINTR where the caller's program was interrupted. */
+/* Waits for a while, or until a lock goes: 0, or -EINTR where its program was interrupted. */
 static int wait_for_a_while(pthread_mutex_t *turn) {
     struct timespec until;
     clock_gettime(CLOCK_REALTIME, &until);
@@ -156,7 +160,8 @@ static int wait_for_a_while(pthread_mutex_t *turn) {
 }
 
 /* Waits until nothing is in the way of a lock. */
-static int wait_for(pthread_mutex_t *turn, const char *path, struct locker locker, const struct flock *wanted) {
+static int wait_for(pthread_mutex_t *turn, const char *path, struct locker locker,
+                    const struct flock *wanted) {
     int result = 0;
     if (waiting == MOST_WAITING)
         return -ENOLCK;
@@ -167,7 +172,8 @@ static int wait_for(pthread_mutex_t *turn, const char *path, struct locker locke
     return result;
 }
 
-int locks_set(pthread_mutex_t *turn, const char *path, struct locker locker, const struct flock *wanted, bool waits) {
+int locks_set(pthread_mutex_t *turn, const char *path, struct locker locker,
+              const struct flock *wanted, bool waits) {
     if (in_the_way(file_at(path), locker, wanted)) {
         int result = waits ? wait_for(turn, path, locker, wanted) : -EAGAIN;
         if (result < 0)

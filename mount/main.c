@@ -1,4 +1,5 @@
-/* assise_mount: a new cluster, mounted. The process ends with its first mount, and the cluster with the process. */
+/* assise_mount: a new cluster, mounted. The process ends with its first mount, and the cluster with
+ * the process. */
 #include "attributes.h"
 #include "control.h"
 #include "locks.h"
@@ -10,10 +11,12 @@
 /* Threads of a mount; each that waits for a lock takes one. */
 #define MOST_THREADS 100
 
+#define FUSE_OPTIONS "default_permissions,fsname=assise,subtype=assise"
+
 static struct cluster cluster = {.turn = PTHREAD_MUTEX_INITIALIZER};
 
-/* With several mounts nothing is kept by the kernel that another could change, and locks are the cluster's; a mount alone leaves both to the
- * kernel. What a stop took may stand in no cache. */
+/* With several mounts nothing is kept by the kernel that another could change, and locks are the
+ * cluster's; a mount alone leaves both to the kernel. What a stop took may stand in no cache. */
 static void *begin(struct fuse_conn_info *connection, struct fuse_config *config) {
     bool is_alone = cluster.mount_count == 1;
     double seconds = is_alone && cluster.mode == MODE_REDO ? 1.0 : 0.0;
@@ -55,12 +58,10 @@ static const struct fuse_operations operations = {
 
 /* Mounts a folder: whether it went. libfuse says why it didn't. */
 static bool mount_folder(struct mount *mount, const struct options *options) {
-    struct fuse_args words = FUSE_ARGS_INIT(0, NULL);
-    bool is_read = fuse_opt_add_arg(&words, "assise_mount") == 0 &&
-                   fuse_opt_add_arg(&words, "-odefault_permissions,fsname=assise,subtype=assise") == 0 &&
-                   (!options->fuse || (fuse_opt_add_arg(&words, "-o") == 0 && fuse_opt_add_arg(&words, options->fuse) == 0));
-    mount->fuse = is_read ? fuse_new(&words, &operations, sizeof operations, mount) : NULL;
-    fuse_opt_free_args(&words);
+    char *words[] = {"assise_mount", "-o", FUSE_OPTIONS, "-o", options->fuse};
+    struct fuse_args all = FUSE_ARGS_INIT(options->fuse ? 5 : 3, words);
+    mount->fuse = fuse_new(&all, &operations, sizeof operations, mount);
+    fuse_opt_free_args(&all); /* what libfuse made of them */
     if (!mount->fuse)
         return false;
     if (fuse_mount(mount->fuse, mount->folder) == 0)
@@ -70,15 +71,17 @@ static bool mount_folder(struct mount *mount, const struct options *options) {
     return false;
 }
 
-/* Serves a mount until it is unmounted. A mount alone needs one thread: no call of it waits for another. */
+/* Serves a mount until it is unmounted. A mount alone needs one thread: no call of it waits for
+ * another. */
 static void *serve(void *data) {
     struct mount *mount = data;
-    struct fuse_loop_config *config = cluster.mount_count > 1 ? fuse_loop_cfg_create() : NULL;
+    bool is_alone = cluster.mount_count == 1;
+    struct fuse_loop_config *config = is_alone ? NULL : fuse_loop_cfg_create();
     if (config) {
         fuse_loop_cfg_set_max_threads(config, MOST_THREADS);
         fuse_loop_mt(mount->fuse, config);
         fuse_loop_cfg_destroy(config);
-    } else {
+    } else if (is_alone) {
         fuse_loop(mount->fuse);
     }
     pthread_mutex_lock(&cluster.turn);

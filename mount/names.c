@@ -35,7 +35,8 @@ int name_open(const char *path, struct fuse_file_info *file) {
 }
 
 /* Fills in a page of names that the desk has: how many, or -ENOMEM. */
-static int64_t fill_page(const struct assise_desk *desk, int64_t bytes, void *buffer, fuse_fill_dir_t fill) {
+static int64_t fill_page(const struct assise_desk *desk, int64_t bytes, void *buffer,
+                         fuse_fill_dir_t fill) {
     const char *name = (const char *)desk->bytes, *end = name + bytes;
     int64_t count = 0;
     for (; name < end; name += strlen(name) + 1, count++)
@@ -63,8 +64,8 @@ static int list_in_turn(struct mount *mount, const char *path, void *buffer, fus
     return answered(bytes);
 }
 
-int name_list(const char *path, void *buffer, fuse_fill_dir_t fill, off_t offset, struct fuse_file_info *file,
-              enum fuse_readdir_flags flags) {
+int name_list(const char *path, void *buffer, fuse_fill_dir_t fill, off_t offset,
+              struct fuse_file_info *file, enum fuse_readdir_flags flags) {
     (void)offset, (void)flags;
     if (fill(buffer, ".", NULL, 0, 0) || fill(buffer, "..", NULL, 0, 0))
         return -ENOMEM;
@@ -98,7 +99,8 @@ int name_remove_directory(const char *path) {
     return drop(path, ASSISE_RMDIR);
 }
 
-/* Attributes and locks are ready to move before the name does, since they may be refused for memory. */
+/* Attributes and locks are ready to move before the name does, since they may be refused for
+ * memory. */
 static int move(struct mount *mount, const char *from, const char *to) {
     int64_t found = cluster_call(mount, ASSISE_STAT, from, 0, 0);
     bool is_directory = found >= 0 && mount->cluster->desk.stands == ASSISE_DIR;

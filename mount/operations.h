@@ -20,8 +20,10 @@ bool is_of_now(const struct mount *mount, const struct fuse_file_info *file);
 int file_create(const char *path, mode_t mode, struct fuse_file_info *file);
 int file_make(const char *path, mode_t mode, dev_t device);
 int file_open(const char *path, struct fuse_file_info *file);
-int file_read(const char *path, char *data, size_t bytes, off_t offset, struct fuse_file_info *file);
-int file_write(const char *path, const char *data, size_t bytes, off_t offset, struct fuse_file_info *file);
+int file_read(const char *path, char *data, size_t bytes, off_t offset,
+              struct fuse_file_info *file);
+int file_write(const char *path, const char *data, size_t bytes, off_t offset,
+               struct fuse_file_info *file);
 int file_truncate(const char *path, off_t size, struct fuse_file_info *file);
 int file_sync(const char *path, int data_only, struct fuse_file_info *file);
 int file_release(const char *path, struct fuse_file_info *file);
@@ -29,8 +31,8 @@ int file_release(const char *path, struct fuse_file_info *file);
 /* names.c */
 int name_directory(const char *path, mode_t mode);
 int name_open(const char *path, struct fuse_file_info *file);
-int name_list(const char *path, void *buffer, fuse_fill_dir_t fill, off_t offset, struct fuse_file_info *file,
-              enum fuse_readdir_flags flags);
+int name_list(const char *path, void *buffer, fuse_fill_dir_t fill, off_t offset,
+              struct fuse_file_info *file, enum fuse_readdir_flags flags);
 int name_unlink(const char *path);
 int name_remove_directory(const char *path);
 int name_rename(const char *from, const char *to, unsigned flags);

@@ -17,7 +17,8 @@ static uint64_t monotonic(void) {
 }
 
 uint64_t kept_bytes(struct cluster *cluster) {
-    return (uint64_t)assise_entries(&cluster->desk) * ENTRY_BYTES + (uint64_t)assise_payload(&cluster->desk);
+    return (uint64_t)assise_entries(&cluster->desk) * ENTRY_BYTES +
+           (uint64_t)assise_payload(&cluster->desk);
 }
 
 /* The nodes that are down, a bit each. */
@@ -29,11 +30,13 @@ static uint32_t nodes_down(struct cluster *cluster) {
     return down;
 }
 
-/* The nodes of a new cluster are up: those that were down fail, and lose nothing, since all calls are replicated. */
+/* The nodes of a new cluster are up: those that were down fail, and lose nothing, since all calls
+ * are replicated. */
 static void fail_again(struct cluster *cluster, uint32_t down) {
     for (uint32_t node = 1; node <= cluster->nodes; node++)
         if (down & 1u << node && assise_fail(&cluster->desk, node) < 0)
-            note(&cluster->notes, "node %" PRIu32 " is up in the renewed cluster, since it couldn't fail\n", node);
+            note(&cluster->notes,
+                 "node %" PRIu32 " is up in the renewed cluster, since it couldn't fail\n", node);
 }
 
 /* The first mount on node 1 has the client that a renewal opens, if it is still there. */

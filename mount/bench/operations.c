@@ -1,4 +1,5 @@
-/* operations FOLDER COUNT: how many operations a second one caller makes in a folder; a line each, `RATE NAME`. */
+/* operations FOLDER COUNT: how many operations a second one caller makes in a folder; a line each,
+ * `RATE NAME`. */
 #include <dirent.h>
 #include <fcntl.h>
 #include <stdbool.h>
@@ -87,7 +88,8 @@ static bool sync_folder(int number) {
 static bool deliver(int number) {
     const char *from = path_of("tmp", number);
     int file = open(from, O_CREAT | O_WRONLY | O_EXCL, 0644);
-    bool is_written = file >= 0 && write(file, data, SOME) == SOME && fsync(file) == 0 && close(file) == 0;
+    bool is_written = file >= 0 && write(file, data, SOME) == SOME && fsync(file) == 0 &&
+                      close(file) == 0;
     return is_written && rename(from, path_of("new", number)) == 0 && sync_folder(number);
 }
 
