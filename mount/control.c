@@ -155,8 +155,8 @@ static int64_t fail_or_back(struct mount *mount, const char *words, bool *is_kno
         return fail_node(cluster, node);
     if (sscanf(words, "back %" SCNu32 " %n", &node, &end) == 1 && end >= 0 && !words[end]) {
         int64_t result = assise_back(&cluster->desk, node);
-        note(&cluster->notes, "node %" PRIu32 " comes back%s%s\n", node, result < 0 ? " not: " : "",
-             result < 0 ? assise_text(result) : "");
+        note(&cluster->notes, "node %" PRIu32 " %s%s\n", node,
+             result < 0 ? "doesn't come back: " : "comes back", result < 0 ? assise_text(result) : "");
         return result;
     }
     *is_known = false;

@@ -2,6 +2,7 @@
 #include "paths.h"
 #include <errno.h>
 #include <fuse3/fuse.h>
+#include <fuse3/fuse_lowlevel.h>
 #include <stdlib.h>
 #include <string.h>
 #include <time.h>
@@ -148,7 +149,12 @@ static int set(struct locked_file *file, struct locker locker, const struct floc
     return 0;
 }
 
-/* Waits for a while, or until a lock goes: 0, or -EINTR where its program was interrupted. */
+/* Whether the caller's program was interrupted, or its mount ends. */
+static bool is_over(void) {
+    return fuse_interrupted() || fuse_session_exited(fuse_get_session(fuse_get_context()->fuse));
+}
+
+/* Waits for a while, or until a lock goes: 0, or -EINTR where nobody waits any more. */
 static int wait_for_a_while(pthread_mutex_t *turn) {
     struct timespec until;
     clock_gettime(CLOCK_REALTIME, &until);
@@ -156,7 +162,7 @@ static int wait_for_a_while(pthread_mutex_t *turn) {
     until.tv_sec += until.tv_nsec / 1000000000;
     until.tv_nsec %= 1000000000;
     pthread_cond_timedwait(&freed, turn, &until);
-    return fuse_interrupted() ? -EINTR : 0;
+    return is_over() ? -EINTR : 0;
 }
 
 /* Waits until nothing is in the way of a lock. */

@@ -5,6 +5,9 @@
 #include "locks.h"
 #include "operations.h"
 #include "options.h"
+#include <errno.h>
+#include <fuse3/fuse_lowlevel.h>
+#include <signal.h>
 #include <stdio.h>
 #include <stdlib.h>
 
@@ -106,6 +109,17 @@ static void let_go(void) {
     texts_end();
 }
 
+/* Ends a mount's thread, which may be about to wait again when a signal wakes it. */
+static void end_thread(pthread_t thread, const struct mount *mount) {
+    struct timespec until;
+    fuse_session_exit(fuse_get_session(mount->fuse));
+    do {
+        pthread_kill(thread, SIGTERM);
+        clock_gettime(CLOCK_REALTIME, &until);
+        until.tv_sec += 1;
+    } while (pthread_timedjoin_np(thread, NULL, &until) == ETIMEDOUT);
+}
+
 /* Serves all mounts, until the first is unmounted or a signal comes: a status. */
 static int serve_all(const struct options *options) {
     pthread_t threads[MOST_MOUNTS];
@@ -116,11 +130,10 @@ static int serve_all(const struct options *options) {
     for (unsigned place = 1; place < cluster.mount_count; place++)
         runs[place] = pthread_create(&threads[place], NULL, serve, &cluster.mounts[place]) == 0;
     serve(&cluster.mounts[0]);
-    fuse_remove_signal_handlers(session);
-    unmount_all();
     for (unsigned place = 1; place < cluster.mount_count; place++)
         if (runs[place])
-            pthread_join(threads[place], NULL);
+            end_thread(threads[place], &cluster.mounts[place]);
+    fuse_remove_signal_handlers(session);
     return 0;
 }
 
@@ -134,8 +147,7 @@ static int mount_all(const struct options *options) {
     for (unsigned place = 0; place < cluster.mount_count && is_mounted; place++)
         is_mounted = mount_folder(&cluster.mounts[place], options);
     int status = is_mounted ? serve_all(options) : 1;
-    if (!is_mounted)
-        unmount_all();
+    unmount_all();
     cluster_end(&cluster);
     return status;
 }

@@ -2,7 +2,9 @@
 
 import os
 import shutil
+import signal
 import subprocess
+import sys
 import tempfile
 import time
 
@@ -39,7 +41,7 @@ class Mounted:
         for folder in self.folders:
             os.mkdir(folder)
         places = [word for node, folder in zip(self.at, self.folders[1:]) for word in ("--at", f"{node}={folder}")]
-        words = [self.program, self.folders[0], "-f", *places, *self.words]
+        words = dying([self.program, self.folders[0], "-f", *places, *self.words])
         self.process = subprocess.Popen(words, stdin=subprocess.DEVNULL, stdout=subprocess.PIPE, stderr=subprocess.STDOUT)
         until = time.monotonic() + SECONDS
         while not all(map(os.path.ismount, self.folders)):
@@ -88,10 +90,15 @@ class Mounted:
         rows = (line.split() for line in self.read("status").splitlines())
         return {int(row[1]): row[2] for row in rows if row[0] == "node"}
 
-    def node_of(self, place=0):
-        """The node on which a mount's client is."""
-        rows = [line.split() for line in self.read("status").splitlines()]
-        return next(int(row[3]) for row in rows if row[0] == "mount" and row[1] == os.path.realpath(self.folders[place]))
+
+def dying(words):
+    """The words of a command that is ended with whoever calls it, however that ends."""
+    return ["setpriv", "--pdeathsig", "TERM", *words] if shutil.which("setpriv") else words
+
+
+def end_in_order():
+    """Has this process end by a signal so that each `with` is left."""
+    signal.signal(signal.SIGTERM, lambda *_: sys.exit(1))
 
 
 def is_mounted(folder):

@@ -4,9 +4,10 @@ import fcntl
 import multiprocessing
 import os
 import sqlite3
-import time
+import threading
 
 WRITERS, ROWS = 4, 25
+SECONDS = 60
 
 
 def insert(folder, writer):
@@ -33,11 +34,31 @@ def writers(mounted):
     return "" if found == wanted and not any(statuses) else f"{found}, and not {wanted}; the writers' statuses are {statuses}"
 
 
-def hold(path, lock, ready, seconds):
+def append(folder, writer):
+    for row in range(ROWS):
+        with open(f"{folder}/rows", "a", encoding="utf-8") as file:
+            file.write(f"{writer} {row}\n")
+
+
+def appenders(mounted):
+    """Processes on two mounts append to one file, while the node of one fails; what is wrong, or nothing."""
+    folders = mounted.folders
+    parts = [multiprocessing.Process(target=append, args=(folders[w % 2], w)) for w in range(WRITERS)]
+    mounted.order("fail 1 after 20")
+    for part in parts:
+        part.start()
+    for part in parts:
+        part.join()
+    with open(f"{folders[0]}/rows", encoding="utf-8") as file:
+        found = sorted(file.read().splitlines())
+    return "" if found == sorted(f"{w} {row}" for w in range(WRITERS) for row in range(ROWS)) else f"{len(found)} rows: {found[:8]}"
+
+
+def hold(path, lock, holds, ends):
     with open(path, "r+", encoding="utf-8") as file:
         lock(file, fcntl.LOCK_EX)
-        ready.set()
-        time.sleep(seconds)
+        holds.set()
+        ends.wait(SECONDS)
 
 
 def excludes(mounted, lock, name):
@@ -45,20 +66,20 @@ def excludes(mounted, lock, name):
     first, second = (f"{folder}/{name}" for folder in mounted.folders[:2])
     with open(first, "w", encoding="utf-8"):
         pass
-    ready = multiprocessing.Event()
-    holder = multiprocessing.Process(target=hold, args=(first, lock, ready, 0.5))
+    holds, ends = multiprocessing.Event(), multiprocessing.Event()
+    holder = multiprocessing.Process(target=hold, args=(first, lock, holds, ends))
     holder.start()
-    ready.wait(10)
+    holds.wait(SECONDS)
     with open(second, "r+", encoding="utf-8") as file:
         try:
             lock(file, fcntl.LOCK_EX | fcntl.LOCK_NB)
             wrong = "it keeps nobody out"
         except OSError:
             wrong = ""
-        began = time.monotonic()
+        threading.Timer(0.3, ends.set).start()
         lock(file, fcntl.LOCK_EX)
-        if time.monotonic() - began < 0.1 and not wrong:
-            wrong = "nobody waits for it"
+        if not ends.is_set():
+            wrong = wrong or "nobody waits for it"
     holder.join()
     os.unlink(first)
     return wrong
