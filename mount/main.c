@@ -120,6 +120,17 @@ static void end_thread(pthread_t thread, const struct mount *mount) {
     } while (pthread_timedjoin_np(thread, NULL, &until) == ETIMEDOUT);
 }
 
+/* Signals that end the process wait from the first mount on, until they are seen to, or come through
+ * again. */
+static void hold_signals(bool are_held) {
+    sigset_t ending;
+    sigemptyset(&ending);
+    sigaddset(&ending, SIGTERM);
+    sigaddset(&ending, SIGINT);
+    sigaddset(&ending, SIGHUP);
+    pthread_sigmask(are_held ? SIG_BLOCK : SIG_UNBLOCK, &ending, NULL);
+}
+
 /* Serves all mounts, until the first is unmounted or a signal comes: a status. */
 static int serve_all(const struct options *options) {
     pthread_t threads[MOST_MOUNTS];
@@ -127,6 +138,7 @@ static int serve_all(const struct options *options) {
     struct fuse_session *session = fuse_get_session(cluster.mounts[0].fuse);
     if (fuse_daemonize(options->stays) != 0 || fuse_set_signal_handlers(session) != 0)
         return 1;
+    hold_signals(false);
     for (unsigned place = 1; place < cluster.mount_count; place++)
         runs[place] = pthread_create(&threads[place], NULL, serve, &cluster.mounts[place]) == 0;
     serve(&cluster.mounts[0]);
@@ -144,6 +156,7 @@ static int mount_all(const struct options *options) {
         return 1;
     }
     bool is_mounted = true;
+    hold_signals(true);
     for (unsigned place = 0; place < cluster.mount_count && is_mounted; place++)
         is_mounted = mount_folder(&cluster.mounts[place], options);
     int status = is_mounted ? serve_all(options) : 1;
