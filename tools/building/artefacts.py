@@ -95,7 +95,7 @@ def written(stands_at, text):
     os.replace(beside, stands_at)
 
 
-def install(prefix):
-    """Installs what was built."""
-    for name in ALL:
+def install(prefix, more=()):
+    """Installs what was built, and more that stands beside it."""
+    for name in [*ALL, *more]:
         put(os.path.join(OUT, name), os.path.join(prefix, name))
