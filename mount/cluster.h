@@ -34,6 +34,7 @@ struct mount {
 /* When the cluster is renewed; times are nanoseconds of the monotonic clock. */
 struct renewals {
     uint64_t keep; /* bytes of history */
+    uint64_t left; /* bytes that it had behind the last one */
     uint64_t count, took, ended, longest;
     bool is_refused; /* the last one was */
 };

@@ -7,7 +7,10 @@
 /* What an entry has besides the bytes that it wrote, read or listed, measured at a stat. */
 #define ENTRY_BYTES 500
 
-/* A renewal takes a twentieth of the time at most. */
+/* A renewal costs the files and the history, so a history that has grown by the files is due. */
+#define GROWTH 4
+
+/* A renewal that was refused is tried again when so many times what it took has gone by. */
 #define TIMES_APART 20
 
 static uint64_t monotonic(void) {
@@ -66,6 +69,7 @@ int64_t renew(struct cluster *cluster) {
     if (result >= 0) {
         fail_again(cluster, down);
         open_anew(cluster);
+        renewals->left = kept_bytes(cluster);
         renewals->count++;
     }
     renewals->ended = monotonic();
@@ -75,13 +79,17 @@ int64_t renew(struct cluster *cluster) {
     return result < 0 ? result : 0;
 }
 
+static bool has_grown(struct cluster *cluster) {
+    const struct renewals *renewals = &cluster->renewals;
+    uint64_t kept = kept_bytes(cluster);
+    return kept > renewals->keep && kept - renewals->keep >= GROWTH * renewals->left;
+}
+
 void renew_where_due(struct cluster *cluster) {
     const struct renewals *renewals = &cluster->renewals;
     bool are_few = cluster->clients + cluster->mount_count > ASSISE_MOST_CLIENTS;
-    if (!are_few && kept_bytes(cluster) < renewals->keep)
+    if (!are_few && !has_grown(cluster))
         return;
-    if (are_few && !renewals->is_refused)
-        renew(cluster);
-    else if (monotonic() - renewals->ended >= TIMES_APART * renewals->took)
+    if (!renewals->is_refused || monotonic() - renewals->ended >= TIMES_APART * renewals->took)
         renew(cluster);
 }
