@@ -187,7 +187,7 @@ enum assise_fault {
     ASSISE_NODE_DOWN = -103,     /* the client's node failed, or the node isn't full: open another client */
     ASSISE_CLIENT_GONE = -104,   /* the client crashed */
     ASSISE_INODES_SPENT = -105,  /* the client made 1,048,576 inodes */
-    ASSISE_TOO_LARGE = -106,     /* a write over 65,536 bytes; a renewal of what lies deeper than 32 names */
+    ASSISE_TOO_LARGE = -106,     /* a write over 65,536 bytes */
     ASSISE_LAST_NODE = -107,     /* the only full node can't fail */
     ASSISE_BAD_NODE = -108,      /* no such node */
     ASSISE_BAD_CLIENT = -109,    /* no such client, or all 32 were opened */
@@ -199,7 +199,7 @@ enum assise_fault {
     ASSISE_EMPTY_NAME = -202,    /* a name without bytes */
     ASSISE_BAD_NAME = -203,      /* a name that is none, or no UTF-8 */
     ASSISE_NAME_TOO_LONG = -204, /* a name over 255 bytes */
-    ASSISE_TOO_DEEP = -205,      /* more than 32 names */
+    ASSISE_TOO_DEEP = -205,      /* more than 32 names; a renewal of what lies so deep */
     /* The desk can't serve it. */
     ASSISE_NO_CLUSTER = -301,
     ASSISE_BAD_REQUEST = -302, /* a number out of range, or more bytes than a desk has */
@@ -319,7 +319,7 @@ static inline int64_t assise_free(struct assise_desk *desk) { return assise_mana
  * one's.
  *
  * What is refused leaves the old cluster: each of its clients that may call was asked for a dsync, unless all calls were replicated. It is
- * ASSISE_BUSY where that can't be, as where not all nodes are raised; ASSISE_TOO_LARGE, or ASSISE_INODES_SPENT where one client can't make
+ * ASSISE_BUSY where that can't be, as where not all nodes are raised; ASSISE_TOO_DEEP, or ASSISE_INODES_SPENT where one client can't make
  * as many files and directories. */
 static inline int64_t assise_renew(struct assise_desk *desk, uint32_t nodes, uint64_t log, uint64_t hot, uint32_t kind) {
     return assise_manage(desk, ASSISE_RENEW, 0, nodes, kind, log, hot);

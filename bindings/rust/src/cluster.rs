@@ -139,7 +139,7 @@ impl Cluster {
     ///
     /// Then all is as it was, but that clients may have made a dsync. [`BadRequest`](crate::Refusal::BadRequest) where a number is out of
     /// range; [`Busy`](crate::Refusal::Busy) where a call can't be replicated, as where not all nodes are raised;
-    /// [`TooLarge`](crate::Refusal::TooLarge), [`InodesSpent`](crate::Refusal::InodesSpent),
+    /// [`TooDeep`](crate::Refusal::TooDeep), [`InodesSpent`](crate::Refusal::InodesSpent),
     /// [`OutOfMemory`](crate::Refusal::OutOfMemory).
     #[doc(alias = "assise_renew")]
     pub fn renew(&self, nodes: u32, log: u64, hot: u64, revoker: Revoker) -> io::Result<Client> {

@@ -48,8 +48,7 @@ pub enum Refusal {
     /// The client has made [`MOST_INODES`](crate::limits::MOST_INODES) files and directories: open another. A cluster that has more of
     /// them isn't renewed.
     InodesSpent = fault::INODES_SPENT,
-    /// A single write is too long. No write of this crate is, since it goes in parts. Or a cluster is to be renewed in which something
-    /// lies deeper than a path goes.
+    /// A single write is too long. No write of this crate is, since it goes in parts.
     TooLarge = fault::TOO_LARGE,
     /// The only full node can't fail.
     LastNode = fault::LAST_NODE,

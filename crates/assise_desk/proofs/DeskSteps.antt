@@ -20,9 +20,7 @@ use Rattle.assise_machine.specs.Answers.{raising_answer, setting_answer}
 use Rattle.assise_machine.specs.Running.{opened_answer}
 use Rattle.assise_rounds.specs.Traces.{Told}
 use Rattle.assise_rounds.specs.Returning.{ComesBack}
-use Rattle.assise_renewal.specs.Led.{IsDsync, IsLedBy}
-use Rattle.assise_renewal.specs.Renewal.{IsRenewed}
-use Rattle.assise_files.specs.FilesSeen.{cluster_seen, kinds_seen, links_seen, own_cluster, tree_seen}
+use Rattle.assise_files.specs.FilesSeen.{cluster_seen, kinds_seen, links_seen}
 use Rattle.assise_files.specs.declared.cut_kind.CutKind.{CutKind}
 use Rattle.assise_files.specs.declared.files.Files.{Files}
 use Rattle.assise_desk.specs.declared.caller_desk.CallerDesk.{CallerDesk}
@@ -33,7 +31,7 @@ use Rattle.assise_desk.specs.declared.desk_fault.DeskFault.{DeskFault}
 use Rattle.assise_desk.specs.declared.desk_request.DeskRequest.{DeskRequest}
 use Rattle.assise_desk.specs.CallNumbers.{desk_call_number}
 use Rattle.assise_desk.specs.NamedKinds.{durability_named, kind_named, link_named}
-use Rattle.assise_desk.specs.DeskAnswers.{AnswersAlone, AnswersRequest, DoesAt, IsOutOfRange, IsServedAt, ServesHot, ServesLink, ServesOpen, ShowsLosses, TellsRedo, answers_alone, done_told, has_no_cluster, is_no_request, number_told, opens_as, owned, request_calls, request_frees, request_makes, request_manages, request_pages, request_prints, request_queries, result_shown, links_no_node, sets_hot, sets_link, RenewsAt, is_not_renewed, is_renewed, request_renews, request_shows_listed, sizes_asked}
+use Rattle.assise_desk.specs.DeskAnswers.{AnswersAlone, AnswersRequest, DoesAt, IsOutOfRange, IsServedAt, ServesHot, ServesLink, ServesOpen, ShowsLosses, TellsRedo, answers_alone, done_told, has_no_cluster, is_no_request, number_told, opens_as, owned, request_calls, request_frees, request_makes, request_manages, request_pages, request_prints, request_queries, result_shown, links_no_node, sets_hot, sets_link, request_renews, request_shows_listed}
 
 -- ---- one event
 
@@ -96,14 +94,6 @@ is_in_range r some few long_enough short_enough some_hot few_hot (inr (inr (inl 
 is_in_range r some few long_enough short_enough some_hot few_hot (inr (inr (inr (inl h)))) = omega (arith, short_enough, h)
 is_in_range r some few long_enough short_enough some_hot few_hot (inr (inr (inr (inr (inl h))))) = omega (arith, some_hot, h)
 is_in_range r some few long_enough short_enough some_hot few_hot (inr (inr (inr (inr (inr h))))) = omega (arith, few_hot, h)
-
--- ---- a cluster is renewed
-
-pub renewal_told : (r : DeskRequest) (result : Result ℕ DeskFault) (told : Result ⊤ Refusal) (files left : Files) → result ≡ done_told told →
-    OnOk told (IsRenewed (tree_seen files) (sizes_asked r) (own_cluster left)) → OnErr told (IsLedBy IsDsync (cluster_seen files) (cluster_seen left)) → OnErr told (tree_seen left ≡ tree_seen files) →
-    RenewsAt r result files left
-renewal_told r result (Ok done) files left is renewed settles stays = is_renewed is renewed
-renewal_told r result (Err refusal) files left is renewed settles stays = is_not_renewed refusal is settles stays
 
 -- ---- a desk
 

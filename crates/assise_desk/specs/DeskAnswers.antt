@@ -46,7 +46,8 @@ use Rattle.assise_desk.specs.declared.desk_fault.DeskFault.TheVariants.{Refused,
 use Rattle.assise_desk.specs.declared.desk_request.TheConstants.{DESK_BYTES}
 use Rattle.assise_desk.specs.declared.desk_request.DeskRequest.{DeskRequest}
 use Rattle.assise_desk.specs.CallNumbers.{desk_call_number}
-use Rattle.assise_desk.specs.FaultCodes.{fault_code, no_memory}
+use Rattle.assise_renewal.specs.declared.renewal_fault.RenewalFault.{RenewalFault}
+use Rattle.assise_desk.specs.FaultCodes.{fault_code, no_memory, of_renewal_fault}
 use Rattle.assise_desk.specs.NamedKinds.{durability_named, kind_named, link_named}
 use Rattle.assise_desk.specs.Pages.{loss_bytes, losses_bytes}
 use Rattle.assise_desk.specs.Queries.{AnswersQuery}
@@ -106,7 +107,7 @@ sizes_asked r = record { nodes = r.node; log = r.first; hot = r.second }
 -- a number of the request is out of range, or names no revoker.
 pub data RenewsAt (r : DeskRequest) (result : Result ℕ DeskFault) (files left : Files) : Type 0 where
   is_renewed : result ≡ Ok 0 → IsRenewed (tree_seen files) (sizes_asked r) (own_cluster left) → RenewsAt r result files left
-  is_not_renewed : (refusal : Refusal) → result ≡ Err (Refused refusal) → IsLedBy IsDsync (cluster_seen files) (cluster_seen left) → tree_seen left ≡ tree_seen files →
+  is_not_renewed : (fault : RenewalFault) → result ≡ Err (of_renewal_fault fault) → IsLedBy IsDsync (cluster_seen files) (cluster_seen left) → tree_seen left ≡ tree_seen files →
       RenewsAt r result files left
   renewal_is_out_of_range : IsOutOfRange r ⊎ (kind_named r.kind ≡ None) → result ≡ Err BadRequest → left ≡ files → RenewsAt r result files left
 

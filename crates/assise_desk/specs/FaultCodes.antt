@@ -6,6 +6,8 @@ use Rattle.assise_names.specs.declared.refusal.Refusal.{Refusal}
 use Rattle.assise_names.specs.declared.refusal.Refusal.TheVariants.{OutOfMemory, Busy, NodeDown, ClientGone, InodesSpent, TooLarge, LastNode, BadNode, BadClient, WrongPhase, StaleMessage, LogFull}
 use Rattle.assise_names.specs.declared.reply.TreeError.{TreeError}
 use Rattle.assise_names.specs.declared.reply.TreeError.TheVariants.{NoEnt, Exists, NotDir, IsDir, NotEmpty, Invalid, TooBig, DirFull}
+use Rattle.assise_renewal.specs.declared.renewal_fault.RenewalFault.{RenewalFault}
+use Rattle.assise_renewal.specs.declared.renewal_fault.RenewalFault.TheVariants as renewal
 use Rattle.assise_desk.specs.declared.desk_fault.DeskFault.{DeskFault}
 use Rattle.assise_desk.specs.declared.desk_fault.DeskFault.TheVariants.{Tree, Refused, Path, NoCluster, BadRequest, NoRoom}
 
@@ -57,6 +59,11 @@ fault_code BadRequest = below_zero 302
 fault_code NoRoom = below_zero 303
 
 -- ---- what is found on the way
+
+-- what lies deeper than a path goes is as a path that does
+abbrev pub of_renewal_fault : RenewalFault → DeskFault
+of_renewal_fault (renewal.Refused refusal) = Refused refusal
+of_renewal_fault renewal.TooDeep = Path TooDeep
 
 abbrev pub no_memory : DeskFault
 no_memory = Refused OutOfMemory

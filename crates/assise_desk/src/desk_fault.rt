@@ -5,6 +5,7 @@ ghost use Rattle.assise_desk.specs.FaultCodes.{fault_code, path_code, refusal_co
 use assise_names::path::PathFault;
 use assise_names::refusal::Refusal;
 use assise_names::reply::TreeError;
+use assise_renewal::renewal_fault::RenewalFault;
 use std::alloc::{AllocError, AllocFailed};
 
 /// Why a request has no answer of its own.
@@ -45,6 +46,20 @@ impl From<PathFault> for DeskFault {
         match fault {
             PathFault::Memory => DeskFault::Refused(Refusal::OutOfMemory),
             fault => DeskFault::Path(fault),
+        }
+    }
+}
+
+impl From<RenewalFault> for DeskFault {
+    ghost use Rattle.std.specs.Prelude.{◌≡◌};
+    ghost use Rattle.assise_desk.specs.FaultCodes.{of_renewal_fault};
+
+    ghost from_gives = { λ found fault. fault ≡ of_renewal_fault found };
+
+    fn from(fault: RenewalFault) -> DeskFault {
+        match fault {
+            RenewalFault::Refused(refusal) => DeskFault::Refused(refusal),
+            RenewalFault::TooDeep => DeskFault::Path(PathFault::TooDeep),
         }
     }
 }

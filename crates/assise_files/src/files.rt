@@ -14,6 +14,7 @@ use assise_names::limits::MOST_NODES;
 use assise_names::refusal::Refusal;
 use assise_names::reply::Reply;
 use assise_renewal::renewal::{Sizes, renewed};
+use assise_renewal::renewal_fault::RenewalFault;
 use assise_renewal::trees::tree_at;
 use assise_rounds::returning::return_node;
 use assise_rounds::rounds::round_over;
@@ -172,7 +173,7 @@ impl Files {
     /// one is open, on node 1 and pessimistic, with a revoker of this kind. How often a call is tried stays, and so do the nodes' links,
     /// which aren't used for it. Refused as [`renewed`](fn@renewed), and the old cluster stays then: where its calls weren't all
     /// replicated, its clients made a dsync.
-    pub fn renew(&mut self, alloc: Global, sizes: Sizes, kind: CutKind) -> Result<(), Refusal>
+    pub fn renew(&mut self, alloc: Global, sizes: Sizes, kind: CutKind) -> Result<(), RenewalFault>
         requires some_nodes { 0 < sizes.nodes }
         requires few_nodes { sizes.nodes ≤ MOST_NODES }
         requires least_log { 8 ≤ sizes.log }

@@ -3,6 +3,7 @@ ghost use Rattle.assise_machine.specs.Clusters.{machine};
 ghost use Rattle.assise_renewal.specs.Led.{IsLedBy, IsOfFirst};
 
 use crate::calls::make_call;
+use crate::renewal_fault::RenewalFault;
 use assise_lease_table::revoker::Revokes;
 use assise_machine::cluster::ClusterOf;
 use assise_names::byte_string::ByteString;
@@ -29,7 +30,7 @@ pub(crate) fn fill<C: Revokes + Drop>(
     cluster: &mut ClusterOf<C>,
     tree: &Tree,
     turns: u32,
-) -> Result<(), Refusal>
+) -> Result<(), RenewalFault>
     ensures { IsLedBy IsOfFirst (machine cluster.old) (machine cluster.new) }
 {
     if let Ok(entries) = tree.entries() {
@@ -44,7 +45,7 @@ fn fill_directory<C: Revokes + Drop>(
     cluster: &mut ClusterOf<C>,
     entries: &BTreeMap<Name, Tree>,
     turns: u32,
-) -> Result<(), Refusal>
+) -> Result<(), RenewalFault>
     ensures { IsLedBy IsOfFirst (machine cluster.old) (machine cluster.new) }
 {
     let mut traversal = Traversal::new(alloc, entries);
@@ -80,7 +81,7 @@ fn make_one<C: Revokes + Drop>(
     path: &str,
     tree: &Tree,
     turns: u32,
-) -> Result<(), Refusal>
+) -> Result<(), RenewalFault>
     ensures { IsLedBy IsOfFirst (machine cluster.old) (machine cluster.new) }
 {
     match tree.bytes() {
@@ -103,12 +104,12 @@ fn write_all<C: Revokes + Drop>(
     path: &str,
     bytes: &[u8],
     turns: u32,
-) -> Result<(), Refusal>
+) -> Result<(), RenewalFault>
     ensures { IsLedBy IsOfFirst (machine cluster.old) (machine cluster.new) }
 {
     let mut offset: u64 = 0;
     for piece in bytes.chunks(MOST_WRITTEN) {
-        let new = ByteString::from_vec(copied(alloc, piece)?)?;
+        let new = bytes_of(alloc, piece)?;
         let op = Op::Write(path_of(alloc, path)?, offset, new);
         make(alloc, cluster, &op, turns)?;
         offset = offset.saturating_add(piece.len() as u64);
@@ -116,13 +117,17 @@ fn write_all<C: Revokes + Drop>(
     Ok(())
 }
 
-/// The path that a text spells. What has more than 32 names, as a directory that was moved below another may, is
-/// [`Refusal::TooLarge`].
-fn path_of(alloc: Global, text: &str) -> Result<Path, Refusal> {
+/// These bytes, copied.
+fn bytes_of(alloc: Global, piece: &[u8]) -> Result<ByteString, Refusal> {
+    Ok(ByteString::from_vec(copied(alloc, piece)?)?)
+}
+
+/// The path that a text spells. What has more than 32 names is [`RenewalFault::TooDeep`].
+fn path_of(alloc: Global, text: &str) -> Result<Path, RenewalFault> {
     match Path::parse(alloc, text) {
         Ok(path) => Ok(path),
-        Err(PathFault::Memory) => Err(Refusal::OutOfMemory),
-        Err(_) => Err(Refusal::TooLarge),
+        Err(PathFault::Memory) => Err(RenewalFault::Refused(Refusal::OutOfMemory)),
+        Err(_) => Err(RenewalFault::TooDeep),
     }
 }
 
@@ -133,7 +138,7 @@ fn make<C: Revokes + Drop>(
     cluster: &mut ClusterOf<C>,
     op: &Op,
     turns: u32,
-) -> Result<(), Refusal>
+) -> Result<(), RenewalFault>
     ensures { IsLedBy IsOfFirst (machine cluster.old) (machine cluster.new) }
 {
     for _ in 0..turns {
@@ -141,14 +146,14 @@ fn make<C: Revokes + Drop>(
             Ok(_) => return Ok(()),
             Err(refusal) => {
                 if refusal != Refusal::LogFull {
-                    return Err(refusal);
+                    return Err(RenewalFault::Refused(refusal));
                 }
             }
         }
         let _ = cluster.try_call(alloc, FIRST, &Op::Dsync);
         if !round(alloc, cluster) {
-            return Err(Refusal::Busy);
+            return Err(RenewalFault::Refused(Refusal::Busy));
         }
     }
-    Err(Refusal::Busy)
+    Err(RenewalFault::Refused(Refusal::Busy))
 }

@@ -5,6 +5,7 @@
 mod calls;
 mod filling;
 pub mod renewal;
+pub mod renewal_fault;
 mod replicated;
 mod settling;
 pub mod trees;

@@ -9,6 +9,7 @@ ghost use Rattle.assise_renewal.specs.Led.{IsDsync, IsLedBy};
 ghost use Rattle.assise_renewal.specs.Renewal.{AreUp, IsBegunBy, IsOfOneClient, IsRenewed, tree_kept};
 
 use crate::filling::fill;
+use crate::renewal_fault::RenewalFault;
 use crate::replicated::are_all_replicated;
 use crate::settling::settle;
 use crate::trees::replicated_tree;
@@ -38,16 +39,16 @@ pub struct Sizes {
 ///
 /// First the old one's calls are made safe: where some aren't replicated each of its clients makes a dsync, with rounds. Nothing else
 /// happens to it, also where the new one is refused: with [`Refusal::Busy`] where a call of the old one isn't replicated then, as where
-/// what one node sends waits until another is raised; with [`Refusal::TooLarge`] where something lies deeper than a path goes; with
-/// [`Refusal::InodesSpent`] where there are more files and directories than one client may make; and with [`Refusal::OutOfMemory`]:
-/// beside the old cluster it takes the new one and twice the tree.
+/// what one node sends waits until another is raised; with [`Refusal::InodesSpent`] where there are more files and directories than one
+/// client may make; and with [`Refusal::OutOfMemory`]: beside the old cluster it takes the new one and twice the tree. Where something lies
+/// deeper than a path goes, which no call reaches, it is [`RenewalFault::TooDeep`].
 pub fn renewed<C: Revokes + Drop>(
     alloc: Global,
     old: &mut ClusterOf<C>,
     sizes: Sizes,
     revoker: C,
     turns: u32,
-) -> Result<ClusterOf<C>, Refusal>
+) -> Result<ClusterOf<C>, RenewalFault>
     requires some_nodes { 0 < sizes.nodes }
     requires few_nodes { sizes.nodes ≤ MOST_NODES }
     requires least_log { 8 ≤ sizes.log }
@@ -87,7 +88,7 @@ fn with_tree<C: Revokes + Drop>(
     sizes: Sizes,
     revoker: C,
     turns: u32,
-) -> Result<ClusterOf<C>, Refusal>
+) -> Result<ClusterOf<C>, RenewalFault>
     requires some_nodes { 0 < sizes.nodes }
     requires few_nodes { sizes.nodes ≤ MOST_NODES }
     requires least_log { 8 ≤ sizes.log }
@@ -101,7 +102,7 @@ fn with_tree<C: Revokes + Drop>(
     if has_tree(alloc, &cluster, sizes.nodes, tree)? {
         Ok(cluster)
     } else {
-        Err(Refusal::Busy)
+        Err(RenewalFault::Refused(Refusal::Busy))
     }
 }
 
@@ -112,7 +113,7 @@ fn filled<C: Revokes + Drop>(
     sizes: Sizes,
     revoker: C,
     turns: u32,
-) -> Result<ClusterOf<C>, Refusal>
+) -> Result<ClusterOf<C>, RenewalFault>
     requires some_nodes { 0 < sizes.nodes }
     requires few_nodes { sizes.nodes ≤ MOST_NODES }
     requires least_log { 8 ≤ sizes.log }
@@ -125,7 +126,7 @@ fn filled<C: Revokes + Drop>(
     let mut cluster = ClusterOf::new(alloc, sizes.nodes, sizes.log, sizes.hot)?;
     match cluster.open(alloc, 1, revoker, Durability::Pessimistic) {
         Ok(_) => {}
-        Err((refusal, _)) => return Err(refusal),
+        Err((refusal, _)) => return Err(RenewalFault::Refused(refusal)),
     }
     fill(alloc, &mut cluster, tree, turns)?;
     Ok(cluster)

@@ -1,11 +1,9 @@
-use Rattle.std.proofs.Common.{inr, refl, sym, ◌∙◌}
-use Rattle.assise_desk.specs.DeskAnswers.{renewal_is_out_of_range}
-use Rattle.assise_desk.proofs.DeskSteps.{renewal_told}
+use Rattle.std.proofs.Common.{rules, inr, refl, sym, ◌∙◌}
+use Rattle.assise_desk.specs.DeskAnswers.{is_not_renewed, renewal_is_out_of_range}
 use Rattle.assise_desk.proofs.caller_desk.renew_cluster.Goals as goal
 
 pub returns-in_default-clause-renews : goal.returns-in_default-clause-renews
 returns-in_default-clause-renews c = renewal_is_out_of_range (inr (sym c.kind_named.ensures ∙ c.in_default.is)) refl refl
 
-pub returns-clause-renews : goal.returns-clause-renews
-returns-clause-renews c =
-    renewal_told c.args.request.now c.done_told.result c.renew.result c.args.files.now c.renew.new.self c.done_told.ensures c.renew.ensures.renewed c.renew.ensures.settles c.renew.ensures.stays
+pub returns-in_err-renew-clause-renews : goal.returns-in_err-renew-clause-renews
+returns-in_err-renew-clause-renews c = is_not_renewed c.in_err-renew.field-0.0 (search rules) c.in_err-renew.ensures.settles c.in_err-renew.ensures.stays
