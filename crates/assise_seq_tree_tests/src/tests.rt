@@ -327,9 +327,9 @@ fn directories(alloc: Global, depth: u32) -> Option<Tree> {
         let mut above = Tree::new(alloc);
         for name in &["a", "c"] {
             let file = Tree::of_bytes(Vec::new(alloc));
-            above.insert(Name::of_text(alloc, name).ok()?, file).ok()?;
+            above.insert(Name::parse(alloc, name).ok()?, file).ok()?;
         }
-        above.insert(Name::of_text(alloc, "b").ok()?, tree).ok()?;
+        above.insert(Name::parse(alloc, "b").ok()?, tree).ok()?;
         tree = above;
     }
     Some(tree)
