@@ -23,7 +23,7 @@ class Directory(dict):
 
 @dataclass
 class Plan:
-    """What a call comes to: the inodes that it looks at, its effects, each with the inode that it changes in second place, and its reply."""
+    """What a call comes to: the inodes that it looks at; its effects, each with the inode that it changes in second place; its reply."""
 
     visits: List[tuple] = field(default_factory=list)
     effects: List[tuple] = field(default_factory=list)

@@ -21,7 +21,8 @@ class Lease:
 
 @dataclass(frozen=True)
 class Asked:
-    """A client that is asked for its lease of an inode: it goes once its log is digested up to a cut, or to its last one once it is over."""
+    """A client that is asked for its lease of an inode, which goes once its log is digested up to a cut, or up to its last one once it is
+    over."""
 
     client: int
     inode: tuple

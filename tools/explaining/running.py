@@ -25,7 +25,17 @@ def turns_of(words):
 
 def explained(lines, answers, turns):
     """Each line of a script that has words, as a step, with why it was answered so."""
-    model, lost = Model(turns), ""
+    yield from steps_of(lines, answers, turns)[0]
+
+
+def steps_of(lines, answers, turns):
+    """The same as a list, and the model behind the last line that it understood."""
+    model = Model(turns)
+    return list(explained_by(model, lines, answers)), model
+
+
+def explained_by(model, lines, answers):
+    lost = ""
     for number, line in enumerate(lines, 1):
         words = grammar.texts_of(line)
         if not words:

@@ -12,6 +12,13 @@ HANDS_OVER = {
     "whole": "all its records",
 }
 
+BRINGS = {
+    "perfect": "all comes",
+    "repeat": "at even times the frame before comes again",
+    "delay": "a frame comes with the next one",
+    "cut": "frames of more bytes don't come",
+}
+
 
 def why(model, step):
     """Why a step's line was answered so."""
@@ -61,14 +68,16 @@ def sync(names, step):
 
 def cluster(names, step):
     count, limit = int(step.words[1]), int(step.words[2])
-    return sentence(f"{counted(count, 'node')}{', each with a copy of the files' if count > 1 else ''}; a client's log has room for {limit} records")
+    copies = ", each with a copy of the files" if count > 1 else ""
+    return sentence(f"{counted(count, 'node')}{copies}; a client's log has room for {limit} records")
 
 
 def opened(names, step):
     node, kind = int(step.words[1]), step.words[2]
     full = names.model.machine.full()
     chain = [each for each in full if each > node] + [each for each in full if each < node]
-    way = f"its records go from node {node} to {nodes(chain)}" if chain else f"node {node} is the only full node, and what it does is safe at once"
+    alone = f"node {node} is the only full node, and what it does is safe at once"
+    way = f"its records go from node {node} to {nodes(chain)}" if chain else alone
     hands = f"with a lease it hands over {HANDS_OVER[kind]}"
     mode = "its fsync promises nothing, its dsync does" if step.words[3:] else ""
     return together(sentence(f"{way}; {hands}"), sentence(mode))
@@ -85,7 +94,7 @@ def crash(names, step):
 def fail(names, step):
     """What a failure took, which nodes lacked it, and what kept the rest."""
     node = int(step.words[1])
-    over = [client for client, log in names.model.machine.logs.items() if log.home == node and names.model.ended.get(client) == step.number]
+    over = [client for client, line in names.model.ended.items() if line == step.number]
     taken = [sentence(loss(names, step, client)) for client in step.found]
     if not taken:
         nothing = "every other full node had all records of its clients" if over else "no living client was on it"
@@ -168,15 +177,14 @@ def release(names, step):
 
 def link(names, step):
     node, kind = step.words[1], " ".join(step.words[2:])
-    brings = {"perfect": "all comes", "repeat": "it brings frames twice", "delay": "a frame comes with the next one", "cut": "frames of more bytes don't come"}
-    return sentence(f"what node {node} sends goes over a new link of the kind {kind}: {brings.get(kind.split(' ')[0], 'nothing comes')}")
+    return sentence(f"what node {node} sends goes over a new link of the kind {kind}: {BRINGS.get(step.words[2], 'nothing comes')}")
 
 
 def tree(names, step):
     """Which calls a tree has."""
-    calls = {client: (to, account.count) for client, account in names.model.calls.accounts.items() for to in [names.model.safe()[client]]}
-    kept = {client: places for client, places in calls.items() if not names.model.machine.logs[client].has_failed}
-    missing = names.of_clients(kept)
+    model = names.model
+    living = [client for client, log in model.machine.logs.items() if not log.has_failed]
+    missing = names.of_clients({client: (model.safe()[client], model.calls.accounts[client].count) for client in living})
     node = int(step.words[1])
     if missing:
         return sentence(f"node {node} shows what every full node has: all that no failure took but {missing}")

@@ -8,11 +8,11 @@ from explaining.naming import listed, nodes, sentence, together
 
 def waited(names, step):
     """Of a call that was answered: whose leases it waited for, and what became safe by that."""
-    wants = [
-        f"client {client}'s lease of {names.inode(want.inode)}" + (f" (its records up to {names.line(client, last)})" if last is not None else "")
-        for want in step.tried.wants
-        for client, last in want.holders
-    ]
+    wants = []
+    for want in step.tried.wants:
+        for client, last in want.holders:
+            records = f" (its records up to {names.line(client, last)})" if last is not None else ""
+            wants.append(f"client {client}'s lease of {names.inode(want.inode)}{records}")
     return together(sentence(f"it waited for {listed(wants)}" if wants else ""), became_safe(names, step, int(step.words[0])))
 
 
@@ -43,7 +43,8 @@ def lease(names, inode, holder):
     what = f"it waits for client {holder}'s lease of {names.inode(inode)}"
     if last is None:
         return f"{what}, which may go: `release` lets it go"
-    return f"{what}, which goes once all full nodes have digested its records up to {names.line(holder, last)}: {missing(names, holder, inode)}"
+    goes = f"goes once all full nodes have digested its records up to {names.line(holder, last)}"
+    return f"{what}, which {goes}: {missing(names, holder, inode)}"
 
 
 def stays(names, asked):
