@@ -59,7 +59,8 @@ def sync(names, step):
     own = names.changes(client, *step.safe[client]) if client in step.safe else []
     who = f"node {log.home}, the only full one," if names.model.machine.full() == [log.home] else "every full node"
     taken = "it" if len(own) == 1 else "them"
-    said = f"{who} has client {client}'s {lines(own)}: no failure takes {taken}" if own else f"{who} had all records of client {client} before"
+    nothing = f"{who} had all records of client {client} before"
+    said = f"{who} has client {client}'s {lines(own)}: no failure takes {taken}" if own else nothing
     return together(sentence(said), waiting.became_safe(names, step, client))
 
 
