@@ -12,6 +12,7 @@ STYLE = (
     "text{font:11px sans-serif;fill:#000}"
     ".name{font-weight:bold}.number{fill:#666;text-anchor:middle}"
     ".label text{paint-order:stroke;stroke:#fff;stroke-width:2px;stroke-linejoin:round}.label .reply{fill:#555}"
+    ".label .halo{fill:#fff}"
     ".band{fill:#f4f4f4}.down{fill:url(#assise-down)}"
     ".lane{stroke:#999;stroke-width:1}.kept{fill:#009e73;fill-opacity:.25;stroke:#009e73;stroke-width:1}"
     ".mark circle{fill:#0072b2;stroke:#0072b2;stroke-width:2}.mark .look{fill:#fff}"
@@ -19,7 +20,7 @@ STYLE = (
     ".sync{fill:#009e73;stroke:#009e73;stroke-width:2}.order{fill:#fff;stroke:#009e73;stroke-width:2}"
     ".open path{fill:#000}.crash path{stroke:#d55e00;stroke-width:3;fill:none}"
     ".fail path{stroke:#d55e00;stroke-width:3}.return path{stroke:#56b4e9;stroke-width:3;stroke-dasharray:6 4}"
-    ".lost circle,.lost rect{opacity:.4}.label .gone{fill:#777;text-decoration:line-through}"
+    ".lost circle,.lost rect{opacity:.4}.label .gone{fill:#777;stroke:none;text-decoration:line-through}"
     ".strike{stroke:#d55e00;stroke-width:2}.arrow{fill:none;stroke:#000;stroke-width:1.5;marker-end:url(#assise-head)}"
 )
 DEFINED = (
@@ -113,12 +114,17 @@ def sign_of(call, is_optimistic):
 
 
 def label(lane, place, line, is_lost):
-    """The beginnings of a call's words and of its reply, above its sign."""
+    """The beginnings of a call's words and of its reply, above its sign. What is struck out has white text behind it, so that the strike
+    isn't covered by it."""
     at = f'transform="translate({across(place)} {lane.axis}) rotate(-40)" x="19"'
     gone = " gone" if is_lost else ""
     yield f'<g class="label"><title>{spelled(line.text)}</title>'
-    yield f'<text class="words{gone}" {at} y="-8">{spelled(labels.fitted(line.call))}</text>'
-    yield f'<text class="reply{gone}" {at} y="4">{spelled(labels.fitted(labels.reply(line.reply)))}</text></g>'
+    for kind, y, text in (("words", -8, line.call), ("reply", 4, labels.reply(line.reply))):
+        shown = spelled(labels.fitted(text))
+        if is_lost:
+            yield f'<text class="halo" {at} y="{y}">{shown}</text>'
+        yield f'<text class="{kind}{gone}" {at} y="{y}">{shown}</text>'
+    yield "</g>"
 
 
 def strikes(layout, lines):
