@@ -55,8 +55,7 @@ def of_script(program, script):
     lines = running.read(script).split("\n")
     ran = running.run(program, ["-", *words], "\n".join([*lines, "history\n"]))
     if ran.status:
-        fault = ran.fault()
-        raise history.NoPicture(f"{script}:{fault[0]}: {running.told(fault, lines)}" if fault else f"{script}: {ran.said}".rstrip("\n"))
+        raise history.NoPicture(refused(script, lines, ran))
     said = ran.answers[max(ran.answers)]
     entries = history.read_history(f"1: {said[0]}\n" + "".join(f"{line}\n" for line in said[1:]))
     steps, model = explaining.steps_of(lines, ran.answers, explaining.turns_of(words))
@@ -66,6 +65,14 @@ def of_script(program, script):
         drawn.safe = safe_counts(model, entries)
         drawn.arrows = list(arrows(model, steps, numbers))
     return drawn
+
+
+def refused(script, lines, ran):
+    """Why a script wasn't run. Where only the `history` behind its lines has a fault, it has no cluster."""
+    fault = ran.fault()
+    if not fault:
+        return f"{script}: {ran.said}".rstrip("\n")
+    return f"{script}:{fault[0]}: {running.told(fault, lines)}" if fault[0] <= len(lines) else f"{script}: no history"
 
 
 def safe_counts(model, entries):
