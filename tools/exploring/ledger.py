@@ -47,7 +47,7 @@ class Ledger:
         self.full = set(range(1, self.nodes + 1))
         self.accounts = {}
         self.kept = []
-        self.tree = Tree()
+        self.tree = self.grown([])
 
     # ---- the entries
 
@@ -62,11 +62,12 @@ class Ledger:
 
     def calls(self, client, words, reply):
         account = self.accounts[client]
-        right = self.tree.reply(words)
+        call = Call(client, account.count, words, reply, leaves_record(words, reply))
+        right = self.made(self.tree, call)
         if reply != right:
             raise Wrong(f"client {client} was answered {reply!r} to {' '.join(words)}: a plain tree says {right!r}")
         self.lines.append(self.line_of_call(client, words, reply))
-        self.kept.append(Call(client, account.count, words, reply, leaves_record(words, reply)))
+        self.kept.append(call)
         account.count += 1
         if self.is_sync(client, words):
             account.synced = account.replicated = account.count
@@ -111,14 +112,27 @@ class Ledger:
         if not lost:
             return
         self.kept = [call for call in self.kept if call.number < losses.get(call.client, call.number + 1)]
-        self.tree = Tree()
-        for call in self.kept:
-            right = self.tree.reply(call.words)
+        self.tree = self.grown(self.kept)
+
+    def grown(self, calls):
+        """The tree that kept calls leave. They have to be a run."""
+        tree = self.bare()
+        for call in calls:
+            right = self.made(tree, call)
             if right != call.reply:
                 raise Wrong(
                     f"client {call.client} was answered {call.reply!r} to its call {call.number}, {' '.join(call.words)}, which rests on "
                     f"what the failure took: without it a plain tree says {right!r}"
                 )
+        return tree
+
+    def bare(self):
+        """A tree that has nothing."""
+        return Tree()
+
+    def made(self, tree, call):
+        """What a tree answers to a call."""
+        return tree.reply(call.words)
 
     def returns(self, node):
         self.note_alone()

@@ -64,11 +64,16 @@ class Tree:
 
     def find(self, names):
         """The file or directory of a path."""
-        at = self.root
+        at = self.visited(self.root)
         for name in names:
             at = directory(at).get(name)
             if at is None:
                 raise Fault("E1 NoEnt")
+            self.visited(at)
+        return at
+
+    def visited(self, at):
+        """A file or directory that a call looks at."""
         return at
 
     def parent(self, names):
@@ -149,7 +154,7 @@ class Tree:
         if names == others:
             return
         if others[-1] in other:
-            replaced(moved, other[others[-1]])
+            replaced(moved, self.visited(other[others[-1]]))
         elif other is not parent and len(other) >= MOST_ENTRIES:
             raise Fault("E8 DirFull")
         del parent[names[-1]]
