@@ -7,7 +7,7 @@
 
 #define LEVELS 200000
 #define BELOW_A_PATH 31
-#define MOST_MEMORY (3ul << 30) /* bytes */
+#define MOST_MEMORY (1ul << 30) /* bytes */
 
 static struct assise_desk desk;
 static int passed, failed;
