@@ -1,6 +1,6 @@
 -- Two trees that are compared entry by entry.
 use Rattle.std.proofs.Common.{◌≡◌, ◌↔◌, ◌+◌, ℕ, List, [], ◌∷◌, ◌++◌, Bor, Ok, Err, Result, Bool, IfOk, IsTrue, refl, ap, sym, ◌∙◌, arith}
-use Rattle.assise_seq_tree.specs.Sameness.{AreSame, size_of_pairs}
+use Rattle.assise_seq_tree.specs.Sameness.{ArePairsSame, size_of_pairs}
 use Rattle.assise_seq_tree.specs.Answer.{as_directory}
 use Rattle.assise_seq_tree.specs.Tree.{Tree, file, dir, Entries, size_of}
 use Rattle.assise_seq_tree.specs.View.{map_entries}
@@ -36,15 +36,15 @@ same_directories t u es fs is other = (
 abbrev pub Pair : Type 0
 Pair = Bor Tree × Bor Tree
 
-same_front : (pairs : List Pair) (pair : Pair) → AreSame (pairs ++ pair ∷ []) → AreSame pairs × (pair.0.now ≡ pair.1.now)
+same_front : (pairs : List Pair) (pair : Pair) → ArePairsSame (pairs ++ pair ∷ []) → ArePairsSame pairs × (pair.0.now ≡ pair.1.now)
 same_front [] pair same = (tt, same.0)
 same_front (p ∷ pairs) pair same = let rest = same_front pairs pair same.1 in ((same.0, rest.0), rest.1)
 
-same_more : (pairs : List Pair) (pair : Pair) → AreSame pairs → pair.0.now ≡ pair.1.now → AreSame (pairs ++ pair ∷ [])
+same_more : (pairs : List Pair) (pair : Pair) → ArePairsSame pairs → pair.0.now ≡ pair.1.now → ArePairsSame (pairs ++ pair ∷ [])
 same_more [] pair same is = (is, tt)
 same_more (p ∷ pairs) pair same is = (same.0, same_more pairs pair same.1 is)
 
-pub same_last : (all pairs : List Pair) (pair : Pair) → all ≡ pairs ++ pair ∷ [] → AreSame all ↔ ((pair.0.now ≡ pair.1.now) × AreSame pairs)
+pub same_last : (all pairs : List Pair) (pair : Pair) → all ≡ pairs ++ pair ∷ [] → ArePairsSame all ↔ ((pair.0.now ≡ pair.1.now) × ArePairsSame pairs)
 same_last all pairs pair is = (
   λ same. let both = same_front pairs pair (rw is at same) in (both.1, both.0),
   λ both. rw is (same_more pairs pair both.1 both.0),
@@ -55,7 +55,7 @@ size_more [] pair = omega arith
 size_more (p ∷ pairs) pair = omega (arith, size_more pairs pair)
 
 -- entries of one name: what they lead to is pending
-pub names_more : (left right es fs : List Stored) (n m : List ℕ) (t u : Bor Tree) (pairs more : List Pair) {Q : Type 0} → left ≡ (n, t.now) ∷ es → right ≡ (m, u.now) ∷ fs → n ≡ m → more ≡ pairs ++ (t, u) ∷ [] → ((left ≡ right) × AreSame pairs) ↔ Q → ((es ≡ fs) × AreSame more) ↔ Q
+pub names_more : (left right es fs : List Stored) (n m : List ℕ) (t u : Bor Tree) (pairs more : List Pair) {Q : Type 0} → left ≡ (n, t.now) ∷ es → right ≡ (m, u.now) ∷ fs → n ≡ m → more ≡ pairs ++ (t, u) ∷ [] → ((left ≡ right) × ArePairsSame pairs) ↔ Q → ((es ≡ fs) × ArePairsSame more) ↔ Q
 names_more left right es fs n m t u pairs more one two name all before =
     let (apart, together) = same_last more pairs (t, u) all in (
       λ same.

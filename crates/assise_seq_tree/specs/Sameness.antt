@@ -4,9 +4,9 @@ use Rattle.std.specs.Borrow.{Bor}
 use Rattle.assise_seq_tree.specs.Tree.{Tree, size_of}
 
 -- the trees of each pair are the same
-abbrev pub AreSame : List (Bor Tree × Bor Tree) → Type 0
-AreSame [] = Unit {0}
-AreSame (pair ∷ pairs) = (pair.0.now ≡ pair.1.now) × AreSame pairs
+abbrev pub ArePairsSame : List (Bor Tree × Bor Tree) → Type 0
+ArePairsSame [] = Unit {0}
+ArePairsSame (pair ∷ pairs) = (pair.0.now ≡ pair.1.now) × ArePairsSame pairs
 
 -- how large the first ones are, with one for each
 abbrev pub size_of_pairs : List (Bor Tree × Bor Tree) → ℕ

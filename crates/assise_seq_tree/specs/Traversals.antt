@@ -10,7 +10,7 @@ pub record Traversed : Type 0 where
   pub left : List Place
 
 -- what is left of the directories along a path, the innermost first
-abbrev pub left_of : List (List ℕ) → List (List ℕ) → List (List (List ℕ × Tree)) → List Place
-left_of path names [] = []
-left_of path [] (entries ∷ more) = left_of path [] more ++ places_of path (map_entries entries)
-left_of path (name ∷ names) (entries ∷ more) = left_of (path ++ name ∷ []) names more ++ places_of path (map_entries entries)
+abbrev pub places_left : List (List ℕ) → List (List ℕ) → List (List (List ℕ × Tree)) → List Place
+places_left path names [] = []
+places_left path [] (entries ∷ more) = places_left path [] more ++ places_of path (map_entries entries)
+places_left path (name ∷ names) (entries ∷ more) = places_left (path ++ name ∷ []) names more ++ places_of path (map_entries entries)

@@ -106,7 +106,8 @@ fn write_place<W: fmt::Write>(path: &[&Name], name: &Name, f: &mut Formatter<W>)
 
 /// A slash before each name of a path.
 fn write_path<W: fmt::Write>(path: &[&Name], f: &mut Formatter<W>) -> fmt::Result
-    ensures { WritesOnOk W.write_str_gives f.old result (flat_map (λ name. 47 ∷ name.now) path.now) f.new }
+    ensures { WritesOnOk W.write_str_gives f.old result
+        (flat_map (λ name. 47 ∷ name.now) path.now) f.new }
 {
     for name in path {
         write!(f, "/{name}")?;

@@ -1,7 +1,7 @@
 // Whether two trees are the same.
 ghost use Rattle.std.specs.Prelude.{◌≡◌, ◌↔◌, ◌≤◌, ◌+◌, IfOk, IsOkUnless, IsTrue, OnOk};
 ghost use Rattle.assise_names.specs.declared.refusal.Refusal.TheVariants.{OutOfMemory};
-ghost use Rattle.assise_seq_tree.specs.Sameness.{AreSame, size_of_pairs};
+ghost use Rattle.assise_seq_tree.specs.Sameness.{ArePairsSame, size_of_pairs};
 ghost use Rattle.assise_seq_tree.specs.Tree.{size_of, sizes_of};
 ghost use Rattle.assise_seq_tree.specs.View.{map_entries};
 
@@ -33,8 +33,8 @@ fn is_same_but<'a>(
     other: &'a Tree,
     pending: &mut Vec<(&'a Tree, &'a Tree)>,
 ) -> Result<bool, Refusal>
-    ensures same { IfOk result (λ same. (IsTrue same × AreSame pending.new.items) ↔
-        ((tree.now ≡ other.now) × AreSame pending.old.items)) }
+    ensures same { IfOk result (λ same. (IsTrue same × ArePairsSame pending.new.items) ↔
+        ((tree.now ≡ other.now) × ArePairsSame pending.old.items)) }
     ensures smaller { OnOk result (size_of_pairs pending.new.items ≤
         size_of tree.now + size_of_pairs pending.old.items) }
     ensures only_memory { IsOkUnless result OutOfMemory }
@@ -55,8 +55,8 @@ fn have_same_names<'a>(
     others: &'a BTreeMap<Name, Tree>,
     pending: &mut Vec<(&'a Tree, &'a Tree)>,
 ) -> Result<bool, Refusal>
-    ensures same { IfOk result (λ same. (IsTrue same × AreSame pending.new.items) ↔
-        ((entries.now.entries ≡ others.now.entries) × AreSame pending.old.items)) }
+    ensures same { IfOk result (λ same. (IsTrue same × ArePairsSame pending.new.items) ↔
+        ((entries.now.entries ≡ others.now.entries) × ArePairsSame pending.old.items)) }
     ensures size { OnOk result (size_of_pairs pending.new.items ≤
         sizes_of (map_entries entries.now.entries) + size_of_pairs pending.old.items) }
     ensures only_memory { IsOkUnless result OutOfMemory }

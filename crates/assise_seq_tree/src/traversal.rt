@@ -26,7 +26,7 @@ pub struct Traversal<'a> {
 
 impl<'a> Model for Traversal<'a> {
     ghost use Rattle.std.specs.Prelude.{[], ◌≡◌, ◌∷◌, ◌++◌, length, map};
-    ghost use Rattle.assise_seq_tree.specs.Traversals.{Traversed, left_of};
+    ghost use Rattle.assise_seq_tree.specs.Traversals.{Traversed, places_left};
 
     ghost Value = { Traversed };
 
@@ -37,7 +37,7 @@ impl<'a> Model for Traversal<'a> {
 
     ghost view = { λ traversal. record {
       path = map (λ name. name.now) traversal.names.items;
-      left = left_of [] (map (λ name. name.now) traversal.names.items)
+      left = places_left [] (map (λ name. name.now) traversal.names.items)
           (traversal.above.items ++ traversal.entries ∷ []);
     } };
 

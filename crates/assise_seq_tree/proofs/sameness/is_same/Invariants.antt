@@ -1,9 +1,9 @@
 use Rattle.std.proofs.Common.{◌≡◌, ◌↔◌}
-use Rattle.assise_seq_tree.specs.Sameness.{AreSame, size_of_pairs}
+use Rattle.assise_seq_tree.specs.Sameness.{ArePairsSame, size_of_pairs}
 use Rattle.assise_seq_tree.proofs.sameness.is_same.Given as goal
 
 abbrev pub decreases-loop-first : goal.decreases-loop-first
 decreases-loop-first l = size_of_pairs l.pending.items
 
 abbrev pub invariant-loop-first : goal.invariant-loop-first
-invariant-loop-first l = AreSame l.pending.items ↔ (l.fn.tree ≡ l.fn.other)
+invariant-loop-first l = ArePairsSame l.pending.items ↔ (l.fn.tree ≡ l.fn.other)

@@ -1,6 +1,6 @@
 use Rattle.std.proofs.Common.{[], ◌∷◌, ◌++◌, map, ap, sym, ◌∙◌}
 use Rattle.std.proofs.lemmas.List.{length-map}
-use Rattle.assise_seq_tree.specs.Traversals.{left_of}
+use Rattle.assise_seq_tree.specs.Traversals.{places_left}
 use Rattle.assise_seq_tree.proofs.Traversed.{along-behind, left-behind, left-next}
 use Rattle.assise_seq_tree.proofs.traversal.Traversal.next.Goals as goal
 
@@ -9,7 +9,7 @@ returns-in-Some c =
     let inside = c.loop-entry.self-inside in
     let names = map (λ n. n.now) inside.names.items in
     sym c.loop-entry.invariant.left
-    ∙ ap (λ es. left_of [] names (inside.above.items ++ es ∷ [])) c.in-Some.ensures.steps
+    ∙ ap (λ es. places_left [] names (inside.above.items ++ es ∷ [])) c.in-Some.ensures.steps
     ∙ left-next [] names inside.above.items _ c.next.new.self (c.loop-entry.invariant.along ∙ sym (length-map inside.names.items (λ n. n.now)))
 
 pub loop-entry-preserved : goal.loop-entry-preserved

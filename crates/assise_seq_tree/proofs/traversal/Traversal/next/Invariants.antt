@@ -1,5 +1,5 @@
 use Rattle.std.proofs.Common.{◌≡◌, [], ◌∷◌, ◌++◌, length, map}
-use Rattle.assise_seq_tree.specs.Traversals.{left_of}
+use Rattle.assise_seq_tree.specs.Traversals.{places_left}
 use Rattle.assise_seq_tree.proofs.traversal.Traversal.next.Given as goal
 
 abbrev pub decreases-loop-entry : goal.decreases-loop-entry
@@ -9,5 +9,5 @@ decreases-loop-entry l = length l.self-inside.above.items
 abbrev pub invariant-loop-entry : goal.invariant-loop-entry
 invariant-loop-entry l = record {
   along : length l.self-inside.above.items ≡ length l.self-inside.names.items;
-  left : left_of [] (map (λ name. name.now) l.self-inside.names.items) (l.self-inside.above.items ++ l.self-inside.entries ∷ []) ≡ l.fn.self.left;
+  left : places_left [] (map (λ name. name.now) l.self-inside.names.items) (l.self-inside.above.items ++ l.self-inside.entries ∷ []) ≡ l.fn.self.left;
 }
