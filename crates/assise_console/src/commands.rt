@@ -7,12 +7,12 @@ ghost use Rattle.assise_console.specs.OneEvent.{IsOne, IsOneAt};
 
 use crate::numbered::number_of;
 use crate::response::Response;
-use crate::trees::tree_at;
 use assise_history::check;
 use assise_lease_table::revoker::Revokes;
 use assise_machine::cluster::ClusterOf;
 use assise_machine::hot::HotCapacity;
 use assise_names::refusal::Refusal;
+use assise_rounds::trees::tree_at;
 use std::alloc::Global;
 
 /// One digest of a node.

@@ -11,4 +11,3 @@ pub mod options;
 pub mod response;
 pub mod stock;
 mod text;
-pub mod trees;

@@ -61,7 +61,7 @@ caller h before later x legal split =
     (omega (arith, number), omega (arith, within, all))
 
 module _ {C : Type 0} (cluster : ClusterOf C) where
-  pub opened_count : clients_opened (history_of cluster) ≡ (machine cluster).world.clients
+  opened_count : clients_opened (history_of cluster) ≡ (machine cluster).world.clients
   unfolding observed world_of
   opened_count =
       let sound = cluster.sound in

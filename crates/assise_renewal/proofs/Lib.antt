@@ -3,4 +3,3 @@ mod Added
 mod SameTree
 mod OneClient
 mod AllReplicated
-mod Acked

@@ -8,4 +8,4 @@ pub mod renewal;
 pub mod renewal_fault;
 mod replicated;
 mod settling;
-pub mod trees;
+mod trees;

@@ -1,5 +1,6 @@
 pub mod Traces
 pub mod ReturnTrace
+mod Acked
 mod Busy
 mod CarriedFrames
 mod Faithful

@@ -9,8 +9,8 @@ use Rattle.assise_model_events.specs.Machine.{state_of}
 use Rattle.assise_machine.specs.Clusters.{machine}
 use Rattle.assise_machine.proofs.Replicated.{replicated_tree}
 use Rattle.assise_machine.proofs.Results.{if_ok_as}
-use Rattle.assise_console.proofs.Acked.{some_acked}
-use Rattle.assise_console.proofs.trees.tree_at.Goals as goal
+use Rattle.assise_rounds.proofs.Acked.{some_acked}
+use Rattle.assise_rounds.proofs.trees.tree_at.Goals as goal
 
 pub returns-in-Ok-clause-tree : goal.returns-in-Ok-clause-tree
 returns-in-Ok-clause-tree g c =

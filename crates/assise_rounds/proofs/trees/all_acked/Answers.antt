@@ -1,9 +1,9 @@
 use Rattle.std.proofs.Common.{◌+◌, refl, sym, subst, arith}
 use Rattle.assise_machine.specs.Clusters.{machine}
 use Rattle.assise_machine.proofs.Few.{few_clients}
-use Rattle.assise_console.proofs.Acked.{AreAckedTo, all_acked, no_more_acked, none_acked, not_both, one_acked}
-use Rattle.assise_console.proofs.trees.all_acked.Goals as goal
-use Rattle.assise_console.proofs.trees.all_acked.Goals.{in-Ok+in_ok-push, in_default}
+use Rattle.assise_rounds.proofs.Acked.{AreAckedTo, all_acked, no_more_acked, none_acked, not_both, one_acked}
+use Rattle.assise_rounds.proofs.trees.all_acked.Goals as goal
+use Rattle.assise_rounds.proofs.trees.all_acked.Goals.{in-Ok+in_ok-push, in_default}
 
 pub loop-client-init : goal.loop-client-init
 loop-client-init g c =

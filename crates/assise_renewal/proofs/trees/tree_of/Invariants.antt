@@ -1,4 +1,0 @@
-use Rattle.assise_renewal.proofs.trees.tree_of.Given as goal
-
-abbrev pub ghost-rebuild : goal.ghost-rebuild
-ghost-rebuild g a = g.tree
