@@ -16,7 +16,7 @@ use Rattle.assise_keeper.specs.declared.view.View.{View}
 use Rattle.assise_history.specs.Opened.{OpensOnce}
 use Rattle.assise_keeper.specs.Clients.{openings, client_after, MayAddAll, MayGive}
 use Rattle.assise_keeper.specs.Views.{half, clientless, newcomer, beginning, spent, together, with_right, with_no_client, own_of, guest_of, holding, given}
-use Rattle.assise_keeper.specs.Rule.{StatePlace, not_in, home, out, AreLed, IsAt, IsHalfLed, IsLed, IsStage, CoversHalf, HalfFits, HasRight, Opener, Owner, anyone, alone, IsPassAt, IsKept}
+use Rattle.assise_keeper.specs.Rule.{Boxed, StatePlace, not_in, home, out, AreLed, IsAt, IsHalfLed, IsLed, IsStage, CoversHalf, HalfFits, HasRight, Opener, Owner, anyone, alone, IsPassAt, IsKept}
 use Rattle.assise_keeper.specs.Steps.{Sitting, taking, releasing, setting_up}
 use Rattle.assise_keeper.proofs.PassAdds.{was_or_opened, openings-append, opened-in, extends-same, drop-prefix}
 use Rattle.assise_keeper.proofs.ClientOwners.{half_of, owns, owns_mine, fits_still, fits_on, at_snoc_place, no_side, no_side', same_seat}
@@ -70,14 +70,14 @@ module _ {S : Type 0} (history : S → List EntryValue) (leads works : S → S �
   half_as d e now same right led = record { led = subst (λ z. IsLed leads z now) (sym same) led.led; worked = λ is. subst (λ z. IsLed works z now) (sym same) (led.worked (right is)) }
 
   -- a pass that holds nothing may be followed by a new one
-  at_one_more : (words : List ℕ) (homes : List (maybe.Option (Option S))) (vs : List (View S)) (h : List EntryValue) (now : Option S) (id : ℕ) (v w : View S) → get_elem? vs id ≡ some v → v.stage ≡ Idle
+  at_one_more : (words : List ℕ) (homes : List (maybe.Option (Option (Boxed S)))) (vs : List (View S)) (h : List EntryValue) (now : Option S) (id : ℕ) (v w : View S) → get_elem? vs id ≡ some v → v.stage ≡ Idle
       → (p : StatePlace) → IsAt history words homes vs h now p → IsAt history words homes (vs ++ w ∷ []) h now p
   at_one_more words homes vs h now id v w at idle not_in is = absurd (let first : Fresh ≡ Idle = ap (λ (z : View S). z.stage) (only vs is.2 id v at).1 ∙ idle in (cc))
   at_one_more words homes vs h now id v w at idle home is = is
   at_one_more words homes vs h now id v w at idle (out j) is = (is.0, is.1, (is.2.0, at_longer vs (w ∷ []) j is.2.0 is.2.1, is.2.2))
 
   -- a pass that holds nothing may know something else
-  at_another : (words : List ℕ) (homes : List (maybe.Option (Option S))) (vs : List (View S)) (h : List EntryValue) (now : Option S) (id : ℕ) (v w : View S) → get_elem? vs id ≡ some v → v.stage ≡ Idle
+  at_another : (words : List ℕ) (homes : List (maybe.Option (Option (Boxed S)))) (vs : List (View S)) (h : List EntryValue) (now : Option S) (id : ℕ) (v w : View S) → get_elem? vs id ≡ some v → v.stage ≡ Idle
       → (p : StatePlace) → IsAt history words homes vs h now p → IsAt history words homes (set vs id w) h now p
   at_another words homes vs h now id v w at idle not_in is = absurd (let first : Fresh ≡ Idle = ap (λ (z : View S). z.stage) (only vs is.2 id v at).1 ∙ idle in (cc))
   at_another words homes vs h now id v w at idle home is = is
@@ -88,20 +88,20 @@ module _ {S : Type 0} (history : S → List EntryValue) (leads works : S → S �
       (is.0, is.1, (is.2.0, set_else vs id j w other ∙ is.2.1, is.2.2))
 
   abbrev St : Type 0
-  St = State (Option S) (View S)
+  St = State (Option (Boxed S)) (View S)
 
   abbrev Rule : St → Type 0
   Rule = IsKept history leads works
 
   abbrev Homes : Type 0
-  Homes = List (maybe.Option (Option S))
+  Homes = List (maybe.Option (Option (Boxed S)))
 
   -- nothing changes
   stays : (s : St) → Rule s → (id : ℕ) (v : View S) → get_elem? s.views id ≡ some v → Rule record { words = s.words; homes = s.homes; views = set s.views id v }
   stays s r id v at = subst (λ (vs : List (View S)). Rule record { words = s.words; homes = s.homes; views = vs }) (sym (set_again s.views id v at)) r
 
   abbrev TakesAt : (id : ℕ) (v : View S) (views : List (View S)) → List ℕ → Homes → Type 0
-  TakesAt id v views ws hs = (w : View S) × (a : Act (Option S)) × Valid hs [] a
+  TakesAt id v views ws hs = (w : View S) × (a : Act (Option (Boxed S))) × Valid hs [] a
       × Rule (stepped (record { words = ws; homes = hs; views = views }) 0 (either (eqb (get_or ws 0 0) 0) 1 (get_or ws 0 0)) id [] w a)
       × taking history leads works (step 1 0 0 1 none) (v, []) (get_or ws 0 0) (w, carried_after [] a)
 
@@ -110,12 +110,12 @@ module _ {S : Type 0} (history : S → List EntryValue) (leads works : S → S �
       (v, keeps, tt, subst (λ (ws : List ℕ). Rule record { words = ws; homes = s.homes; views = set s.views id v }) ph.0 (stays s r id v at), ((λ z. absurd (omega arith)), λ _. refl))
   takes_in s r id v at (out i) is ph = subst (λ (z : List ℕ × Homes). TakesAt id v s.views z.0 z.1) (λ k. (sym ph.0 k, s.homes))
       (v, keeps, tt, subst (λ (ws : List ℕ). Rule record { words = ws; homes = s.homes; views = set s.views id v }) ph.0 (stays s r id v at), ((λ z. absurd (omega arith)), λ _. refl))
-  takes_in s r id v at home is ph = let x = ph.1.0 in let mine = r.each id v at in let led = subst (AreLed leads works v) ph.1.3 mine.3 in
+  takes_in s r id v at home is ph = let b = ph.1.0 in let x = b.value in let mine = r.each id v at in let led = subst (AreLed leads works v) ph.1.3 mine.3 in
       let not_fresh : r.place ≡ not_in → ⊥ = λ e. let e' = sym is ∙ e in (cc) in
       let not_out : (j : ℕ) → r.place ≡ out j → ⊥ = λ j e. let e' = sym is ∙ e in (cc) in
       subst (λ (z : List ℕ × Homes). TakesAt id v s.views z.0 z.1) (λ k. (sym ph.0 k, sym ph.1.1 k)) (
         holding v (history x) x,
-        takes 0 (Some x),
+        takes 0 (Some b),
         refl,
         record {
           h = r.h;
@@ -127,7 +127,7 @@ module _ {S : Type 0} (history : S → List EntryValue) (leads works : S → S �
           each = seats (IsPassAt leads works (out id) r.h (Some x) r.owner r.who) s.views id (holding v (history x) x) (mine.0, mine.1, (refl, ph.1.2, refl), record { own = led.own; guest = led.guest })
               (λ j d other e. let ok = r.each j d e in (ok.0, ok.1, others_stage r.place (out id) r.h r.h r.now (Some x) j d.stage not_fresh (not_out j) ok.2, subst (AreLed leads works d) ph.1.3 ok.3));
         },
-        ((λ _. (x, refl, subst (λ (h : List EntryValue). CoversHalf h v.own) (sym ph.1.2) mine.0.0, subst (λ (h : List EntryValue). CoversHalf h v.guest) (sym ph.1.2) mine.1.0, led)), λ n. absurd (n refl)),
+        ((λ _. (b, refl, subst (λ (h : List EntryValue). CoversHalf h v.own) (sym ph.1.2) mine.0.0, subst (λ (h : List EntryValue). CoversHalf h v.guest) (sym ph.1.2) mine.1.0, led)), λ n. absurd (n refl)),
       )
 
   pub takes_move : (id : ℕ) (v : View S) → Allows Rule 1 id (v, []) 0 (λ n. either (eqb n 0) 1 n) (taking history leads works (step 1 0 0 1 none) (v, []))
@@ -135,24 +135,25 @@ module _ {S : Type 0} (history : S → List EntryValue) (leads works : S → S �
 
   -- the same at a seat that carries nothing
   pub takes_for : (slots id : ℕ) (me : Sitting S) → slots ≡ 1 → me.1 ≡ [] → Allows Rule slots id me 0 (λ n. either (eqb n 0) 1 n) (taking history leads works (step slots 0 0 1 none) me)
-  takes_for slots id me one bare = subst (λ (z : ℕ × List (ℕ × Option S)). Allows Rule z.0 id (me.0, z.1) 0 (λ n. either (eqb n 0) 1 n) (taking history leads works (step z.0 0 0 1 none) (me.0, z.1))) (λ k. (sym one k, sym bare k)) (takes_move id me.0)
+  takes_for slots id me one bare = subst (λ (z : ℕ × List (ℕ × Option (Boxed S))). Allows Rule z.0 id (me.0, z.1) 0 (λ n. either (eqb n 0) 1 n) (taking history leads works (step z.0 0 0 1 none) (me.0, z.1))) (λ k. (sym one k, sym bare k)) (takes_move id me.0)
 
-  abbrev StoresAt : (slots id : ℕ) (v : View S) (c : List (ℕ × Option S)) (views : List (View S)) → List ℕ → Homes → Type 0
-  StoresAt slots id v c views ws hs = (w : View S) × (a : Act (Option S)) × Valid hs c a
+  abbrev StoresAt : (slots id : ℕ) (v : View S) (c : List (ℕ × Option (Boxed S))) (views : List (View S)) → List ℕ → Homes → Type 0
+  StoresAt slots id v c views ws hs = (w : View S) × (a : Act (Option (Boxed S))) × Valid hs c a
       × Rule (stepped (record { words = ws; homes = hs; views = views }) 0 0 id c w a)
       × releasing history (step slots 0 0 0 none) (v, c) 0 (w, carried_after c a)
 
   fits_nobody : (h : List EntryValue) (owner : ℕ → ℕ × Bool) (who : Opener) (j : ℕ) (side : Bool) → HalfFits {S = S} h owner who j side clientless
   fits_nobody h owner who j side = (((h, refl), (λ c e. absurd (cc)), (λ e. absurd (cc))), (λ c e. absurd (cc)), tt)
 
-  abbrev first_of : Option S → List (ℕ × Option S) → Option S
+  abbrev first_of : Option (Boxed S) → List (ℕ × Option (Boxed S)) → Option (Boxed S)
   first_of d [] = d
   first_of d (z ∷ zs) = z.1
 
-  gives_rule : (views : List (View S)) (h xs : List EntryValue) (was : S) (owner : ℕ → ℕ × Bool) (who : Opener) (id : ℕ) (v : View S) (x : S) → ((j : ℕ) (d : View S) → get_elem? views j ≡ some d → IsPassAt leads works (out id) h (Some was) owner who j d)
-      → get_elem? views id ≡ some v → MayAddAll v.own.client v.own.opens xs → OpensOnce (h ++ xs) → history x ≡ h ++ xs → leads was x → (v.own.opens ≡ Never → works was x)
-      → Rule record { words = 0 ∷ []; homes = some (Some x) ∷ []; views = set views id (record { own = half (h ++ xs) (Some x) (client_after v.own.client xs) v.own.opens; guest = half (h ++ xs) (Some x) v.guest.client v.guest.opens; stage = Idle }) }
-  gives_rule views h xs was owner who id v x each at own once is step work =
+  gives_rule : (views : List (View S)) (h xs : List EntryValue) (was : S) (owner : ℕ → ℕ × Bool) (who : Opener) (id : ℕ) (v : View S) (b : Boxed S) → ((j : ℕ) (d : View S) → get_elem? views j ≡ some d → IsPassAt leads works (out id) h (Some was) owner who j d)
+      → get_elem? views id ≡ some v → MayAddAll v.own.client v.own.opens xs → OpensOnce (h ++ xs) → history b.value ≡ h ++ xs → leads was b.value → (v.own.opens ≡ Never → works was b.value)
+      → Rule record { words = 0 ∷ []; homes = some (Some b) ∷ []; views = set views id (record { own = half (h ++ xs) (Some b.value) (client_after v.own.client xs) v.own.opens; guest = half (h ++ xs) (Some b.value) v.guest.client v.guest.opens; stage = Idle }) }
+  gives_rule views h xs was owner who id v b each at own once is step work =
+      let x = b.value in
       let mine = each id v at in
       let c : Option ℕ = client_after v.own.client xs in
       let still : (j : ℕ) (side : Bool) (u : Half S) → (half_of j side ≡ half_of id true → ⊥) → HalfFits h owner who j side u → HalfFits (h ++ xs) (owns owner (id, true) c) who j side u
@@ -164,7 +165,7 @@ module _ {S : Type 0} (history : S → List EntryValue) (leads works : S → S �
         place = home;
         owner = owns owner (id, true) c;
         who = who;
-        is_at = (refl, (x, refl, is, refl));
+        is_at = (refl, (b, refl, is, refl));
         each = seats (IsPassAt leads works home (h ++ xs) (Some x) (owns owner (id, true) c) who) views id (record { own = half (h ++ xs) (Some x) c v.own.opens; guest = half (h ++ xs) (Some x) v.guest.client v.guest.opens; stage = Idle }) (
           (
             (extends-same (h ++ xs), (λ d e. refl), (λ e. refl)),
@@ -188,9 +189,10 @@ module _ {S : Type 0} (history : S → List EntryValue) (leads works : S → S �
             ));
       }
 
-  pub gives_for : (slots id : ℕ) (me : Sitting S) (x : S) (h : List EntryValue) (was : S) → me.1 ≡ (0, Some x) ∷ [] → me.0.stage ≡ Holding h was → leads was x → (me.0.own.opens ≡ Never → works was x) → MayGive me.0.own.client me.0.own.opens h (history x) → OpensOnce (history x)
+  pub gives_for : (slots id : ℕ) (me : Sitting S) (b : Boxed S) (h : List EntryValue) (was : S) → me.1 ≡ (0, Some b) ∷ [] → me.0.stage ≡ Holding h was → leads was b.value → (me.0.own.opens ≡ Never → works was b.value) → MayGive me.0.own.client me.0.own.opens h (history b.value) → OpensOnce (history b.value)
       → Allows Rule slots id me 0 (λ _. 0) (λ _. releasing history (step slots 0 0 0 none) me 0)
-  gives_for slots id me x h was carried holds step work grows once s r _ at _ =
+  gives_for slots id me b h was carried holds step work grows once s r _ at _ =
+      let x = b.value in
       let v = me.0 in
       let mine = r.each id v at in
       let ok : IsStage r.place r.h r.now id (Holding h was) = subst (IsStage r.place r.h r.now id) holds mine.2 in
@@ -200,13 +202,13 @@ module _ {S : Type 0} (history : S → List EntryValue) (leads works : S → S �
       let w : View S = record { own = half (h ++ grows.0) (Some x) (client_after v.own.client grows.0) v.own.opens; guest = half (h ++ grows.0) (Some x) v.guest.client v.guest.opens; stage = Idle } in
       let is : w ≡ given v h (history x) x = let added : grows.0 ≡ drop (length h) (history x) = sym (drop-prefix h grows.0) ∙ ap (drop (length h)) (sym grows.1) in
       λ i. record { own = half (sym grows.1 i) (Some x) (client_after v.own.client (added i)) v.own.opens; guest = half (sym grows.1 i) (Some x) v.guest.client v.guest.opens; stage = Idle } in
-      let Goal : List (ℕ × Option S) × (List ℕ × Homes) → Type 0 = λ z. StoresAt slots id v z.0 s.views z.1.0 z.1.1 in
-      let done : StoresAt slots id v ((0, Some x) ∷ []) s.views (1 ∷ []) (none ∷ []) = (
+      let Goal : List (ℕ × Option (Boxed S)) × (List ℕ × Homes) → Type 0 = λ z. StoresAt slots id v z.0 s.views z.1.0 z.1.1 in
+      let done : StoresAt slots id v ((0, Some b) ∷ []) s.views (1 ∷ []) (none ∷ []) = (
         w,
         gives,
         tt,
-        gives_rule s.views h grows.0 was r.owner r.who id v x each at grows.2 once' grows.1 step work,
-        λ y g before c' st. let some_same : Some x ≡ Some y = ap (first_of (Some x)) c' in let same : x ≡ y = cc in let same_h : h ≡ g = let e = sym holds ∙ st in (cc) in λ i. (let e2 : w ≡ given v g (history y) y = is ∙ (λ k. given v (same_h k) (history (same k)) (same k)) in e2 i, []),
+        gives_rule s.views h grows.0 was r.owner r.who id v b each at grows.2 once' grows.1 step work,
+        λ y g before c' st. let some_same : Some b ≡ Some y = ap (first_of (Some b)) c' in let same : b ≡ y = cc in let same_h : h ≡ g = let e = sym holds ∙ st in (cc) in λ i. (let e2 : w ≡ given v g (history y.value) y.value = is ∙ (λ k. given v (same_h k) (history (same k).value) (same k).value) in e2 i, []),
       ) in
       subst Goal (λ i. (sym carried i, (sym ph.0 i, sym ph.1 i))) done
 
@@ -224,25 +226,26 @@ module _ {S : Type 0} (history : S → List EntryValue) (leads works : S → S �
         (λ j d other e. absurd (other ((only s.views one j d e).0 ∙ sym (only s.views one id v at).0)));
   }
 
-  abbrev SetsAt : (slots id : ℕ) (v : View S) (x : S) (c : List (ℕ × Option S)) (views : List (View S)) → List ℕ → Homes → Type 0
-  SetsAt slots id v x c views ws hs = (w : View S) × (a : Act (Option S)) × Valid hs c a
+  abbrev SetsAt : (slots id : ℕ) (v : View S) (b : Boxed S) (c : List (ℕ × Option (Boxed S))) (views : List (View S)) → List ℕ → Homes → Type 0
+  SetsAt slots id v b c views ws hs = (w : View S) × (a : Act (Option (Boxed S))) × Valid hs c a
       × Rule (stepped (record { words = ws; homes = hs; views = views }) 0 (either (eqb (get_or ws 0 0) 2) 1 (get_or ws 0 0)) id c w a)
-      × setting_up history (step slots 0 2 1 (some (Some x))) (v, c) (get_or ws 0 0) (w, carried_after c a)
+      × setting_up history (step slots 0 2 1 (some (Some b))) (v, c) (get_or ws 0 0) (w, carried_after c a)
 
-  pub sets_for : (slots id : ℕ) (me : Sitting S) (x : S) → me.0.stage ≡ Fresh → Allows Rule slots id me 0 (λ n. either (eqb n 2) 1 n) (setting_up history (step slots 0 2 1 (some (Some x))) me)
-  sets_for slots id me x is_fresh s r _ at _ =
+  pub sets_for : (slots id : ℕ) (me : Sitting S) (b : Boxed S) → me.0.stage ≡ Fresh → Allows Rule slots id me 0 (λ n. either (eqb n 2) 1 n) (setting_up history (step slots 0 2 1 (some (Some b))) me)
+  sets_for slots id me b is_fresh s r _ at _ =
+      let x = b.value in
       let v = me.0 in
       let mine = r.each id v at in
       let ok : r.place ≡ not_in = subst (IsStage r.place r.h r.now id) is_fresh mine.2 in
       let ph : IsAt history s.words s.homes s.views r.h r.now not_in = subst (IsAt history s.words s.homes s.views r.h r.now) ok r.is_at in
-      let done : SetsAt slots id v x me.1 s.views (2 ∷ []) (some None ∷ []) = (
+      let done : SetsAt slots id v b me.1 s.views (2 ∷ []) (some None ∷ []) = (
         beginning (history x) x,
         takes 0 None,
         refl,
         sets_rule s r id v x at ph.2,
-        λ y said st. let same : x ≡ y = cc in (refl, λ i. (beginning (history (same i)) (same i), (0, None) ∷ me.1)),
+        λ y said st. let same : b ≡ y = cc in (refl, λ i. (beginning (history (same i).value) (same i).value, (0, None) ∷ me.1)),
       ) in
-      subst (λ (z : List ℕ × Homes). SetsAt slots id v x me.1 s.views z.0 z.1) (λ i. (sym ph.0 i, sym ph.1 i)) done
+      subst (λ (z : List ℕ × Homes). SetsAt slots id v b me.1 s.views z.0 z.1) (λ i. (sym ph.0 i, sym ph.1 i)) done
 
   seats_one : (j : ℕ) (d : View S) → get_elem? (newcomer ∷ []) j ≡ some d → IsPassAt leads works not_in [] None (λ _. (0, true)) anyone j d
   seats_one Rattle.std.proofs.Common.zero d e = subst (IsPassAt leads works not_in [] None (λ _. (0, true)) anyone 0) (some-injective newcomer d e) (fits_nobody [] (λ _. (0, true)) anyone 0 true, fits_nobody [] (λ _. (0, true)) anyone 0 false, refl, record { own = half_unseen None; guest = half_unseen None })

@@ -1,5 +1,6 @@
 -- The rule of a keeper, over its word, its slot and the views of all passes.
-use Rattle.std.specs.Prelude.{◌≡◌, ℕ, ◌<◌, Bool, true, false, List, [], ◌∷◌, Option, Some, None}
+use Rattle.std.specs.Prelude.{◌≡◌, ℕ, ◌<◌, Bool, true, false, List, [], ◌∷◌, Option, Some, None, Box}
+use Rattle.std.specs.declared.alloc.Global.{Global}
 use mathlib.Core.Option.{some, none}
 use mathlib.Core.Option as maybe
 use lib.ListN.{get_elem?}
@@ -14,6 +15,10 @@ use Rattle.assise_keeper.specs.declared.view.View.{View}
 use Rattle.assise_keeper.specs.Clients.{openings, openings_of, calls_by, Extends}
 use Rattle.assise_keeper.specs.Views.{newcomer}
 
+-- what lies in the slot where the state is home
+abbrev pub Boxed : Type 0 → Type 0
+Boxed S = Box S Global
+
 -- where the state is: not in yet, at home, or out with a pass
 pub data StatePlace : Type 0 where
   not_in : StatePlace
@@ -24,9 +29,9 @@ pub data StatePlace : Type 0 where
 -- one pass has seen nothing. Where the state is home, the word is 0. Where it is out, the word is 1, the slot is out, and
 -- there is a pass that holds it and noted it with its history.
 module _ {S : Type 0} (history : S → List EntryValue) where
-  abbrev pub IsAt : List ℕ → List (maybe.Option (Option S)) → List (View S) → List EntryValue → Option S → StatePlace → Type 0
+  abbrev pub IsAt : List ℕ → List (maybe.Option (Option (Boxed S))) → List (View S) → List EntryValue → Option S → StatePlace → Type 0
   IsAt words homes views h now not_in = (words ≡ 2 ∷ []) × (homes ≡ some None ∷ []) × (views ≡ newcomer ∷ []) × (h ≡ []) × (now ≡ None)
-  IsAt words homes views h now home = (words ≡ 0 ∷ []) × ((x : S) × (homes ≡ some (Some x) ∷ []) × (history x ≡ h) × (now ≡ Some x))
+  IsAt words homes views h now home = (words ≡ 0 ∷ []) × ((b : Boxed S) × (homes ≡ some (Some b) ∷ []) × (history b.value ≡ h) × (now ≡ Some b.value))
   IsAt words homes views h now (out j) = (words ≡ 1 ∷ []) × (homes ≡ none ∷ []) × ((v : View S) × (get_elem? views j ≡ some v) × ((s : S) × (v.stage ≡ Holding h s) × (now ≡ Some s)))
 
 -- No other pass holds: a pass holds only where the state is out with it.
@@ -79,7 +84,7 @@ IsPassAt leads works p h now owner who j v = HalfFits h owner who j true v.own �
 
 -- There is one state, with one history: the state at home, or as it was when it was taken. The history covers what every pass knows, and
 -- what every pass noted leads to the state: by work alone, where the pass alone may open clients.
-pub record IsKept {S : Type 0} (history : S → List EntryValue) (leads works : S → S → Type 0) (s : State (Option S) (View S)) : Type 0 where
+pub record IsKept {S : Type 0} (history : S → List EntryValue) (leads works : S → S → Type 0) (s : State (Option (Boxed S)) (View S)) : Type 0 where
   pub h : List EntryValue
   pub now : Option S
   pub place : StatePlace

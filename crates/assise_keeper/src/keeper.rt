@@ -10,20 +10,24 @@ use assise_history::growing::Growing;
 use assise_names::refusal::Refusal;
 use atomic_table::Table;
 use std::alloc::Global;
+use std::hint;
 use std::sync::Wait;
-use std::thread;
+use std::sync::atomic::{AtomicU64, Ordering};
 use std::time::Duration;
 
-/// How often a thread that waits only lets others run, before it sleeps between its tries.
-const BRIEF_TRIES: u32 = 32;
+/// How often a thread that waits tries at once again, before it sleeps between its tries: who has the state in its cache goes on with it.
+const BRIEF_TRIES: u32 = 3;
 
-/// How long it sleeps then, in microseconds. It is the same for every try, so that who waits longer tries no less often.
+/// How long it sleeps then, in microseconds, unless it is woken. It is the same for every try, so that who waits longer tries no less
+/// often.
 const NAP_MICROS: u64 = 100;
 
 /// Keeps a state that threads take in turn. It has one word, which is 0 where the state is there, 1 where it is out
-/// and 2 until it was put in, and one slot for the state.
+/// and 2 until it was put in, and one slot for the state, which lies in a
+/// box, so that who takes it moves a pointer.
 pub struct Keeper<S: Growing> {
-    table: Table<Option<S>, View<S>, (), OneHistory, Global>,
+    table: Table<Option<Box<S>>, View<S>, (), OneHistory, Global>,
+    sleepers: AtomicU64,
     progress: EventCount,
     ghost one_word: { (table.shared.table_id.words ≡ 1) × (table.shared.table_id.slots ≡ 1) },
 }
@@ -47,12 +51,17 @@ impl<S: Growing> Keeper<S> {
         ensures alone { IfOk result (λ made. opens made.1 ≡ Alone) }
         ensures refused { IfErr result (λ refused. refused ≡ (OutOfMemory, state)) }
     {
+        let state = match Box::new(alloc, state) {
+            Ok(state) => state,
+            Err(failed) => return Err((Refusal::OutOfMemory, failed.value)),
+        };
         let Ok((table, seat)) = Table::vacant(alloc, &[2], 1, &()) else {
-            return Err((Refusal::OutOfMemory, state));
+            return Err((Refusal::OutOfMemory, Box::into_inner(state)));
         };
         let mut pass = Pass { seat };
         let keeper = Keeper {
             table,
+            sleepers: AtomicU64::new(0),
             progress: EventCount::new(),
         };
         keeper.set_up(&mut pass, state);
@@ -60,10 +69,11 @@ impl<S: Growing> Keeper<S> {
     }
 
     // The state goes in for the first time.
-    fn set_up(&self, pass: &mut Pass<S>, state: S)
+    fn set_up(&self, pass: &mut Pass<S>, state: Box<S>)
         requires { IsFirst self.now pass.old }
-        ensures { IsPassOf self.now pass.new × (seen pass.new ≡ S.history state) ×
-            (client pass.new ≡ None) × (opens pass.new ≡ Alone) × (last pass.new ≡ Some state) }
+        ensures { IsPassOf self.now pass.new × (seen pass.new ≡ S.history state.value) ×
+            (client pass.new ≡ None) × (opens pass.new ≡ Alone) ×
+            (last pass.new ≡ Some state.value) }
     {
         let full = Some(state);
         self.table
@@ -74,16 +84,16 @@ impl<S: Growing> Keeper<S> {
     }
 
     // The state goes back.
-    fn put(&self, pass: &mut Pass<S>, state: S)
+    fn put(&self, pass: &mut Pass<S>, state: Box<S>)
         requires holding { IsHolding self.now pass.old }
         requires grows { MayGive (client pass.old) (opens pass.old)
-            (taken pass.old) (S.history state) }
-        requires leads { IsLed S.leads (state_taken pass.old) (Some state) }
+            (taken pass.old) (S.history state.value) }
+        requires leads { IsLed S.leads (state_taken pass.old) (Some state.value) }
         requires works { opens pass.old ≡ Never →
-            IsLed S.works (state_taken pass.old) (Some state) }
+            IsLed S.works (state_taken pass.old) (Some state.value) }
         ensures free { IsPassOf self.now pass.new }
         ensures view { view pass.new ≡ given (view pass.old) (taken pass.old)
-            (S.history state) state }
+            (S.history state.value) state.value }
     {
         let shared = &self.table.shared;
         let before = shared.exchange(&mut pass.seat, 0, Some(state));
@@ -91,13 +101,14 @@ impl<S: Growing> Keeper<S> {
         shared.store::<Release>(&mut pass.seat, 0, 0);
     }
 
-    fn try_take(&self, pass: &mut Pass<S>) -> Option<S>
+    fn try_take(&self, pass: &mut Pass<S>) -> Option<Box<S>>
         requires { IsPassOf self.now pass.old }
-        ensures took { IfSome result (λ t. IsHoldingThis self.now pass.new (S.history t) t ×
-            (view pass.new ≡ holding (view pass.old) (S.history t) t) ×
-            CoversHalf (S.history t) (view pass.old).own ×
-            CoversHalf (S.history t) (view pass.old).guest ×
-            AreLed S.leads S.works (view pass.old) (Some t)) }
+        ensures took { IfSome result (λ t.
+            IsHoldingThis self.now pass.new (S.history t.value) t.value ×
+            (view pass.new ≡ holding (view pass.old) (S.history t.value) t.value) ×
+            CoversHalf (S.history t.value) (view pass.old).own ×
+            CoversHalf (S.history t.value) (view pass.old).guest ×
+            AreLed S.leads S.works (view pass.old) (Some t.value)) }
         ensures none { IfNone result (IsPassOf self.now pass.new ×
             (view pass.new ≡ view pass.old)) }
     {
@@ -112,13 +123,14 @@ impl<S: Growing> Keeper<S> {
     }
 
     // Waits until the state is there, and takes it.
-    fn get<R: Wait>(&self, rt: &R, pass: &mut Pass<S>) -> S
+    fn get<R: Wait>(&self, rt: &R, pass: &mut Pass<S>) -> Box<S>
         requires { IsPassOf self.now pass.old }
-        ensures took { IsHoldingThis self.now pass.new (S.history result) result }
-        ensures view { view pass.new ≡ holding (view pass.old) (S.history result) result }
-        ensures own { CoversHalf (S.history result) (view pass.old).own }
-        ensures guest { CoversHalf (S.history result) (view pass.old).guest }
-        ensures led { AreLed S.leads S.works (view pass.old) (Some result) }
+        ensures took { IsHoldingThis self.now pass.new (S.history result.value) result.value }
+        ensures view { view pass.new ≡ holding (view pass.old)
+            (S.history result.value) result.value }
+        ensures own { CoversHalf (S.history result.value) (view pass.old).own }
+        ensures guest { CoversHalf (S.history result.value) (view pass.old).guest }
+        ensures led { AreLed S.leads S.works (view pass.old) (Some result.value) }
     {
         let nap = Duration::from_micros(NAP_MICROS);
         let mut tries = 0;
@@ -128,9 +140,11 @@ impl<S: Growing> Keeper<S> {
             }
             if tries < BRIEF_TRIES {
                 tries += 1;
-                thread::yield_now();
+                hint::spin_loop();
             } else {
+                self.sleepers.fetch_add(1, Ordering::SeqCst);
                 self.table.shared.park_timeout(rt, 0, 1, nap);
+                self.sleepers.fetch_sub(1, Ordering::SeqCst);
             }
         }
         unreachable!()
@@ -174,7 +188,15 @@ impl<S: Growing> Keeper<S> {
             (added (taken pass.old) (S.history held)) }
         ensures right { opens pass.new ≡ opens pass.old }
     {
-        self.put(pass, held.into_state());
+        self.put(pass, held.into_box());
+    }
+
+    /// Wakes one of the threads that sleep until the state is there, if some do. A give wakes nobody, so that a thread that goes on at
+    /// once finds the state in its cache; who waits for others, or is done, wakes one first.
+    pub fn wake_one(&self) {
+        if self.sleepers.load(Ordering::SeqCst) != 0 {
+            self.table.shared.wake_one(0);
+        }
     }
 
     /// A pass that has seen the same, has no client and may not open any.
@@ -286,12 +308,35 @@ impl<S: Growing> Keeper<S> {
         &self.progress
     }
 
+    /// Waits until the state is there, and ends the keeper with it. Of the state the pass knows what [`take`](Keeper::take) says.
+    pub fn into_state<R: Wait>(self, rt: &R, pass: Pass<S>) -> S
+    where
+        S: Drop,
+        requires { IsPassOf self pass }
+        ensures led { IsLed S.leads (last pass) (Some result) }
+        ensures worked { opens pass ≡ Alone → IsLed S.works (last pass) (Some result) }
+        ensures extends { Extends (S.history result) (seen pass) }
+        ensures mine { calls_of (client pass) (S.history result) ≡ mine pass }
+        ensures alone { opens pass ≡ Alone →
+            openings_of (S.history result) ≡ openings_of (seen pass) }
+    {
+        let mut pass = pass;
+        let state = self.get(rt, &mut pass);
+        // The state is out, so that nothing is closed with the rest.
+        drop(self.close());
+        Box::into_inner(state)
+    }
+
     /// Ends the keeper and answers its state; `None` where the state was taken and isn't back.
     pub fn close(self) -> Option<S> {
-        let Keeper { table, progress: _ } = self;
+        let Keeper {
+            table,
+            sleepers: _,
+            progress: _,
+        } = self;
         let mut closed = table.close();
         let state = closed.take(0);
         closed.free();
-        state
+        state.map(|state| Box::into_inner(state))
     }
 }

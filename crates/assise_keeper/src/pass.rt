@@ -6,5 +6,5 @@ use atomic_table::Seat;
 /// it has seen `last`, its `client`, and `mine`, the client's answered calls in what was seen.
 #[derive(Drop)]
 pub struct Pass<S> {
-    pub(crate) seat: Seat<Option<S>, View<S>>,
+    pub(crate) seat: Seat<Option<Box<S>>, View<S>>,
 }

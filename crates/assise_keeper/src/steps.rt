@@ -10,7 +10,7 @@ use atomic_table::{Join, Play, Split, TableRule};
 
 pub(crate) struct OneHistory;
 
-impl<S: Growing> TableRule<Option<S>, View<S>, ()> for OneHistory {
+impl<S: Growing> TableRule<Option<Box<S>>, View<S>, ()> for OneHistory {
     ghost holds = { λ _. IsKept S.history S.leads S.works };
 
     ghost first = { λ _. newcomer };
@@ -18,19 +18,19 @@ impl<S: Growing> TableRule<Option<S>, View<S>, ()> for OneHistory {
 
 pub(crate) struct Take;
 
-impl<S: Growing> Play<Option<S>, View<S>> for Take {
+impl<S: Growing> Play<Option<Box<S>>, View<S>> for Take {
     ghost then = { taking S.history S.leads S.works };
 }
 
 pub(crate) struct Release;
 
-impl<S: Growing> Play<Option<S>, View<S>> for Release {
+impl<S: Growing> Play<Option<Box<S>>, View<S>> for Release {
     ghost then = { releasing S.history };
 }
 
 pub(crate) struct SetUp;
 
-impl<S: Growing> Play<Option<S>, View<S>> for SetUp {
+impl<S: Growing> Play<Option<Box<S>>, View<S>> for SetUp {
     ghost then = { setting_up S.history };
 }
 

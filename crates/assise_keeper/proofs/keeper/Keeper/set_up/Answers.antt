@@ -11,11 +11,11 @@ compare_exchange_with-requires g c = (search rules, search rules, sets_for g.S.G
 
 pub put-requires-clause-holding : goal.put-requires-clause-holding
 put-requires-clause-holding g c = let up = (c.compare_exchange_with.ensures.2 c.args.state refl c.requires.2).1 in
-    (c.args.state, (search rules, ap (λ m. m.1) up ∙ ap (λ cs. (0, None) ∷ cs) c.requires.1, self_taken _ _ c.args.state (ap (λ m. m.0.stage) up)))
+    (c.args.state.value, (search rules, ap (λ m. m.1) up ∙ ap (λ cs. (0, None) ∷ cs) c.requires.1, self_taken _ _ c.args.state.value (ap (λ m. m.0.stage) up)))
 
 pub put-requires-clause-leads : goal.put-requires-clause-leads
 put-requires-clause-leads g c = let up = (c.compare_exchange_with.ensures.2 c.args.state refl c.requires.2).1 in
-    subst (λ z. IsLed g.S.Growing.leads (state_at z) (Some c.in-Some.state)) (sym (ap (λ m. m.0.stage) up)) (subst (λ z. g.S.Growing.leads z c.in-Some.state) (search rules) (g.S.Growing.stays c.in-Some.state))
+    subst (λ z. IsLed g.S.Growing.leads (state_at z) (Some c.in-Some.state.value)) (sym (ap (λ m. m.0.stage) up)) (subst (λ z. g.S.Growing.leads z c.in-Some.state.value) (search rules) (g.S.Growing.stays c.in-Some.state.value))
 
 pub put-requires-clause-works : goal.put-requires-clause-works
 put-requires-clause-works g c = let up = (c.compare_exchange_with.ensures.2 c.args.state refl c.requires.2).1 in
