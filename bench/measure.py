@@ -69,8 +69,12 @@ class Bench:
             copy.write(f"{file.read()}check\n")
         return path
 
-    def printed(self, script):
-        return subprocess.run([self.program, script], stdout=subprocess.PIPE, check=True).stdout.decode()
+    def printed(self, script, *options):
+        return subprocess.run([self.program, script, *options], stdout=subprocess.PIPE, check=True).stdout.decode()
+
+    def refused(self, script, *options):
+        """How many commands of a script are refused."""
+        return len(re.findall(r"^\d+: F\d", self.printed(script, *options), re.MULTILINE))
 
     def prints_as(self, other, script):
         """Whether another program prints the same bytes."""
@@ -90,6 +94,18 @@ class Bench:
     def best(self, script, *options):
         """The nanoseconds of the fastest run by the clock."""
         return self.fastest(script, *options)[0]
+
+    def kernel_calls(self, script, *options):
+        """How often a run calls the kernel; none where strace isn't there, which counts that."""
+        if not shutil.which("strace"):
+            return None
+        path = os.path.join(self.folder, "kernel")
+        words = ["strace", "-c", "-f", "-o", path, self.program, script, *options]
+        subprocess.run(words, stdout=subprocess.DEVNULL, check=True)
+        with open(path) as file:
+            *_, total = (line.split() for line in file if line.endswith(" total\n"))
+        # Percent, seconds, microseconds a call, calls, errors and the word.
+        return int(total[3])
 
     def instructions(self, script):
         """The instructions of a run."""

@@ -4,6 +4,6 @@
 
 pub mod cluster;
 pub mod libfs;
-mod pause;
 pub mod served;
 mod turns;
+pub mod waited;

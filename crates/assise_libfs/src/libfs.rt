@@ -4,9 +4,9 @@ ghost use Rattle.assise_history.specs.Legal.{IsLegal, calls_made};
 ghost use Rattle.assise_keeper.specs.Passes.{IsPassOf, client as client_of_pass, seen};
 ghost use Rattle.assise_history.specs.Legal.{IsOpenedOn};
 
-use crate::pause::pause;
 use crate::served::Served;
 use crate::turns::{answered, open_turn, try_turn};
+use crate::waited::{Waited, pause};
 use assise_history::growing::Growing;
 use assise_keeper::keeper::Keeper;
 use assise_keeper::pass::Pass;
@@ -24,7 +24,8 @@ use std::sync::Wait;
 ///
 /// Each call is a few turns: a turn takes the state, tries the call once, and gives the state back. Where the try waits for a lease or
 /// a replication, others go on before the next turn: after each of the first 16 turns of a call they only run first, after a later one
-/// the client waits until a node's worker did something, for 100 microseconds at most.
+/// the client waits until a node's worker did something, for 100 microseconds at most. Or its thread does something else
+/// ([`LibFs::call_meanwhile`]), as the turns of the nodes' workers.
 ///
 /// A call that is refused makes no entry and changes no file:
 ///
@@ -324,8 +325,30 @@ impl<'a, S: Served> LibFs<'a, S> {
         self.call(rt, alloc, &Op::Dsync)
     }
 
-    /// Makes a call: it is tried in turns until a try is answered or refused, or all turns are spent.
+    /// Makes a call: it is tried in turns until a try is answered or refused, or all turns are spent. Between two turns the client waits.
     pub fn call<R: Wait>(&mut self, rt: &R, alloc: Global, op: &Op) -> Result<Reply, Refusal>
+        ensures same { IsSameClient self.old self.new }
+        ensures sees { SeesCall (client_of self.old) op.now
+            (seen_by self.old) result (seen_by self.new) }
+        ensures legal { ∥ IsLegal (seen_by self.new) ∥₁ }
+        ensures refused { IfErr result (λ r. MayRefuse (client_of self.old) op.now
+            (seen_by self.new) r) }
+        ensures turns { TurnsTo S.Growing.history S.acts (client_of self.old) op.now
+            (limit_of self.old) result (seen_by self.old) (seen_by self.new) }
+    {
+        let progress = self.keeper.progress();
+        self.call_meanwhile(rt, alloc, op, |waited| pause(rt, progress, waited))
+    }
+
+    /// The same, where the client's thread does something else behind each try that waits.
+    pub fn call_meanwhile<R: Wait, F: FnMut(Waited)>(
+        &mut self,
+        rt: &R,
+        alloc: Global,
+        op: &Op,
+        mut meanwhile: F,
+    ) -> Result<Reply, Refusal>
+        requires callable { F.IsAlwaysCallable meanwhile }
         ensures same { IsSameClient self.old self.new }
         ensures sees { SeesCall (client_of self.old) op.now
             (seen_by self.old) result (seen_by self.new) }
@@ -339,7 +362,7 @@ impl<'a, S: Served> LibFs<'a, S> {
             let read = self.keeper.progress().read();
             match self.turn(rt, alloc, op) {
                 Ok(Some(reply)) => return Ok(reply),
-                Ok(None) => pause(rt, self.keeper.progress(), read, turn),
+                Ok(None) => meanwhile(Waited { turn, read }),
                 Err(refusal) => return Err(refusal),
             }
         }
@@ -413,6 +436,24 @@ impl<'a, S: Served> LibFs<'a, S> {
             calls: other_calls,
         };
         (first, second)
+    }
+
+    /// A pass that has seen the same, has no client and may not open any: for a worker of the client's thread.
+    pub fn split(&mut self) -> Pass<S>
+        ensures same { IsSameClient self.old self.new }
+        ensures seen { seen_by self.new ≡ seen_by self.old }
+        ensures pass { IsPassOf (keeper_of self.old) result }
+        ensures opens_none { opens result ≡ Never }
+        ensures nobody { client_of_pass result ≡ None }
+    {
+        self.keeper.split(&mut self.pass)
+    }
+
+    /// The keeper of the state that the client's calls are made on.
+    pub fn keeper(&self) -> &'a Keeper<S>
+        ensures { result.now ≡ keeper_of self.now }
+    {
+        self.keeper
     }
 
     /// A pass that has seen the same, has no client, and has the right to open clients that the client's pass had. The client's has none

@@ -44,13 +44,14 @@ impl<'a, S: Replicated> Worker<'a, S> {
         ensures turns { (ends : List TurnEnd) × TurnAfterTurn (DigestsSome
             S.Growing.history S.acts node) ends (seen_at self.old) (seen_at self.new) }
     {
-        let mut idle = Idle::new();
+        let mut idle = Idle::of_one();
         for _ in rt.forever() {
             if !gate.pass(Point::Turn) {
                 return;
             }
             let read = self.keeper.progress().read();
             let end = self.digest_turn(rt, alloc, node, gate);
+            self.keeper.wake_one();
             if !idle.rest(rt, self.keeper.progress(), read, end) {
                 return;
             }

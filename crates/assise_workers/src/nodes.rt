@@ -95,11 +95,13 @@ pub fn tend<S: Replicated, G: Gate, R: Wait>(
     let Some(first) = nodes.first() else {
         return;
     };
-    let progress = first.digester.keeper.progress();
-    let mut idle = Idle::new();
+    let keeper = first.digester.keeper;
+    let progress = keeper.progress();
+    let mut idle = Idle::of_all();
     for _ in rt.forever() {
         let read = progress.read();
         let end = turn_of_each(rt, alloc, nodes, gate);
+        keeper.wake_one();
         if !idle.rest(rt, progress, read, end) {
             return;
         }

@@ -97,13 +97,14 @@ impl<'a, S: Replicated> Worker<'a, S> {
             S.Growing.history S.acts (L.kind link.old ≡ perfect) S.reads node end a b) ends
             (seen_at self.old) (seen_at self.new) }
     {
-        let mut idle = Idle::new();
+        let mut idle = Idle::of_one();
         for _ in rt.forever() {
             if !gate.pass(Point::Turn) {
                 return;
             }
             let read = self.keeper.progress().read();
             let end = self.replicate_turn(rt, alloc, node, link, gate);
+            self.keeper.wake_one();
             if !idle.rest(rt, self.keeper.progress(), read, end) {
                 return;
             }

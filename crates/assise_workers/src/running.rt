@@ -31,18 +31,20 @@ pub enum RunFault {
 #[derive(Drop)]
 struct ServesAll<'a, S: Growing>(Snapshot<ClientList<'a, S>>);
 
-impl<'a, S: Served> Promise<ClientEnd<'a, S>> for ServesAll<'a, S> {
+impl<'a, S: Served + Replicated> Promise<ClientEnd<'a, S>> for ServesAll<'a, S> {
     ghost use Rattle.assise_workers.specs.Serving.{HasServed};
 
-    ghost kept_by = { λ p end. HasServed S.Growing.history S.acts p.0.value end };
+    ghost kept_by = { λ p end. HasServed S.Growing.history S.Served.acts p.0.value end };
 }
 
-/// Makes a client's calls in a thread of its own.
-fn start_client<'s, 'e: 's, S: Served + Send, R: Threads + Wait + Sync>(
+/// Makes a client's calls in a thread of its own, which helps the nodes up to the last.
+fn start_client<'s, 'e: 's, S: Served + Replicated + Send, G: Gate, R: Threads + Wait + Sync>(
     scope: &Scope<'s, &'e ()>,
     rt: &'e R,
     alloc: Global,
     list: ClientList<'e, S>,
+    last: u32,
+    gate: &'e G,
 ) -> Option<PromisedHandle<ClientEnd<'e, S>, ServesAll<'e, S>>>
     ensures { IfSome result (λ h. h.promise.0.value ≡ list.entry) }
 {
@@ -51,21 +53,23 @@ fn start_client<'s, 'e: 's, S: Served + Send, R: Threads + Wait + Sync>(
         .spawn_with(
             promise,
             move || -> ClientEnd<S>
-                ensures { HasServed S.Growing.history S.acts list.entry result }
-            { list.serve(rt, alloc) },
+                ensures { HasServed S.Growing.history S.Served.acts list.entry result }
+            { list.serve(rt, alloc, last, gate) },
         )
         .ok()
 }
 
 /// Makes the calls of clients, each in a thread of its own, and waits for them. Where a thread can't be made, those that were made are
 /// waited for.
-fn run_clients<'s, 'e: 's, S: Served + Send, R: Threads + Wait + Sync>(
+fn run_clients<'s, 'e: 's, S: Served + Replicated + Send, G: Gate, R: Threads + Wait + Sync>(
     scope: &Scope<'s, &'e ()>,
     rt: &'e R,
     alloc: Global,
     lists: Vec<ClientList<'e, S>>,
+    last: u32,
+    gate: &'e G,
 ) -> Result<Vec<ClientEnd<'e, S>>, RunFault>
-    ensures { IfOk result (λ ends. AllZip (HasServed S.Growing.history S.acts)
+    ensures { IfOk result (λ ends. AllZip (HasServed S.Growing.history S.Served.acts)
         lists.entry.items ends.items) }
 {
     let Ok(mut handles) = Vec::with_capacity(alloc, lists.len()) else {
@@ -75,7 +79,7 @@ fn run_clients<'s, 'e: 's, S: Served + Send, R: Threads + Wait + Sync>(
         return Err(RunFault::Memory);
     };
     for list in lists {
-        let Some(handle) = start_client(scope, rt, alloc, list) else {
+        let Some(handle) = start_client(scope, rt, alloc, list, last, gate) else {
             let _ = join_clients(rt, handles, ends);
             return Err(RunFault::NoThread);
         };
@@ -85,14 +89,14 @@ fn run_clients<'s, 'e: 's, S: Served + Send, R: Threads + Wait + Sync>(
 }
 
 /// Waits for clients, one after another. There is room for what comes of them.
-fn join_clients<'e, S: Served, R: Threads>(
+fn join_clients<'e, S: Served + Replicated, R: Threads>(
     rt: &R,
     handles: Vec<PromisedHandle<ClientEnd<'e, S>, ServesAll<'e, S>>>,
     mut ends: Vec<ClientEnd<'e, S>>,
 ) -> Vec<ClientEnd<'e, S>>
     requires empty { ends.items ≡ [] }
     requires room { vec_len handles ≤ vec_capacity ends }
-    ensures { AllZip (λ h end. HasServed S.Growing.history S.acts
+    ensures { AllZip (λ h end. HasServed S.Growing.history S.Served.acts
         h.promise.0.value end) handles.entry.items result.items }
 {
     for handle in handles {
@@ -139,6 +143,11 @@ fn start_workers<'s, 'e: 's, S: Replicated + Send, G: Gate, R: Threads + Wait + 
     Ok(())
 }
 
+/// The last of these nodes, 0 where there is none.
+fn last_node<S: Growing>(nodes: &[NodeWorkers<'_, S>]) -> u32 {
+    nodes.last().map_or(0, |workers| workers.node)
+}
+
 /// Starts the workers of all nodes.
 fn start_all_workers<'s, 'e: 's, S: Replicated + Send, G: Gate, R: Threads + Wait + Sync>(
     scope: &Scope<'s, &'e ()>,
@@ -155,7 +164,9 @@ fn start_all_workers<'s, 'e: 's, S: Replicated + Send, G: Gate, R: Threads + Wai
 }
 
 /// Makes the calls of clients' lists to their end, beside the workers of nodes: each client and each worker is a thread. The workers end
-/// once all lists are done.
+/// once all lists are done. Where a call waits, its client's thread makes the turns of these nodes' workers, too ([`Helper`]).
+///
+/// [`Helper`]: crate::helping::Helper
 ///
 /// [`RunFault::Memory`] comes before the first call; on [`RunFault::NoThread`] the threads that were made are ended and waited for, and
 /// what was answered stands in the history.
@@ -194,8 +205,9 @@ fn run_until<'a, G: Gate, R: Threads + Wait + Sync>(
             ensures { IfOk result (λ ends. AllZip (HasServed cluster_history cluster_acts)
                 lists.entry.items ends.items) }
         {
+            let last = last_node(nodes.as_slice());
             let ended = match start_all_workers(scope, rt, alloc, nodes, gate, &done) {
-                Ok(()) => run_clients(scope, rt, alloc, lists),
+                Ok(()) => run_clients(scope, rt, alloc, lists, last, gate),
                 Err(fault) => Err(fault),
             };
             done.store(true, Ordering::SeqCst);

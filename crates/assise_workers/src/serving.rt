@@ -3,6 +3,9 @@ ghost use Rattle.std.specs.Prelude.{◌≡◌, ◌≤◌, [], length, vec_capaci
 ghost use Rattle.assise_libfs.specs.Clients.{IsSameClient, client_of, limit_of, seen_by};
 ghost use Rattle.assise_workers.specs.Told.{SeesAll, Turned};
 
+use crate::gate::Gate;
+use crate::helping::Helper;
+use crate::replicated::Replicated;
 use assise_history::growing::Growing;
 use assise_libfs::libfs::LibFs;
 use assise_libfs::served::Served;
@@ -53,38 +56,55 @@ impl<'a, S: Served> ClientList<'a, S> {
             Err(_) => Err((Refusal::OutOfMemory, libfs, calls)),
         }
     }
+}
+
+impl<'a, S: Served + Replicated> ClientList<'a, S> {
+    ghost use Rattle.assise_workers.specs.Serving.{HasServed};
 
     /// Makes all calls of the list, one after another; a call that is refused ends nothing. It takes no memory but that of its calls.
-    pub fn serve<R: Wait>(self, rt: &R, alloc: Global) -> ClientEnd<'a, S>
-        ensures { HasServed S.Growing.history S.acts self.entry result }
+    /// While a call waits, the thread makes the turns of the workers of nodes 1 to the last, and passes their gate; with 0 it helps none.
+    pub fn serve<G: Gate, R: Wait>(
+        self,
+        rt: &R,
+        alloc: Global,
+        last: u32,
+        gate: &G,
+    ) -> ClientEnd<'a, S>
+        ensures { HasServed S.Growing.history S.Served.acts self.entry result }
     {
         let ClientList {
             mut libfs,
             calls,
             room,
         } = self;
-        let replies = make_calls(rt, alloc, &mut libfs, calls.as_slice(), room);
+        let mut helper = Helper::new(&mut libfs, last, gate);
+        let replies = make_calls(rt, alloc, &mut libfs, calls.as_slice(), room, &mut helper);
+        helper.end();
         ClientEnd { libfs, replies }
     }
 }
 
 /// Makes a client's calls one after another, and answers what came of each. There is room for that.
-fn make_calls<S: Served, R: Wait>(
+fn make_calls<S: Served + Replicated, G: Gate, R: Wait>(
     rt: &R,
     alloc: Global,
     libfs: &mut LibFs<'_, S>,
     calls: &[Op],
     mut replies: Vec<Result<Reply, Refusal>>,
+    helper: &mut Helper<'_, '_, S, G>,
 ) -> Vec<Result<Reply, Refusal>>
     requires empty { replies.items ≡ [] }
     requires room { length calls.now ≤ vec_capacity replies }
     ensures same { IsSameClient libfs.old libfs.new }
-    ensures sees { SeesAll (Turned S.Growing.history S.acts (limit_of libfs.old))
+    ensures sees { SeesAll (Turned S.Growing.history S.Served.acts (limit_of libfs.old))
         (client_of libfs.old) calls.now (seen_by libfs.old) result.items (seen_by libfs.new) }
 {
     for op in calls {
-        let reply = libfs.call(rt, alloc, op);
+        let reply = libfs.call_meanwhile(rt, alloc, op, |waited| {
+            helper.behind_try(rt, alloc, waited);
+        });
         replies.push_reserved(reply);
+        helper.behind_call(rt, alloc);
     }
     replies
 }

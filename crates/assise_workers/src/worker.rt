@@ -23,6 +23,14 @@ pub enum TurnEnd {
 }
 
 impl TurnEnd {
+    /// Whether it did something.
+    pub(crate) fn did_work(self) -> bool {
+        match self {
+            TurnEnd::Did(count) => count != 0,
+            TurnEnd::Refused(_) | TurnEnd::Stopped => false,
+        }
+    }
+
     /// What two turns came to, one after the other.
     pub(crate) fn and(self, next: TurnEnd) -> TurnEnd
         ensures { result ≡ both_ends self next }
@@ -47,7 +55,7 @@ pub struct Worker<'a, S: Growing> {
 }
 
 impl<'a, S: Replicated> Worker<'a, S> {
-    ghost use Rattle.std.specs.Prelude.{◌≡◌};
+    ghost use Rattle.std.specs.Prelude.{◌≡◌, None};
     ghost use Rattle.assise_keeper.specs.Passes.{IsPassOf, client, last, opens, seen};
     ghost use Rattle.assise_workers.specs.Working.{keeper_at, seen_at};
 
@@ -61,7 +69,16 @@ impl<'a, S: Replicated> Worker<'a, S> {
         ensures keeper { keeper_at result ≡ keeper.now }
         ensures seen { seen_at result ≡ seen pass.old }
     {
-        let own = WorkerPass::new(keeper.split(pass));
-        Worker { keeper, pass: own }
+        Worker::of(keeper, keeper.split(pass))
+    }
+
+    /// A worker with a pass of its own, which has no client.
+    pub(crate) fn of(keeper: &'a Keeper<S>, pass: Pass<S>) -> Worker<'a, S>
+        requires { IsPassOf keeper.now pass × (client pass ≡ None) }
+        ensures keeper { keeper_at result ≡ keeper.now }
+        ensures seen { seen_at result ≡ seen pass }
+    {
+        let pass = WorkerPass::new(pass);
+        Worker { keeper, pass }
     }
 }

@@ -11,16 +11,16 @@ pub loop-op-preserved : goal.loop-op-preserved
 loop-op-preserved g c =
     let before = c.loop-op.invariant in
     let first = c.args.libfs.now in
-    let now = c.call-reply.new.self in
+    let now = c.call_meanwhile-reply.new.self in
     let calls = c.args.calls.now in
     let i = c.loop-op.op-index in
     let T = Turned g.S.Growing.history g.S.Served.acts (limit_of first) in
-    let one = one_more_of T _ _ _ _ _ _ c.op-item.result c.call-reply.result _ before.same.client before.sees c.call-reply.ensures.sees c.call-reply.ensures.refused
-    (subst (λ limit. TurnsTo g.S.Growing.history g.S.Served.acts (client_of c.loop-op.libfs) c.op-item.result limit c.call-reply.result (seen_by c.loop-op.libfs) (seen_by now)) before.same.limit c.call-reply.ensures.turns) in
+    let one = one_more_of T _ _ _ _ _ _ c.op-item.result c.call_meanwhile-reply.result _ before.same.client before.sees c.call_meanwhile-reply.ensures.sees c.call_meanwhile-reply.ensures.refused
+    (subst (λ limit. TurnsTo g.S.Growing.history g.S.Served.acts (client_of c.loop-op.libfs) c.op-item.result limit c.call_meanwhile-reply.result (seen_by c.loop-op.libfs) (seen_by now)) before.same.limit c.call_meanwhile-reply.ensures.turns) in
     let next : take (i + 1) calls ≡ take i calls ++ c.op-item.result ∷ [] = take_more calls i c.op-item.result c.loop-op-test.true ∙ ap (λ z. take i calls ++ z ∷ []) (sym c.op-item.is) in
     let pushed = subst (λ z. SeesAll T (client_of first) (take i calls ++ c.op-item.result ∷ []) (seen_by first) z (seen_by now)) (sym c.push_reserved.ensures.items) one in
     record {
-      same = same-then first c.loop-op.libfs now before.same c.call-reply.ensures.same;
+      same = same-then first c.loop-op.libfs now before.same c.call_meanwhile-reply.ensures.same;
       count = omega (arith, c.push_reserved.ensures.len, before.count);
       room = omega (arith, c.push_reserved.ensures.capacity, before.room);
       sees = subst (λ z. SeesAll T (client_of first) z (seen_by first) c.push_reserved.new.self.items (seen_by now)) (sym next) pushed;

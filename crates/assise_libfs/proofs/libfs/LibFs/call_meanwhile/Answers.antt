@@ -1,4 +1,4 @@
-use Rattle.std.proofs.Common.{◌∙◌, ap, subst, Ok}
+use Rattle.std.proofs.Common.{◌∙◌, ap, subst, Ok, of_calls}
 use Rattle.assise_libfs.specs.Calling.{MayRefuse}
 use Rattle.assise_libfs.specs.Clients.{client_of, node_of, seen_by}
 use Rattle.assise_history.specs.Legal.{IsOpenedOn}
@@ -6,7 +6,7 @@ use Rattle.assise_libfs.proofs.Refused.{refused-opened}
 use Rattle.assise_libfs.proofs.Same.{same-then}
 use Rattle.assise_libfs.proofs.Tries.{others_then_try}
 use Rattle.assise_libfs.proofs.TurnsAdd.{answered_by, refused_by, waits_on}
-use Rattle.assise_libfs.proofs.libfs.LibFs.call.Goals as goal
+use Rattle.assise_libfs.proofs.libfs.LibFs.call_meanwhile.Goals as goal
 
 pub returns-in-Ok-Some-clause-same : goal.returns-in-Ok-Some-clause-same
 returns-in-Ok-Some-clause-same g c = same-then _ _ _ c.loop-turn.invariant.same c.turn.ensures.same
@@ -38,6 +38,7 @@ pub loop-turn-preserved : goal.loop-turn-preserved
 loop-turn-preserved g c = let inv = c.loop-turn.invariant in
     let t = others_then_try _ _ c.args.op.now _ _ c.turn.result _ inv.same.client inv.others c.turn.ensures.sees in
     record {
+      callable = search of_calls;
       same = same-then _ _ _ inv.same c.turn.ensures.same;
       others = rw (c.in-Ok-None.is, c.in-Ok-None.field-0-is) at t;
       waited = waits_on _ _ (client_of c.args.self.now) c.args.op.now (client_of c.loop-turn.self) c.loop-turn.turn (seen_by c.args.self.now) (seen_by c.loop-turn.self) (seen_by c.turn.new.self) c.turn.result inv.same.client (c.in-Ok-None.is ∙ ap Ok c.in-Ok-None.field-0-is) inv.waited c.turn.ensures.turn;
