@@ -12,6 +12,8 @@ mod held;
 #[cfg(test)]
 mod refused;
 #[cfg(test)]
+mod renewed;
+#[cfg(test)]
 mod runs;
 #[cfg(test)]
 mod tests;

@@ -3,6 +3,7 @@ use crate::begun::{begin, revokers};
 use crate::crowds::{Crowd, run_crowd};
 use crate::gates::{AllAtOnce, UntilAnswered};
 use crate::held::stat_beside_fsync;
+use crate::renewed::renewed_once;
 use crate::runs::{Clients, answered};
 use assise_machine::cluster::Cluster;
 use assise_names::durability::Durability;
@@ -115,4 +116,10 @@ fn all_at_once(rt: HostRuntime) {
     let count = answered(&rt, rt.alloc(), cluster, &mut revokers, &gate, &SYNCS);
     assert_eq!(rt; count, Some(4));
     assert_eq!(rt; gate.freed.load(Ordering::SeqCst), 2);
+}
+
+#[test]
+fn what_was_made_is_there_in_a_renewed_cluster(rt: HostRuntime) {
+    let replies = renewed_once(&rt, rt.alloc());
+    assert_eq!(rt; replies, Some((Reply::Done, Reply::File(4))));
 }

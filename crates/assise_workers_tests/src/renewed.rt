@@ -1,0 +1,67 @@
+// A cluster that threads took in turn is renewed: a client of the next keeper finds what one of the last made. Each helps the nodes, so
+// that no thread but its own is needed.
+ghost use Rattle.std.specs.Prelude.{◌≡◌, None};
+ghost use Rattle.assise_keeper.specs.Clients.{MayOpenClients};
+ghost use Rattle.assise_keeper.specs.Passes.{IsPassOf, client, opens};
+
+use crate::begun::{calls_in, revokers};
+use crate::runs::TURNS;
+use assise_keeper::keeper::Keeper;
+use assise_keeper::pass::Pass;
+use assise_keeper_renewal::renewal::renewed_keeper;
+use assise_lease_table::revoker::Revoker;
+use assise_libfs::libfs::LibFs;
+use assise_machine::cluster::Cluster;
+use assise_names::durability::Durability;
+use assise_names::reply::Reply;
+use assise_renewal::renewal::Sizes;
+use assise_workers::gate::OpenGate;
+use assise_workers::serving::ClientList;
+use std::alloc::Global;
+use std::sync::Wait;
+
+/// What the client of the last keeper makes and leaves, unsynced but for its first call.
+const MADE: &str = "1 mkdir /d\n1 fsync\n1 create /d/f\n1 write /d/f 0 tabc\n";
+
+/// What the client of the next one does there.
+const FOUND: &str = "1 write /d/f 3 t!\n1 fsync\n1 stat /d/f\n";
+
+const SIZES: Sizes = Sizes {
+    nodes: 2,
+    log: 8,
+    hot: 4,
+};
+
+/// A client on node 1 makes the calls of lines: what came of the last.
+fn last_reply<R: Wait>(
+    rt: &R,
+    alloc: Global,
+    keeper: &Keeper<Cluster>,
+    pass: Pass<Cluster>,
+    revoker: Revoker,
+    lines: &str,
+) -> Option<Reply>
+    requires pass { IsPassOf keeper.now pass × (client pass ≡ None) }
+    requires right { MayOpenClients (opens pass) }
+{
+    let calls = calls_in(alloc, lines)?;
+    let durability = Durability::Pessimistic;
+    let libfs = LibFs::open(rt, alloc, keeper, pass, 1, revoker, durability, TURNS).ok()?;
+    let list = ClientList::new(alloc, libfs, calls).ok()?;
+    let mut end = list.serve(rt, alloc, SIZES.nodes, &OpenGate);
+    end.replies.pop()?.ok()
+}
+
+/// What the last calls of both clients came to. None where memory runs out.
+pub(crate) fn renewed_once<R: Wait>(rt: &R, alloc: Global) -> Option<(Reply, Reply)> {
+    let mut revokers = revokers(alloc, 3)?;
+    let (one, two, three) = (revokers.pop()?, revokers.pop()?, revokers.pop()?);
+    let cluster = Cluster::new(alloc, SIZES.nodes, 64, 64).ok()?;
+    let (keeper, mut main) = Keeper::new(alloc, cluster).ok()?;
+    let opener = keeper.split_opener(&mut main);
+    let made = last_reply(rt, alloc, &keeper, opener, one, MADE);
+    let (keeper, main) = renewed_keeper(rt, alloc, keeper, main, SIZES, two, TURNS).ok()?;
+    let found = last_reply(rt, alloc, &keeper, main, three, FOUND);
+    keeper.close()?;
+    Some((made?, found?))
+}
