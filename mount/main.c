@@ -25,9 +25,10 @@ static void *begin(struct fuse_conn_info *connection, struct fuse_config *config
     double seconds = is_alone && cluster.mode == MODE_REDO ? 1.0 : 0.0;
     if (is_alone)
         connection->want &= ~(unsigned)(FUSE_CAP_POSIX_LOCKS | FUSE_CAP_FLOCK_LOCKS);
-    config->entry_timeout = config->attr_timeout = seconds;
-    config->negative_timeout = 0;
+    config->entry_timeout = config->attr_timeout = config->negative_timeout = seconds;
     config->kernel_cache = seconds > 0;
+    if (config->kernel_cache) /* else what it keeps of a file is read again behind each write */
+        connection->want &= ~(unsigned)FUSE_CAP_AUTO_INVAL_DATA;
     return fuse_get_context()->private_data;
 }
 
