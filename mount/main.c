@@ -7,6 +7,7 @@
 #include "options.h"
 #include <errno.h>
 #include <fuse3/fuse_lowlevel.h>
+#include <malloc.h>
 #include <signal.h>
 #include <stdio.h>
 #include <stdlib.h>
@@ -168,6 +169,7 @@ static int mount_all(const struct options *options) {
 
 int main(int count, char **words) {
     struct options options = {NULL, false, false, false};
+    mallopt(M_ARENA_MAX, 1); /* a cluster that any thread renews takes what the old one had */
     bool is_right = options_read(count, words, &cluster, &options);
     int status = is_right ? 0 : 1;
     if (is_right && options.is_help)
