@@ -7,6 +7,7 @@
 #include "options.h"
 #include <errno.h>
 #include <fuse3/fuse_lowlevel.h>
+#include <malloc.h>
 #include <signal.h>
 #include <stdio.h>
 #include <stdlib.h>
@@ -25,9 +26,10 @@ static void *begin(struct fuse_conn_info *connection, struct fuse_config *config
     double seconds = is_alone && cluster.mode == MODE_REDO ? 1.0 : 0.0;
     if (is_alone)
         connection->want &= ~(unsigned)(FUSE_CAP_POSIX_LOCKS | FUSE_CAP_FLOCK_LOCKS);
-    config->entry_timeout = config->attr_timeout = seconds;
-    config->negative_timeout = 0;
+    config->entry_timeout = config->attr_timeout = config->negative_timeout = seconds;
     config->kernel_cache = seconds > 0;
+    if (config->kernel_cache) /* else what it keeps of a file is read again behind each write */
+        connection->want &= ~(unsigned)FUSE_CAP_AUTO_INVAL_DATA;
     return fuse_get_context()->private_data;
 }
 
@@ -167,6 +169,7 @@ static int mount_all(const struct options *options) {
 
 int main(int count, char **words) {
     struct options options = {NULL, false, false, false};
+    mallopt(M_ARENA_MAX, 1); /* a cluster that any thread renews takes what the old one had */
     bool is_right = options_read(count, words, &cluster, &options);
     int status = is_right ? 0 : 1;
     if (is_right && options.is_help)

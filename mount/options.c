@@ -15,7 +15,8 @@ const char help_text[] =
     "  --at NODE=MOUNTPOINT   one more mount, with a client on that node; up to 15 times\n"
     "  --mode redo|stop       what comes behind a failure: redo makes lost changes again, stop "
     "answers EIO\n"
-    "  --keep BYTES           the cluster is renewed where its history has more: 67108864\n"
+    "  --keep BYTES           the cluster is renewed where its history has more, and three times "
+    "what the files take: 67108864\n"
     "  -o OPTION[,OPTION ..]  FUSE's own options, as allow_other\n"
     "  -f                     stays in the foreground\n"
     "  -h, --help, -V, --version\n";

@@ -7,8 +7,9 @@
 /* What an entry has besides the bytes that it wrote, read or listed, measured at a stat. */
 #define ENTRY_BYTES 500
 
-/* A renewal costs the files and the history, so a history that has grown by the files is due. */
-#define GROWTH 4
+/* A renewal takes what the files take, in time and in memory: so it is due where the history has so
+ * many times that. */
+#define TIMES_LEFT 3
 
 /* A renewal that was refused is tried again when so many times what it took has gone by. */
 #define TIMES_APART 20
@@ -82,7 +83,7 @@ int64_t renew(struct cluster *cluster) {
 static bool has_grown(struct cluster *cluster) {
     const struct renewals *renewals = &cluster->renewals;
     uint64_t kept = kept_bytes(cluster);
-    return kept > renewals->keep && kept - renewals->keep >= GROWTH * renewals->left;
+    return kept > renewals->keep && kept / TIMES_LEFT >= renewals->left;
 }
 
 void renew_where_due(struct cluster *cluster) {

@@ -14,9 +14,9 @@ uint64_t kept_bytes(struct cluster *cluster);
  * cluster stays. Nodes that were down are down, and all clients are opened anew. */
 int64_t renew(struct cluster *cluster);
 
-/* Renews it where the history has more than what is to be kept and four times what the last renewal
- * left, which is what the files take; or where the next failure could find no number for a client.
- * Where that is refused all stays as it is, for twenty times what it took. */
+/* Renews it where the history has more than what is to be kept, and three times what the last
+ * renewal left, which is what the files take; or where the next failure could find no number for a
+ * client. Where that is refused all stays as it is, for twenty times what it took. */
 void renew_where_due(struct cluster *cluster);
 
 #endif

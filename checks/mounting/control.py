@@ -1,4 +1,4 @@
-"""What is ordered of a mount by its control directory, and what is refused; and what a stop leaves."""
+"""What is ordered of a mount by its control directory, and what is refused; what a stop leaves; and what the kernel keeps."""
 
 import errno
 import os
@@ -77,3 +77,21 @@ def stop(mounted):
                  ("what was open, written", fault(lambda: os.pwrite(fd, b"x", 0)), "EIO"),
                  ("what was open, synced", fault(lambda: os.fsync(fd)), "EIO"), ("what is opened", text_of(f"{here}/letter"), "one")]
     return wrong_of(rows)
+
+
+def kept(mounted):
+    """A mount alone is asked for nothing that it wrote before, also where a node failed: what is wrong, or nothing."""
+    path, whole = f"{mounted.folders[0]}/letter", bytearray(b"one" * 20480)
+    put(path, whole.decode())
+    rows = []
+    for turn in range(9):
+        with open(path, "r+b", buffering=0) as file:
+            os.pwrite(file.fileno(), b"two", turn * 5000)
+        whole[turn * 5000 : turn * 5000 + 3] = b"two"
+        if turn % 3 == 0:
+            mounted.order("back 1" if turn % 2 else "fail 1")
+        with open(path, "rb") as file:
+            rows.append(("size", os.fstat(file.fileno()).st_size, len(whole)))
+            rows.append(("bytes", file.read() == whole, True))
+    asked = [line.split()[3] for line in mounted.read("history").splitlines() if line.startswith("call")]
+    return wrong_of(rows + [("reads", asked.count("read"), 0), ("writes", asked.count("write") >= 9, True)])
