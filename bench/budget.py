@@ -74,9 +74,9 @@ BUDGETS = (
     # A create in a directory that gets 4,000 entries, to one where it gets 500.
     ("directory", large_directory, 1.70),
     # Processor time of eight clients with threads, to that on one thread, on one node.
-    ("threads", threads_on_one_node, 7.0),
+    ("threads", threads_on_one_node, 4.0),
     # The same on four nodes, where calls wait for frames.
-    ("crowd", threads_on_four_nodes, 30.0),
+    ("crowd", threads_on_four_nodes, 5.0),
     # A call's part of a check, of 10,000 calls to that of 1,000, where the larger root takes longer to look up in.
     ("check", check_of_history, 1.65),
     # Records that are digested of an optimistic client's calls, to those of a pessimistic one's, of the whole table.
