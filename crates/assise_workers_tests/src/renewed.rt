@@ -1,6 +1,6 @@
 // A cluster that threads took in turn is renewed: a client of the next keeper finds what one of the last made. Each helps the nodes, so
 // that no thread but its own is needed.
-ghost use Rattle.std.specs.Prelude.{◌≡◌, None};
+ghost use Rattle.std.specs.Prelude.{◌≡◌, IfSome, None};
 ghost use Rattle.assise_keeper.specs.Clients.{MayOpenClients};
 ghost use Rattle.assise_keeper.specs.Passes.{IsPassOf, client, opens};
 
@@ -52,15 +52,44 @@ fn last_reply<R: Wait>(
     end.replies.pop()?.ok()
 }
 
+/// A keeper of a cluster. None where memory runs out.
+fn kept(alloc: Global, cluster: Cluster) -> Option<(Keeper<Cluster>, Pass<Cluster>)>
+    ensures pass { IfSome result (λ both. IsPassOf both.0 both.1 × (client both.1 ≡ None)) }
+    ensures right { IfSome result (λ both. MayOpenClients (opens both.1)) }
+{
+    match Keeper::new(alloc, cluster) {
+        Ok(both) => Some(both),
+        Err(_) => None,
+    }
+}
+
+/// The keeper of the renewed cluster. None where it isn't renewed.
+fn next_kept<R: Wait>(
+    rt: &R,
+    alloc: Global,
+    keeper: Keeper<Cluster>,
+    pass: Pass<Cluster>,
+    revoker: Revoker,
+) -> Option<(Keeper<Cluster>, Pass<Cluster>)>
+    requires { IsPassOf keeper pass }
+    ensures pass { IfSome result (λ both. IsPassOf both.0 both.1 × (client both.1 ≡ None)) }
+    ensures right { IfSome result (λ both. MayOpenClients (opens both.1)) }
+{
+    match renewed_keeper(rt, alloc, keeper, pass, SIZES, revoker, TURNS) {
+        Ok(both) => Some(both),
+        Err(_) => None,
+    }
+}
+
 /// What the last calls of both clients came to. None where memory runs out.
 pub(crate) fn renewed_once<R: Wait>(rt: &R, alloc: Global) -> Option<(Reply, Reply)> {
     let mut revokers = revokers(alloc, 3)?;
     let (one, two, three) = (revokers.pop()?, revokers.pop()?, revokers.pop()?);
     let cluster = Cluster::new(alloc, SIZES.nodes, 64, 64).ok()?;
-    let (keeper, mut main) = Keeper::new(alloc, cluster).ok()?;
-    let opener = keeper.split_opener(&mut main);
+    let (keeper, mut main) = kept(alloc, cluster)?;
+    let opener = keeper.split_sharing(&mut main);
     let made = last_reply(rt, alloc, &keeper, opener, one, MADE);
-    let (keeper, main) = renewed_keeper(rt, alloc, keeper, main, SIZES, two, TURNS).ok()?;
+    let (keeper, main) = next_kept(rt, alloc, keeper, main, two)?;
     let found = last_reply(rt, alloc, &keeper, main, three, FOUND);
     keeper.close()?;
     Some((made?, found?))
