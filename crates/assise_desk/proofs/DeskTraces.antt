@@ -9,7 +9,8 @@ use Rattle.assise_rounds.proofs.ReturnTrace.{return_trace}
 use Rattle.assise_rounds.proofs.Traces.{event_trace, nothing_trace, round_trace}
 use Rattle.assise_files.specs.FilesSeen.{cluster_seen, links_seen}
 use Rattle.assise_files.specs.declared.files.Files.{Files}
-use Rattle.assise_files.proofs.TriesTrace.{call_trace, redo_trace}
+use Rattle.assise_rounds.proofs.CallTrace.{call_trace}
+use Rattle.assise_files.proofs.TriesTrace.{redo_trace}
 use Rattle.assise_desk.specs.declared.desk_call.ClientCall.{ClientCall}
 use Rattle.assise_desk.specs.declared.desk_call.ClusterCall.{ClusterCall}
 use Rattle.assise_desk.specs.declared.desk_call.ClusterCall.TheVariants.{Open, Crash, Fail, Back, Round, SetHot, Raise, SetLink, Redo}

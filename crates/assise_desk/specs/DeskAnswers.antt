@@ -22,7 +22,7 @@ use Rattle.assise_rounds.specs.Traces.{IsEvent, Nothing, Told}
 use Rattle.assise_rounds.specs.Returning.{ComesBack}
 use Rattle.assise_rounds.specs.NodeLinks.{FaithfulAt}
 use Rattle.assise_rounds.specs.Rounds.{RoundsOver}
-use Rattle.assise_files.specs.CallTries.{IsTriedOut}
+use Rattle.assise_rounds.specs.CallTries.{IsTriedOut}
 use Rattle.assise_files.specs.FilesSeen.{cluster_seen, kinds_seen, links_seen, most_tries, own_cluster, tree_seen}
 use Rattle.assise_files.specs.LostChanges.{lost_changes}
 use Rattle.assise_files.specs.Redo.{MakesAgain}

@@ -3,6 +3,5 @@ mod LostTree
 mod LostWalk
 mod MadeAgain
 mod QuietRounds
-mod VainTries
 pub mod TriesTrace
 mod Links

@@ -15,7 +15,7 @@ use Rattle.assise_history.proofs.ClientCounts.{number_in}
 use Rattle.assise_model_events.specs.Machine.{Machine}
 use Rattle.assise_rounds.specs.Traces.{Told}
 use Rattle.assise_files.specs.declared.redo.LostChange.{LostChange}
-use Rattle.assise_files.specs.CallTries.{IsTriedOut, ends_full, ends_waiting, settles_at_last, spends_all}
+use Rattle.assise_rounds.specs.CallTries.{IsTriedOut, ends_full, ends_waiting, settles_at_last, spends_all}
 use Rattle.assise_files.specs.LostSearch.{IsNumbered}
 use Rattle.assise_files.specs.LostChanges.{tree_with}
 use Rattle.assise_files.specs.Redo.{MakesEach, MakesAgain, makes_all, stops_at, unmade}

@@ -24,7 +24,7 @@ use Rattle.assise_rounds.proofs.Traces.{trace_of, trace_told}
 use Rattle.assise_machine_state.specs.Observed.{observed}
 use Rattle.assise_files.specs.FilesSeen.{cluster_seen, tree_seen}
 use Rattle.assise_files.specs.declared.files.Files.{Files}
-use Rattle.assise_files.specs.CallTries.{FindsFull, InVain, MakesRoom, TriesInVain, WaitsOnce, full_in_vain, waits_in_vain}
+use Rattle.assise_rounds.specs.CallTries.{FindsFull, InVain, MakesRoom, TriesInVain, WaitsOnce, full_in_vain, waits_in_vain}
 
 -- the tree of all calls that no failure took
 abbrev pub machine_tree : Machine → Tree

@@ -1,6 +1,5 @@
 pub mod CutKinds
 pub mod FilesSeen
-pub mod CallTries
 pub mod LostChanges
 pub mod LostSearch
 pub mod Redo

@@ -7,7 +7,7 @@ use Rattle.assise_names.specs.declared.reply.Reply.{Reply}
 use Rattle.assise_names.specs.declared.reply.Reply.TheVariants.{Done}
 use Rattle.assise_model_events.specs.Machine.{Machine}
 use Rattle.assise_rounds.specs.Traces.{Nothing, Then, Told}
-use Rattle.assise_files.specs.CallTries.{IsTriedOut}
+use Rattle.assise_rounds.specs.CallTries.{IsTriedOut}
 use Rattle.assise_files.specs.declared.redo.LostChange.{LostChange}
 use Rattle.assise_files.specs.declared.redo.Unmade.{Unmade}
 

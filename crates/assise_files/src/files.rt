@@ -1,5 +1,4 @@
 // A cluster that one caller uses.
-use crate::attempts::settle_call;
 use crate::cut_kind::CutKind;
 use crate::redo::{Unmade, is_done, lost_changes};
 use assise_history::check::check;
@@ -15,6 +14,7 @@ use assise_names::refusal::Refusal;
 use assise_names::reply::Reply;
 use assise_renewal::renewal::{Sizes, renewed};
 use assise_renewal::renewal_fault::RenewalFault;
+use assise_rounds::attempts::settle_call;
 use assise_rounds::returning::return_node;
 use assise_rounds::rounds::round_over;
 use assise_rounds::trees::tree_at;
@@ -58,7 +58,7 @@ impl Files {
     ghost use Rattle.assise_model_events.specs.Faults.{node_fault};
     ghost use Rattle.assise_renewal.specs.Led.{IsDsync, IsLedBy};
     ghost use Rattle.assise_renewal.specs.Renewal.{IsRenewed};
-    ghost use Rattle.assise_files.specs.CallTries.{IsTriedOut};
+    ghost use Rattle.assise_rounds.specs.CallTries.{IsTriedOut};
     ghost use Rattle.assise_files.specs.LostChanges.{lost_changes, tree_with};
     ghost use Rattle.assise_files.specs.Redo.{MakesAgain};
 

@@ -13,7 +13,7 @@ ghost use Rattle.assise_link.specs.Kinds.{Kind};
 ghost use Rattle.assise_model_events.specs.Machine.{Machine};
 ghost use Rattle.assise_rounds.specs.NodeLinks.{FaithfulAt};
 ghost use Rattle.assise_rounds.specs.Traces.{IsEventTrace, Told};
-ghost use Rattle.assise_files.specs.CallTries.{IsTriedOut};
+ghost use Rattle.assise_rounds.specs.CallTries.{IsTriedOut};
 ghost use Rattle.assise_files.specs.LostChanges.{TakesLastKept, failed_over, lost_changes, tree_with};
 ghost use Rattle.assise_files.specs.Redo.{MakesAgain};
 ghost use Rattle.assise_files.specs.declared.redo.LostChange.{LostChange};

@@ -1,7 +1,6 @@
 //! A cluster for one caller who orders its calls: nobody else works on it, so all its nodes make rounds between the tries of a call.
 #![tactic(auto)]
 
-mod attempts;
 pub mod cut_kind;
 pub mod files;
 pub mod laws;

@@ -1,21 +1,25 @@
 -- Calls of one sort lead on, with rounds between them.
 use Rattle.std.specs.Prelude.{⊤}
-use Rattle.std.proofs.Common.{ℕ, zero, suc, ◌-◌, Bool, true, false, [], ◌∷◌, ◌++◌, List, Option, None, Some, Result, refl, sym, subst}
+use Rattle.std.proofs.Common.{ℕ, zero, suc, ◌≡◌, Bool, true, false, [], ◌∷◌, ◌++◌, List, Option, None, Some, Result, inl, inr, refl, sym, subst}
 use Rattle.std.specs.List.{AllByRecursion}
 use Rattle.assise_names.specs.declared.call.Op.{Op}
+use Rattle.assise_names.specs.declared.call.Op.TheVariants.{Dsync}
 use Rattle.assise_names.specs.declared.limits.TheConstants.{MOST_NODES}
 use Rattle.assise_names.specs.declared.refusal.Refusal.{Refusal}
+use Rattle.assise_names.specs.declared.refusal.Refusal.TheVariants.{LogFull}
 use Rattle.assise_names.specs.declared.reply.Reply.{Reply}
 use Rattle.assise_record.specs.LogFrame.{LogFrame}
-use Rattle.assise_model_events.specs.Events.{Answer, ClusterEvent, digest, not_yet, outgoing, release_ready, try_call}
+use Rattle.assise_model_events.specs.Events.{Answer, ClusterEvent, digest, not_yet, outgoing, refused, release_ready, try_call}
 use Rattle.assise_model_events.specs.Faults.{node_fault}
 use Rattle.assise_model_events.specs.Happenings.{Trying}
 use Rattle.assise_model_events.specs.Machine.{Machine}
 use Rattle.assise_machine.specs.Running.{happens}
 use Rattle.assise_rounds.specs.Rounds.{Carried, DigestsOnce, EachFull, IsRound, ReleasesOnce, RoundsOnce, RoundsOver, TakesTurn, UnlessAtFault, deliveries, delivery, is_refused, replicates}
 use Rattle.assise_rounds.specs.Traces.{IsEvent, Nothing, Then, Told}
-use Rattle.assise_rounds.specs.Trying.{Awaits, TriesOften, is_busy, is_settled, is_stuck, settled_answer}
-use Rattle.assise_rounds.proofs.Traces.{round_trace, trace_then, tries_trace}
+use Rattle.assise_rounds.specs.Trying.{settled_answer}
+use Rattle.assise_rounds.specs.CallTries.{FindsFull, InVain, IsTriedOut, MakesRoom, TriesInVain, WaitsOnce, ends_full, ends_waiting, full_in_vain, settles_at_last, spends_all, waits_in_vain}
+use Rattle.assise_rounds.proofs.CallTrace.{call_trace}
+use Rattle.assise_rounds.proofs.Traces.{round_trace, trace_then}
 use Rattle.assise_renewal.specs.Led.{IsThisCall, IsLedBy, IsOfSort}
 
 abbrev AllOf : (ℕ → Op → Type 0) → Told → Type 0
@@ -91,29 +95,38 @@ module _ (Sort : ℕ → Op → Type 0) where
   pub led_round : (busy : Bool) (m m' : Machine) → (es : Told) × RoundsOnce busy m es m' → IsLedBy Sort m m'
   led_round busy m m' (es, h) = record { events = es; trace = round_trace m es m' h.does; sorted = round_sorted (λ n. ⊤) m es m' h.does }
 
-  -- ---- tries of a call of the sort
+  -- ---- tries of a call of the sort, which has the client's dsyncs, too
 
-  module _ (faithful : ℕ → Type 0) (c : ℕ) (op : Op) (is : Sort c op) where
-    awaited_sorted : (busy : Bool) (m : Machine) (es : Told) (m' : Machine) → Then (IsEvent (try_call c op) not_yet) (RoundsOver faithful busy) m es m' → AllOf Sort es
-    awaited_sorted busy =
-        then_sorted (IsEvent (try_call c op) not_yet) (RoundsOver faithful busy) (event_sorted (try_call c op) not_yet is)
-        (λ v fs w h. round_sorted faithful v fs w h.does)
+  module _ (faithful : ℕ → Type 0) (c : ℕ) (op : Op) (is : Sort c op) (syncs : Sort c Dsync) where
+    round_over_sorted : (busy : Bool) (m : Machine) (es : Told) (m' : Machine) → RoundsOver faithful busy m es m' → AllOf Sort es
+    round_over_sorted busy m es m' h = round_sorted faithful m es m' h.does
 
-    awaits_sorted : (k : ℕ) (m : Machine) (es : Told) (m' : Machine) → Awaits faithful c op k m es m' → AllOf Sort es
-    awaits_sorted zero m es m' h = nothing_sorted m es m' h
-    awaits_sorted (suc k) m es m' h =
-        then_sorted (Awaits faithful c op k) (Then (IsEvent (try_call c op) not_yet) (RoundsOver faithful true)) (awaits_sorted k) (awaited_sorted true) m es m' h
+    room_sorted : (busy : Bool) (m : Machine) (es : Told) (m' : Machine) → MakesRoom faithful busy c m es m' → AllOf Sort es
+    room_sorted busy m es m' h = then_sorted (IsEvent (try_call c Dsync) h.answer) (RoundsOver faithful busy) (event_sorted (try_call c Dsync) h.answer syncs) (round_over_sorted busy) m es m' h.trace
 
-    tries_sorted : (turns : ℕ) (r : Result Reply Refusal) (m : Machine) (es : Told) (m' : Machine) → TriesOften faithful turns c op r m es m' → AllOf Sort es
-    tries_sorted turns r m es m' (is_settled k few h) =
-        then_sorted (Awaits faithful c op k) (IsEvent (try_call c op) (settled_answer r)) (awaits_sorted k) (event_sorted (try_call c op) (settled_answer r) is) m es m' h
-    tries_sorted turns r m es m' (is_busy busy h) =
-        then_sorted (Awaits faithful c op (turns - 1)) (IsEvent (try_call c op) not_yet) (awaits_sorted (turns - 1)) (event_sorted (try_call c op) not_yet is) m es m' h
-    tries_sorted turns r m es m' (is_stuck k few busy h) =
-        then_sorted (Awaits faithful c op k) (Then (IsEvent (try_call c op) not_yet) (RoundsOver faithful false)) (awaits_sorted k) (awaited_sorted false) m es m' h
+    waits_sorted : (busy : Bool) (m : Machine) (es : Told) (m' : Machine) → WaitsOnce faithful busy c op m es m' → AllOf Sort es
+    waits_sorted busy m es m' h = then_sorted (IsEvent (try_call c op) not_yet) (RoundsOver faithful busy) (event_sorted (try_call c op) not_yet is) (round_over_sorted busy) m es m' h
 
-    pub led_tries : (turns : ℕ) (r : Result Reply Refusal) (m m' : Machine) → (es : Told) × TriesOften faithful turns c op r m es m' → IsLedBy Sort m m'
-    led_tries turns r m m' (es, h) = record { events = es; trace = tries_trace turns c op r m es m' h; sorted = tries_sorted turns r m es m' h }
+    full_sorted : (busy : Bool) (m : Machine) (es : Told) (m' : Machine) → FindsFull faithful busy c op m es m' → AllOf Sort es
+    full_sorted busy m es m' h = then_sorted (IsEvent (try_call c op) (refused LogFull)) (MakesRoom faithful busy c) (event_sorted (try_call c op) (refused LogFull) is) (room_sorted busy) m es m' h
+
+    in_vain_sorted : (m : Machine) (es : Told) (m' : Machine) → TriesInVain faithful c op m es m' → AllOf Sort es
+    in_vain_sorted m es m' (waits_in_vain h) = waits_sorted true m es m' h
+    in_vain_sorted m es m' (full_in_vain h) = full_sorted true m es m' h
+
+    all_in_vain_sorted : (k : ℕ) (m : Machine) (es : Told) (m' : Machine) → InVain faithful c op k m es m' → AllOf Sort es
+    all_in_vain_sorted zero m es m' h = nothing_sorted m es m' h
+    all_in_vain_sorted (suc k) m es m' h = then_sorted (InVain faithful c op k) (TriesInVain faithful c op) (all_in_vain_sorted k) in_vain_sorted m es m' h
+
+    tried_out_sorted : (turns : ℕ) (r : Result Reply Refusal) (m : Machine) (es : Told) (m' : Machine) → IsTriedOut faithful turns c op r m es m' → AllOf Sort es
+    tried_out_sorted turns r m es m' (settles_at_last k few other h) =
+        then_sorted (InVain faithful c op k) (IsEvent (try_call c op) (settled_answer r)) (all_in_vain_sorted k) (event_sorted (try_call c op) (settled_answer r) is) m es m' h
+    tried_out_sorted turns r m es m' (ends_waiting k few busy h) = then_sorted (InVain faithful c op k) (WaitsOnce faithful false c op) (all_in_vain_sorted k) (waits_sorted false) m es m' h
+    tried_out_sorted turns r m es m' (ends_full k few full h) = then_sorted (InVain faithful c op k) (FindsFull faithful false c op) (all_in_vain_sorted k) (full_sorted false) m es m' h
+    tried_out_sorted turns r m es m' (spends_all busy h) = all_in_vain_sorted turns m es m' h
+
+    pub led_settled : (turns : ℕ) (r : Result Reply Refusal) (m m' : Machine) → (es : Told) × IsTriedOut faithful turns c op r m es m' → IsLedBy Sort m m'
+    led_settled turns r m m' (es, h) = record { events = es; trace = call_trace faithful turns c op r m es m' h; sorted = tried_out_sorted turns r m es m' h }
 
 -- ---- a sort that has all calls of another
 
@@ -125,10 +138,17 @@ all_as : (F G : ℕ → Op → Type 0) → ((c : ℕ) (op : Op) → F c op → G
 all_as F G to [] each = tt
 all_as F G to (e ∷ es) each = (event_as F G to e.0 each.0, all_as F G to es each.1)
 
--- one call alone is of any sort that has it
-pub led_call : (Sort : ℕ → Op → Type 0) (c : ℕ) (op : Op) (m m' : Machine) → Sort c op → IsLedBy (IsThisCall c op) m m' → IsLedBy Sort m m'
-led_call Sort c op m m' is h = record {
+-- a call alone, with its client's dsyncs, is of any sort that has both
+pub led_call : (Sort : ℕ → Op → Type 0) (c : ℕ) (op : Op) (m m' : Machine) → Sort c op → Sort c Dsync → IsLedBy (IsThisCall c op) m m' → IsLedBy Sort m m'
+led_call Sort c op m m' is syncs h = record {
   events = h.events;
   trace = h.trace;
-  sorted = all_as (IsThisCall c op) Sort (λ d other same. subst (λ p. Sort d p) (sym same.1) (subst (λ e. Sort e op) (sym same.0) is)) h.events h.sorted;
+  sorted = all_as (IsThisCall c op) Sort as_sort h.events h.sorted;
 }
+  where
+    of_client : (d : ℕ) (other : Op) → d ≡ c → Sort c other → Sort d other
+    of_client d other same = subst (λ e. Sort e other) (sym same)
+
+    as_sort : (d : ℕ) (other : Op) → IsThisCall c op d other → Sort d other
+    as_sort d other (same, inl this) = of_client d other same (subst (Sort c) (sym this) is)
+    as_sort d other (same, inr sync) = of_client d other same (subst (Sort c) (sym sync) syncs)

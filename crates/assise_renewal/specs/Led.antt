@@ -1,6 +1,6 @@
 -- Calls of one sort that lead, with rounds, from one state of a cluster to another.
 -- Assise (OSDI 2020), section 3 (a process waits for its log to be replicated).
-use Rattle.std.specs.Prelude.{◌≡◌, ℕ, ⊤}
+use Rattle.std.specs.Prelude.{◌≡◌, ◌⊎◌, ℕ, ⊤}
 use Rattle.std.specs.List.{AllByRecursion}
 use Rattle.assise_names.specs.declared.call.Op.{Op}
 use Rattle.assise_names.specs.declared.call.Op.TheVariants.{Dsync}
@@ -17,9 +17,9 @@ IsDsync c op = op ≡ Dsync
 abbrev pub IsOfFirst : ℕ → Op → Type 0
 IsOfFirst c op = c ≡ 1
 
--- it is this one, of this client
+-- it is this one, of this client, or a dsync of the client's, which makes room in its log
 abbrev pub IsThisCall : ℕ → Op → ℕ → Op → Type 0
-IsThisCall client op c other = (c ≡ client) × (other ≡ op)
+IsThisCall client op c other = (c ≡ client) × ((other ≡ op) ⊎ (other ≡ Dsync))
 
 -- ---- events
 

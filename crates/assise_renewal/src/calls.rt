@@ -9,12 +9,12 @@ use assise_names::call::Op;
 use assise_names::limits::MOST_NODES;
 use assise_names::refusal::Refusal;
 use assise_names::reply::Reply;
-use assise_rounds::trying::try_often;
+use assise_rounds::attempts::settle_call;
 use std::alloc::Global;
 use std::array;
 
-/// Makes a call of a client: it is tried at most `turns` times, with a round over links that lose nothing between two tries. Refused as
-/// [`try_often`](fn@try_often).
+/// Makes a call of a client: it is tried at most `turns` times, over links that lose nothing. Where the client's log is full, a dsync
+/// makes room. Refused as [`settle_call`](fn@settle_call).
 pub(crate) fn make_call<C: Revokes + Drop>(
     alloc: Global,
     cluster: &mut ClusterOf<C>,
@@ -25,5 +25,5 @@ pub(crate) fn make_call<C: Revokes + Drop>(
     ensures { IsLedBy (IsThisCall client op.now) (machine cluster.old) (machine cluster.new) }
 {
     let mut links: [PerfectLink; MOST_NODES as usize] = array::from_fn(|_| PerfectLink::new());
-    try_often(alloc, cluster, &mut links, client, op, turns)
+    settle_call(alloc, cluster, &mut links, client, op, turns)
 }

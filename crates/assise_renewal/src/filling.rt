@@ -11,7 +11,6 @@ use assise_names::call::Op;
 use assise_names::name::Name;
 use assise_names::path::{Path, PathFault};
 use assise_names::refusal::Refusal;
-use assise_rounds::rounds::round;
 use assise_seq_tree::contents::copied;
 use assise_seq_tree::traversal::Traversal;
 use assise_seq_tree::tree::Tree;
@@ -131,8 +130,7 @@ fn path_of(alloc: Global, text: &str) -> Result<Path, RenewalFault> {
     }
 }
 
-/// Client 1 makes a call. Where its log is full it tries a dsync, and all nodes make a round, before the call is made again, at most
-/// `turns` times. Refused as [`make_call`], and with [`Refusal::Busy`] where the log stays full.
+/// Client 1 makes a call. Refused as [`make_call`].
 fn make<C: Revokes + Drop>(
     alloc: Global,
     cluster: &mut ClusterOf<C>,
@@ -141,19 +139,6 @@ fn make<C: Revokes + Drop>(
 ) -> Result<(), RenewalFault>
     ensures { IsLedBy IsOfFirst (machine cluster.old) (machine cluster.new) }
 {
-    for _ in 0..turns {
-        match make_call(alloc, cluster, FIRST, op, turns) {
-            Ok(_) => return Ok(()),
-            Err(refusal) => {
-                if refusal != Refusal::LogFull {
-                    return Err(RenewalFault::Refused(refusal));
-                }
-            }
-        }
-        let _ = cluster.try_call(alloc, FIRST, &Op::Dsync);
-        if !round(alloc, cluster) {
-            return Err(RenewalFault::Refused(Refusal::Busy));
-        }
-    }
-    Err(RenewalFault::Refused(Refusal::Busy))
+    make_call(alloc, cluster, FIRST, op, turns)?;
+    Ok(())
 }

@@ -7,3 +7,5 @@ mod Faithful
 pub mod NodeLinks
 mod LastNode
 mod RoundSteps
+pub mod CallTrace
+mod VainTries

@@ -2,6 +2,7 @@
 //! are answered, and nodes that come back (Assise, OSDI 2020, section 3). And the tree that a node gives alone.
 #![tactic(auto)]
 
+pub mod attempts;
 pub mod laws;
 pub mod returning;
 pub mod rounds;

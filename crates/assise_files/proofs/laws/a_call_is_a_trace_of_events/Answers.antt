@@ -1,5 +1,6 @@
 use Rattle.assise_rounds.specs.NodeLinks.{FaithfulAt}
-use Rattle.assise_files.proofs.TriesTrace.{call_trace, redo_trace}
+use Rattle.assise_rounds.proofs.CallTrace.{call_trace}
+use Rattle.assise_files.proofs.TriesTrace.{redo_trace}
 use Rattle.assise_files.proofs.laws.a_call_is_a_trace_of_events.Goals as goal
 
 pub returns-clause-call : goal.returns-clause-call

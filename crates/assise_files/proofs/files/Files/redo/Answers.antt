@@ -1,7 +1,7 @@
 use Rattle.std.proofs.Common.{rules, ◌≡◌, ◌∙◌, ◌++◌, ◌∷◌, [], ap, sym, subst, true, false}
 use Rattle.assise_rounds.specs.NodeLinks.{FaithfulAt}
 use Rattle.assise_rounds.specs.Traces.{Told}
-use Rattle.assise_files.specs.CallTries.{IsTriedOut}
+use Rattle.assise_rounds.specs.CallTries.{IsTriedOut}
 use Rattle.assise_files.specs.FilesSeen.{cluster_seen, links_seen, most_tries}
 use Rattle.assise_files.specs.LostChanges.{lost_changes, tree_with}
 use Rattle.assise_files.specs.LostSearch.{IsNumbered}

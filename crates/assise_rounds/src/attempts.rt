@@ -4,8 +4,9 @@ ghost use Rattle.assise_names.specs.declared.limits.TheConstants.{MOST_NODES};
 ghost use Rattle.assise_machine.specs.Clusters.{machine};
 ghost use Rattle.assise_rounds.specs.NodeLinks.{FaithfulAt};
 ghost use Rattle.assise_rounds.specs.Traces.{Told};
-ghost use Rattle.assise_files.specs.CallTries.{IsTriedOut, MakesRoom};
+ghost use Rattle.assise_rounds.specs.CallTries.{IsTriedOut, MakesRoom};
 
+use crate::rounds::round_over;
 use assise_lease_table::revoker::Revokes;
 use assise_link::link::Link;
 use assise_machine::cluster::ClusterOf;
@@ -13,13 +14,12 @@ use assise_machine_calls::turn::Turn;
 use assise_names::call::Op;
 use assise_names::refusal::Refusal;
 use assise_names::reply::Reply;
-use assise_rounds::rounds::round_over;
 use std::alloc::Global;
 
 /// Tries a call until it is answered or refused, at most `turns` times, with a round over these links behind each try that waits or finds
 /// its client's log full. Where such a round has nothing to do, and where no try settles it, it is [`Refusal::Busy`], or
 /// [`Refusal::LogFull`] where the log stays full.
-pub(crate) fn settle_call<C: Revokes + Drop, L: Link>(
+pub fn settle_call<C: Revokes + Drop, L: Link>(
     alloc: Global,
     cluster: &mut ClusterOf<C>,
     links: &mut [L],

@@ -2,8 +2,8 @@ use Rattle.std.proofs.Common.{map}
 use Rattle.assise_machine.specs.Clusters.{machine}
 use Rattle.assise_machine_calls.specs.Answers.{turn_answer}
 use Rattle.assise_rounds.specs.NodeLinks.{FaithfulAt}
-use Rattle.assise_files.proofs.VainTries.{room_made}
-use Rattle.assise_files.proofs.attempts.make_room.Goals as goal
+use Rattle.assise_rounds.proofs.VainTries.{room_made}
+use Rattle.assise_rounds.proofs.attempts.make_room.Goals as goal
 
 pub returns-clause-makes : goal.returns-clause-makes
 returns-clause-makes g c =

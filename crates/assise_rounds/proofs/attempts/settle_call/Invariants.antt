@@ -2,8 +2,8 @@ use Rattle.std.proofs.Common.{◌≡◌, ◌≤◌, map}
 use Rattle.assise_machine.specs.Clusters.{machine}
 use Rattle.assise_rounds.specs.NodeLinks.{FaithfulAt}
 use Rattle.assise_rounds.specs.Traces.{Told}
-use Rattle.assise_files.specs.CallTries.{InVain}
-use Rattle.assise_files.proofs.attempts.settle_call.Given as goal
+use Rattle.assise_rounds.specs.CallTries.{InVain}
+use Rattle.assise_rounds.proofs.attempts.settle_call.Given as goal
 
 -- `counter` tries were in vain
 abbrev pub invariant-loop : goal.invariant-loop

@@ -11,7 +11,7 @@ use Rattle.assise_model_events.specs.Machine.{Machine}
 use Rattle.assise_rounds.specs.Traces.{Told}
 use Rattle.assise_rounds.specs.Rounds.{RoundsOver}
 use Rattle.assise_rounds.specs.Trying.{settled_answer}
-use Rattle.assise_files.specs.CallTries.{FindsFull, InVain, IsTriedOut, MakesRoom, TriesInVain, WaitsOnce, waits_in_vain, full_in_vain, settles_at_last, ends_full, ends_waiting}
+use Rattle.assise_rounds.specs.CallTries.{FindsFull, InVain, IsTriedOut, MakesRoom, TriesInVain, WaitsOnce, waits_in_vain, full_in_vain, settles_at_last, ends_full, ends_waiting}
 
 pub room_made : (faithful : ℕ → Type 0) (busy : Bool) (c : ℕ) (a : Answer) (m v m' : Machine) → Trying m c Dsync a v → (es : Told) × RoundsOver faithful busy v es m' → (gs : Told) × MakesRoom faithful busy c m gs m'
 room_made faithful busy c a m v m' h (es, round) =

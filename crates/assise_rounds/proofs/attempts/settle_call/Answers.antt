@@ -7,10 +7,10 @@ use Rattle.assise_model_events.specs.Happenings.{Trying}
 use Rattle.assise_rounds.specs.NodeLinks.{FaithfulAt}
 use Rattle.assise_rounds.specs.Rounds.{RoundsOver}
 use Rattle.assise_rounds.specs.Traces.{Told}
-use Rattle.assise_files.specs.CallTries.{MakesRoom}
-use Rattle.assise_files.proofs.VainTries.{awaited_in_vain, found_full, tried_idle, tried_settled, tried_full}
-use Rattle.assise_files.proofs.attempts.settle_call.Goals as goal
-use Rattle.assise_files.proofs.attempts.settle_call.Goals.{in-Ok-NotYet+else-not-round_over, in-Err+else-ne+else-not-make_room}
+use Rattle.assise_rounds.specs.CallTries.{MakesRoom}
+use Rattle.assise_rounds.proofs.VainTries.{awaited_in_vain, found_full, tried_idle, tried_settled, tried_full}
+use Rattle.assise_rounds.proofs.attempts.settle_call.Goals as goal
+use Rattle.assise_rounds.proofs.attempts.settle_call.Goals.{in-Ok-NotYet+else-not-round_over, in-Err+else-ne+else-not-make_room}
 
 pub returns-in-Ok-Answered-clause-tries : goal.returns-in-Ok-Answered-clause-tries
 returns-in-Ok-Answered-clause-tries g c =
