@@ -37,10 +37,14 @@ class Run:
         return self.said.rstrip("\n") or f"the program ended with status {self.status}"
 
 
-def begin(program):
-    """Lets standard output take any bytes, and ends where there is no program; where it has to be built first, that is seen."""
-    # As any program starts: it ends where nobody reads on.
+def begin(program, is_stopped_late=False):
+    """Lets standard output take any bytes, and ends where there is no program; where it has to be built first, that is seen.
+
+    A tool that has something to do when it is stopped says so."""
+    # As any program starts: it ends where nobody reads on, and where it is stopped.
     signal.signal(signal.SIGPIPE, signal.SIG_DFL)
+    if not is_stopped_late and signal.getsignal(signal.SIGINT) != signal.SIG_IGN:
+        signal.signal(signal.SIGINT, signal.SIG_DFL)
     sys.stdout.reconfigure(encoding="utf-8", errors="surrogateescape")
     try:
         status = subprocess.run([program, os.devnull], stdin=subprocess.DEVNULL).returncode
