@@ -61,13 +61,15 @@ class Writer:
     def move(self):
         """Some lines that belong together, or one."""
         moves = [(30, self.burst), (14, self.look), (10, self.one_call), (7, self.fail), (7, self.back), (6, self.sweep), (4, self.away)]
-        moves += [(2, self.crash), (3, self.open), (3, self.show), (2, self.raise_node), (1, self.hot), (1, self.stray), (6, self.crossing)]
+        moves += [(2, self.crash), (3, self.open), (3, self.show), (2, self.raise_node), (1, self.hot), (1, self.stray), (9, self.crossing)]
         if self.is_manual:
-            moves += [(14, self.step), (6, self.sweep), (12, self.half_sent)]
+            moves += [(14, self.step), (6, self.sweep), (9, self.half_sent)]
         elif not self.shape.has_threads:
             moves.append((1, self.manual))
         if self.shape.links and not self.shape.has_threads:
             moves.append((3, self.link))
+        if "lose" in self.shape.links and not self.shape.has_threads:
+            moves.append((6, self.half_sent))
         weights, made = zip(*moves)
         self.chance.choices(made, weights)[0]()
 
@@ -188,11 +190,15 @@ class Writer:
         """What a client did is sent, maybe not to all nodes, and its node fails."""
         client = self.client()
         home = self.homes.get(client, 1)
+        chain = [*range(home, self.nodes + 1), *range(1, home)]
         for _ in range(self.chance.randint(1, 3)):
             self.call(self.change(), client)
+        stop = self.chance.choice(chain)
+        if not self.is_manual:
+            self.add(f"link {stop} lose")
         self.call(*self.chance.choice(((self.sync(), client), (self.glance(self.path()),))))
-        for node in [*range(home, self.nodes + 1), *range(1, home)][: self.chance.randint(1, self.nodes)]:
-            self.add(f"carry {node}")
+        if self.is_manual:
+            self.lines += [f"carry {node}" for node in chain[: chain.index(stop) + 1]]
         for words in self.chance.sample((self.sync(), self.change(), ""), 2):
             if words:
                 self.call(words, client)
@@ -200,6 +206,8 @@ class Writer:
                 self.add(f"tree {home}")
         self.fail(home)
         self.show()
+        if not self.is_manual:
+            self.add(f"link {stop} perfect")
 
     # ---- nodes
 
