@@ -166,7 +166,7 @@ class Writer:
         if self.chance.random() < 0.8:
             self.call(self.change(path))
         self.call(self.glance(path))
-        if self.is_manual and self.chance.random() < 0.5:
+        if self.is_manual and self.chance.random() < 0.8:
             self.sweep()
             self.call(self.glance(path))
 
@@ -271,7 +271,7 @@ class Writer:
                 self.add(f"carry {node}")
         if self.chance.random() < 0.4:
             self.add("release")
-        often = self.chance.choice((0, 0.9, 1, 1))
+        often = self.chance.choice((0, 0, 0.9, 1))
         for node in range(1, self.nodes + 1):
             if self.chance.random() < often:
                 self.add(f"digest {node}")
