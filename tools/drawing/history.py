@@ -126,8 +126,3 @@ def first_lost(lines, client, first):
     """The place of the first call that a tail takes, if it takes any."""
     calls = (place for place, line in enumerate(lines) if line.kind == "call" and line.client == client and line.number >= first)
     return next(calls, None)
-
-
-def keeps(call, is_optimistic):
-    """Whether a call keeps all that its client did before: a dsync, or an fsync of a client whose fsyncs don't only order."""
-    return call == "dsync" or call == "fsync" and not is_optimistic

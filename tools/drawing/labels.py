@@ -7,7 +7,7 @@ FORBIDDEN = [*range(0x09), 0x0B, 0x0C, *range(0x0E, 0x20), *range(0xD800, 0xE000
 SPELLED = {**{ord("&"): "&amp;", ord("<"): "&lt;", ord(">"): "&gt;", ord('"'): "&quot;"}, **dict.fromkeys(FORBIDDEN, "\ufffd")}
 
 # How wide a label may be, and how wide characters of 11 pixels' height are at most in usual fonts without serifs, in pixels.
-MOST, NARROW, USUAL, BROAD = 108, 3.6, 6.7, 11
+MOST, NARROW, USUAL, BROAD, BROADEST = 108, 3.6, 6.7, 11, 15
 BYTES = re.compile("bytes [0-9]+ x((?:[0-9a-f]{2})+)")
 
 
@@ -19,6 +19,8 @@ def spelled(text):
 def width(character):
     if character in "ijl.,:;'|!/ ":
         return NARROW
+    if ord(character) > 0xFFFF:
+        return BROADEST
     return BROAD if character in "mwMW@%\u2026" or ord(character) > 0x24F else USUAL
 
 

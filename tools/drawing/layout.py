@@ -2,8 +2,8 @@
 
 from dataclasses import dataclass
 
-# How far the first mark is from the left edge, and how far two are apart; what is left free behind the last one.
-LEFT, STEP, REST = 110, 44, 20
+# How far the first mark is from the left edge, and how far two are apart; how far lanes end from the right edge, for the last labels.
+LEFT, STEP, REST = 110, 44, 60
 
 # The numbers at the upper edge; what two bands leave free; the strip of a band with its node's name.
 NUMBERS, GAP, STRIP = 26, 16, 22
@@ -72,7 +72,7 @@ class Layout:
         self.calls = {(line.client, line.number): place for place, line in enumerate(drawn.lines) if line.kind == "call"}
         self.bands = {}
         self.right = across(len(drawn.lines)) + REST
-        self.width = max(self.right + LEFT, LEGEND)
+        self.width = max(self.right, LEGEND)
         height = NUMBERS
         for node in sorted({line.node for line in drawn.lines} - {None}):
             lanes = [lane for _, lane in sorted(self.lanes.items()) if lane.node == node]

@@ -12,7 +12,7 @@ STYLE = (
     "text{font:11px sans-serif;fill:#000}"
     ".name{font-weight:bold}.number{fill:#666;text-anchor:middle}"
     ".label text{paint-order:stroke;stroke:#fff;stroke-width:2px;stroke-linejoin:round}.label .reply{fill:#555}"
-    ".label .halo{fill:#fff}"
+    ".label .halo{fill:#fff}.fail text,.return text{stroke-width:4px}"
     ".band{fill:#f4f4f4}.down{fill:url(#assise-down)}"
     ".lane{stroke:#999;stroke-width:1}.kept{fill:#009e73;fill-opacity:.25;stroke:#009e73;stroke-width:1}"
     ".mark circle{fill:#0072b2;stroke:#0072b2;stroke-width:2}.mark .look{fill:#fff}"

@@ -16,10 +16,10 @@ body{font:14px sans-serif;margin:16px;color:#000;background:#fff}
 #steps{display:flex;flex-wrap:wrap;gap:3px;margin:10px 0}
 #steps button{font:12px sans-serif;min-width:30px;padding:3px;border:1px solid #999;background:#f4f4f4;cursor:pointer}
 #steps button[aria-current]{background:#000;color:#fff}
-#said{min-height:6em}#said b,pre{font:13px monospace}#said b{font-weight:bold}
+#said{min-height:6em}#said b,pre{font:13px monospace;white-space:pre-wrap;overflow-wrap:anywhere}#said b{font-weight:bold}
 #trees{display:flex;flex-wrap:wrap;gap:10px}
 #trees section{border:1px solid #ccc;padding:0 10px 8px;min-width:130px}#trees h3{font-size:13px;margin:8px 0}pre{margin:0}
-.mark.now circle,.mark.now rect,.mark.now path{stroke:#000;stroke-width:4}
+.mark.now circle,.mark.now rect,.mark.now path{stroke:#000;stroke-width:4;opacity:1}
 """
 
 # The page's own script: it shows a step, by a button or by the arrow keys.
@@ -44,7 +44,7 @@ function show(place) {
   row.children[now].setAttribute("aria-current", "step");
   document.querySelectorAll(".mark.now").forEach(mark => mark.classList.remove("now"));
   const mark = document.querySelector('.mark[data-place="' + step.place + '"]');
-  if (mark) { mark.classList.add("now"); mark.scrollIntoView({block: "nearest", inline: "nearest"}); }
+  if (mark) { mark.classList.add("now"); mark.scrollIntoView({block: "nearest", inline: "center"}); }
 }
 steps.forEach((step, place) => {
   const button = put(row, "button", step.number);

@@ -71,7 +71,7 @@ def refused(script, lines, ran):
     """Why a script wasn't run. Where only the `history` behind its lines has a fault, it has no cluster."""
     fault = ran.fault()
     if not fault:
-        return f"{script}: {ran.said}".rstrip("\n")
+        return f"{script}: {ran.ending()}"
     return f"{script}:{fault[0]}: {running.told(fault, lines)}" if fault[0] <= len(lines) else f"{script}: no history"
 
 

@@ -46,14 +46,22 @@ class Inodes(Tree):
         made.number = self.maker
         super().make(path, made)
 
-    def copied(self):
+    def copied(self, paths):
+        """Another tree with what stands at these paths and above them; all else they share."""
         other = Inodes()
         other.root = copy_of(self.root)
+        for path in paths:
+            at = other.root
+            for name in names_of(path):
+                if not isinstance(at, dict) or name not in at:
+                    break
+                at[name] = copy_of(at[name])
+                at = at[name]
         return other
 
     def plan(self, words, maker):
         """What a call would come to. Nothing changes."""
-        trial = self.copied()
+        trial = self.copied([word for word in words[1:] if word.startswith("/")])
         trial.maker = maker
         reply = trial.reply(words)
         has_effects = leaves_record(words, reply)
@@ -91,10 +99,7 @@ class Inodes(Tree):
 
 
 def copy_of(at):
-    if isinstance(at, dict):
-        other = Directory((name, copy_of(entry)) for name, entry in at.items())
-    else:
-        other = File(at)
+    other = Directory(at) if isinstance(at, dict) else File(at)
     other.number = at.number
     return other
 

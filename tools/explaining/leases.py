@@ -56,6 +56,10 @@ class Leases:
                 found.append(other)
         return found
 
+    def asked_for(self, client, inode):
+        """The clients of a client's node, it among them, that have still to give up a lease: until then the node gets no other."""
+        return [other for other, lease in self.of(inode)[0].items() if lease.is_revoked and self.homes[other] == self.homes[client]]
+
     def is_free(self, client, inode, mode):
         clients, nodes = self.of(inode)
         own = [leases[holder] for leases, holder in ((clients, client), (nodes, self.homes[client])) if holder in leases]

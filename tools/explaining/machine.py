@@ -69,7 +69,7 @@ class Machine:
             if self.leases.holds(client, inode, mode):
                 continue
             if not self.leases.is_free(client, inode, mode):
-                holders = self.leases.in_the_way(client, inode, mode)
+                holders = self.leases.in_the_way(client, inode, mode) or self.leases.asked_for(client, inode)
                 self.ask(client, inode, mode)
                 return Want(inode, tuple((holder, self.last_call(holder, inode)) for holder in holders))
             self.leases.grant(client, inode, mode)

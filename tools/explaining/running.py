@@ -20,7 +20,8 @@ def words_beside(script):
 
 def turns_of(words):
     """How often a call is tried, by the words for the program."""
-    return int(words[words.index("--turns") + 1]) if "--turns" in words else TURNS
+    parts = [part for word in words for part in word.split("=", 1)]
+    return int(parts[parts.index("--turns") + 1]) if "--turns" in parts else TURNS
 
 
 def explained(lines, answers, turns):

@@ -8,12 +8,12 @@ from explaining.naming import listed, nodes, sentence, together
 
 def waited(names, step):
     """Of a call that was answered: whose leases it waited for, and what became safe by that."""
-    wants = []
+    wants, caller = [], int(step.words[0])
     for want in step.tried.wants:
         for client, last in want.holders:
             records = f" (its records up to {names.line(client, last)})" if last is not None else ""
-            wants.append(f"client {client}'s lease of {names.inode(want.inode)}{records}")
-    return together(sentence(f"it waited for {listed(wants)}" if wants else ""), became_safe(names, step, int(step.words[0])))
+            wants.append(f"{whose(caller, client)} lease of {names.inode(want.inode)}{records}")
+    return together(sentence(f"it waited for {listed(wants)}" if wants else ""), became_safe(names, step, caller))
 
 
 def became_safe(names, step, besides=0):
@@ -27,7 +27,7 @@ def waits(names, step):
     client = int(step.words[0])
     if step.words[1] in SYNCS:
         return together(sentence(sync(names, client)), held_up(names.model))
-    found = [sentence(lease(names, step.tried.waits.inode, holder)) for holder, _ in step.tried.waits.holders]
+    found = [sentence(lease(names, client, step.tried.waits.inode, holder)) for holder, _ in step.tried.waits.holders]
     return together(*found, held_up(names.model))
 
 
@@ -36,15 +36,19 @@ def sync(names, client):
     return f"it waits until every full node has client {client}'s records: {lacking(names, client, log.end())}"
 
 
-def lease(names, inode, holder):
-    """Which lease a call waits for, and what that one waits for."""
+def whose(client, holder):
+    return f"client {holder}'s{' own' * (holder == client)}"
+
+
+def lease(names, client, inode, holder):
+    """Which lease a client's call waits for, and what that one waits for. Its own it waits for where another client asked for that."""
     machine = names.model.machine
     last = machine.last_call(holder, inode)
-    what = f"it waits for client {holder}'s lease of {names.inode(inode)}"
+    what = f"it waits for {whose(client, holder)} lease of {names.inode(inode)}, which{' was asked for and' * (holder == client)}"
     if last is None:
-        return f"{what}, which may go: `release` lets it go"
+        return f"{what} may go: `release` lets it go"
     goes = f"goes once all full nodes have digested its records up to {names.line(holder, last)}"
-    return f"{what}, which {goes}: {missing(names, holder, inode)}"
+    return f"{what} {goes}: {missing(names, holder, inode)}"
 
 
 def stays(names, asked):

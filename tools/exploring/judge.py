@@ -293,7 +293,7 @@ class Judge:
 def why(lines, run, has_threads):
     """Why a run of these lines is wrong, with the number of the line that shows it; or nothing."""
     if run.status or run.said:
-        return f"the program ended with status {run.status}: {run.said.strip()}"
+        return f"the program ended with status {run.status}: {run.said.strip()}".rstrip(": ")
     judge, number = Judge(has_threads), 0
     try:
         for number, line in enumerate(lines, 1):

@@ -3,6 +3,7 @@
 import os
 import random
 import subprocess
+import time
 from collections import Counter
 from dataclasses import dataclass
 
@@ -16,6 +17,9 @@ TURNS, TURNS_OF_THREADS = "200", "3000"
 
 # How many scripts are tried to make a wrong one shorter; with threads, where a run may differ from the one before, how many, and how often.
 SHRINKING, SHRINKING_OF_THREADS, TRIES_OF_THREADS = 1_500, 200, 4
+
+# For how many seconds a script may run, which takes far less than one, and for how many a wrong one is made shorter.
+SECONDS, SECONDS_OF_SHRINKING = 30, 300
 PICTURE = os.path.join(running.ROOT, "tools/picture")
 
 
@@ -39,7 +43,7 @@ class Explorer:
 
     def run(self, lines):
         words = ["-", *(["--threads", "--turns", TURNS_OF_THREADS] if self.shape.has_threads else ["--turns", TURNS])]
-        return running.run(self.program, words, "".join(f"{line}\n" for line in lines))
+        return running.run(self.program, words, "".join(f"{line}\n" for line in lines), SECONDS)
 
     def why(self, lines):
         """A run of these lines, and why it is wrong, if it is."""
@@ -68,10 +72,12 @@ class Explorer:
 
     def shrunk(self, found):
         """The same with fewer lines. What is kept is the last run that was wrong."""
-        best = [found]
+        best, until = [found], time.monotonic() + SECONDS_OF_SHRINKING
 
         def is_wrong(lines):
             for _ in range(TRIES_OF_THREADS if self.shape.has_threads else 1):
+                if time.monotonic() > until:
+                    return False
                 run, reason = self.why(lines)
                 if reason:
                     best[0] = Found(found.seed, lines, run, reason)

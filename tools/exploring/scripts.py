@@ -61,13 +61,15 @@ class Writer:
     def move(self):
         """Some lines that belong together, or one."""
         moves = [(30, self.burst), (14, self.look), (10, self.one_call), (7, self.fail), (7, self.back), (6, self.sweep), (4, self.away)]
-        moves += [(2, self.crash), (3, self.open), (3, self.show), (2, self.raise_node), (1, self.hot), (1, self.stray), (2, self.crossing)]
+        moves += [(2, self.crash), (3, self.open), (3, self.show), (2, self.raise_node), (1, self.hot), (1, self.stray), (9, self.crossing)]
         if self.is_manual:
-            moves += [(14, self.step), (6, self.sweep)]
+            moves += [(14, self.step), (6, self.sweep), (9, self.half_sent)]
         elif not self.shape.has_threads:
             moves.append((1, self.manual))
         if self.shape.links and not self.shape.has_threads:
             moves.append((3, self.link))
+        if "lose" in self.shape.links and not self.shape.has_threads:
+            moves.append((6, self.half_sent))
         weights, made = zip(*moves)
         self.chance.choices(made, weights)[0]()
 
@@ -88,6 +90,11 @@ class Writer:
         if not living or self.chance.random() < 0.02:
             return self.chance.randint(1, len(self.homes) + 1)
         return self.chance.choice(living)
+
+    def two(self):
+        """Two clients, others where that is possible."""
+        living = self.living()
+        return self.chance.sample(living, 2) if len(living) > 1 else (self.client(), self.client())
 
     def path(self, ending=""):
         """A path of something that likely stands, of a file or a folder where that is asked for; sometimes any."""
@@ -159,18 +166,48 @@ class Writer:
         if self.chance.random() < 0.8:
             self.call(self.change(path))
         self.call(self.glance(path))
-        if self.is_manual and self.chance.random() < 0.5:
+        if self.is_manual and self.chance.random() < 0.8:
             self.sweep()
             self.call(self.glance(path))
 
     def crossing(self):
-        """A folder moves while another client goes through it."""
-        source, target = self.chance.sample(("/d", "/x", "/d/e", "/a"), 2)
-        self.call(f"mkdir {source}")
-        self.call(f"create {source}/a")
-        self.call(f"rename {source} {target}")
-        self.call(f"rename {source}/a /b")
-        self.call(f"stat {target}/a")
+        """A folder comes, and may move, while another client goes through it and those above it."""
+        one, other = self.two()
+        near, far = self.chance.sample(FOLDERS[1:], 2)
+        folder, moved = (f"{above}/{self.chance.choice(NAMES)}" for above in (far, near))
+        for above in (near, far):
+            self.call(f"mkdir {above}", one)
+        self.call(f"create {near}/a", other)
+        self.call(f"mkdir {folder}", one)
+        if self.chance.random() < 0.4:
+            self.call(f"create {folder}/a", one)
+            self.call(f"rename {folder} {moved}", one)
+        ways = (f"rename {near}/a {folder}/c", f"rename {folder}/a {near}/c", f"{self.chance.choice(('create', 'stat'))} {moved}/a")
+        for words in self.chance.sample(ways, 2):
+            self.call(words, other)
+
+    def half_sent(self):
+        """What a client did is sent, maybe not to all nodes, and its node fails."""
+        client = self.client()
+        home = self.homes.get(client, 1)
+        chain = [*range(home, self.nodes + 1), *range(1, home)]
+        for _ in range(self.chance.randint(1, 3)):
+            self.call(self.change(), client)
+        stop = self.chance.choice(chain)
+        if not self.is_manual:
+            self.add(f"link {stop} lose")
+        self.call(*self.chance.choice(((self.sync(), client), (self.glance(self.path()),))))
+        if self.is_manual:
+            self.lines += [f"carry {node}" for node in chain[: chain.index(stop) + 1]]
+        for words in self.chance.sample((self.sync(), self.change(), ""), 2):
+            if words:
+                self.call(words, client)
+            else:
+                self.add(f"tree {home}")
+        self.fail(home)
+        self.show()
+        if not self.is_manual:
+            self.add(f"link {stop} perfect")
 
     # ---- nodes
 
@@ -234,7 +271,7 @@ class Writer:
                 self.add(f"carry {node}")
         if self.chance.random() < 0.4:
             self.add("release")
-        often = self.chance.choice((0, 0.9, 1, 1))
+        often = self.chance.choice((0, 0, 0.9, 1))
         for node in range(1, self.nodes + 1):
             if self.chance.random() < often:
                 self.add(f"digest {node}")

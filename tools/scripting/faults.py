@@ -123,6 +123,8 @@ def meant(word, known):
 
 def hint(called, word):
     """What explains a word that looks as if it were of another language."""
+    if word.startswith("\ufeff"):
+        return "; a byte order mark stands in front"
     if "\t" in word:
         return "; a tab parts no words"
     if word.startswith("#"):

@@ -32,11 +32,19 @@ class Run:
         found = FAULT.fullmatch(self.said)
         return (int(found[1]), found[2]) if found else None
 
+    def ending(self):
+        """Why it has another status than 0, where no line of the script is the reason."""
+        return self.said.rstrip("\n") or f"the program ended with status {self.status}"
 
-def begin(program):
-    """Lets standard output take any bytes, and ends where there is no program; where it has to be built first, that is seen."""
-    # As any program starts: it ends where nobody reads on.
+
+def begin(program, is_stopped_late=False):
+    """Lets standard output take any bytes, and ends where there is no program; where it has to be built first, that is seen.
+
+    A tool that has something to do when it is stopped says so."""
+    # As any program starts: it ends where nobody reads on, and where it is stopped.
     signal.signal(signal.SIGPIPE, signal.SIG_DFL)
+    if not is_stopped_late and signal.getsignal(signal.SIGINT) != signal.SIG_IGN:
+        signal.signal(signal.SIGINT, signal.SIG_DFL)
     sys.stdout.reconfigure(encoding="utf-8", errors="surrogateescape")
     try:
         status = subprocess.run([program, os.devnull], stdin=subprocess.DEVNULL).returncode
@@ -56,14 +64,14 @@ def read(path):
         return text_of(file.read())
 
 
-def run(program, words, script=""):
-    """Runs the program with these words, and this script on standard input."""
+def run(program, words, script="", seconds=SECONDS):
+    """Runs the program with these words, and this script on standard input. After so many seconds it is ended."""
     written = script.encode("utf-8", "surrogateescape")
-    how = {"stdout": subprocess.PIPE, "stderr": subprocess.PIPE, "timeout": SECONDS}
+    how = {"stdout": subprocess.PIPE, "stderr": subprocess.PIPE, "timeout": seconds}
     try:
         done = subprocess.run([program, *words], input=written, **how)
     except subprocess.TimeoutExpired:
-        return Run(-1, {}, f"no end after {SECONDS} seconds\n")
+        return Run(-1, {}, f"no end after {seconds} seconds\n")
     return Run(done.returncode, answers(text_of(done.stdout)), text_of(done.stderr))
 
 
