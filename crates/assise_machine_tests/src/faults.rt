@@ -2,7 +2,6 @@
 use crate::desk::{Cluster, Desk};
 use crate::scripts::WAITS;
 use crate::trees::put_tree;
-use assise_console::trees::tree_at;
 use assise_digest::region::Region;
 use assise_history::call::Call;
 use assise_history::check::check;
@@ -10,6 +9,7 @@ use assise_history::kept::kept;
 use assise_history::replay::replay;
 use assise_names::limits::MOST_NODES;
 use assise_names::refusal::Refusal;
+use assise_rounds::trees::tree_at;
 use std::alloc::Global;
 
 /// More than the clients of any test.
