@@ -1,10 +1,8 @@
 // What a client's own thread does for the nodes.
-ghost use Rattle.std.specs.Prelude.{◌≡◌};
-ghost use Rattle.assise_libfs.specs.Clients.{IsSameClient, seen_by};
 
 use crate::gate::Gate;
 use crate::replicated::Replicated;
-use crate::worker::{TurnEnd, Worker};
+use crate::worker::Worker;
 use assise_history::growing::Growing;
 use assise_libfs::libfs::LibFs;
 use assise_libfs::served::Served;

@@ -1,4 +1,4 @@
-use Rattle.std.proofs.Common.{rules, ◌≡◌, ◌∙◌, ◌+◌, ◌-◌, map, arith, subst, ap}
+use Rattle.std.proofs.Common.{rules, ◌≡◌, ◌∙◌, ◌+◌, ◌-◌, map, arith, subst}
 use Rattle.assise_workers.specs.Working.{node_at, nodes_up_to}
 use Rattle.assise_workers.proofs.NodesInOrder.{one_more}
 use Rattle.assise_workers.proofs.nodes.workers_up_to.Goals as goal
