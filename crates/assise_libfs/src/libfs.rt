@@ -443,8 +443,9 @@ impl<'a, S: Served> LibFs<'a, S> {
         ensures same { IsSameClient self.old self.new }
         ensures seen { seen_by self.new ≡ seen_by self.old }
         ensures pass { IsPassOf (keeper_of self.old) result }
-        ensures opens_none { opens result ≡ Never }
         ensures nobody { client_of_pass result ≡ None }
+        ensures as_seen { seen result ≡ seen_by self.old }
+        ensures opens_none { opens result ≡ Never }
     {
         self.keeper.split(&mut self.pass)
     }
