@@ -177,10 +177,11 @@ pub record Reach (bs : List (List ℕ)) (size o : ℕ) (new : List ℕ) (first p
   pub some : first < past
   pub stop : until ≡ min (length bs) past
 
-pub reach : (bs : List (List ℕ)) (size o : ℕ) (new : List ℕ) (start held until : ℕ) → IsCut bs → size ≡ length (concat bs) → 0 < length new + (o - size) → start ≡ min size o → held ≡ length bs
-    → until ≡ min held ((o + length new - 1) / 4096 + 1) → Reach bs size o new (start / 4096) ((o + length new - 1) / 4096 + 1) until
-reach bs size o new start held until cut bytes some s h u =
-    record { cut = cut; bytes = bytes; held = omega arith; before = omega arith; behind = omega arith; some = omega arith; stop = omega (arith, h, u) }
+pub reach : (bs : List (List ℕ)) (size o : ℕ) (new : List ℕ) (start held count until : ℕ) → IsCut bs → size ≡ length (concat bs)
+    → 0 < length new + (o - size) → start ≡ min size o → held ≡ length bs → count ≡ length new → until ≡ min held ((o + count - 1) / 4096 + 1)
+    → Reach bs size o new (start / 4096) ((o + length new - 1) / 4096 + 1) until
+reach bs size o new start held count until cut bytes some s h n u =
+    record { cut = cut; bytes = bytes; held = omega arith; before = omega arith; behind = omega arith; some = omega arith; stop = omega (arith, h, n, u) }
 
 module _ {bs : List (List ℕ)} {size o : ℕ} {new : List ℕ} {first past until : ℕ} (r : Reach bs size o new first past until) where
   pub first_held : first ≤ until

@@ -22,8 +22,17 @@ fn bytes_of(blocks: &[Bytes], index: usize) -> &[u8]
     }
 }
 
-/// A block with new bytes at an offset in it, and zeros before those where there was nothing.
-fn block(alloc: Global, old: &[u8], offset: usize, new: &[u8]) -> Result<Bytes, AllocError>
+/// Bytes from an offset on, up to a count: shared, not copied.
+fn part(bytes: &Bytes, offset: usize, count: usize) -> Result<Bytes, AllocError>
+    ensures { IfOk result (λ part. part ≡ bytes_from offset count bytes.now) }
+{
+    let start = offset.min(bytes.len());
+    let end = start + count.min(bytes.len() - start);
+    bytes.slice(start..end)
+}
+
+/// A block with bytes of its own: new ones at an offset in it, and zeros before those where there was nothing.
+fn patched(alloc: Global, old: &[u8], offset: usize, new: &[u8]) -> Result<Bytes, AllocError>
     requires { offset + length new.now ≤ 4096 }
     ensures { IfOk result (λ block. block ≡ overwritten old.now offset new.now) }
 {
@@ -36,13 +45,34 @@ fn block(alloc: Global, old: &[u8], offset: usize, new: &[u8]) -> Result<Bytes, 
     Ok(Bytes::from_vec(bytes)?)
 }
 
-/// Blocks with new bytes at an offset from the start of the first, and zeros before those where there was nothing. Each
-/// byte is copied once.
+/// A block with new bytes from an offset in it on, the first of them passed over, and zeros before those where there was nothing.
+/// Where nothing of the old one stays it shares the new bytes.
+fn block(
+    alloc: Global,
+    old: &[u8],
+    offset: usize,
+    new: &Bytes,
+    passed: usize,
+) -> Result<Bytes, AllocError>
+    requires { offset ≤ 4096 }
+    ensures { IfOk result (λ block. block ≡ overwritten old.now offset
+        (bytes_from passed (4096 - offset) new.now)) }
+{
+    let room = BLOCK - offset;
+    let written = contents::bytes_from(new.as_slice(), passed as u64, room as u64);
+    if offset == 0 && old.len() <= written.len() {
+        return part(new, passed, room);
+    }
+    patched(alloc, old, offset, written)
+}
+
+/// Blocks with new bytes at an offset from the start of the first, and zeros before those where there was nothing. What
+/// isn't shared is copied once.
 pub fn overwritten(
     alloc: Global,
     blocks: &[Bytes],
     offset: usize,
-    new: &[u8],
+    new: &Bytes,
 ) -> Result<Vec<Bytes>, AllocError>
     requires cut { IsCut blocks.now }
     requires held { length (concat blocks.now) < 2 ^ 64 }
@@ -56,9 +86,8 @@ pub fn overwritten(
     for index in 0..count {
         let start = index * BLOCK;
         let at = offset.saturating_sub(start).min(BLOCK);
-        let skipped = start.saturating_sub(offset) as u64;
-        let part = contents::bytes_from(new, skipped, (BLOCK - at) as u64);
-        made.push(block(alloc, bytes_of(blocks, index), at, part)?)?;
+        let passed = start.saturating_sub(offset);
+        made.push(block(alloc, bytes_of(blocks, index), at, new, passed)?)?;
     }
     Ok(made)
 }
@@ -93,9 +122,7 @@ pub fn piece(
     ensures { IfOk result (λ piece. piece ≡ bytes_from offset count (concat blocks.now)) }
 {
     if let [block] = blocks {
-        let start = offset.min(block.len());
-        let end = start + count.min(block.len() - start);
-        return block.slice(start..end);
+        return part(block, offset, count);
     }
     Ok(Bytes::from_vec(joined(alloc, blocks, offset, count)?)?)
 }
@@ -129,7 +156,7 @@ pub fn overwrite(
     blocks: &mut Vec<Bytes>,
     size: usize,
     offset: usize,
-    new: &[u8],
+    new: &Bytes,
 ) -> Result<(), AllocError>
     requires cut { IsCut blocks.old.items }
     requires bytes { size ≡ length (concat blocks.old.items) }
@@ -140,11 +167,12 @@ pub fn overwrite(
         (concat blocks.old.items) offset new.now) }
     ensures err { OnErr result (blocks.new.items ≡ blocks.old.items) }
 {
+    let count = new.len();
     let first = size.min(offset) / BLOCK;
-    let until = blocks.len().min((offset + new.len() - 1) / BLOCK + 1);
+    let until = blocks.len().min((offset + count - 1) / BLOCK + 1);
     let at = offset - first * BLOCK;
-    if first + 1 == until && at + new.len() <= BLOCK {
-        let alone = block(alloc, blocks[first].as_slice(), at, new)?;
+    if first + 1 == until && at + count <= BLOCK {
+        let alone = block(alloc, blocks[first].as_slice(), at, new, 0)?;
         blocks[first] = alone;
         return Ok(());
     }

@@ -6,6 +6,7 @@ ghost use Rattle.assise_seq_tree.specs.Contents.{bytes_from, overwritten, resize
 use crate::shared_blocks::SharedBlocks;
 use assise_names::byte_string::ByteString;
 use assise_names::refusal::Refusal;
+use bytes::Bytes;
 use std::alloc::Global;
 use std::marker::Model;
 
@@ -72,8 +73,9 @@ impl FileBytes {
 
     /// Writes bytes at an offset, and zeros before them where the file was shorter (POSIX.1-2017, write() and
     /// lseek()). The one refusal is [`Refusal::OutOfMemory`], where there is a byte or a zero to write, and it leaves
-    /// the file as it was. The blocks that the write doesn't reach stay those that they were, and copies keep theirs.
-    pub fn write(&mut self, offset: usize, new: &[u8]) -> Result<(), Refusal>
+    /// the file as it was. The blocks that the write doesn't reach stay those that they were, those that it covers share
+    /// the new bytes, and copies keep theirs.
+    pub fn write(&mut self, offset: usize, new: &Bytes) -> Result<(), Refusal>
         requires { offset + length new.now < 2 ^ 64 }
         ensures ok { OnOk result (self.new ≡ overwritten self.old offset new.now) }
         ensures err { OnErr result (self.new ≡ self.old) }
@@ -103,7 +105,7 @@ impl FileBytes {
             self.size = size;
             return Ok(());
         }
-        self.write(size, &[])
+        self.write(size, &Bytes::new())
     }
 
     /// An equal value, which shares the list of the blocks. The one refusal is [`Refusal::OutOfMemory`], where there are bytes.

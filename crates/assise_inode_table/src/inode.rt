@@ -151,7 +151,7 @@ fn change_file(bytes: &mut FileBytes, effect: &Effect) -> Result<(), Refusal>
     ensures only_memory { IsOkUnless result OutOfMemory }
 {
     match effect {
-        Effect::Write { extent, .. } => bytes.write(extent.offset() as usize, extent.bytes()),
+        Effect::Write { extent, .. } => bytes.write(extent.offset() as usize, extent.payload()),
         Effect::SetLen { size, .. } => bytes.resize(size.get() as usize),
         _ => Ok(()),
     }

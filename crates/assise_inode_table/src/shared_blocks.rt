@@ -105,7 +105,7 @@ impl SharedBlocks {
         alloc: Global,
         size: usize,
         offset: usize,
-        new: &[u8],
+        new: &Bytes,
     ) -> Result<(), AllocError>
         requires within { size ≤ length self.old }
         requires some { 0 < length new.now + (offset - size) }
@@ -131,7 +131,7 @@ fn overwrite(
     list: &mut Arc<Vec<Bytes>>,
     size: usize,
     offset: usize,
-    new: &[u8],
+    new: &Bytes,
 ) -> Result<(), AllocError>
     requires cut { IsCut (arc_value list.old).items }
     requires within { size ≤ length (concat (arc_value list.old).items) }

@@ -74,6 +74,14 @@ impl Extent {
         self.bytes.as_slice()
     }
 
+    /// The bytes, for who shares them.
+    pub fn payload(&self) -> &Bytes
+        ensures bytes { result.now ≡ self.now.bytes }
+        ensures lawful { IsPatch self.now }
+    {
+        &self.bytes
+    }
+
     /// Whether all bytes of the other are written by this one too.
     fn covers(&self, other: &Extent) -> bool
         ensures { result ≡ covers self.now other.now }
