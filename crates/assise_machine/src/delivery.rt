@@ -57,10 +57,47 @@ pub(crate) fn deliver<C: Revokes + Drop>(
     }
     let had = (received - frame.first()) as usize;
     let own = state.own_node(client);
-    state
-        .nodes
-        .extend(node, client, own, frame.into_records(), had);
+    let records = with_own_payloads(state, frame, node, received);
+    state.nodes.extend(node, client, own, records, had);
     Ok(place)
+}
+
+/// A frame's records. The payloads of those that a node lacks lie where the client's own log has them: so they stand in memory once, and
+/// the bytes that came go.
+fn with_own_payloads<C: Revokes + Drop>(
+    state: &StateOf<C>,
+    frame: Frame,
+    node: u32,
+    received: u64,
+) -> Vec<Record>
+    requires client { IsNumber state.now.clients frame.client }
+    requires shape { ShapeInvariant (value_of state.now) }
+    requires begun { (own_log (value_of state.now) frame.client).first ≤ received }
+    requires timely { IsNextOf (value_of state.now) frame node received }
+    requires some { received < frame.first + length frame.records }
+    ensures { result.items ≡ frame.records }
+{
+    let client = frame.client();
+    let had = (received - frame.first()) as usize;
+    let mut records = frame.into_records();
+    let own = state.own_region(client).log(client as usize);
+    share_payloads(own, received, &mut records[had..]);
+    records
+}
+
+/// Lets the payloads of records lie where those of a log's records lie that are the same, from a number on: so they stand in memory
+/// once, and the bytes that came go.
+fn share_payloads(log: &Log, from: u64, records: &mut [Record])
+    requires begun { log.now.first ≤ from }
+    requires fits { from + length records.old < 2 ^ 64 }
+    requires same { take (length records.old) (records_from log.now from) ≡ records.old }
+    ensures { records.new ≡ records.old }
+{
+    for place in 0..records.len() {
+        if let Some(own) = log.get(from + place as u64) {
+            records[place].share_payload(own);
+        }
+    }
 }
 
 /// As [`deliver`], with a copy of a frame, whose payloads are shared. It is refused with [`Refusal::OutOfMemory`] only where nothing

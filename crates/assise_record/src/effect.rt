@@ -82,6 +82,16 @@ impl Extent {
         &self.bytes
     }
 
+    /// Lets the bytes lie where those of an equal extent lie. Where these can't be shared they stay where they are.
+    fn share_payload(&mut self, equal: &Extent)
+        requires { self.old ≡ equal.now }
+        ensures { self.new ≡ self.old }
+    {
+        if let Ok(bytes) = equal.bytes.clone() {
+            self.bytes = bytes;
+        }
+    }
+
     /// Whether all bytes of the other are written by this one too.
     fn covers(&self, other: &Extent) -> bool
         ensures { result ≡ covers self.now other.now }
@@ -283,6 +293,18 @@ impl Effect {
                 },
             ) => parent == directory && name == entry,
             _ => false,
+        }
+    }
+
+    /// Lets the bytes of a write lie where those of an equal one lie.
+    pub(crate) fn share_payload(&mut self, equal: &Effect)
+        requires { self.old ≡ equal.now }
+        ensures { self.new ≡ self.old }
+    {
+        if let (Effect::Write { extent, .. }, Effect::Write { extent: shared, .. }) = (
+            self, equal,
+        ) {
+            extent.share_payload(shared);
         }
     }
 

@@ -62,6 +62,17 @@ impl Record {
         self.effects.as_slice()
     }
 
+    /// Lets the bytes of a write, which is a record's one effect, lie where those of an equal record lie, so that they stand in
+    /// memory once. It takes no memory: where they can't be shared they stay where they are.
+    pub fn share_payload(&mut self, equal: &Record)
+        requires { self.old ≡ equal.now }
+        ensures { self.new ≡ self.old }
+    {
+        if let ([effect], [shared]) = (self.effects.as_mut_slice(), equal.effects.as_slice()) {
+            effect.share_payload(shared);
+        }
+    }
+
     /// An equal value, or [`Refusal::OutOfMemory`]. The bytes of writes are shared.
     pub fn copy(&self, alloc: Global) -> Result<Record, Refusal>
         ensures equal { IfOk result (λ copied. copied ≡ self.now) }

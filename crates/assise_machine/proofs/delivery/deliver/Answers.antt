@@ -56,6 +56,16 @@ pub own_node-own-requires-clause-client : goal.own_node-own-requires-clause-clie
 own_node-own-requires-clause-client g c =
     subst (IsNumber (value_of c.args.sound.now.state).clients) (sym c.client-client.ensures.client) (fine_client (value_of c.args.sound.now.state) c.args.frame c.args.node (sym c.delivery_refusal.ensures ∙ c.in_default.is))
 
+pub with_own_payloads-records-requires-clause-client : goal.with_own_payloads-records-requires-clause-client
+with_own_payloads-records-requires-clause-client g c = fine_client (value_of c.args.sound.now.state) c.args.frame c.args.node (sym c.delivery_refusal.ensures ∙ c.in_default.is)
+
+pub with_own_payloads-records-requires-clause-begun : goal.with_own_payloads-records-requires-clause-begun
+with_own_payloads-records-requires-clause-begun g c =
+    let fine = sym c.delivery_refusal.ensures ∙ c.in_default.is in
+    let is = received_as (value_of c.args.sound.now.state) c.args.frame c.args.node c.args.sound.now.invariant.shape c.args.sound.now.invariant.holds c.args.sound.now.state.members.lawful.some_full fine
+    c.region.result.now c.log.result.now c.client-client.result c.end-received.result c.end-received.ensures.end c.log.ensures.log c.region.ensures c.client-client.ensures.client in
+    begun (value_of c.args.sound.now.state) c.args.frame c.args.node c.args.sound.now.invariant.shape c.args.sound.now.invariant.holds c.args.sound.now.state.members.lawful.some_full fine c.end-received.result is
+
 pub extend-requires-clause-there : goal.extend-requires-clause-there
 extend-requires-clause-there g c =
     let fine = sym c.delivery_refusal.ensures ∙ c.in_default.is in
@@ -63,7 +73,7 @@ extend-requires-clause-there g c =
     c.region.result.now c.log.result.now c.client-client.result c.end-received.result c.end-received.ensures.end c.log.ensures.log c.region.ensures c.client-client.ensures.client in
     let past : c.end-received.result < c.args.frame.first + length c.args.frame.records = omega (arith, c.if-place-received.false, c.first.ensures.first, ap length c.records.ensures.records) in
     let next = c.is_next.ensures.timely c.if-not-is_next.false in
-    there_as (value_of c.args.sound.now.state) c.args.frame c.args.node c.args.sound.now.invariant.shape c.args.sound.now.invariant.holds c.args.sound.now.state.members.lawful.some_full fine c.end-received.result is next past c.client-client.result c.first-2.result c.into_records.result.items c.client-client.ensures.client c.first-2.ensures.first c.into_records.ensures.records
+    there_as (value_of c.args.sound.now.state) c.args.frame c.args.node c.args.sound.now.invariant.shape c.args.sound.now.invariant.holds c.args.sound.now.state.members.lawful.some_full fine c.end-received.result is next past c.client-client.result c.first-2.result c.with_own_payloads-records.result.items c.client-client.ensures.client c.first-2.ensures.first c.with_own_payloads-records.ensures
 
 pub extend-requires-clause-elsewhere : goal.extend-requires-clause-elsewhere
 extend-requires-clause-elsewhere g c =
@@ -72,7 +82,7 @@ extend-requires-clause-elsewhere g c =
     c.region.result.now c.log.result.now c.client-client.result c.end-received.result c.end-received.ensures.end c.log.ensures.log c.region.ensures c.client-client.ensures.client in
     let past : c.end-received.result < c.args.frame.first + length c.args.frame.records = omega (arith, c.if-place-received.false, c.first.ensures.first, ap length c.records.ensures.records) in
     let next = c.is_next.ensures.timely c.if-not-is_next.false in
-    elsewhere_as (value_of c.args.sound.now.state) c.args.frame c.args.node c.args.sound.now.invariant.shape c.args.sound.now.invariant.holds c.args.sound.now.state.members.lawful.some_full fine c.end-received.result is next past c.client-client.result c.first-2.result c.into_records.result.items c.client-client.ensures.client c.first-2.ensures.first c.into_records.ensures.records
+    elsewhere_as (value_of c.args.sound.now.state) c.args.frame c.args.node c.args.sound.now.invariant.shape c.args.sound.now.invariant.holds c.args.sound.now.state.members.lawful.some_full fine c.end-received.result is next past c.client-client.result c.first-2.result c.with_own_payloads-records.result.items c.client-client.ensures.client c.first-2.ensures.first c.with_own_payloads-records.ensures
 
 pub extend-requires-clause-other : goal.extend-requires-clause-other
 extend-requires-clause-other g c =
@@ -81,7 +91,7 @@ extend-requires-clause-other g c =
     c.region.result.now c.log.result.now c.client-client.result c.end-received.result c.end-received.ensures.end c.log.ensures.log c.region.ensures c.client-client.ensures.client in
     let past : c.end-received.result < c.args.frame.first + length c.args.frame.records = omega (arith, c.if-place-received.false, c.first.ensures.first, ap length c.records.ensures.records) in
     let next = c.is_next.ensures.timely c.if-not-is_next.false in
-    other_as (value_of c.args.sound.now.state) c.args.frame c.args.node c.args.sound.now.invariant.shape c.args.sound.now.invariant.holds c.args.sound.now.state.members.lawful.some_full fine c.end-received.result is next past c.client-client.result c.first-2.result c.into_records.result.items c.client-client.ensures.client c.first-2.ensures.first c.into_records.ensures.records
+    other_as (value_of c.args.sound.now.state) c.args.frame c.args.node c.args.sound.now.invariant.shape c.args.sound.now.invariant.holds c.args.sound.now.state.members.lawful.some_full fine c.end-received.result is next past c.client-client.result c.first-2.result c.with_own_payloads-records.result.items c.client-client.ensures.client c.first-2.ensures.first c.with_own_payloads-records.ensures
     c.own_node-own.result c.own_node-own.ensures.node
 
 pub extend-requires-clause-groups : goal.extend-requires-clause-groups
@@ -91,7 +101,7 @@ extend-requires-clause-groups g c =
     c.region.result.now c.log.result.now c.client-client.result c.end-received.result c.end-received.ensures.end c.log.ensures.log c.region.ensures c.client-client.ensures.client in
     let past : c.end-received.result < c.args.frame.first + length c.args.frame.records = omega (arith, c.if-place-received.false, c.first.ensures.first, ap length c.records.ensures.records) in
     let next = c.is_next.ensures.timely c.if-not-is_next.false in
-    groups_as (value_of c.args.sound.now.state) c.args.frame c.args.node c.args.sound.now.invariant.shape c.args.sound.now.invariant.holds c.args.sound.now.state.members.lawful.some_full fine c.end-received.result is next past c.client-client.result c.first-2.result c.into_records.result.items c.client-client.ensures.client c.first-2.ensures.first c.into_records.ensures.records
+    groups_as (value_of c.args.sound.now.state) c.args.frame c.args.node c.args.sound.now.invariant.shape c.args.sound.now.invariant.holds c.args.sound.now.state.members.lawful.some_full fine c.end-received.result is next past c.client-client.result c.first-2.result c.with_own_payloads-records.result.items c.client-client.ensures.client c.first-2.ensures.first c.with_own_payloads-records.ensures
     c.own_node-own.result c.own_node-own.ensures.node
 
 pub extend-requires-clause-room : goal.extend-requires-clause-room
@@ -102,7 +112,7 @@ extend-requires-clause-room g c =
     let past : c.end-received.result < c.args.frame.first + length c.args.frame.records = omega (arith, c.if-place-received.false, c.first.ensures.first, ap length c.records.ensures.records) in
     let next = c.is_next.ensures.timely c.if-not-is_next.false in
     let some = some_new (value_of c.args.sound.now.state) c.args.frame c.args.node c.args.sound.now.invariant.shape c.args.sound.now.invariant.holds c.args.sound.now.state.members.lawful.some_full fine c.end-received.result is next past in
-    room_as (value_of c.args.sound.now.state) c.args.frame c.args.node c.args.sound.now.invariant.shape c.args.sound.now.invariant.holds c.args.sound.now.state.members.lawful.some_full fine c.end-received.result is next past c.client-client.result c.first-2.result c.into_records.result.items c.client-client.ensures.client c.first-2.ensures.first c.into_records.ensures.records (c.is_next.ensures.room c.if-not-is_next.false some)
+    room_as (value_of c.args.sound.now.state) c.args.frame c.args.node c.args.sound.now.invariant.shape c.args.sound.now.invariant.holds c.args.sound.now.state.members.lawful.some_full fine c.end-received.result is next past c.client-client.result c.first-2.result c.with_own_payloads-records.result.items c.client-client.ensures.client c.first-2.ensures.first c.with_own_payloads-records.ensures (c.is_next.ensures.room c.if-not-is_next.false some)
 
 pub extend-requires-clause-whole : goal.extend-requires-clause-whole
 extend-requires-clause-whole g c =
@@ -111,7 +121,7 @@ extend-requires-clause-whole g c =
     c.region.result.now c.log.result.now c.client-client.result c.end-received.result c.end-received.ensures.end c.log.ensures.log c.region.ensures c.client-client.ensures.client in
     let past : c.end-received.result < c.args.frame.first + length c.args.frame.records = omega (arith, c.if-place-received.false, c.first.ensures.first, ap length c.records.ensures.records) in
     let next = c.is_next.ensures.timely c.if-not-is_next.false in
-    whole_as (value_of c.args.sound.now.state) c.args.frame c.args.node c.args.sound.now.invariant.shape c.args.sound.now.invariant.holds c.args.sound.now.state.members.lawful.some_full fine c.end-received.result is next past c.client-client.result c.first-2.result c.into_records.result.items c.client-client.ensures.client c.first-2.ensures.first c.into_records.ensures.records (c.is_next.ensures.whole c.if-not-is_next.false)
+    whole_as (value_of c.args.sound.now.state) c.args.frame c.args.node c.args.sound.now.invariant.shape c.args.sound.now.invariant.holds c.args.sound.now.state.members.lawful.some_full fine c.end-received.result is next past c.client-client.result c.first-2.result c.with_own_payloads-records.result.items c.client-client.ensures.client c.first-2.ensures.first c.with_own_payloads-records.ensures (c.is_next.ensures.whole c.if-not-is_next.false)
 
 given_now : (g : given.Over) (c : goal.After-extend g) →
     Gives (value_of c.args.sound.now.state) c.args.frame c.args.node (c.first.result + length c.records.result.now) (record (value_of c.args.sound.now.state) { nodes = c.extend.new.self })
@@ -122,7 +132,7 @@ given_now g c =
     let past : c.end-received.result < c.args.frame.first + length c.args.frame.records = omega (arith, c.if-place-received.false, c.first.ensures.first, ap length c.records.ensures.records) in
     let place : c.first.result + length c.records.result.now ≡ c.args.frame.first + length c.args.frame.records = omega (arith, c.first.ensures.first, ap length c.records.ensures.records) in
     given_as (value_of c.args.sound.now.state) c.args.frame c.args.node c.args.sound.now.invariant.shape c.args.sound.now.invariant.holds c.args.sound.now.state.members.lawful.some_full fine c.end-received.result is (c.is_next.ensures.timely c.if-not-is_next.false) past
-    c.client-client.result c.first-2.result c.into_records.result.items c.client-client.ensures.client c.first-2.ensures.first c.into_records.ensures.records
+    c.client-client.result c.first-2.result c.with_own_payloads-records.result.items c.client-client.ensures.client c.first-2.ensures.first c.with_own_payloads-records.ensures
     c.args.sound.now.invariant.noted c.own_node-own.result c.own_node-own.ensures.node c.extend.new.self c.extend.ensures (c.first.result + length c.records.result.now) place
 
 pub invariant_of-sound-2 : goal.invariant_of-sound-2
