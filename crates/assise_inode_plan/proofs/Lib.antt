@@ -7,6 +7,7 @@ pub mod FileChanging
 pub mod CreatePlans
 pub mod RemovePlans
 pub mod RenamePlans
+mod SamePlaces
 pub mod Exact
 pub mod WholeStepPlan
 pub mod LackedLeases

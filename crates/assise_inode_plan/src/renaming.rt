@@ -1,5 +1,6 @@
 // Plans of renames.
-ghost use Rattle.std.specs.Prelude.{◌≡◌, ◌<◌, ◌≤◌, ◌++◌, IfOk, IsOkUnless, MatchResult, OnErr, OnOk, [], length, take, ℕ};
+ghost use Rattle.std.specs.Prelude.{◌≡◌, ◌==◌, ◌&&◌, ◌<◌, ◌≤◌, ◌++◌, IfOk, IsOkUnless, MatchResult, OnErr, OnOk, [], length, take, true, ℕ};
+ghost use Rattle.std.specs.Cmp.Lexicographic.{pointwise};
 ghost use Rattle.std.specs.FinMap as map;
 ghost use Rattle.assise_inode_plan.specs.Moving.{effects_of_move};
 ghost use Rattle.assise_inode_plan.specs.Leased.{NotesAVisit};
@@ -89,7 +90,8 @@ fn plan_move<V: View>(
     let ([from_parent @ .., name], [to_parent @ .., new_name]) = (from, to) else {
         unreachable!();
     };
-    let (directory, inode) = match walk_to_taker(view, from_parent, to_parent, entry, &mut reads)? {
+    let stays = from_parent == to_parent;
+    let (directory, inode) = match walk_to_taker(view, stays, to_parent, entry, &mut reads)? {
         Ok(reached) => reached,
         Err(stop) => return Ok(stopped(alloc, stop, reads)),
     };
@@ -97,7 +99,7 @@ fn plan_move<V: View>(
         Ok(links) => links,
         Err(error) => return Ok(answered(alloc, Reply::Error(error), reads)),
     };
-    if from == to {
+    if is_same_place(stays, name, new_name) {
         return Ok(answered(alloc, Reply::Done, reads));
     }
     let moving = Move {
@@ -106,19 +108,19 @@ fn plan_move<V: View>(
         directory,
         new_name,
     };
-    plan_receiving(alloc, view, &moving, from_parent == to_parent, links, reads)
+    plan_receiving(alloc, view, &moving, stays, links, reads)
 }
 
 /// Walks to the directory that takes an entry. Where the entry stays in its directory, the visits of the walk to it are repeated.
 fn walk_to_taker<'a, V: View>(
     view: &'a V,
-    parent: &[Name],
+    stays: bool,
     taker: &[Name],
     entry: &Entry<'a>,
     reads: &mut Visits,
 ) -> Result<Result<(u64, &'a Inode), Stop>, Refusal>
-    requires walked { EndsAt (V.leased view.now) (values (V.contents view.now)) []
-        parent.now (take entry.now.visits reads.old.items)
+    requires walked { stays ≡ true → EndsAt (V.leased view.now) (values (V.contents view.now)) []
+        taker.now (take entry.now.visits reads.old.items)
         entry.now.directory entry.now.parent.now }
     requires visits { entry.now.visits ≤ length reads.old.items }
     ensures left { IfOk result (λ end. (next : ℕ → Content → Interaction) →
@@ -129,7 +131,7 @@ fn walk_to_taker<'a, V: View>(
         (walk taker.now next) ≡ plan_stopped reads.new.items stop)) }
     ensures only_memory { IsOkUnless result OutOfMemory }
 {
-    if parent == taker {
+    if stays {
         repeat(reads, entry.visits)?;
         return Ok(Ok((entry.directory, entry.parent)));
     }
@@ -143,11 +145,19 @@ fn repeat(visits: &mut Visits, count: usize) -> Result<(), Refusal>
         visits.old.items ++ take count visits.old.items) }
     ensures only_memory { IsOkUnless result OutOfMemory }
 {
+    visits.reserve(count)?;
     for place in 0..count {
         let inode = visits.as_slice()[place];
-        visits.push(inode)?;
+        visits.push_reserved(inode);
     }
     Ok(())
+}
+
+/// Whether an entry is moved to where it is: it stays in its directory, and keeps its name.
+fn is_same_place(stays: bool, name: &Name, new_name: &Name) -> bool
+    ensures { result ≡ (stays && pointwise ◌==◌ name.now new_name.now) }
+{
+    stays && name == new_name
 }
 
 /// Moves an entry into a directory with these links. Where it stays in its directory, it needs no room.

@@ -152,12 +152,32 @@ fn add_record(
     }
 }
 
-/// A node uses inodes, which are hot there then.
+/// A node uses inodes, which are hot there then. Of what it uses twice the second use counts.
 fn touch_all(nodes: &mut Nodes, node: u32, inodes: &[u64])
     requires node { IsNumber nodes.old node }
     ensures { nodes.new ≡ nodes.old }
 {
-    for inode in inodes {
+    for inode in &inodes[repeated(inodes)..] {
         nodes.touch(node, *inode);
     }
+}
+
+/// How many of the first inodes follow once more, in the same order, from the second use of the first one on: those of a walk
+/// that is made twice.
+fn repeated(inodes: &[u64]) -> usize
+    ensures { result ≤ length inodes.now }
+{
+    let [first, later @ ..] = inodes else {
+        return 0;
+    };
+    let Some(place) = later.iter().position(|inode| inode == first) else {
+        return 0;
+    };
+    let again = &later[place..];
+    for count in 0..again.len() {
+        if again[count] != inodes[count] {
+            return count;
+        }
+    }
+    again.len()
 }

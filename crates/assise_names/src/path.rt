@@ -1,5 +1,5 @@
 // A path from the root.
-ghost use Rattle.std.specs.Prelude.{All, ◌≡◌, ◌==◌, ◌+◌, ◌≤◌, ◌↔◌, [], ◌∷◌, IfErr, IfOk, IsOk, IsOkUnless, IsTrue, List, MatchResult, Some, length, ℕ};
+ghost use Rattle.std.specs.Prelude.{All, ◌≡◌, ◌==◌, ◌+◌, ◌≤◌, ◌↔◌, [], ◌∷◌, IfErr, IfOk, IsOk, IsOkUnless, IsTrue, List, MatchResult, Some, count_by, length, min, ℕ};
 ghost use Rattle.std.proofs.Common.{rules};
 ghost use Rattle.std.specs.Cmp.Rules.{comparing};
 ghost use Rattle.std.specs.Cmp.Lexicographic.{pointwise};
@@ -21,9 +21,6 @@ use std::sync::ArcSlice;
 
 /// The most names of a path.
 pub const MOST_NAMES: usize = 32;
-
-/// The names that a path gets room for at once: few paths have more.
-const USUAL_NAMES: usize = 8;
 
 /// Why a text is no path: the first fault that is found.
 #[derive(Clone, Copy, PartialEq, Eq, Debug)]
@@ -245,6 +242,14 @@ fn count_names(text: &str) -> Result<usize, PathFault>
     Ok(count + 1)
 }
 
+/// For how many names a text that isn't empty gets room: for one more than it has slashes, and for 32 at most.
+fn room_for_names(text: &str) -> usize
+    ensures { result ≡ min (count_by (λ b. b == 47) text.now) 31 + 1 }
+{
+    let slashes = text.as_bytes().iter().filter(|byte| **byte == b'/').count();
+    slashes.min(MOST_NAMES - 1) + 1
+}
+
 /// The names that stand between slashes, or none where there is no text.
 fn names_of(alloc: Global, text: &str) -> Result<Vec<Name>, PathFault>
     ensures first_fault { GivesNames (λ names. names.items) result (names_behind text.now) }
@@ -254,7 +259,7 @@ fn names_of(alloc: Global, text: &str) -> Result<Vec<Name>, PathFault>
     if text.is_empty() {
         return Ok(Vec::new(alloc));
     }
-    let mut names = Vec::with_capacity(alloc, USUAL_NAMES)?;
+    let mut names = Vec::with_capacity(alloc, room_for_names(text))?;
     let mut rest = text;
     while let Some((piece, more)) = rest.split_once('/') {
         names.push(Name::parse(alloc, piece)?)?;
