@@ -57,30 +57,24 @@ pub(crate) fn deliver<C: Revokes + Drop>(
     }
     let had = (received - frame.first()) as usize;
     let own = state.own_node(client);
-    let records = with_own_payloads(state, frame, node, received);
+    let log = state.own_region(client).log(client as usize);
+    let records = with_own_payloads(log, frame, received);
     state.nodes.extend(node, client, own, records, had);
     Ok(place)
 }
 
-/// A frame's records. The payloads of those that a node lacks lie where the client's own log has them: so they stand in memory once, and
-/// the bytes that came go.
-fn with_own_payloads<C: Revokes + Drop>(
-    state: &StateOf<C>,
-    frame: Frame,
-    node: u32,
-    received: u64,
-) -> Vec<Record>
-    requires client { IsNumber state.now.clients frame.client }
-    requires shape { ShapeInvariant (value_of state.now) }
-    requires begun { (own_log (value_of state.now) frame.client).first ≤ received }
-    requires timely { IsNextOf (value_of state.now) frame node received }
+/// A frame's records. The payloads of those that lie past a number, with which the client's own log goes on, lie where that log has
+/// them: so they stand in memory once, and the bytes that came go.
+fn with_own_payloads(own: &Log, frame: Frame, received: u64) -> Vec<Record>
+    requires begun { own.now.first ≤ received }
+    requires no_gap { frame.first ≤ received }
     requires some { received < frame.first + length frame.records }
+    requires same { take (length (lacking frame received)) (records_from own.now received) ≡
+        lacking frame received }
     ensures { result.items ≡ frame.records }
 {
-    let client = frame.client();
     let had = (received - frame.first()) as usize;
     let mut records = frame.into_records();
-    let own = state.own_region(client).log(client as usize);
     share_payloads(own, received, &mut records[had..]);
     records
 }

@@ -1,9 +1,10 @@
 use Rattle.std.proofs.Common.{◌≡◌, ◌+◌, ◌<◌, ◌≤◌, ◌∙◌, length, refl, ap, sym, subst, arith}
-use Rattle.assise_digest.specs.Region.{HasClient}
+use Rattle.assise_digest.specs.Region.{HasClient, log_of}
 use Rattle.assise_model_events.specs.NodeEvents.{is_refused, is_stale}
 use Rattle.assise_machine_state.specs.NodeValues.{region_in}
 use Rattle.assise_machine_state.specs.Places.{IsNumber}
 use Rattle.assise_machine_state.specs.Whole.{value_of}
+use Rattle.assise_machine.specs.Taking.{own_log}
 use Rattle.assise_machine.proofs.DeliveryHappens.{Gives, other_as, begun, elsewhere_as, given_as, groups_as, has, not_timely, nothing_new, received_as, room_as, some_new, there_as, whole_as}
 use Rattle.assise_machine.proofs.DeliveryFaults.{fine_client}
 use Rattle.assise_machine.proofs.delivery.deliver.Given as given
@@ -56,15 +57,20 @@ pub own_node-own-requires-clause-client : goal.own_node-own-requires-clause-clie
 own_node-own-requires-clause-client g c =
     subst (IsNumber (value_of c.args.sound.now.state).clients) (sym c.client-client.ensures.client) (fine_client (value_of c.args.sound.now.state) c.args.frame c.args.node (sym c.delivery_refusal.ensures ∙ c.in_default.is))
 
-pub with_own_payloads-records-requires-clause-client : goal.with_own_payloads-records-requires-clause-client
-with_own_payloads-records-requires-clause-client g c = fine_client (value_of c.args.sound.now.state) c.args.frame c.args.node (sym c.delivery_refusal.ensures ∙ c.in_default.is)
+pub own_region-requires-clause-client : goal.own_region-requires-clause-client
+own_region-requires-clause-client g c =
+    subst (IsNumber (value_of c.args.sound.now.state).clients) (sym c.client-client.ensures.client) (fine_client (value_of c.args.sound.now.state) c.args.frame c.args.node (sym c.delivery_refusal.ensures ∙ c.in_default.is))
 
 pub with_own_payloads-records-requires-clause-begun : goal.with_own_payloads-records-requires-clause-begun
 with_own_payloads-records-requires-clause-begun g c =
+    let s = value_of c.args.sound.now.state in
     let fine = sym c.delivery_refusal.ensures ∙ c.in_default.is in
-    let is = received_as (value_of c.args.sound.now.state) c.args.frame c.args.node c.args.sound.now.invariant.shape c.args.sound.now.invariant.holds c.args.sound.now.state.members.lawful.some_full fine
+    let is = received_as s c.args.frame c.args.node c.args.sound.now.invariant.shape c.args.sound.now.invariant.holds c.args.sound.now.state.members.lawful.some_full fine
     c.region.result.now c.log.result.now c.client-client.result c.end-received.result c.end-received.ensures.end c.log.ensures.log c.region.ensures c.client-client.ensures.client in
-    begun (value_of c.args.sound.now.state) c.args.frame c.args.node c.args.sound.now.invariant.shape c.args.sound.now.invariant.holds c.args.sound.now.state.members.lawful.some_full fine c.end-received.result is
+    let own : c.log-log.result.now ≡ own_log s c.args.frame.client =
+    c.log-log.ensures.log ∙ ap (λ q. (log_of q c.client-client.result).log) c.own_region.ensures.region ∙ ap (own_log s) c.client-client.ensures.client in
+    subst (λ l. l.first ≤ c.end-received.result) (sym own)
+    (begun s c.args.frame c.args.node c.args.sound.now.invariant.shape c.args.sound.now.invariant.holds c.args.sound.now.state.members.lawful.some_full fine c.end-received.result is)
 
 pub extend-requires-clause-there : goal.extend-requires-clause-there
 extend-requires-clause-there g c =
