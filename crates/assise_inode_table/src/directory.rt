@@ -5,7 +5,7 @@ ghost use Rattle.assise_names.specs.declared.refusal.Refusal.TheVariants.{OutOfM
 ghost use Rattle.assise_inode_table.specs.Calls.{room_among};
 ghost use Rattle.assise_inode_table.specs.Pieces.{Adds, AreFilled, Ascend, IsGapFor, IsPieceFor, Puts, StandsAt, link_at, links_in, live, piece_at, slots_in};
 
-use crate::piece::{MOST_NAMES, Piece};
+use crate::piece::{MOST_NAMES, Piece, shared};
 use assise_names::name::Name;
 use assise_names::name_list::NameList;
 use assise_names::refusal::Refusal;
@@ -232,17 +232,6 @@ impl Directory {
             len: self.len,
         })
     }
-}
-
-/// Pieces that share the names of others.
-fn shared(alloc: Global, pieces: &[Piece]) -> Result<Vec<Piece>, AllocError>
-    ensures { IfOk result (λ shared. shared.items ≡ pieces.now) }
-{
-    let mut shared = Vec::with_capacity(alloc, pieces.len())?;
-    for piece in pieces {
-        shared.push(piece.share()?)?;
-    }
-    Ok(shared)
 }
 
 /// The piece that a name belongs in: the last whose first name isn't behind it, or the first.

@@ -51,16 +51,6 @@ impl Piece {
         })
     }
 
-    /// Another owner of the same names. It takes no memory: the one error is that the count of the owners is full.
-    pub fn share(&self) -> Result<Piece, AllocError>
-        ensures { IfOk result (λ shared. shared ≡ self.now) }
-    {
-        Ok(Piece {
-            names: Arc::try_clone(&self.names)?,
-            links: self.links,
-        })
-    }
-
     /// The first name.
     pub fn first(&self) -> &Name
         requires { 0 < length self.now }
@@ -128,7 +118,7 @@ impl Piece {
         requires { (start ≤ end) × (end ≤ length self.now) }
         ensures { IfOk result (λ part. part ≡ take (end - start) (drop start self.now)) }
     {
-        let names = copied(alloc, &self.names.as_slice()[start..end])?;
+        let names = copied(alloc, &self.names.as_slice()[start..end], 0)?;
         let mut links = self.links;
         links.rotate_left(start);
         Ok(Piece {
@@ -163,11 +153,26 @@ impl Piece {
     }
 }
 
-/// Equal names.
-fn copied(alloc: Global, names: &[Name]) -> Result<Vec<Name>, AllocError>
+/// Pieces that share the names of others.
+pub(crate) fn shared(alloc: Global, pieces: &[Piece]) -> Result<Vec<Piece>, AllocError>
+    ensures { IfOk result (λ shared. shared.items ≡ pieces.now) }
+{
+    let mut shared = Vec::with_capacity(alloc, pieces.len())?;
+    for piece in pieces {
+        let names = Arc::try_clone(&piece.names)?;
+        shared.push_reserved(Piece {
+            names,
+            links: piece.links,
+        });
+    }
+    Ok(shared)
+}
+
+/// Equal names, with room for some more.
+fn copied(alloc: Global, names: &[Name], more: usize) -> Result<Vec<Name>, AllocError>
     ensures { IfOk result (λ copied. copied.items ≡ names.now) }
 {
-    let mut copied = Vec::with_capacity(alloc, names.len())?;
+    let mut copied = Vec::with_capacity(alloc, names.len().saturating_add(more))?;
     for name in names {
         copied.push(name.clone()?)?;
     }
@@ -185,8 +190,14 @@ fn insert_name(
     ensures ok { OnOk result ((arc_value names.new).items ≡ insert (arc_value names.old).items at name) }
     ensures err { OnErr result ((arc_value names.new).items ≡ (arc_value names.old).items) }
 {
-    let own = Arc::make_mut(names)?;
+    if let Some(own) = Arc::get_mut(names) {
+        own.insert(at, name)?;
+        return Ok(());
+    }
+    // Room for as many again, as a vector's growth makes.
+    let mut own = copied(alloc, names.as_slice(), names.len())?;
     own.insert(at, name)?;
+    *names = Arc::new(alloc, own)?;
     Ok(())
 }
 
