@@ -19,6 +19,11 @@ pub mod TreeShows
 pub mod DirectoryNames
 pub mod SpellingUnique
 pub mod MapView
+pub mod KeyOrder
+pub mod LiveSlots
+pub mod PieceSlots
+pub mod PieceChanges
+pub mod PieceSearch
 pub mod TableView
 pub mod ReachedSpelling
 pub mod Leaves

@@ -11,6 +11,7 @@ pub mod Late
 pub mod Kind
 pub mod Opening
 pub mod Blocks
+pub mod Pieces
 pub mod Whole
 pub mod Changes
 pub mod WrongRule

@@ -9,6 +9,7 @@ pub mod inode;
 pub mod inodes;
 pub mod laws;
 pub mod numbers;
+mod piece;
 mod shared_blocks;
 pub mod store;
 pub mod table;

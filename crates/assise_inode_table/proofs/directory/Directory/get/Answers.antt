@@ -1,8 +1,15 @@
-use Rattle.std.proofs.Common.{◌∙◌, ap, sym}
-use Rattle.std.specs.Cmp.Lexicographic.{nat_list_cmp_total}
+use Rattle.std.proofs.Common.{◌∙◌, sym, ap, subst}
 use Rattle.std.specs.FinMap as map
-use Rattle.assise_inode_table.proofs.MapView.{get-view}
+use Rattle.assise_inode_table.specs.Pieces.{StandsAt, link_at}
+use Rattle.assise_inode_table.proofs.PieceSlots.{got_slot, read_piece}
 use Rattle.assise_inode_table.proofs.directory.Directory.get.Goals as goal
 
-pub returns : goal.returns
-returns c = c.copied.ensures ∙ c.get.ensures.value ∙ sym (get-view nat_list_cmp_total _ c.args.name.now) ∙ ap (λ m. map.get m c.args.name.now) c.self.view_is
+pub returns-in-Some : goal.returns-in-Some
+returns-in-Some c =
+    let ps = c.self.inside.pieces.items in
+    let w = c.in-Some.place.piece in
+    let at = c.in-Some.place.at in
+    let name = c.args.name.now in
+    let stands = subst (λ qs. StandsAt name qs w at) c.deref.ensures.value c.in-Some.ensures.there in
+    c.link.ensures ∙ ap (λ p. link_at p at) (read_piece ps w c.index.result.now stands.within c.index.ensures)
+    ∙ sym (got_slot name ps w at c.self.invariant.ascend stands) ∙ ap (λ m. map.get m name) c.self.view_is

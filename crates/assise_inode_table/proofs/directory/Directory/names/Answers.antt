@@ -1,18 +1,27 @@
-use Rattle.std.proofs.Common.{◌≡◌, ℕ, List, Result, Ok, Err, IfOk, nat_cmp, ap, sym, subst, ◌∙◌}
-use Rattle.std.specs.Cmp.Lexicographic.{slice_cmp, nat_list_cmp_total}
-use Rattle.std.specs.List.Sorted.{IsStrictlySortedBy}
+use Rattle.std.proofs.Common.{◌≡◌, ◌++◌, ◌∙◌, sym, ap, subst, take, length, arith, rules, nat_cmp}
 use Rattle.std.specs.Map.{keys_of}
 use Rattle.std.specs.FinMap as map
-use Rattle.assise_names.specs.declared.refusal.Refusal.{Refusal}
-use Rattle.assise_inode_table.specs.Contents.{Links}
-use Rattle.assise_inode_table.proofs.MapView.{keys-view}
+use Rattle.std.specs.Cmp.Lexicographic.{slice_cmp}
+use Rattle.std.specs.List.Sorted.{IsStrictlySortedBy}
+use Rattle.std.proofs.lemmas.List.{take_all}
+use Rattle.assise_inode_table.specs.Pieces.{live, slots_in}
+use Rattle.assise_inode_table.proofs.PieceSlots.{listed_pieces, listed_all, listed_sorted}
 use Rattle.assise_inode_table.proofs.directory.Directory.names.Goals as goal
 
-names_are : (es : List (List ℕ × ℕ)) (links : Links) → map.from_entries es ≡ links → (r : Result (List (List ℕ)) Refusal) → IfOk r (λ names. names ≡ keys_of es) →
-    IfOk r (IsStrictlySortedBy (slice_cmp nat_cmp)) → IfOk r (λ names. names ≡ map.keys links)
-names_are es links seen (Ok names) same ascending =
-    same ∙ sym (keys-view nat_list_cmp_total es (subst (IsStrictlySortedBy (slice_cmp nat_cmp)) same ascending)) ∙ ap map.keys seen
-names_are es links seen (Err e) same ascending = tt
+pub loop-piece-preserved : goal.loop-piece-preserved
+loop-piece-preserved c =
+    c.in_ok-list.ensures.ok ∙ ap (λ ks. ks ++ keys_of (live c.piece-item.result)) c.loop-piece.invariant
+    ∙ sym (listed_pieces c.deref-piece-items.result.now c.loop-piece.piece-index c.piece-item.result c.loop-piece-test.true c.piece-item.is)
+
+all_listed : (c : goal.After-loop-piece) → c.loop-piece.names.items ≡ keys_of (live (slots_in c.self.inside.pieces.items))
+all_listed c =
+    c.loop-piece.invariant ∙ ap (λ ps. keys_of (live (slots_in ps))) (take_all c.loop-piece.piece-index c.deref-piece-items.result.now c.loop-piece-test.false ∙ c.deref-piece-items.ensures.value)
+
+pub from_vec-requires : goal.from_vec-requires
+from_vec-requires c = subst (IsStrictlySortedBy (slice_cmp nat_cmp)) (sym (all_listed c)) (listed_sorted c.self.inside.pieces.items c.self.invariant.ascend)
 
 pub returns-clause-names : goal.returns-clause-names
-returns-clause-names c = names_are c.self.inside.links.entries _ c.self.view_is c.of_keys.result c.of_keys.ensures.keys c.of_keys.ensures.ascending
+returns-clause-names c =
+    c.from_vec.ensures ∙ c.loop-piece.invariant
+    ∙ ap (λ ps. keys_of (live (slots_in ps))) (take_all c.loop-piece.piece-index c.deref-piece-items.result.now c.loop-piece-test.false ∙ c.deref-piece-items.ensures.value)
+    ∙ sym (listed_all c.self.inside.pieces.items c.self.invariant.ascend) ∙ ap map.keys c.self.view_is

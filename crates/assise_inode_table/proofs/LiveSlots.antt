@@ -1,0 +1,177 @@
+-- The entries that slots have, and the map that they make, where one slot changes.
+use Rattle.std.proofs.Common.{◌≡◌, ℕ, ◌+◌, suc, List, [], ◌∷◌, ◌++◌, length, Option, Some, None, cond, Bool, true, false, refl, sym, ap, ap₂, subst, ◌∙◌, arith, Ordering, Less, Equal, Greater, is_eq, length-append}
+use Rattle.std.specs.List.{AllByRecursion}
+use Rattle.std.specs.List.Sorted.{IsStrictlySortedBy}
+use Rattle.std.specs.Map.{keys_of, lookup}
+use Rattle.std.specs.BTreeMap.{is_at}
+use Rattle.std.specs.Option.{option_or}
+use Rattle.std.specs.Cmp.{IsTotalOrder, eq_by_cmp_equiv, tied_itself}
+use Rattle.std.specs.FinMap as map
+use Rattle.std.specs.FinMap.{IsAntisymmetric}
+use Rattle.std.proofs.lemmas.List.{map-append}
+use Rattle.std.proofs.lemmas.List.Concat.{flat_map-append}
+use Rattle.assise_inode_table.specs.Pieces.{Slot, entry_of, live}
+use Rattle.assise_inode_table.proofs.MapView.{get-view, insert-view, remove-view, keys-view, length-keys}
+use Rattle.assise_inode_table.proofs.KeyOrder.{all_weaker, below_next, above_head, sorted_right, sorted_between, turned}
+
+pub live-append : (xs ys : List Slot) → live (xs ++ ys) ≡ live xs ++ live ys
+live-append xs ys = flat_map-append (λ s. entry_of s.0 s.1) xs ys
+
+pub keys-append : {X : Type 0} (xs ys : List (List ℕ × X)) → keys_of (xs ++ ys) ≡ keys_of xs ++ keys_of ys
+keys-append xs ys = map-append (λ e. e.0) xs ys
+
+pub live_all : (P : List ℕ → Type 0) (slots : List Slot) → AllByRecursion P (keys_of slots) → AllByRecursion P (keys_of (live slots))
+live_all P [] h = tt
+live_all P ((name, None) ∷ slots) h = live_all P slots h.1
+live_all P ((name, Some inode) ∷ slots) h = (h.0, live_all P slots h.1)
+
+pub live_sorted : (R : List ℕ → List ℕ → Ordering) (slots : List Slot) → IsStrictlySortedBy R (keys_of slots) → IsStrictlySortedBy R (keys_of (live slots))
+unfolding IsStrictlySortedBy
+live_sorted R [] s = tt
+live_sorted R ((name, None) ∷ slots) s = live_sorted R slots s.1
+live_sorted R ((name, Some inode) ∷ slots) s = (live_all (λ y. R name y ≡ Less) slots s.0, live_sorted R slots s.1)
+
+-- ---- look-ups
+lookup-append : {K X : Type 0} (t : K → Bool) (es fs : List (K × X)) → lookup t (es ++ fs) ≡ option_or (lookup t es) (lookup t fs)
+lookup-append t [] fs = refl
+lookup-append t (e ∷ es) fs = go (t e.0) (lookup-append t es fs)
+  where
+    go : (b : Bool) → lookup t (es ++ fs) ≡ option_or (lookup t es) (lookup t fs) → cond b (Some e.1) (lookup t (es ++ fs)) ≡ option_or (cond b (Some e.1) (lookup t es)) (lookup t fs)
+    go true rest = refl
+    go false rest = rest
+
+or_none : {X : Type 0} (x : Option X) → option_or x None ≡ x
+or_none None = refl
+or_none (Some x) = refl
+
+lookup_middle : {K X : Type 0} (t : K → Bool) (xs ys zs : List (K × X)) → lookup t (xs ++ (ys ++ zs)) ≡ option_or (lookup t xs) (option_or (lookup t ys) (lookup t zs))
+lookup_middle t xs ys zs = lookup-append t xs (ys ++ zs) ∙ ap (option_or (lookup t xs)) (lookup-append t ys zs)
+
+-- slots before and behind a name
+pub record Parts (R : List ℕ → List ℕ → Ordering) (name : List ℕ) (xs zs : List Slot) : Type 0 where
+  pub smaller : AllByRecursion (λ key. R key name ≡ Less) (keys_of xs)
+  pub greater : AllByRecursion (λ key. R name key ≡ Less) (keys_of zs)
+
+module _ {R : List ℕ → List ℕ → Ordering} (o : IsTotalOrder R) (same : IsAntisymmetric R) where
+  tied : (r : Ordering) → is_eq r ≡ true → r ≡ Equal
+  tied Less e = cc
+  tied Equal e = refl
+  tied Greater e = cc
+
+  nowhere : (k : List ℕ) (es : List (List ℕ × ℕ)) → AllByRecursion (λ y. is_at (R k) y ≡ false) (keys_of es) → lookup (is_at (R k)) es ≡ None
+  nowhere k [] h = refl
+  nowhere k (e ∷ es) h = ap (λ b. cond b (Some e.1) (lookup (is_at (R k)) es)) h.0 ∙ nowhere k es h.1
+
+  none_before : (k : List ℕ) (xs zs : List Slot) → Parts R k xs zs → lookup (is_at (R k)) (live xs) ≡ None
+  none_before k xs zs p =
+      nowhere k (live xs) (live_all (λ y. is_at (R k) y ≡ false) xs (all_weaker (λ key. R key k ≡ Less) (λ y. is_at (R k) y ≡ false) (keys_of xs) (λ y h. ap is_eq (turned o same y k h)) p.smaller))
+
+  none_behind : (k : List ℕ) (xs zs : List Slot) → Parts R k xs zs → lookup (is_at (R k)) (live zs) ≡ None
+  none_behind k xs zs p =
+      nowhere k (live zs) (live_all (λ y. is_at (R k) y ≡ false) zs (all_weaker (λ key. R k key ≡ Less) (λ y. is_at (R k) y ≡ false) (keys_of zs) (λ y h. ap is_eq h) p.greater))
+
+  here : (k : List ℕ) (link : Option ℕ) → lookup (is_at (R k)) (entry_of k link) ≡ link
+  here k None = refl
+  here k (Some inode) = ap (λ b. cond b (Some inode) None) (ap is_eq (tied_itself o k))
+
+  elsewhere : (q k : List ℕ) (link : Option ℕ) → is_at (R q) k ≡ false → lookup (is_at (R q)) (entry_of k link) ≡ None
+  elsewhere q k None h = refl
+  elsewhere q k (Some inode) h = ap (λ b. cond b (Some inode) None) h
+
+  found : (k : List ℕ) (link : Option ℕ) (xs zs : List Slot) → Parts R k xs zs → lookup (is_at (R k)) (live xs ++ (entry_of k link ++ live zs)) ≡ link
+  found k link xs zs p =
+      lookup_middle (is_at (R k)) (live xs) (entry_of k link) (live zs)
+      ∙ ap (λ a. option_or a (option_or (lookup (is_at (R k)) (entry_of k link)) (lookup (is_at (R k)) (live zs)))) (none_before k xs zs p)
+      ∙ ap (λ a. option_or a (lookup (is_at (R k)) (live zs))) (here k link)
+      ∙ ap (option_or link) (none_behind k xs zs p)
+      ∙ or_none link
+
+  other : (q k : List ℕ) (link : Option ℕ) (xs zs : List Slot) → is_at (R q) k ≡ false
+      → lookup (is_at (R q)) (live xs ++ (entry_of k link ++ live zs)) ≡ option_or (lookup (is_at (R q)) (live xs)) (lookup (is_at (R q)) (live zs))
+  other q k link xs zs h =
+      lookup_middle (is_at (R q)) (live xs) (entry_of k link) (live zs)
+      ∙ ap (λ a. option_or (lookup (is_at (R q)) (live xs)) (option_or a (lookup (is_at (R q)) (live zs)))) (elsewhere q k link h)
+
+  changed : (k : List ℕ) (old new : Option ℕ) (xs zs : List Slot) → Parts R k xs zs → (q : List ℕ)
+      → lookup (is_at (R q)) (live xs ++ (entry_of k new ++ live zs)) ≡ cond (is_at (R k) q) new (lookup (is_at (R q)) (live xs ++ (entry_of k old ++ live zs)))
+  changed k old new xs zs p q = go (is_at (R k) q) refl
+    where
+      go : (b : Bool) → is_at (R k) q ≡ b → lookup (is_at (R q)) (live xs ++ (entry_of k new ++ live zs)) ≡ cond b new (lookup (is_at (R q)) (live xs ++ (entry_of k old ++ live zs)))
+      go true e = subst (λ q. lookup (is_at (R q)) (live xs ++ (entry_of k new ++ live zs)) ≡ new) (same k q (tied (R k q) e)) (found k new xs zs p)
+      go false e =
+          let apart = (eq_by_cmp_equiv o).symm q k ∙ e in
+          other q k new xs zs apart ∙ sym (other q k old xs zs apart)
+
+  at_slot : (k : List ℕ) (link : Option ℕ) (xs zs : List Slot) → live (xs ++ (k, link) ∷ zs) ≡ live xs ++ (entry_of k link ++ live zs)
+  at_slot k link xs zs = live-append xs ((k, link) ∷ zs)
+
+  -- what the map has at a slot's name, and at one in a gap
+  pub slot_got : (k : List ℕ) (link : Option ℕ) (xs zs : List Slot) → Parts R k xs zs → map.get (map.from_entries {R = R} (live (xs ++ (k, link) ∷ zs))) k ≡ link
+  slot_got k link xs zs p = get-view o (live (xs ++ (k, link) ∷ zs)) k ∙ ap (lookup (is_at (R k))) (at_slot k link xs zs) ∙ found k link xs zs p
+
+  pub gap_got : (k : List ℕ) (xs zs : List Slot) → Parts R k xs zs → map.get (map.from_entries {R = R} (live (xs ++ zs))) k ≡ None
+  gap_got k xs zs p = get-view o (live (xs ++ zs)) k ∙ ap (lookup (is_at (R k))) (live-append xs zs) ∙ found k None xs zs p
+
+  -- a slot that gets a link, and a new one in a gap
+  pub slot_linked : (k : List ℕ) (old : Option ℕ) (v : ℕ) (xs zs : List Slot) → Parts R k xs zs
+      → map.from_entries {R = R} (live (xs ++ (k, Some v) ∷ zs)) ≡ map.insert (map.from_entries (live (xs ++ (k, old) ∷ zs))) k v
+  slot_linked k old v xs zs p =
+      ap (map.from_entries {R = R}) (at_slot k (Some v) xs zs)
+      ∙ insert-view o same (live xs ++ (entry_of k old ++ live zs)) (live xs ++ (entry_of k (Some v) ++ live zs)) k v (changed k old (Some v) xs zs p)
+      ∙ ap (λ es. map.insert (map.from_entries {R = R} es) k v) (sym (at_slot k old xs zs))
+
+  pub gap_linked : (k : List ℕ) (v : ℕ) (xs zs : List Slot) → Parts R k xs zs
+      → map.from_entries {R = R} (live (xs ++ (k, Some v) ∷ zs)) ≡ map.insert (map.from_entries (live (xs ++ zs))) k v
+  gap_linked k v xs zs p =
+      ap (map.from_entries {R = R}) (at_slot k (Some v) xs zs)
+      ∙ insert-view o same (live xs ++ live zs) (live xs ++ (entry_of k (Some v) ++ live zs)) k v (changed k None (Some v) xs zs p)
+      ∙ ap (λ es. map.insert (map.from_entries {R = R} es) k v) (sym (live-append xs zs))
+
+  -- a slot whose entry goes, and a name that has none
+  pub slot_unlinked : (k : List ℕ) (old : Option ℕ) (xs zs : List Slot) → Parts R k xs zs
+      → map.from_entries {R = R} (live (xs ++ (k, None) ∷ zs)) ≡ map.remove (map.from_entries (live (xs ++ (k, old) ∷ zs))) k
+  slot_unlinked k old xs zs p =
+      ap (map.from_entries {R = R}) (at_slot k None xs zs)
+      ∙ remove-view o same (live xs ++ (entry_of k old ++ live zs)) (live xs ++ live zs) k (changed k old None xs zs p)
+      ∙ ap (λ es. map.remove (map.from_entries {R = R} es) k) (sym (at_slot k old xs zs))
+
+  -- the slots on both sides of one
+  pub parts_of_slot : (k : List ℕ) (link : Option ℕ) (xs zs : List Slot) → IsStrictlySortedBy R (keys_of (xs ++ (k, link) ∷ zs)) → Parts R k xs zs
+  parts_of_slot k link xs zs s =
+      let ordered = subst (IsStrictlySortedBy R) (keys-append xs ((k, link) ∷ zs)) s in
+      record { smaller = below_next R (keys_of xs) k (keys_of zs) ordered; greater = above_head R k (keys_of zs) (sorted_right R (keys_of xs) (k ∷ keys_of zs) ordered) }
+
+  -- one more slot in a gap
+  pub gap_sorted : (k : List ℕ) (link : Option ℕ) (xs zs : List Slot) → Parts R k xs zs → IsStrictlySortedBy R (keys_of (xs ++ zs)) → IsStrictlySortedBy R (keys_of (xs ++ (k, link) ∷ zs))
+  gap_sorted k link xs zs p s =
+      subst (IsStrictlySortedBy R) (sym (keys-append xs ((k, link) ∷ zs)))
+      (sorted_between R (keys_of xs) k (keys_of zs) (subst (IsStrictlySortedBy R) (keys-append xs zs) s) p.smaller p.greater)
+
+  -- another link for a slot
+  pub slot_sorted : (k : List ℕ) (old new : Option ℕ) (xs zs : List Slot) → IsStrictlySortedBy R (keys_of (xs ++ (k, old) ∷ zs)) → IsStrictlySortedBy R (keys_of (xs ++ (k, new) ∷ zs))
+  slot_sorted k old new xs zs s = subst (IsStrictlySortedBy R) (keys-append xs ((k, old) ∷ zs) ∙ sym (keys-append xs ((k, new) ∷ zs))) s
+
+  -- the names, and how many there are
+  pub live_keys : (slots : List Slot) → IsStrictlySortedBy R (keys_of slots) → map.keys (map.from_entries {R = R} (live slots)) ≡ keys_of (live slots)
+  live_keys slots s = keys-view o (live slots) (live_sorted R slots s)
+
+  pub live_count : (slots : List Slot) → IsStrictlySortedBy R (keys_of slots) → length (map.keys (map.from_entries {R = R} (live slots))) ≡ length (live slots)
+  live_count slots s = length-keys o (live slots) (live_sorted R slots s)
+
+-- ---- how many entries there are
+pub count_slot : (k : List ℕ) (link : Option ℕ) (xs zs : List Slot) → length (live (xs ++ (k, link) ∷ zs)) ≡ length (live xs) + (length (entry_of k link) + length (live zs))
+count_slot k link xs zs =
+    ap length (live-append xs ((k, link) ∷ zs)) ∙ length-append (live xs) (entry_of k link ++ live zs) ∙ ap (λ n. length (live xs) + n) (length-append (entry_of k link) (live zs))
+
+pub count_gap : (xs zs : List Slot) → length (live (xs ++ zs)) ≡ length (live xs) + length (live zs)
+count_gap xs zs = ap length (live-append xs zs) ∙ length-append (live xs) (live zs)
+
+-- one entry more than without it
+pub count_linked : (k : List ℕ) (v : ℕ) (xs zs : List Slot) → length (live (xs ++ (k, Some v) ∷ zs)) ≡ suc (length (live (xs ++ zs)))
+count_linked k v xs zs = omega (arith, count_slot k (Some v) xs zs, count_gap xs zs)
+
+pub count_gone : (k : List ℕ) (xs zs : List Slot) → length (live (xs ++ (k, None) ∷ zs)) ≡ length (live (xs ++ zs))
+count_gone k xs zs = omega (arith, count_slot k None xs zs, count_gap xs zs)
+
+pub count_relinked : (k : List ℕ) (v w : ℕ) (xs zs : List Slot) → length (live (xs ++ (k, Some v) ∷ zs)) ≡ length (live (xs ++ (k, Some w) ∷ zs))
+count_relinked k v w xs zs = omega (arith, count_slot k (Some v) xs zs, count_slot k (Some w) xs zs)

@@ -1,0 +1,142 @@
+-- What a search among a piece's names finds, and a piece's names and links as slots.
+use Rattle.std.proofs.Common.{◌≡◌, ℕ, zero, suc, ◌+◌, ◌-◌, ◌<◌, ◌≤◌, min, List, [], ◌∷◌, ◌++◌, length, Option, Some, None, Result, Ok, Err, IfOk, IfErr, take, drop, set, insert, get_or, zip, map, refl, sym, ap, subst, ◌∙◌, arith, append_assoc, append-nil, nat_cmp, Ordering, Less, Equal, Greater, true, false, is_some, true≢false, inl, inr}
+use Rattle.std.specs.List.{All, AllByRecursion}
+use Rattle.std.specs.List.Sorted.{IsStrictlySortedBy, IsSearchInRange, IsBinarySearchResult, IsNonDecreasingBy}
+use Rattle.std.specs.Map.{keys_of}
+use Rattle.std.specs.Ordering.{ordering_index}
+use Rattle.std.specs.Cmp.{IsTotalOrder}
+use Rattle.std.specs.FinMap.{IsAntisymmetric}
+use Rattle.std.specs.Cmp.Lexicographic.{slice_cmp, nat_list_cmp_total}
+use Rattle.std.proofs.lemmas.Map.Lookups.{exact_bytes}
+use Rattle.std.proofs.lemmas.Map.Keys.{Less-from_sorted}
+use Rattle.std.proofs.lemmas.Bool.{cases_lt}
+use Rattle.std.proofs.lemmas.List.{length-set, length-append, length-take, length-drop, drop_all, take_all, get_or-take, get_or-drop, take-map, drop-map, take_more, take-append-drop}
+use Rattle.std.proofs.lemmas.List.Edits.{length-insert}
+use Rattle.std.proofs.lemmas.List.Elements.{recursion_from_All}
+use borrow.Rule.Slice.PartMut.{put_mid, mid_of, post_of}
+use Rattle.assise_inode_table.specs.Pieces.{Slot, entry_of, live, name_at, link_at, IsSlotOf, IsGapFor}
+use Rattle.assise_inode_table.proofs.KeyOrder.{turned_back}
+use Rattle.assise_inode_table.proofs.LiveSlots.{live-append, keys-append}
+use Rattle.assise_inode_table.proofs.PieceChanges.{length-side, keys-side, name-side, link-side, set-side, side-append, insert-side, part-side}
+
+module _ {K : Type 0} {R : K → K → Ordering} (o : IsTotalOrder R) (same : IsAntisymmetric R) where
+  at_most_two : (r : Ordering) → ordering_index r ≤ 2
+  at_most_two Less = omega arith
+  at_most_two Equal = omega arith
+  at_most_two Greater = omega arith
+
+  rises : (x y q : K) → R x y ≡ Less → ordering_index (R x q) ≤ ordering_index (R y q)
+  rises x y q h = go (R y q) refl
+    where
+      go : (r : Ordering) → R y q ≡ r → ordering_index (R x q) ≤ ordering_index r
+      go Less e = subst (λ r. ordering_index r ≤ 0) (sym (o.trans x y q h e)) (omega arith)
+      go Equal e = subst (λ r. ordering_index r ≤ 1) (sym (subst (λ k. R x k ≡ Less) (same y q e) h)) (omega arith)
+      go Greater e = at_most_two (R x q)
+
+  pub searchable : (xs : List K) (q : K) → IsStrictlySortedBy R xs → IsNonDecreasingBy (λ y. ordering_index (R y q)) xs
+  searchable xs q s i j d low inside = elim (cases_lt i j) [
+    | inl before ↦ rises (get_or xs i d) (get_or xs j d) q (Less-from_sorted R xs i j d s before inside)
+    | inr over ↦ subst (λ n. ordering_index (R (get_or xs i d) q) ≤ ordering_index (R (get_or xs n d) q)) {x = i} (omega arith) (omega arith)
+  ]
+
+module _ (name : List ℕ) (ns : List (List ℕ)) (ls : List (Option ℕ)) (few : length ns ≤ length ls) where
+  found : (at : ℕ) → at < length ns → ((d : List ℕ) → slice_cmp nat_cmp (get_or ns at d) name ≡ Equal) → IsSlotOf name (zip ns ls) at
+  found at h e = record { within = omega (arith, h, length-side ns ls few); named = name-side ns ls at [] None h few ∙ exact_bytes (get_or ns at []) name (e []) }
+
+  keys-take : (at : ℕ) → keys_of (take at (zip ns ls)) ≡ take at ns
+  keys-take at = sym (take-map (λ e. e.0) at (zip ns ls)) ∙ ap (take at) (keys-side ns ls few)
+
+  keys-drop : (at : ℕ) → keys_of (drop at (zip ns ls)) ≡ drop at ns
+  keys-drop at = sym (drop-map (λ e. e.0) at (zip ns ls)) ∙ ap (drop at) (keys-side ns ls few)
+
+  missed : (at : ℕ) → at ≤ length ns → ((k : ℕ) (d : List ℕ) → 0 ≤ k → k < at → slice_cmp nat_cmp (get_or ns k d) name ≡ Less)
+      → ((k : ℕ) (d : List ℕ) → at ≤ k → k < length ns → slice_cmp nat_cmp (get_or ns k d) name ≡ Greater) → IsGapFor name (zip ns ls) at
+  missed at h below above = record {
+    within = omega (arith, h, length-side ns ls few);
+    smaller = subst (AllByRecursion (λ key. slice_cmp nat_cmp key name ≡ Less)) (sym (keys-take at)) (recursion_from_All (λ key. slice_cmp nat_cmp key name ≡ Less) (take at ns) (λ k d inside.
+        let low : k < at = omega (arith, inside, length-take at ns) in
+        subst (λ key. slice_cmp nat_cmp key name ≡ Less) (sym (get_or-take at ns k d low)) (below k d (omega arith) low)));
+    greater = subst (AllByRecursion (λ key. slice_cmp nat_cmp name key ≡ Less)) (sym (keys-drop at)) (recursion_from_All (λ key. slice_cmp nat_cmp name key ≡ Less) (drop at ns) (λ k d inside.
+        subst (λ key. slice_cmp nat_cmp name key ≡ Less) (sym (get_or-drop at ns k d))
+        (turned_back nat_list_cmp_total exact_bytes (get_or ns (at + k) d) name (above (at + k) d (omega arith) (omega (arith, inside, length-drop at ns))))));
+  }
+
+  pub search_found : (r : Result ℕ ℕ) → IsSearchInRange r (length ns) → IsBinarySearchResult (λ y. slice_cmp nat_cmp y name) ns r → IfOk r (IsSlotOf name (zip ns ls))
+  search_found (Ok at) within is = found at within is
+  search_found (Err at) within is = tt
+
+  pub search_missed : (r : Result ℕ ℕ) → IsStrictlySortedBy (slice_cmp nat_cmp) ns → IsSearchInRange r (length ns) → IsBinarySearchResult (λ y. slice_cmp nat_cmp y name) ns r → IfErr r (IsGapFor name (zip ns ls))
+  search_missed (Ok at) s within is = tt
+  search_missed (Err at) s within is = let parted = is (searchable nat_list_cmp_total exact_bytes ns name s) in missed at within parted.0 parted.1
+
+-- a link that comes in at its place, where the last goes
+pub insert_put : {K X : Type 0} (at : ℕ) (ns : List K) (ls : List X) (n : K) (l : X) (new : List X) → length ns < 32 → length ls ≡ 32 → at ≤ length ns
+    → new ≡ l ∷ take (length (mid_of at (32 - at) ls) - 1) (mid_of at (32 - at) ls) → zip (insert ns at n) (put_mid at (32 - at) ls new) ≡ insert (zip ns ls) at (n, l)
+insert_put at ns ls n l new few all h is =
+    let back : length (drop at ls) ≡ 32 - at = omega (arith, length-drop at ls) in
+    let mid : mid_of at (32 - at) ls ≡ drop at ls = take_all (32 - at) (drop at ls) (omega arith) in
+    let count : length (mid_of at (32 - at) ls) - 1 ≡ 31 - at = omega (arith, ap length mid) in
+    let made : new ≡ l ∷ take (31 - at) (drop at ls) = is ∙ ap (λ m. l ∷ take m (mid_of at (32 - at) ls)) count ∙ ap (λ ys. l ∷ take (31 - at) ys) mid in
+    ap (λ ys. zip (insert ns at n) (take at ls ++ (ys ++ post_of at (32 - at) ls))) made
+    ∙ ap (zip (insert ns at n)) (sym (append_assoc (take at ls) (l ∷ take (31 - at) (drop at ls)) (post_of at (32 - at) ls)))
+    ∙ side-append (insert ns at n) (take at ls ++ l ∷ take (31 - at) (drop at ls)) (post_of at (32 - at) ls)
+    (omega (arith, length-insert ns at n h, length-append (take at ls) (l ∷ take (31 - at) (drop at ls)), length-take at ls, length-take (31 - at) (drop at ls), back))
+    ∙ insert-side at (31 - at) ns ls n l h (omega arith) (omega arith)
+
+pub first_set : {X : Type 0} (xs ys : List X) (x : X) → length xs ≡ 1 → set (xs ++ ys) 0 x ≡ x ∷ ys
+first_set [] ys x h = absurd (omega arith)
+first_set (z ∷ []) ys x h = refl
+first_set (z ∷ w ∷ xs) ys x h = absurd (omega arith)
+
+-- ---- a piece slot by slot
+module _ (ns : List (List ℕ)) (ls : List (Option ℕ)) (few : length ns ≤ length ls) (at : ℕ) (h : at < length ns) where
+  one_more : take (at + 1) (zip ns ls) ≡ take at (zip ns ls) ++ (get_or ns at [], get_or ls at None) ∷ []
+  one_more =
+      let inside : at < length (zip ns ls) = omega (arith, length-side ns ls few) in
+      take_more (zip ns ls) at ([], None) inside
+      ∙ ap (λ n. take at (zip ns ls) ++ (n, link_at (zip ns ls) at) ∷ []) (name-side ns ls at [] None h few)
+      ∙ ap (λ l. take at (zip ns ls) ++ (get_or ns at [], l) ∷ []) (link-side ns ls at [] None inside)
+
+  live_more : live (take (at + 1) (zip ns ls)) ≡ live (take at (zip ns ls)) ++ entry_of (get_or ns at []) (get_or ls at None)
+  live_more =
+      ap live one_more ∙ live-append (take at (zip ns ls)) ((get_or ns at [], get_or ls at None) ∷ [])
+      ∙ ap (λ es. live (take at (zip ns ls)) ++ es) (append-nil (entry_of (get_or ns at []) (get_or ls at None)))
+
+  pub gone_more : get_or ls at None ≡ None → live (take at (zip ns ls)) ≡ [] → live (take (at + 1) (zip ns ls)) ≡ []
+  gone_more none gone = live_more ∙ ap (λ l. live (take at (zip ns ls)) ++ entry_of (get_or ns at []) l) none ∙ append-nil (live (take at (zip ns ls))) ∙ gone
+
+  pub listed_none : get_or ls at None ≡ None → keys_of (live (take (at + 1) (zip ns ls))) ≡ keys_of (live (take at (zip ns ls)))
+  listed_none none = ap keys_of (live_more ∙ ap (λ l. live (take at (zip ns ls)) ++ entry_of (get_or ns at []) l) none ∙ append-nil (live (take at (zip ns ls))))
+
+  pub listed_some : (v : ℕ) → get_or ls at None ≡ Some v → keys_of (live (take (at + 1) (zip ns ls))) ≡ keys_of (live (take at (zip ns ls))) ++ get_or ns at [] ∷ []
+  listed_some v some =
+      ap keys_of (live_more ∙ ap (λ l. live (take at (zip ns ls)) ++ entry_of (get_or ns at []) l) some) ∙ keys-append (live (take at (zip ns ls))) ((get_or ns at [], v) ∷ [])
+
+pub take_side_all : (ns : List (List ℕ)) (ls : List (Option ℕ)) (at : ℕ) → length ns ≤ length ls → length ns ≤ at → take at (zip ns ls) ≡ zip ns ls
+take_side_all ns ls at few h = take_all at (zip ns ls) (omega (arith, length-side ns ls few))
+
+-- a piece's slots are as many as its names
+pub slots_count : {K X : Type 0} (ns : List K) (ls : List X) (slots : List (K × X)) → zip ns ls ≡ slots → length ns ≤ 32 → length ls ≡ 32 → length slots ≡ length ns
+slots_count ns ls slots e few all = ap length (sym e) ∙ length-side ns ls (omega arith)
+
+pub link_is : (ns : List (List ℕ)) (ls : List (Option ℕ)) (slots : List Slot) (at : ℕ) → zip ns ls ≡ slots → at < length slots → get_or ls at None ≡ link_at slots at
+link_is ns ls slots at e h = sym (link-side ns ls at [] None (subst (λ s. at < length s) (sym e) h)) ∙ ap (λ s. link_at s at) e
+
+pub put_length : {X : Type 0} (at : ℕ) (ls : List X) (l : X) (new : List X) → length ls ≡ 32 → at < 32 → new ≡ l ∷ take (length (mid_of at (32 - at) ls) - 1) (mid_of at (32 - at) ls)
+    → length (put_mid at (32 - at) ls new) ≡ 32
+put_length at ls l new all h is =
+    let back : length (drop at ls) ≡ 32 - at = omega (arith, length-drop at ls) in
+    let mid : mid_of at (32 - at) ls ≡ drop at ls = take_all (32 - at) (drop at ls) (omega arith) in
+    let count : length (mid_of at (32 - at) ls) ≡ 32 - at = ap length mid ∙ back in
+    let made = ap length is in
+    let rest = length-take (length (mid_of at (32 - at) ls) - 1) (mid_of at (32 - at) ls) in
+    let post = length-drop (32 - at) (drop at ls) in
+    omega (arith, length-append (take at ls) (new ++ post_of at (32 - at) ls), length-append new (post_of at (32 - at) ls), length-take at ls)
+
+pub none_of : (o : Option ℕ) → false ≡ is_some o → o ≡ None
+none_of None e = refl
+none_of (Some v) e = absurd (true≢false (sym e))
+
+pub some_of : (o : Option ℕ) → true ≡ is_some o → (v : ℕ) × (o ≡ Some v)
+some_of None e = absurd (true≢false e)
+some_of (Some v) e = (v, refl)

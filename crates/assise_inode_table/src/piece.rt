@@ -1,0 +1,219 @@
+// A part of a directory.
+ghost use Rattle.std.specs.Prelude.{◌≡◌, ◌-◌, ◌<◌, ◌≤◌, ◌++◌, ◌∷◌, ◌==◌, [], IfErr, IfOk, IsOkUnless, OnErr, OnOk, Some, drop, false, length, set, take, true};
+ghost use Rattle.std.specs.Arc.{arc_value};
+ghost use Rattle.std.specs.List.{insert};
+ghost use Rattle.std.specs.Map.{keys_of};
+ghost use Rattle.assise_names.specs.declared.refusal.Refusal.TheVariants.{OutOfMemory};
+ghost use Rattle.assise_inode_table.specs.Pieces.{Ascend, IsGapFor, IsSlotOf, link_at, live, name_at};
+
+use assise_names::name::Name;
+use assise_names::refusal::Refusal;
+use std::alloc::{AllocError, Global};
+use std::marker::Model;
+use std::sync::Arc;
+
+/// The most names of a piece.
+pub const MOST_NAMES: usize = 32;
+
+/// Names that ascend, which copies share, and beside each the inode that it links to, or none where its entry is gone: so
+/// neither a removal nor a link under a name that stands here takes memory. A contract sees the list of both.
+#[derive(Debug, Drop)]
+pub(crate) struct Piece {
+    names: Arc<Vec<Name>>,
+    links: [Option<u64>; MOST_NAMES],
+}
+
+impl Model for Piece {
+    ghost use Rattle.std.specs.Prelude.{List, Option, ℕ};
+    ghost use Rattle.std.specs.List.{zip};
+    ghost use Rattle.std.specs.Arc.{arc_value};
+    ghost use Rattle.assise_inode_table.specs.Pieces.{IsPiece};
+
+    ghost Value = { List (List ℕ × Option ℕ) };
+
+    ghost view = { λ p. zip (arc_value p.names).items p.links };
+
+    ghost invariant = { λ p. IsPiece (arc_value p.names).items p.links };
+}
+
+impl Piece {
+    /// A piece of one entry.
+    pub fn of_one(alloc: Global, name: Name, inode: u64) -> Result<Piece, AllocError>
+        ensures { IfOk result (λ piece. piece ≡ (name, Some inode) ∷ []) }
+    {
+        let mut names = Vec::with_capacity(alloc, 1)?;
+        names.push(name)?;
+        let mut links = [None; MOST_NAMES];
+        links[0] = Some(inode);
+        Ok(Piece {
+            names: Arc::new(alloc, names)?,
+            links,
+        })
+    }
+
+    /// The first name.
+    pub fn first(&self) -> &Name
+        requires { 0 < length self.now }
+        ensures { result.now ≡ name_at self.now 0 }
+    {
+        &self.names.as_slice()[0]
+    }
+
+    /// Where a name stands, or where it would.
+    pub fn find(&self, name: &Name) -> Result<usize, usize>
+        requires { Ascend self.now }
+        ensures found { IfOk result (IsSlotOf name.now self.now) }
+        ensures absent { IfErr result (IsGapFor name.now self.now) }
+    {
+        self.names.as_slice().binary_search(name)
+    }
+
+    /// The inode that a name links to, if its entry isn't gone.
+    pub fn link(&self, at: usize) -> Option<u64>
+        requires { at < length self.now }
+        ensures { result ≡ link_at self.now at }
+    {
+        match self.links.get(at) {
+            Some(link) => *link,
+            None => None,
+        }
+    }
+
+    /// Links a name to an inode, or lets its entry go.
+    pub fn set(&mut self, at: usize, link: Option<u64>)
+        requires { at < length self.old }
+        ensures { self.new ≡ set self.old at (name_at self.old at, link) }
+    {
+        set_link(&mut self.links, at, link);
+    }
+
+    /// Whether there is room for one name more.
+    pub fn has_room(&self) -> bool
+        ensures room { result ≡ true → length self.now < 32 }
+        ensures full { result ≡ false → length self.now ≡ 32 }
+    {
+        self.names.len() < MOST_NAMES
+    }
+
+    /// Links a new name to an inode, at its place. Names that others share are copied first.
+    pub fn insert(
+        &mut self,
+        alloc: Global,
+        at: usize,
+        name: Name,
+        inode: u64,
+    ) -> Result<(), AllocError>
+        requires within { at ≤ length self.old }
+        requires room { length self.old < 32 }
+        ensures ok { OnOk result (self.new ≡ insert self.old at (name, Some inode)) }
+        ensures err { OnErr result (self.new ≡ self.old) }
+    {
+        insert_name(alloc, &mut self.names, at, name)?;
+        shift_in(&mut self.links[at..], Some(inode));
+        Ok(())
+    }
+
+    /// A piece of the slots from a start to an end.
+    pub fn part(&self, alloc: Global, start: usize, end: usize) -> Result<Piece, AllocError>
+        requires { (start ≤ end) × (end ≤ length self.now) }
+        ensures { IfOk result (λ part. part ≡ take (end - start) (drop start self.now)) }
+    {
+        let names = copied(alloc, &self.names.as_slice()[start..end], 0)?;
+        let mut links = self.links;
+        links.rotate_left(start);
+        Ok(Piece {
+            names: Arc::new(alloc, names)?,
+            links,
+        })
+    }
+
+    /// Whether all entries are gone.
+    pub fn is_gone(&self) -> bool
+        ensures { result ≡ true → live self.now ≡ [] }
+    {
+        for at in 0..self.names.len() {
+            if self.links[at].is_some() {
+                return false;
+            }
+        }
+        true
+    }
+
+    /// Adds the names whose entries aren't gone to a list.
+    pub fn list(&self, names: &mut Vec<Name>) -> Result<(), Refusal>
+        ensures ok { OnOk result (names.new.items ≡ names.old.items ++ keys_of (live self.now)) }
+        ensures only_memory { IsOkUnless result OutOfMemory }
+    {
+        for at in 0..self.names.len() {
+            if self.links[at].is_some() {
+                names.push(self.names[at].copy()?)?;
+            }
+        }
+        Ok(())
+    }
+}
+
+/// Pieces that share the names of others.
+pub(crate) fn shared(alloc: Global, pieces: &[Piece]) -> Result<Vec<Piece>, AllocError>
+    ensures { IfOk result (λ shared. shared.items ≡ pieces.now) }
+{
+    let mut shared = Vec::with_capacity(alloc, pieces.len())?;
+    for piece in pieces {
+        let names = Arc::try_clone(&piece.names)?;
+        shared.push_reserved(Piece {
+            names,
+            links: piece.links,
+        });
+    }
+    Ok(shared)
+}
+
+/// Equal names, with room for some more.
+fn copied(alloc: Global, names: &[Name], more: usize) -> Result<Vec<Name>, AllocError>
+    ensures { IfOk result (λ copied. copied.items ≡ names.now) }
+{
+    let mut copied = Vec::with_capacity(alloc, names.len().saturating_add(more))?;
+    for name in names {
+        copied.push(name.clone()?)?;
+    }
+    Ok(copied)
+}
+
+/// Puts a name in at its place, into names of its own.
+fn insert_name(
+    alloc: Global,
+    names: &mut Arc<Vec<Name>>,
+    at: usize,
+    name: Name,
+) -> Result<(), AllocError>
+    requires { at ≤ length (arc_value names.old).items }
+    ensures ok { OnOk result ((arc_value names.new).items ≡ insert (arc_value names.old).items at name) }
+    ensures err { OnErr result ((arc_value names.new).items ≡ (arc_value names.old).items) }
+{
+    if let Some(own) = Arc::get_mut(names) {
+        own.insert(at, name)?;
+        return Ok(());
+    }
+    // Room for as many again, as a vector's growth makes.
+    let mut own = copied(alloc, names.as_slice(), names.len())?;
+    own.insert(at, name)?;
+    *names = Arc::new(alloc, own)?;
+    Ok(())
+}
+
+/// Sets the link at a place.
+fn set_link(links: &mut [Option<u64>], at: usize, link: Option<u64>)
+    requires { at < length links.old }
+    ensures { links.new ≡ set links.old at link }
+{
+    links[at] = link;
+}
+
+/// Puts a link in front, and lets the last go.
+fn shift_in(links: &mut [Option<u64>], link: Option<u64>)
+    requires { 0 < length links.old }
+    ensures { links.new ≡ link ∷ take (length links.old - 1) links.old }
+{
+    links.rotate_right(1);
+    links[0] = link;
+}
