@@ -18,9 +18,9 @@ use std::time::Duration;
 /// How often a thread that waits tries at once again, before it sleeps between its tries: who has the state in its cache goes on with it.
 const BRIEF_TRIES: u32 = 3;
 
-/// How long it sleeps then, in microseconds, unless it is woken. It is the same for every try, so that who waits longer tries no less
-/// often.
-const NAP_MICROS: u64 = 100;
+/// How long it sleeps then, in microseconds, for each thread that sleeps so, unless it is woken: who has the state is looked for as often,
+/// however many wait. It is the same for every try, so that who waits longer tries no less often.
+const NAP_MICROS: u64 = 200;
 
 /// Keeps a state that threads take in turn. It has one word, which is 0 where the state is there, 1 where it is out
 /// and 2 until it was put in, and one slot for the state, which lies in a
@@ -132,7 +132,6 @@ impl<S: Growing> Keeper<S> {
         ensures guest { CoversHalf (S.history result.value) (view pass.old).guest }
         ensures led { AreLed S.leads S.works (view pass.old) (Some result.value) }
     {
-        let nap = Duration::from_micros(NAP_MICROS);
         let mut tries = 0;
         for _ in rt.forever() {
             if let Some(state) = self.try_take(pass) {
@@ -142,8 +141,11 @@ impl<S: Growing> Keeper<S> {
                 tries += 1;
                 hint::spin_loop();
             } else {
-                self.sleepers.fetch_add(1, Ordering::SeqCst);
-                self.table.shared.park_timeout(rt, 0, 1, nap);
+                let others = self.sleepers.fetch_add(1, Ordering::SeqCst);
+                let nap = NAP_MICROS.saturating_mul(others.saturating_add(1));
+                self.table
+                    .shared
+                    .park_timeout(rt, 0, 1, Duration::from_micros(nap));
                 self.sleepers.fetch_sub(1, Ordering::SeqCst);
             }
         }
