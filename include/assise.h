@@ -461,14 +461,14 @@ static inline int64_t assise_mkdir(struct assise_desk *desk, uint32_t client, co
 static inline int64_t assise_read(struct assise_desk *desk, uint32_t client, const char *path, void *data, uint64_t count,
                                   uint64_t offset) {
     uint64_t done = 0;
+    int64_t got;
     do {
         uint64_t want = count - done < ASSISE_BYTES ? count - done : ASSISE_BYTES;
-        int64_t got = assise_at(desk, ASSISE_READ, client, path, 0, 0, offset + done, want);
+        got = assise_at(desk, ASSISE_READ, client, path, 0, 0, offset + done, want);
         if (got < 0) return got;
         if (got) memcpy((uint8_t *)data + done, desk->bytes, (size_t)got);
         done += (uint64_t)got;
-        if ((uint64_t)got < want) break;
-    } while (done < count);
+    } while (got == ASSISE_BYTES && done < count);
     return (int64_t)done;
 }
 
