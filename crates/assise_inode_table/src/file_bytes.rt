@@ -68,7 +68,8 @@ impl FileBytes {
         if start == end {
             return Ok(ByteString::new());
         }
-        Ok(ByteString::from_bytes(self.blocks.piece(alloc, start, end)?))
+        let piece = self.blocks.piece(alloc, start, end)?;
+        Ok(ByteString::from_bytes(alloc, piece)?)
     }
 
     /// Writes bytes at an offset, and zeros before them where the file was shorter (POSIX.1-2017, write() and

@@ -3,3 +3,4 @@ pub mod HexDigits
 pub mod PathLemmas
 pub mod AscendingNames
 pub mod Spellings
+mod FewNames

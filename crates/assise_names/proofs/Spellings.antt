@@ -8,9 +8,10 @@ use Rattle.std.proofs.lemmas.List.Splits.{slice_split_at, slice_split_none, join
 use Rattle.std.specs.List.{slice_split, join_with_byte, list_any}
 use Rattle.std.specs.Str.{is_utf8}
 use Rattle.assise_names.specs.Name.{is_name, is_barred, is_dots, name_of}
-use Rattle.assise_names.specs.Path.{◌>>=◌, IsPath, SpellsPath, path_spelling, pieces_as_names, no_deeper, names_behind, path_of, GivesPath}
+use Rattle.assise_names.specs.Path.{◌>>=◌, IsPath, SpellsPath, path_spelling, pieces_as_names, no_deeper, names_behind, path_behind, path_of, GivesPath}
 use Rattle.assise_names.specs.declared.path.PathFault.{PathFault}
 use Rattle.assise_names.specs.declared.path.PathFault.TheVariants.{EmptyName, NameTooLong, BadName, Memory}
+use Rattle.assise_names.proofs.PathLemmas.{few_names, not_cut}
 
 abbrev LevelsInvariant : List ℕ → Type 0
 LevelsInvariant name = IsTrue (is_name name)
@@ -168,3 +169,11 @@ joined (b ∷ rest) names h =
 -- the text that gave a path is its spelling
 pub spelled : (rest : List ℕ) (names : List (List ℕ)) → names_behind rest ≡ Ok names → All (λ name. IsTrue (is_name name)) names → length names ≤ 32 → SpellsPath (47 ∷ rest) names
 spelled rest names h lawful depth = record { lawful = record { names = lawful; depth = depth }; spelled = joined rest names h }
+
+-- the path behind the first slash is spelled by the whole text
+pub spelled_behind : (rest : List ℕ) (path : List (List ℕ)) → path_behind rest ≡ Ok path → All (λ name. IsTrue (is_name name)) path → SpellsPath (47 ∷ rest) path
+spelled_behind rest path h lawful =
+    let found = came_from (names_behind rest) no_deeper path h in
+    let same : path ≡ found.0 = not_cut found.0 path found.1.1 in
+    let names : names_behind rest ≡ Ok path = found.1.0 ∙ ap Ok (sym same) in
+    spelled rest path names lawful (few_names path (ap no_deeper same ∙ found.1.1))

@@ -1,3 +1,4 @@
+pub mod Held
 pub mod Name
 pub mod Path
 pub mod Reply

@@ -1,13 +1,13 @@
 -- Which text spells which path, and what is wrong with the others.
 -- POSIX.1-2017, base definitions: chapter 3, Absolute Pathname and Pathname; section 4.13, Pathname Resolution.
-use Rattle.std.specs.Prelude.{◌≡◌, ◌<◌, ◌≤◌, ◌⊎◌, ℕ, Bool, ◌&&◌, ◌==◌, nat_le, nat_lt, if◌then◌else◌, IsTrue, All, List, [], ◌∷◌, ◌++◌, flat_map, length, take, Option, Some, None, Result, Ok, Err}
+use Rattle.std.specs.Prelude.{◌≡◌, ◌<◌, ◌≤◌, ◌⊎◌, ℕ, Bool, ◌&&◌, ◌==◌, nat_le, nat_lt, if◌then◌else◌, IsTrue, All, List, [], ◌∷◌, ◌++◌, flat_map, length, take, Result, Ok, Err}
 use Rattle.std.specs.Cmp.Lexicographic.{pointwise}
 use Rattle.std.specs.List.{slice_split}
-use Rattle.std.specs.Arc.{arc_slice_items}
-use Rattle.std.specs.Global.{Global}
-use Rattle.std.specs.declared.sync.ArcSlice.{ArcSlice}
+use Rattle.std.specs.Arc.{arc_slice_items, arc_value}
 use Rattle.assise_names.specs.declared.path.PathFault.{PathFault}
 use Rattle.assise_names.specs.declared.path.PathFault.TheVariants.{NotAbsolute, TooDeep, Memory}
+use Rattle.assise_names.specs.declared.path.PathNames.{PathNames}
+use Rattle.assise_names.specs.declared.path.PathNames.TheVariants.{Root, One, Two, Three, More}
 use Rattle.assise_names.specs.Name.{is_name, name_of}
 
 -- ---- a path, and its one spelling
@@ -27,15 +27,21 @@ pub record SpellsPath (text : List ℕ) (path : List (List ℕ)) : Type 0 where
   pub lawful : IsPath path
   pub spelled : text ≡ path_spelling path
 
--- the names in a list with several owners, or none where there is no list
-abbrev pub names_in : Option (ArcSlice (List ℕ) Global) → List (List ℕ)
-names_in None = []
-names_in (Some list) = arc_slice_items list
+-- the names, wherever they lie
+abbrev pub names_in : PathNames → List (List ℕ)
+names_in Root = []
+names_in (One names) = arc_value names
+names_in (Two names) = arc_value names
+names_in (Three names) = arc_value names
+names_in (More names) = arc_slice_items names
 
--- there is a list only where there is a name
-abbrev pub IsShared : Option (ArcSlice (List ℕ) Global) → Type 0
-IsShared None = Unit {0}
-IsShared (Some list) = 0 < length (arc_slice_items list)
+-- where memory is held there is a name
+abbrev pub IsShared : PathNames → Type 0
+IsShared Root = Unit {0}
+IsShared (One names) = 0 < length (arc_value names)
+IsShared (Two names) = 0 < length (arc_value names)
+IsShared (Three names) = 0 < length (arc_value names)
+IsShared (More names) = 0 < length (arc_slice_items names)
 
 -- q goes on from p by at least a name
 abbrev pub IsProperPrefix : List (List ℕ) → List (List ℕ) → Type 0
@@ -70,6 +76,14 @@ names_behind rest = if length rest == 0 then Ok [] else pieces_as_names (slice_s
 abbrev pub path_of : List ℕ → Result (List (List ℕ)) PathFault
 path_of [] = Err NotAbsolute
 path_of (b ∷ rest) = if b == 47 then (names_behind rest >>= no_deeper) else Err NotAbsolute
+
+-- the path of these pieces
+abbrev pub path_of_pieces : List (List ℕ) → Result (List (List ℕ)) PathFault
+path_of_pieces pieces = pieces_as_names pieces >>= no_deeper
+
+-- the path of what stands behind the first slash
+abbrev pub path_behind : List ℕ → Result (List (List ℕ)) PathFault
+path_behind rest = names_behind rest >>= no_deeper
 
 -- how many names there are, or the first fault
 abbrev pub name_count : Result (List (List ℕ)) PathFault → Result ℕ PathFault

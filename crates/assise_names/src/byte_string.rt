@@ -8,14 +8,15 @@ ghost use Rattle.assise_names.specs.declared.refusal.Refusal.TheVariants.{OutOfM
 
 use crate::refusal::Refusal;
 use bytes::Bytes;
-use std::alloc::AllocError;
+use std::alloc::{AllocError, Global};
 use std::marker::Model;
+use std::sync::Arc;
 
 /// Bytes that a call writes or reads. Copies share them. A contract sees the list of the bytes, and nothing of where
 /// they lie.
 #[derive(Debug)]
 pub struct ByteString {
-    bytes: Bytes,
+    bytes: Option<Arc<Bytes>>,
 }
 
 // One call lets go of it, wherever it is owned.
@@ -27,10 +28,13 @@ impl Drop for ByteString {
 
 impl Model for ByteString {
     ghost use Rattle.std.specs.Prelude.{List, ℕ};
+    ghost use Rattle.assise_names.specs.Held.{HasSomeBytes, bytes_held};
 
     ghost Value = { List ℕ };
 
-    ghost view = { λ s. s.bytes };
+    ghost view = { λ s. bytes_held s.bytes };
+
+    ghost invariant = { λ s. HasSomeBytes s.bytes };
 }
 
 impl ByteString {
@@ -38,9 +42,7 @@ impl ByteString {
     pub fn new() -> ByteString
         ensures { result ≡ [] }
     {
-        ByteString {
-            bytes: Bytes::new(),
-        }
+        ByteString { bytes: None }
     }
 
     /// The bytes of a vector, without a copy. An error says that there is no memory for the count of their owners.
@@ -48,15 +50,22 @@ impl ByteString {
         ensures bytes { IfOk result (λ made. made ≡ bytes.items) }
         ensures none { length bytes.items ≡ 0 → IsOk result }
     {
+        let alloc = *bytes.allocator();
         let bytes = Bytes::from_vec(bytes)?;
-        Ok(ByteString { bytes })
+        ByteString::from_bytes(alloc, bytes)
     }
 
-    /// Bytes that others may share.
-    pub fn from_bytes(bytes: Bytes) -> ByteString
-        ensures { result ≡ bytes }
+    /// Bytes that others may share. An error says that there is no memory for the count of their owners.
+    pub fn from_bytes(alloc: Global, bytes: Bytes) -> Result<ByteString, AllocError>
+        ensures bytes { IfOk result (λ made. made ≡ bytes) }
+        ensures none { length bytes ≡ 0 → IsOk result }
     {
-        ByteString { bytes }
+        if bytes.is_empty() {
+            return Ok(ByteString { bytes: None });
+        }
+        Ok(ByteString {
+            bytes: Some(Arc::new(alloc, bytes)?),
+        })
     }
 
     /// The bytes, shared. An error says that there is no memory.
@@ -64,28 +73,34 @@ impl ByteString {
         ensures bytes { IfOk result (λ shared. shared ≡ self.now) }
         ensures none { length self.now ≡ 0 → IsOk result }
     {
-        self.bytes.slice(0..self.bytes.len())
+        match &self.bytes {
+            Some(bytes) => bytes.slice(0..bytes.len()),
+            None => Ok(Bytes::new()),
+        }
     }
 
     /// The bytes as a slice.
     pub fn as_slice(&self) -> &[u8]
         ensures { result.now ≡ self.now }
     {
-        self.bytes.as_slice()
+        match &self.bytes {
+            Some(bytes) => bytes.as_slice(),
+            None => &[],
+        }
     }
 
     /// How many bytes there are.
     pub fn len(&self) -> usize
         ensures { result ≡ length self.now }
     {
-        self.bytes.len()
+        self.as_slice().len()
     }
 
     /// Whether there are no bytes.
     pub fn is_empty(&self) -> bool
         ensures { result ≡ (length self.now == 0) }
     {
-        self.bytes.is_empty()
+        self.as_slice().is_empty()
     }
 
     /// An equal value that shares the bytes, or [`Refusal::OutOfMemory`]. No bytes take no memory.
@@ -94,8 +109,12 @@ impl ByteString {
         ensures none { length self.now ≡ 0 → IsOk result }
         ensures only_memory { IsOkUnless result OutOfMemory }
     {
-        let bytes = self.share()?;
-        Ok(ByteString { bytes })
+        let Some(bytes) = &self.bytes else {
+            return Ok(ByteString { bytes: None });
+        };
+        Ok(ByteString {
+            bytes: Some(Arc::try_clone(bytes)?),
+        })
     }
 }
 

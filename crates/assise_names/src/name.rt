@@ -6,7 +6,7 @@ ghost use Rattle.std.specs.Cmp.{partial_order_from_own_ties};
 ghost use Rattle.std.specs.Cmp.Rules.{comparing};
 ghost use Rattle.std.specs.Cmp.Lexicographic.{slice_cmp, pointwise};
 ghost use Rattle.std.specs.Ordering.{nat_cmp, on, as_partial_cmp};
-ghost use Rattle.assise_names.specs.Name.{is_name, name_of, is_barred};
+ghost use Rattle.assise_names.specs.Name.{is_name, name_of, is_barred, is_dots};
 ghost use Rattle.assise_names.specs.Path.{GivesPath};
 ghost use Rattle.assise_names.specs.declared.path.PathFault.{PathFault};
 ghost use Rattle.assise_names.specs.declared.refusal.Refusal.TheVariants.{OutOfMemory};
@@ -127,7 +127,7 @@ pub(crate) fn check(text: &str) -> Result<(), PathFault>
     if text.len() > MOST_NAME_BYTES {
         return Err(PathFault::NameTooLong);
     }
-    if has_barred(text.as_bytes()) || text == "." || text == ".." {
+    if has_barred(text.as_bytes()) || is_dots(text.as_bytes()) {
         return Err(PathFault::BadName);
     }
     Ok(())
@@ -138,6 +138,17 @@ fn has_barred(bytes: &[u8]) -> bool
     ensures { result ≡ list_any is_barred bytes.now }
 {
     bytes.iter().any(|b| *b == b'/' || *b == 0)
+}
+
+/// Whether a text is `.` or `..`.
+fn is_dots(bytes: &[u8]) -> bool
+    ensures { result ≡ is_dots bytes.now }
+{
+    match bytes {
+        [one] => *one == b'.',
+        [one, two] => *one == b'.' && *two == b'.',
+        _ => false,
+    }
 }
 
 impl Display for Name {

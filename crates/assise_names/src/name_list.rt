@@ -18,21 +18,22 @@ use std::marker::Model;
 /// they lie.
 #[derive(Debug, Drop)]
 pub struct NameList {
-    names: Vec<Name>,
+    names: Option<Box<Vec<Name>>>,
 }
 
 impl Model for NameList {
     ghost use Rattle.std.specs.Prelude.{List, ℕ};
+    ghost use Rattle.assise_names.specs.Held.{HasSomeNames, names_held};
 
     ghost Value = { List (List ℕ) };
 
-    ghost view = { λ l. l.names.items };
+    ghost view = { λ l. names_held l.names };
 
     ghost use Rattle.std.specs.Cmp.Lexicographic.{slice_cmp};
     ghost use Rattle.std.specs.List.Sorted.{IsStrictlySortedBy};
     ghost use Rattle.std.specs.Ordering.{nat_cmp};
 
-    ghost invariant = { λ l. IsStrictlySortedBy (slice_cmp nat_cmp) l.names.items };
+    ghost invariant = { λ l. IsStrictlySortedBy (slice_cmp nat_cmp) (names_held l.names) × HasSomeNames l.names };
 }
 
 impl NameList {
@@ -48,12 +49,18 @@ impl NameList {
         true
     }
 
-    /// The names of a vector, without a copy.
-    pub fn from_vec(names: Vec<Name>) -> NameList
-        requires { IsStrictlySortedBy (slice_cmp nat_cmp) names.items }
-        ensures { result ≡ names.items }
+    /// The names of a vector, which ascend, without a copy of them. The one refusal is [`Refusal::OutOfMemory`].
+    pub fn from_vec(alloc: Global, names: Vec<Name>) -> Result<NameList, Refusal>
+        requires ascending { IsStrictlySortedBy (slice_cmp nat_cmp) names.items }
+        ensures names { IfOk result (λ list. list ≡ names.items) }
+        ensures only_memory { IsOkUnless result OutOfMemory }
     {
-        NameList { names }
+        if names.is_empty() {
+            return Ok(NameList { names: None });
+        }
+        Ok(NameList {
+            names: Some(Box::new(alloc, names)?),
+        })
     }
 
     /// The keys of an ordered map, which ascend by their bytes. The one refusal is [`Refusal::OutOfMemory`].
@@ -66,7 +73,7 @@ impl NameList {
         for name in map.keys() {
             names.push(name.copy()?)?;
         }
-        Ok(NameList { names })
+        NameList::from_vec(alloc, names)
     }
 
     /// The names as a slice.
@@ -74,7 +81,10 @@ impl NameList {
         ensures names { result.now ≡ self.now }
         ensures ascending { IsStrictlySortedBy (slice_cmp nat_cmp) self.now }
     {
-        self.names.as_slice()
+        match &self.names {
+            Some(names) => names.as_slice(),
+            None => &[],
+        }
     }
 
     /// An equal value, or [`Refusal::OutOfMemory`]. No names take no memory.
@@ -83,8 +93,12 @@ impl NameList {
         ensures none { length self.now ≡ 0 → IsOk result }
         ensures only_memory { IsOkUnless result OutOfMemory }
     {
+        let Some(names) = &self.names else {
+            return Ok(NameList { names: None });
+        };
+        let copied = copy_names(alloc, names.as_slice())?;
         Ok(NameList {
-            names: copy_names(alloc, self.names.as_slice())?,
+            names: Some(Box::new(alloc, copied)?),
         })
     }
 }

@@ -5,7 +5,7 @@ ghost use Rattle.std.specs.Cmp.Rules.{comparing};
 ghost use Rattle.std.specs.Cmp.Lexicographic.{pointwise};
 ghost use Rattle.std.specs.Ordering.{on};
 ghost use Rattle.assise_names.specs.Name.{is_name};
-ghost use Rattle.assise_names.specs.Path.{GivesPath, GivesNames, IsProperPrefix, SpellsPath, name_count, is_proper_prefix, no_deeper, path_of, names_behind, path_spelling};
+ghost use Rattle.assise_names.specs.Path.{GivesPath, GivesNames, IsProperPrefix, SpellsPath, name_count, is_proper_prefix, no_deeper, path_behind, path_of, path_of_pieces, names_behind, path_spelling};
 ghost use Rattle.assise_names.specs.Text.{path_fault_text};
 ghost use Rattle.assise_names.specs.declared.path.PathFault.{PathFault};
 ghost use Rattle.assise_names.specs.declared.refusal.Refusal.TheVariants.{OutOfMemory};
@@ -17,7 +17,7 @@ use std::error::Error;
 use std::fmt;
 use std::fmt::{Display, Formatter};
 use std::marker::Model;
-use std::sync::ArcSlice;
+use std::sync::{Arc, ArcSlice};
 
 /// The most names of a path.
 pub const MOST_NAMES: usize = 32;
@@ -81,7 +81,35 @@ impl<T: Drop> From<AllocFailed<T>> for PathFault {
 /// Up to 32 names from the root, the outermost first. The root has none. Copies of a path share its names.
 #[derive(Debug)]
 pub struct Path {
-    names: Option<ArcSlice<Name>>,
+    names: PathNames,
+}
+
+/// The names of a path, shared by its copies. Up to three lie beside the count of those that share them.
+#[derive(Debug)]
+pub(crate) enum PathNames {
+    /// No names.
+    Root,
+    /// One name.
+    One(Arc<[Name; 1]>),
+    /// Two names.
+    Two(Arc<[Name; 2]>),
+    /// Three names.
+    Three(Arc<[Name; 3]>),
+    /// More names.
+    More(ArcSlice<Name>),
+}
+
+// One call lets go of them, wherever they are owned.
+impl Drop for PathNames {
+    fn drop(self) {
+        match self {
+            PathNames::Root
+            | PathNames::One(_)
+            | PathNames::Two(_)
+            | PathNames::Three(_)
+            | PathNames::More(_) => (),
+        }
+    }
 }
 
 // One call lets go of it, wherever it is owned.
@@ -140,8 +168,11 @@ impl Path {
         ensures depth { length self.now ≤ 32 }
     {
         match &self.names {
-            Some(names) => names.as_slice(),
-            None => &[],
+            PathNames::Root => &[],
+            PathNames::One(names) => names.as_slice(),
+            PathNames::Two(names) => names.as_slice(),
+            PathNames::Three(names) => names.as_slice(),
+            PathNames::More(names) => names.as_slice(),
         }
     }
 
@@ -162,12 +193,23 @@ impl Path {
         ensures root { length self.now ≡ 0 → IsOk result }
         ensures only_memory { IsOkUnless result OutOfMemory }
     {
-        let Some(names) = &self.names else {
-            return Ok(Path { names: None });
-        };
-        Ok(Path {
-            names: Some(names.clone()?),
-        })
+        match &self.names {
+            PathNames::Root => Ok(Path {
+                names: PathNames::Root,
+            }),
+            PathNames::One(names) => Ok(Path {
+                names: PathNames::One(Arc::try_clone(names)?),
+            }),
+            PathNames::Two(names) => Ok(Path {
+                names: PathNames::Two(Arc::try_clone(names)?),
+            }),
+            PathNames::Three(names) => Ok(Path {
+                names: PathNames::Three(Arc::try_clone(names)?),
+            }),
+            PathNames::More(names) => Ok(Path {
+                names: PathNames::More(names.clone()?),
+            }),
+        }
     }
 }
 
@@ -196,8 +238,8 @@ fn path_of(alloc: Global, text: &str) -> Result<Path, PathFault>
     let Some(rest) = text.strip_prefix('/') else {
         return Err(PathFault::NotAbsolute);
     };
-    match names_of(alloc, rest) {
-        Ok(names) => path_of_names(names),
+    match path_behind(alloc, rest) {
+        Ok(path) => Ok(path),
         Err(PathFault::Memory) => {
             Path::check(text)?;
             Err(PathFault::Memory)
@@ -206,21 +248,88 @@ fn path_of(alloc: Global, text: &str) -> Result<Path, PathFault>
     }
 }
 
+/// The path of the names that stand between slashes, or the root where there is no text.
+fn path_behind(alloc: Global, text: &str) -> Result<Path, PathFault>
+    ensures first_fault { GivesPath result (path_behind text.now) }
+    ensures none { length text.now ≡ 0 → IsOk result }
+    ensures lawful { IfOk result (λ path. All (λ name. IsTrue (is_name name)) path) }
+{
+    if text.is_empty() {
+        return Ok(Path {
+            names: PathNames::Root,
+        });
+    }
+    let Some((first, rest)) = text.split_once('/') else {
+        return path_of_one(alloc, text);
+    };
+    let Some((second, third)) = rest.split_once('/') else {
+        return path_of_two(alloc, first, rest);
+    };
+    let Some(_) = third.split_once('/') else {
+        return path_of_three(alloc, first, second, third);
+    };
+    path_of_many(alloc, text)
+}
+
+/// The path of one name.
+fn path_of_one(alloc: Global, text: &str) -> Result<Path, PathFault>
+    ensures first_fault { GivesPath result (path_of_pieces (text.now ∷ [])) }
+    ensures lawful { IfOk result (λ path. All (λ name. IsTrue (is_name name)) path) }
+{
+    let name = Name::parse(alloc, text)?;
+    Ok(Path {
+        names: PathNames::One(Arc::new(alloc, [name])?),
+    })
+}
+
+/// The path of two names.
+fn path_of_two(alloc: Global, text: &str, next: &str) -> Result<Path, PathFault>
+    ensures first_fault { GivesPath result (path_of_pieces (text.now ∷ next.now ∷ [])) }
+    ensures lawful { IfOk result (λ path. All (λ name. IsTrue (is_name name)) path) }
+{
+    let first = Name::parse(alloc, text)?;
+    let second = Name::parse(alloc, next)?;
+    Ok(Path {
+        names: PathNames::Two(Arc::new(alloc, [first, second])?),
+    })
+}
+
+/// The path of three names.
+fn path_of_three(alloc: Global, text: &str, next: &str, last: &str) -> Result<Path, PathFault>
+    ensures first_fault { GivesPath result
+        (path_of_pieces (text.now ∷ next.now ∷ last.now ∷ [])) }
+    ensures lawful { IfOk result (λ path. All (λ name. IsTrue (is_name name)) path) }
+{
+    let first = Name::parse(alloc, text)?;
+    let second = Name::parse(alloc, next)?;
+    let third = Name::parse(alloc, last)?;
+    Ok(Path {
+        names: PathNames::Three(Arc::new(alloc, [first, second, third])?),
+    })
+}
+
+/// The path of however many names.
+fn path_of_many(alloc: Global, text: &str) -> Result<Path, PathFault>
+    ensures first_fault { GivesPath result (path_behind text.now) }
+    ensures lawful { IfOk result (λ path. All (λ name. IsTrue (is_name name)) path) }
+{
+    path_of_names(names_of(alloc, text)?)
+}
+
 /// The path of these names, unless they are too many. The root takes no memory.
 fn path_of_names(names: Vec<Name>) -> Result<Path, PathFault>
     ensures first_fault { GivesPath result (no_deeper names.items) }
-    ensures faults { (fault : PathFault) → no_deeper names.items ≡ Err fault → result ≡ Err fault }
-    ensures memory { result ≡ Err PathFault.Memory → IsOk (no_deeper names.items) }
-    ensures root { length names.items ≡ 0 → IsOk result }
 {
     if names.len() > MOST_NAMES {
         return Err(PathFault::TooDeep);
     }
     if names.is_empty() {
-        return Ok(Path { names: None });
+        return Ok(Path {
+            names: PathNames::Root,
+        });
     }
     Ok(Path {
-        names: Some(ArcSlice::from_vec(names)?),
+        names: PathNames::More(ArcSlice::from_vec(names)?),
     })
 }
 

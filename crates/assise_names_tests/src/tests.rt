@@ -63,7 +63,7 @@ fn names_reply(alloc: Global, words: &str) -> Option<Reply> {
         names.push(Name::parse(alloc, word).ok()?).ok()?;
     }
     if NameList::ascend(&names) {
-        Some(Reply::Names(NameList::from_vec(names)))
+        Some(Reply::Names(NameList::from_vec(alloc, names).ok()?))
     } else {
         None
     }

@@ -1,11 +1,10 @@
-use Rattle.std.proofs.Common.{◌≡◌, ◌∙◌, [], ℕ, lit<, sym, ap, subst, List, Result, Ok, Err, IfOk, inr}
+use Rattle.std.proofs.Common.{◌≡◌, ◌∙◌, [], lit<, sym, ap, subst, Ok, Err, inr}
 use Rattle.std.proofs.lemmas.Str.Pattern.{strip_prefix_char}
 use Rattle.std.proofs.lemmas.Result.{err_from_is_err_and}
-use Rattle.assise_names.specs.Path.{GivesPath, SpellsPath, no_deeper, path_of}
-use Rattle.assise_names.specs.declared.path.PathFault.{PathFault}
+use Rattle.assise_names.specs.Path.{SpellsPath, path_of}
 use Rattle.assise_names.specs.declared.path.PathFault.TheVariants.{Memory, NotAbsolute}
-use Rattle.assise_names.proofs.PathLemmas.{behind_a_slash, few_names, no_slash, path_kind, same_names}
-use Rattle.assise_names.proofs.Spellings.{spelled}
+use Rattle.assise_names.proofs.PathLemmas.{behind_a_slash, no_slash, path_kind}
+use Rattle.assise_names.proofs.Spellings.{spelled_behind}
 use Rattle.assise_names.proofs.path.path_of.Goals as goal
 
 pub returns-in_default-clause-first_fault : goal.returns-in_default-clause-first_fault
@@ -26,15 +25,8 @@ returns-in_err-check-in-Err-Memory-clause-memory c =
     let y = err_from_is_err_and c.from_residual.result c.from_residual.ensures.1 in
     λ is. absurd (path_kind c.args.text.now (c.in_err-check-in-Err-Memory.ensures.first_fault ∙ ap Err (sym y.2 ∙ (let both : Err y.0 ≡ Err Memory = sym y.1 ∙ is in cc))))
 
-spelled_if : (r : Result (List (List ℕ)) PathFault) (names : List (List ℕ)) (text : List ℕ) → GivesPath r (no_deeper names) → (no_deeper names ≡ Ok names → SpellsPath text names) → IfOk r (SpellsPath text)
-spelled_if (Ok path) names text h f =
-    let same = same_names names path h in
-    subst (SpellsPath text) (sym same) (f (h ∙ ap Ok same))
-spelled_if (Err e) names text h f = tt
-
 pub returns-in-Ok-clause-spelled : goal.returns-in-Ok-clause-spelled
 returns-in-Ok-clause-spelled c =
     let text = behind_a_slash c.args.text.now c.strip_prefix.result c.in-Some.rest (strip_prefix_char 47 _ _ c.strip_prefix.ensures.cases (lit< tt)) c.in-Some.is in
-    let names = c.in-Ok.names.items in
-    spelled_if c.path_of_names.result names c.args.text.now c.path_of_names.ensures.first_fault
-    (λ few. subst (λ t. SpellsPath t names) (sym text) (spelled c.in-Some.rest.now names c.in-Ok.ensures.first_fault c.in-Ok.ensures.lawful (few_names names few)))
+    let path = c.in-Ok.path in
+    subst (λ t. SpellsPath t path) (sym text) (spelled_behind c.in-Some.rest.now path c.in-Ok.ensures.first_fault c.in-Ok.ensures.lawful)

@@ -1,0 +1,55 @@
+-- Paths of one to three names, and of more.
+use Rattle.std.proofs.Common.{◌≡◌, ◌==◌, ◌∷◌, [], ◌∙◌, ℕ, Bool, false, List, Result, Ok, Err, IfOk, All, IsTrue, length, ap, sym, subst}
+use Rattle.std.specs.List.{slice_split}
+use Rattle.assise_names.specs.Name.{is_name, name_of}
+use Rattle.assise_names.specs.Path.{◌>>=◌, GivesPath, no_deeper, path_behind, path_of_pieces, pieces_as_names}
+use Rattle.assise_names.specs.declared.path.PathFault.{PathFault}
+use Rattle.assise_names.proofs.PathLemmas.{behind, not_cut}
+
+-- ---- a fault of a name is the path's
+
+pub no_first : (p : List ℕ) (pieces : List (List ℕ)) (e : PathFault) → name_of p ≡ Err e → path_of_pieces (p ∷ pieces) ≡ Err e
+no_first p pieces e h = ap (λ r. (r >>= λ name. pieces_as_names pieces >>= λ names. Ok (name ∷ names)) >>= no_deeper) h
+
+-- after a name that is one
+after : (p n : List ℕ) (pieces : List (List ℕ)) → name_of p ≡ Ok n → path_of_pieces (p ∷ pieces) ≡ ((pieces_as_names pieces >>= λ names. Ok (n ∷ names)) >>= no_deeper)
+after p n pieces h = ap (λ r. (r >>= λ name. pieces_as_names pieces >>= λ names. Ok (name ∷ names)) >>= no_deeper) h
+
+pub no_second : (p q n : List ℕ) (pieces : List (List ℕ)) (e : PathFault) → name_of p ≡ Ok n → name_of q ≡ Err e → path_of_pieces (p ∷ q ∷ pieces) ≡ Err e
+no_second p q n pieces e first h =
+    after p n (q ∷ pieces) first
+    ∙ ap (λ r. ((r >>= λ name. pieces_as_names pieces >>= λ names. Ok (name ∷ names)) >>= λ names. Ok (n ∷ names)) >>= no_deeper) h
+
+pub no_third : (p q r n m : List ℕ) (pieces : List (List ℕ)) (e : PathFault) → name_of p ≡ Ok n → name_of q ≡ Ok m → name_of r ≡ Err e → path_of_pieces (p ∷ q ∷ r ∷ pieces) ≡ Err e
+no_third p q r n m pieces e first second h =
+    after p n (q ∷ r ∷ pieces) first
+    ∙ ap (λ o. ((o >>= λ name. pieces_as_names (r ∷ pieces) >>= λ names. Ok (name ∷ names)) >>= λ names. Ok (n ∷ names)) >>= no_deeper) second
+    ∙ ap (λ o. (((o >>= λ name. pieces_as_names pieces >>= λ names. Ok (name ∷ names)) >>= λ names. Ok (m ∷ names)) >>= λ names. Ok (n ∷ names)) >>= no_deeper) h
+
+-- ---- names that are
+
+pub one_named : (p n : List ℕ) → name_of p ≡ Ok n → path_of_pieces (p ∷ []) ≡ Ok (n ∷ [])
+one_named p n first = after p n [] first
+
+pub two_named : (p q n m : List ℕ) → name_of p ≡ Ok n → name_of q ≡ Ok m → path_of_pieces (p ∷ q ∷ []) ≡ Ok (n ∷ m ∷ [])
+two_named p q n m first second =
+    after p n (q ∷ []) first
+    ∙ ap (λ o. ((o >>= λ name. Ok (name ∷ [])) >>= λ names. Ok (n ∷ names)) >>= no_deeper) second
+
+pub three_named : (p q r n m k : List ℕ) → name_of p ≡ Ok n → name_of q ≡ Ok m → name_of r ≡ Ok k → path_of_pieces (p ∷ q ∷ r ∷ []) ≡ Ok (n ∷ m ∷ k ∷ [])
+three_named p q r n m k first second third =
+    after p n (q ∷ r ∷ []) first
+    ∙ ap (λ o. ((o >>= λ name. pieces_as_names (r ∷ []) >>= λ names. Ok (name ∷ names)) >>= λ names. Ok (n ∷ names)) >>= no_deeper) second
+    ∙ ap (λ o. (((o >>= λ name. Ok (name ∷ [])) >>= λ names. Ok (m ∷ names)) >>= λ names. Ok (n ∷ names)) >>= no_deeper) third
+
+-- ---- the pieces of a text
+
+pub of_pieces : (bs : List ℕ) (b : Bool) → b ≡ (length bs == 0) → b ≡ false → (pieces : List (List ℕ)) → slice_split (λ b. b == 47) bs ≡ pieces → path_behind bs ≡ path_of_pieces pieces
+of_pieces bs b e f pieces cut = ap (λ r. r >>= no_deeper) (behind bs b e f) ∙ ap path_of_pieces cut
+
+-- ---- however many names
+
+-- what names have that are made to a path
+pub all_lawful : (r : Result (List (List ℕ)) PathFault) (names : List (List ℕ)) → GivesPath r (no_deeper names) → All (λ name. IsTrue (is_name name)) names → IfOk r (λ path. All (λ name. IsTrue (is_name name)) path)
+all_lawful (Ok path) names h lawful = subst (All (λ name. IsTrue (is_name name))) (sym (not_cut names path h)) lawful
+all_lawful (Err e) names h lawful = tt
