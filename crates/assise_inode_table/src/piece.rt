@@ -174,7 +174,7 @@ fn copied(alloc: Global, names: &[Name], more: usize) -> Result<Vec<Name>, Alloc
 {
     let mut copied = Vec::with_capacity(alloc, names.len().saturating_add(more))?;
     for name in names {
-        copied.push(name.clone()?)?;
+        copied.push_reserved(name.clone()?);
     }
     Ok(copied)
 }
