@@ -89,7 +89,7 @@ impl Directory {
         for piece in &self.pieces {
             piece.list(&mut names)?;
         }
-        Ok(NameList::from_vec(names))
+        NameList::from_vec(alloc, names)
     }
 
     /// Whether an entry of a new name may be made: a name that is there is [`TreeError::Exists`], and a directory of

@@ -4,6 +4,7 @@ use Rattle.std.specs.FinMap as map
 use Rattle.std.specs.Cmp.Lexicographic.{slice_cmp}
 use Rattle.std.specs.List.Sorted.{IsStrictlySortedBy}
 use Rattle.std.proofs.lemmas.List.{take_all}
+use Rattle.std.proofs.lemmas.Result.{IfOk-weaker}
 use Rattle.assise_inode_table.specs.Pieces.{live, slots_in}
 use Rattle.assise_inode_table.proofs.PieceSlots.{listed_pieces, listed_all, listed_sorted}
 use Rattle.assise_inode_table.proofs.directory.Directory.names.Goals as goal
@@ -22,6 +23,4 @@ from_vec-requires c = subst (IsStrictlySortedBy (slice_cmp nat_cmp)) (sym (all_l
 
 pub returns-clause-names : goal.returns-clause-names
 returns-clause-names c =
-    c.from_vec.ensures ∙ c.loop-piece.invariant
-    ∙ ap (λ ps. keys_of (live (slots_in ps))) (take_all c.loop-piece.piece-index c.deref-piece-items.result.now c.loop-piece-test.false ∙ c.deref-piece-items.ensures.value)
-    ∙ sym (listed_all c.self.inside.pieces.items c.self.invariant.ascend) ∙ ap map.keys c.self.view_is
+    IfOk-weaker c.from_vec.result _ _ (λ names e. e ∙ all_listed c ∙ sym (listed_all c.self.inside.pieces.items c.self.invariant.ascend) ∙ ap map.keys c.self.view_is) c.from_vec.ensures.names
