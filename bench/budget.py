@@ -72,7 +72,7 @@ BUDGETS = (
     # A stat behind 20,000 others, to one behind none.
     ("before", many_calls_before, 1.05),
     # A create in a directory that gets 4,000 entries, to one where it gets 500.
-    ("directory", large_directory, 1.70),
+    ("directory", large_directory, 1.15),
     # Processor time of eight clients with threads, to that on one thread, on one node.
     ("threads", threads_on_one_node, 4.0),
     # The same on four nodes, where calls wait for frames.
