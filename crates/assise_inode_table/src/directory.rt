@@ -120,6 +120,7 @@ impl Directory {
         self.split(&name)?;
         match self.put(name, inode)? {
             None => Ok(()),
+            // It isn't reached: each half has room.
             Some(_) => Err(Refusal::OutOfMemory),
         }
     }
@@ -132,6 +133,8 @@ impl Directory {
         ensures only_memory { IsOkUnless result OutOfMemory }
     {
         if self.pieces.is_empty() {
+            // Most directories stay small: a vector's first growth would make room for four pieces.
+            self.pieces.reserve_exact(1)?;
             self.pieces.push(Piece::of_one(self.alloc, name, inode)?)?;
             self.len = 1;
             return Ok(None);

@@ -7,11 +7,17 @@ use Rattle.assise_inode_table.specs.Pieces.{Adds, Ascend, IsDirectory, IsGapFor,
 use Rattle.assise_inode_table.proofs.PieceSlots.{nothing_at, one_entry, piece_ascend, read_piece, got_none, got_slot, added_links, added_ascend, added_count, count_any, full_gone, gone_count, not_below, put_slot, set_ascend, set_filled}
 use Rattle.assise_inode_table.proofs.directory.Directory.put.Goals as goal
 
+pub returns-in_err-reserve_exact-clause-asked : goal.returns-in_err-reserve_exact-clause-asked
+returns-in_err-reserve_exact-clause-asked c =
+    let ps = c.self.inside.pieces.items in
+    let empty : length ps ≡ 0 = search (arith, rules, tests) in
+    on_err c.from_residual.result _ (ap (λ m. map.get m c.args.name) (sym c.self.view_is) ∙ nothing_at c.args.name ps empty)
+
 pub returns-in_err-of_one-clause-asked : goal.returns-in_err-of_one-clause-asked
 returns-in_err-of_one-clause-asked c =
     let ps = c.self.inside.pieces.items in
     let empty : length ps ≡ 0 = search (arith, rules, tests) in
-    on_err c.from_residual.result _ (ap (λ m. map.get m c.args.name) (sym c.self.view_is) ∙ nothing_at c.args.name ps empty)
+    on_err c.from_residual-in_err-of_one.result _ (ap (λ m. map.get m c.args.name) (sym c.self.view_is) ∙ nothing_at c.args.name ps empty)
 
 pub returns-in_err-push-clause-asked : goal.returns-in_err-push-clause-asked
 returns-in_err-push-clause-asked c =
@@ -23,7 +29,7 @@ pub invariant_of-self-then-is_empty : goal.invariant_of-self-then-is_empty
 invariant_of-self-then-is_empty c =
     let ps = c.self.inside.pieces.items in
     let empty : length ps ≡ 0 = search (arith, rules, tests) in
-    let is = c.in_ok-push.ensures.items ∙ ap (λ qs. qs ++ c.in_ok-of_one.field-0 ∷ []) (nil_from_length ps empty) ∙ ap (λ p. p ∷ []) c.in_ok-of_one.ensures in
+    let is = c.in_ok-push.ensures.items ∙ ap (λ qs. qs ++ c.in_ok-of_one.field-0 ∷ []) (c.reserve_exact.ensures.items ∙ nil_from_length ps empty) ∙ ap (λ p. p ∷ []) c.in_ok-of_one.ensures in
     subst (λ qs. IsDirectory qs 1) (sym is) (one_entry c.args.name c.args.inode)
 
 pub find-requires : goal.find-requires
