@@ -4,7 +4,7 @@ ghost use Rattle.std.specs.Prelude.{◌≡◌, IfSome, None};
 ghost use Rattle.assise_keeper.specs.Clients.{MayOpenClients};
 ghost use Rattle.assise_keeper.specs.Passes.{IsPassOf, client, opens};
 
-use crate::begun::{calls_in, revokers};
+use crate::begun::{calls_in, lent, revokers};
 use crate::runs::TURNS;
 use assise_keeper::keeper::Keeper;
 use assise_keeper::pass::Pass;
@@ -47,7 +47,7 @@ fn last_reply<R: Wait>(
     let calls = calls_in(alloc, lines)?;
     let durability = Durability::Pessimistic;
     let libfs = LibFs::open(rt, alloc, keeper, pass, 1, revoker, durability, TURNS).ok()?;
-    let list = ClientList::new(alloc, libfs, calls).ok()?;
+    let list = ClientList::new(alloc, libfs, lent(alloc, calls.as_slice())?).ok()?;
     let mut end = list.serve(rt, alloc, SIZES.nodes, &OpenGate);
     end.replies.pop()?.ok()
 }
