@@ -98,20 +98,20 @@ fn count_answered(ends: &[ClientEnd<'_, Cluster>]) -> usize {
     count
 }
 
-fn serve<G: Gate, R: Threads + Wait + Sync>(
-    rt: &R,
+fn serve<'a, G: Gate, R: Threads + Wait + Sync>(
+    rt: &'a R,
     alloc: Global,
-    keeper: &Keeper<Cluster>,
+    keeper: &'a Keeper<Cluster>,
     main: &mut Pass<Cluster>,
     revokers: &mut Vec<Revoker>,
-    gate: &G,
+    gate: &'a G,
     clients: &Clients<'_>,
+    calls: &'a [Vec<Op>],
 ) -> Option<usize>
     requires { IsPassOf keeper.now main.old × MayOpenClients (opens main.old) }
 {
     let nodes = workers_up_to(alloc, keeper, main, clients.nodes).ok()?;
-    let calls = calls_of_all(alloc, clients.scripts)?;
-    let lists = lists_of(rt, alloc, keeper, main, revokers, clients, calls.as_slice())?;
+    let lists = lists_of(rt, alloc, keeper, main, revokers, clients, calls)?;
     let ends = run_cluster(rt, alloc, nodes, gate, lists).ok()?;
     Some(count_answered(ends.as_slice()))
 }
@@ -125,8 +125,12 @@ pub(crate) fn answered<G: Gate, R: Threads + Wait + Sync>(
     gate: &G,
     clients: &Clients<'_>,
 ) -> Option<usize> {
+    let calls = calls_of_all(alloc, clients.scripts)?;
     let (keeper, mut main) = Keeper::new(alloc, cluster).ok()?;
-    let count = serve(rt, alloc, &keeper, &mut main, revokers, gate, clients);
+    let calls = calls.as_slice();
+    let count = serve(
+        rt, alloc, &keeper, &mut main, revokers, gate, clients, calls,
+    );
     keeper.close()?;
     count
 }
