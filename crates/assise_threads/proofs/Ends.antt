@@ -12,7 +12,7 @@ use Rattle.assise_libfs.specs.Clients.{IsSameClient, client_of, keeper_of, limit
 use Rattle.assise_libfs.specs.declared.libfs.LibFs.{LibFs}
 use Rattle.assise_workers.specs.declared.serving.ClientEnd.{ClientEnd}
 use Rattle.assise_workers.specs.declared.serving.ClientList.{ClientList}
-use Rattle.assise_workers.specs.Serving.{HasServed}
+use Rattle.assise_workers.specs.Serving.{HasServed, calls_of_list}
 use Rattle.assise_workers.specs.Told.{SeesAll}
 use Rattle.assise_machine.specs.declared.cluster.ClusterOf.{ClusterOf}
 use Rattle.assise_workers.specs.ClusterTurns.{cluster_acts, cluster_history}
@@ -129,7 +129,7 @@ module _ {C : Type 0} (stretch : List NumberedCommand) where
     client = subst (λ y. IsSameClient y e.libfs) has.same served.client;
     sees = subst (λ y. SeesAll (TurnedThere (limit_of y)) (client_of y) (calls_in (client_of l) stretch) (seen_by y) e.replies.items (seen_by e.libfs)) has.same
         (subst (λ ops. SeesAll (TurnedThere (limit_of x.libfs)) (client_of x.libfs) ops (seen_by x.libfs) e.replies.items (seen_by e.libfs)) has.calls
-        (sees_of C (limit_of x.libfs) (client_of x.libfs) x.calls.items (seen_by x.libfs) e.replies.items (seen_by e.libfs) served.sees));
+        (sees_of C (limit_of x.libfs) (client_of x.libfs) (calls_of_list x) (seen_by x.libfs) e.replies.items (seen_by e.libfs) served.sees));
   }
 
   pub all_make : (ls : List (LibFs (ClusterOf C))) (lists : List (ClientList (ClusterOf C))) (ends : List (ClientEnd (ClusterOf C))) → AllZip (HasCalls stretch) ls lists → AllZip (HasServed cluster_history cluster_acts) lists ends → AllZip (MakesCalls stretch) ls ends

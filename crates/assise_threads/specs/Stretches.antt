@@ -18,6 +18,7 @@ use Rattle.assise_libfs.specs.declared.libfs.LibFs.{LibFs}
 use Rattle.assise_workers.specs.declared.serving.ClientEnd.{ClientEnd}
 use Rattle.assise_workers.specs.declared.serving.ClientList.{ClientList}
 use Rattle.assise_threads.specs.declared.outcomes.Outcomes.{Outcomes}
+use Rattle.assise_workers.specs.Serving.{calls_of_list}
 use Rattle.assise_workers.specs.Told.{SeesAll, told_all}
 use Rattle.assise_threads.specs.ClientTurns.{TurnedThere}
 use Rattle.assise_threads.specs.Runs.{IsSaid}
@@ -51,7 +52,7 @@ AreCalls (l ∷ ls) = IsClientCall l.command × AreCalls ls
 -- the list is this client with its calls of the stretch
 pub record HasCalls {S : Type 0} (stretch : List NumberedCommand) (libfs : LibFs S) (list : ClientList S) : Type 0 where
   pub same : list.libfs ≡ libfs
-  pub calls : list.calls.items ≡ calls_in (client_of libfs) stretch
+  pub calls : calls_of_list list ≡ calls_in (client_of libfs) stretch
 
 -- the client made its calls of the stretch, in order, each in the turns that it has, and the end has what came of each
 pub record MakesCalls {S : Type 0} (stretch : List NumberedCommand) (libfs : LibFs S) (end : ClientEnd S) : Type 0 where

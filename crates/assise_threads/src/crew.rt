@@ -117,7 +117,7 @@ impl<'a> Crew<'a> {
         mut self,
         rt: &'a R,
         alloc: Global,
-        commands: &[NumberedCommand],
+        commands: &'a [NumberedCommand],
         writer: &mut W,
     ) -> Result<(), EngineFault>
         requires { main_seen self.main ≡ machine_begun commands.now }
@@ -144,7 +144,7 @@ impl<'a> Crew<'a> {
         rt: &'a R,
         alloc: Global,
         clients: &mut Vec<LibFs<'a, Cluster>>,
-        commands: &[NumberedCommand],
+        commands: &'a [NumberedCommand],
         writer: &mut W,
     ) -> Result<(), EngineFault>
         requires nothing_seen { (main_seen self.old.main).history ≡ [] }
@@ -172,7 +172,7 @@ impl<'a> Crew<'a> {
         rt: &'a R,
         alloc: Global,
         clients: &mut Vec<LibFs<'a, Cluster>>,
-        commands: &[NumberedCommand],
+        commands: &'a [NumberedCommand],
         writer: &mut W,
     ) -> Result<usize, EngineFault>
         requires some { 1 ≤ length commands.now }
@@ -204,7 +204,7 @@ impl<'a> Crew<'a> {
         rt: &'a R,
         alloc: Global,
         clients: &mut Vec<LibFs<'a, Cluster>>,
-        stretch: &[NumberedCommand],
+        stretch: &'a [NumberedCommand],
         writer: &mut W,
     ) -> Result<(), EngineFault>
         requires calls { AreCalls stretch.now }

@@ -1,5 +1,5 @@
 // The calls of clients among commands that stand together.
-ghost use Rattle.std.specs.Prelude.{◌≡◌, IfOk, IsOkUnless};
+ghost use Rattle.std.specs.Prelude.{◌≡◌, IfOk, IsOkUnless, map};
 ghost use Rattle.std.specs.List.{AllZip};
 ghost use Rattle.assise_names.specs.declared.refusal.Refusal.TheVariants.{OutOfMemory};
 ghost use Rattle.assise_threads.specs.Said.{calls_in};
@@ -14,16 +14,21 @@ use assise_names::refusal::Refusal;
 use assise_workers::serving::ClientList;
 use std::alloc::Global;
 
-/// The calls of a client among commands, in order.
-fn calls_of(alloc: Global, stretch: &[NumberedCommand], client: u32) -> Result<Vec<Op>, Refusal>
-    ensures calls { IfOk result (λ calls. calls.items ≡ calls_in client stretch.now) }
+/// The calls of a client among commands, in order, which are lent.
+fn calls_of<'a>(
+    alloc: Global,
+    stretch: &'a [NumberedCommand],
+    client: u32,
+) -> Result<Vec<&'a Op>, Refusal>
+    ensures calls { IfOk result (λ calls. map (λ op. op.now) calls.items ≡
+        calls_in client stretch.now) }
     ensures only_memory { IsOkUnless result OutOfMemory }
 {
     let mut calls = Vec::new(alloc);
     for line in stretch {
         if let Command::Call { client: caller, op } = &line.command {
             if *caller == u64::from(client) {
-                calls.push(op.copy()?)?;
+                calls.push(op)?;
             }
         }
     }
@@ -34,7 +39,7 @@ fn calls_of(alloc: Global, stretch: &[NumberedCommand], client: u32) -> Result<V
 fn list_of<'a>(
     alloc: Global,
     libfs: LibFs<'a, Cluster>,
-    stretch: &[NumberedCommand],
+    stretch: &'a [NumberedCommand],
 ) -> Result<ClientList<'a, Cluster>, Refusal>
     ensures list { IfOk result (λ list. HasCalls stretch.now libfs.entry list) }
     ensures only_memory { IsOkUnless result OutOfMemory }
@@ -50,7 +55,7 @@ fn list_of<'a>(
 pub(crate) fn lists_of<'a>(
     alloc: Global,
     clients: Vec<LibFs<'a, Cluster>>,
-    stretch: &[NumberedCommand],
+    stretch: &'a [NumberedCommand],
 ) -> Result<Vec<ClientList<'a, Cluster>>, Refusal>
     ensures lists { IfOk result (λ lists.
         AllZip (HasCalls stretch.now) clients.entry.items lists.items) }

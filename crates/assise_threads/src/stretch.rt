@@ -87,7 +87,7 @@ pub(crate) fn serve<'a, W: Write, R: Threads + Wait + Sync>(
     last: u32,
     gate: &'a OpenGate,
     clients: Vec<LibFs<'a, Cluster>>,
-    stretch: &[NumberedCommand],
+    stretch: &'a [NumberedCommand],
     writer: &mut W,
 ) -> Result<Vec<LibFs<'a, Cluster>>, EngineFault>
     requires calls { AreCalls stretch.now }

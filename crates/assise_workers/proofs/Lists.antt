@@ -1,5 +1,6 @@
 -- What follows of lists of calls.
-use Rattle.std.proofs.Common.{◌≡◌, ℕ, suc, ◌+◌, List, [], ◌∷◌, ◌++◌, length, sym, refl, ap, ◌∙◌, subst, arith, append_assoc, append-nil, add-zero, length-append, Result, Ok, Err}
+use Rattle.std.proofs.Common.{◌≡◌, ℕ, suc, ◌+◌, ◌<◌, List, [], ◌∷◌, ◌++◌, length, map, take, get_or, sym, refl, ap, ◌∙◌, subst, arith, append_assoc, append-nil, add-zero, length-append, Result, Ok, Err, Bor}
+use Rattle.std.proofs.lemmas.List.{map-append, take_more}
 use Rattle.std.specs.Prelude.{IfErr, IfOk}
 use Rattle.assise_names.specs.declared.call.Op.{Op}
 use Rattle.assise_names.specs.declared.refusal.Refusal.{Refusal}
@@ -14,6 +15,10 @@ use Rattle.assise_workers.specs.Told.{AreCallsMade, IsCallMade, SeesAll, told_al
 
 pub extends-on : (d b a : List EntryValue) → Extends d b → Extends b a → Extends d a
 extends-on d b a e f = (f.0 ++ e.0, e.1 ∙ (ap (λ z. z ++ e.0) f.1 ∙ append_assoc a f.0 e.0))
+
+-- one more of values that are lent
+pub lent_more : {A : Type 0} (xs : List (Bor A)) (i : ℕ) (d : Bor A) → i < length xs → map (λ x. x.now) (take (i + 1) xs) ≡ map (λ x. x.now) (take i xs) ++ (get_or xs i d).now ∷ []
+lent_more xs i d within = ap (map (λ x. x.now)) (take_more xs i d within) ∙ map-append (λ x. x.now) (take i xs) (get_or xs i d ∷ [])
 
 -- two facts of a value that came
 pub both_ok : {X E : Type 0} (P Q R : X → Type 0) (r : Result X E) → ((x : X) → P x → Q x → R x) → IfOk r P → IfOk r Q → IfOk r R

@@ -14,15 +14,20 @@ const BRIEF_TURNS: u32 = 64;
 /// nothing wake nobody, so their records come together in a frame.
 const NAP_MICROS: u64 = 500;
 
-/// How long a worker of one node waits, in microseconds. Clients that help make its turns while it sleeps.
-const LONG_NAP_MICROS: u64 = 2000;
+/// How long a worker of one node waits at first, in microseconds. Clients that help make its turns while it sleeps, so each time it waits
+/// twice as long.
+const FIRST_NAP_MICROS: u64 = 10_000;
 
-/// How many turns in a row a worker found nothing to do, after how many it sleeps, and how long.
+/// The longest that it waits, in microseconds.
+const LONGEST_NAP_MICROS: u64 = 40_000;
+
+/// How many turns in a row a worker found nothing to do, after how many it sleeps, and how long next and at most.
 #[derive(Drop)]
 pub(crate) struct Idle {
     turns: u32,
     brief: u32,
-    nap_micros: u64,
+    next_nap: u64,
+    longest_nap: u64,
 }
 
 impl Idle {
@@ -31,7 +36,8 @@ impl Idle {
         Idle {
             turns: 0,
             brief: BRIEF_TURNS,
-            nap_micros: NAP_MICROS,
+            next_nap: NAP_MICROS,
+            longest_nap: NAP_MICROS,
         }
     }
 
@@ -40,8 +46,14 @@ impl Idle {
         Idle {
             turns: 0,
             brief: 0,
-            nap_micros: LONG_NAP_MICROS,
+            next_nap: FIRST_NAP_MICROS,
+            longest_nap: LONGEST_NAP_MICROS,
         }
+    }
+
+    /// Comes before the first turn: a worker of one node waits until something happened since the count was read, or for its first nap.
+    pub(crate) fn begin<R: Wait>(&self, rt: &R, progress: &EventCount, read: u64) {
+        progress.wait(rt, read, Duration::from_micros(self.next_nap));
     }
 
     /// Leaves the state to others behind a turn, before which the count was read. It answers whether the worker goes on. Where the turn
@@ -71,7 +83,8 @@ impl Idle {
             self.turns += 1;
             thread::yield_now();
         } else {
-            progress.wait(rt, read, Duration::from_micros(self.nap_micros));
+            progress.wait(rt, read, Duration::from_micros(self.next_nap));
+            self.next_nap = self.next_nap.saturating_mul(2).min(self.longest_nap);
         }
     }
 }

@@ -7,6 +7,7 @@ ghost use Rattle.assise_machine.specs.Following.{IsWork, led_by, worked_by};
 ghost use Rattle.assise_model_events.specs.Events.{Answer, ClusterEvent, deliver, digest, outgoing, release_ready, released};
 ghost use Rattle.assise_model_events.specs.Happenings.{Happens};
 
+use assise_digest::region::Region;
 use assise_history::growing::Growing;
 use assise_lease_table::revoker::Revokes;
 use assise_machine::cluster::ClusterOf;
@@ -46,6 +47,10 @@ pub trait Replicated: Growing {
         ensures unchanged { Self.Growing.history self.new ≡ Self.Growing.history self.old }
         ensures acts { acts self.old release_ready (released result) self.new };
 
+    /// How many records more a client's log at a node has room for: none where there is no such log. It only says when to digest, so
+    /// nothing is promised of it.
+    fn spare(&self, node: u32, client: u32) -> usize;
+
     ghost acts_lead: { (s : Self) (e : ClusterEvent) (a : Answer) (t : Self) → acts s e a t
         → Self.Growing.leads s t };
 
@@ -82,4 +87,20 @@ impl<C: Revokes + Drop> Replicated for ClusterOf<C> {
     fn release_ready(&mut self) -> usize {
         ClusterOf::release_ready(self)
     }
+
+    fn spare(&self, node: u32, client: u32) -> usize {
+        match ClusterOf::region(self, node) {
+            Ok(region) => spare_at(region, client),
+            Err(_) => 0,
+        }
+    }
+}
+
+/// How many records more a client's log has room for at a node: none where the node has no such log.
+fn spare_at(region: &Region, client: u32) -> usize {
+    let client = client as usize;
+    if client < 1 || region.clients() < client {
+        return 0;
+    }
+    region.log(client).spare()
 }

@@ -98,11 +98,13 @@ impl<'a, S: Replicated> Worker<'a, S> {
             (seen_at self.old) (seen_at self.new) }
     {
         let mut idle = Idle::of_one();
+        idle.begin(rt, self.keeper.progress(), self.begun);
         for _ in rt.forever() {
+            // The end of a run sets the gate and then counts on, so that no worker sleeps through it.
+            let read = self.keeper.progress().read();
             if !gate.pass(Point::Turn) {
                 return;
             }
-            let read = self.keeper.progress().read();
             let end = self.replicate_turn(rt, alloc, node, link, gate);
             self.keeper.wake_one();
             if !idle.rest(rt, self.keeper.progress(), read, end) {

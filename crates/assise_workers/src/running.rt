@@ -9,6 +9,7 @@ use crate::nodes::NodeWorkers;
 use crate::replicated::Replicated;
 use crate::serving::{ClientEnd, ClientList};
 use assise_history::growing::Growing;
+use assise_keeper::keeper::Keeper;
 use assise_libfs::served::Served;
 use assise_machine::cluster::Cluster;
 use std::alloc::Global;
@@ -148,6 +149,22 @@ fn last_node<S: Growing>(nodes: &[NodeWorkers<'_, S>]) -> u32 {
     nodes.last().map_or(0, |workers| workers.node)
 }
 
+/// The keeper of these nodes' workers, if there are some.
+fn keeper_of<'e, S: Growing>(nodes: &[NodeWorkers<'e, S>]) -> Option<&'e Keeper<S>> {
+    match nodes.first() {
+        Some(workers) => Some(workers.digester.keeper),
+        None => None,
+    }
+}
+
+/// Ends the workers: those that sleep are woken, and find the flag.
+fn end_workers<S: Growing>(keeper: Option<&Keeper<S>>, done: &Arc<AtomicBool, Global>) {
+    done.store(true, Ordering::SeqCst);
+    if let Some(keeper) = keeper {
+        keeper.progress().advance();
+    }
+}
+
 /// Starts the workers of all nodes.
 fn start_all_workers<'s, 'e: 's, S: Replicated + Send, G: Gate, R: Threads + Wait + Sync>(
     scope: &Scope<'s, &'e ()>,
@@ -206,11 +223,12 @@ fn run_until<'a, G: Gate, R: Threads + Wait + Sync>(
                 lists.entry.items ends.items) }
         {
             let last = last_node(nodes.as_slice());
+            let keeper = keeper_of(nodes.as_slice());
             let ended = match start_all_workers(scope, rt, alloc, nodes, gate, &done) {
                 Ok(()) => run_clients(scope, rt, alloc, lists, last, gate),
                 Err(fault) => Err(fault),
             };
-            done.store(true, Ordering::SeqCst);
+            end_workers(keeper, &done);
             ended
         },
     )

@@ -1,5 +1,5 @@
 // A client's list of calls.
-ghost use Rattle.std.specs.Prelude.{◌≡◌, ◌≤◌, [], length, vec_capacity, vec_len};
+ghost use Rattle.std.specs.Prelude.{◌≡◌, ◌≤◌, [], length, map, vec_capacity, vec_len};
 ghost use Rattle.assise_libfs.specs.Clients.{IsSameClient, client_of, limit_of, seen_by};
 ghost use Rattle.assise_workers.specs.Told.{SeesAll, Turned};
 
@@ -20,8 +20,8 @@ use std::sync::Wait;
 pub struct ClientList<'a, S: Growing> {
     /// The client.
     pub libfs: LibFs<'a, S>,
-    /// Its calls, in order.
-    pub calls: Vec<Op>,
+    /// Its calls, in order. They are lent, so no thread touches the counts of who else shares their names and bytes.
+    pub calls: Vec<&'a Op>,
     room: Vec<Result<Reply, Refusal>>,
     ghost empty: { room.items ≡ [] },
     ghost enough: { vec_len calls ≤ vec_capacity room },
@@ -45,11 +45,11 @@ impl<'a, S: Served> ClientList<'a, S> {
     pub fn new(
         alloc: Global,
         libfs: LibFs<'a, S>,
-        calls: Vec<Op>,
-    ) -> Result<ClientList<'a, S>, (Refusal, LibFs<'a, S>, Vec<Op>)>
+        calls: Vec<&'a Op>,
+    ) -> Result<ClientList<'a, S>, (Refusal, LibFs<'a, S>, Vec<&'a Op>)>
         ensures libfs { IfOk result (λ list. list.libfs ≡ libfs.entry) }
-        ensures calls { IfOk result (λ list. list.calls ≡ calls) }
-        ensures refused { IfErr result (λ back. back ≡ (OutOfMemory, libfs.entry, calls)) }
+        ensures calls { IfOk result (λ list. list.calls ≡ calls.entry) }
+        ensures refused { IfErr result (λ back. back ≡ (OutOfMemory, libfs.entry, calls.entry)) }
     {
         match Vec::with_capacity(alloc, calls.len()) {
             Ok(room) => Ok(ClientList { libfs, calls, room }),
@@ -79,7 +79,7 @@ impl<'a, S: Served + Replicated> ClientList<'a, S> {
         } = self;
         let mut helper = Helper::new(&mut libfs, last, gate);
         let replies = make_calls(rt, alloc, &mut libfs, calls.as_slice(), room, &mut helper);
-        helper.end();
+        helper.end(rt, alloc);
         ClientEnd { libfs, replies }
     }
 }
@@ -89,7 +89,7 @@ fn make_calls<S: Served + Replicated, G: Gate, R: Wait>(
     rt: &R,
     alloc: Global,
     libfs: &mut LibFs<'_, S>,
-    calls: &[Op],
+    calls: &[&Op],
     mut replies: Vec<Result<Reply, Refusal>>,
     helper: &mut Helper<'_, '_, S, G>,
 ) -> Vec<Result<Reply, Refusal>>
@@ -97,14 +97,21 @@ fn make_calls<S: Served + Replicated, G: Gate, R: Wait>(
     requires room { length calls.now ≤ vec_capacity replies }
     ensures same { IsSameClient libfs.old libfs.new }
     ensures sees { SeesAll (Turned S.Growing.history S.Served.acts (limit_of libfs.old))
-        (client_of libfs.old) calls.now (seen_by libfs.old) result.items (seen_by libfs.new) }
+        (client_of libfs.old) (map (λ op. op.now) calls.now) (seen_by libfs.old) result.items
+        (seen_by libfs.new) }
 {
     for op in calls {
+        let syncs = is_sync(op);
         let reply = libfs.call_meanwhile(rt, alloc, op, |waited| {
-            helper.behind_try(rt, alloc, waited);
+            helper.behind_try(rt, alloc, syncs, waited);
         });
         replies.push_reserved(reply);
         helper.behind_call(rt, alloc);
     }
     replies
+}
+
+/// Whether a call waits for its client's records to be replicated.
+fn is_sync(op: &Op) -> bool {
+    matches!(op, Op::Fsync | Op::Dsync)
 }

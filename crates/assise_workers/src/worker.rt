@@ -10,6 +10,7 @@ use assise_keeper::keeper::Keeper;
 use assise_keeper::pass::Pass;
 use assise_keeper::worker_pass::WorkerPass;
 use assise_names::refusal::Refusal;
+use std::sync::Wait;
 
 /// What a turn of a worker came to.
 #[derive(Clone, Copy, PartialEq, Eq, Debug)]
@@ -51,6 +52,8 @@ impl TurnEnd {
 pub struct Worker<'a, S: Growing> {
     pub(crate) keeper: &'a Keeper<S>,
     pub(crate) pass: WorkerPass<S>,
+    /// How often something had happened for which threads wait, when the worker was made.
+    pub(crate) begun: u64,
     ghost ours: { IsPassOf keeper.now (pass_of pass) },
 }
 
@@ -79,6 +82,19 @@ impl<'a, S: Replicated> Worker<'a, S> {
         ensures seen { seen_at result ≡ seen pass }
     {
         let pass = WorkerPass::new(pass);
-        Worker { keeper, pass }
+        let begun = keeper.progress().read();
+        Worker {
+            keeper,
+            pass,
+            begun,
+        }
+    }
+
+    /// How many records more a client's log at a node has room for, as far as is known.
+    pub(crate) fn spare<R: Wait>(&mut self, rt: &R, node: u32, client: u32) -> usize {
+        let mut held = self.pass.take(rt, self.keeper);
+        let spare = held.state().spare(node, client);
+        self.pass.give(self.keeper, held);
+        spare
     }
 }

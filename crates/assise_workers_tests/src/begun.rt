@@ -22,6 +22,15 @@ pub(crate) fn calls_in(alloc: Global, lines: &str) -> Option<Vec<Op>> {
     Some(calls)
 }
 
+/// Calls, each lent.
+pub(crate) fn lent<'a>(alloc: Global, calls: &'a [Op]) -> Option<Vec<&'a Op>> {
+    let mut lent = Vec::with_capacity(alloc, calls.len()).ok()?;
+    for op in calls {
+        lent.push(op).ok()?;
+    }
+    Some(lent)
+}
+
 /// A revoker of the least cut.
 pub(crate) fn revoker(alloc: Global) -> Option<Revoker> {
     let cut: Box<dyn Fn(&LogView, u64) -> u64 + Send> = Box::new(alloc, least).ok()?;

@@ -4,7 +4,7 @@ ghost use Rattle.std.specs.Prelude.{◌≡◌, IfSome, None};
 ghost use Rattle.assise_keeper.specs.Clients.{MayOpenClients};
 ghost use Rattle.assise_keeper.specs.Passes.{IsPassOf, client, opens};
 
-use crate::begun::{calls_in, revokers};
+use crate::begun::{calls_in, lent, revokers};
 use crate::runs::TURNS;
 use assise_keeper::keeper::Keeper;
 use assise_keeper::pass::Pass;
@@ -12,6 +12,7 @@ use assise_keeper_renewal::renewal::renewed_keeper;
 use assise_lease_table::revoker::Revoker;
 use assise_libfs::libfs::LibFs;
 use assise_machine::cluster::Cluster;
+use assise_names::call::Op;
 use assise_names::durability::Durability;
 use assise_names::reply::Reply;
 use assise_renewal::renewal::Sizes;
@@ -32,19 +33,19 @@ const SIZES: Sizes = Sizes {
     hot: 4,
 };
 
-/// A client on node 1 makes the calls of lines: what came of the last.
-fn last_reply<R: Wait>(
+/// A client on node 1 makes these calls: what came of the last.
+fn last_reply<'a, R: Wait>(
     rt: &R,
     alloc: Global,
-    keeper: &Keeper<Cluster>,
+    keeper: &'a Keeper<Cluster>,
     pass: Pass<Cluster>,
     revoker: Revoker,
-    lines: &str,
+    calls: &'a [Op],
 ) -> Option<Reply>
     requires pass { IsPassOf keeper.now pass × (client pass ≡ None) }
     requires right { MayOpenClients (opens pass) }
 {
-    let calls = calls_in(alloc, lines)?;
+    let calls = lent(alloc, calls)?;
     let durability = Durability::Pessimistic;
     let libfs = LibFs::open(rt, alloc, keeper, pass, 1, revoker, durability, TURNS).ok()?;
     let list = ClientList::new(alloc, libfs, calls).ok()?;
@@ -83,14 +84,15 @@ fn next_kept<R: Wait>(
 
 /// What the last calls of both clients came to. None where memory runs out.
 pub(crate) fn renewed_once<R: Wait>(rt: &R, alloc: Global) -> Option<(Reply, Reply)> {
+    let (first, second) = (calls_in(alloc, MADE)?, calls_in(alloc, FOUND)?);
     let mut revokers = revokers(alloc, 3)?;
     let (one, two, three) = (revokers.pop()?, revokers.pop()?, revokers.pop()?);
     let cluster = Cluster::new(alloc, SIZES.nodes, 64, 64).ok()?;
     let (keeper, mut main) = kept(alloc, cluster)?;
     let opener = keeper.split_sharing(&mut main);
-    let made = last_reply(rt, alloc, &keeper, opener, one, MADE);
+    let made = last_reply(rt, alloc, &keeper, opener, one, first.as_slice());
     let (keeper, main) = next_kept(rt, alloc, keeper, main, two)?;
-    let found = last_reply(rt, alloc, &keeper, main, three, FOUND);
+    let found = last_reply(rt, alloc, &keeper, main, three, second.as_slice());
     keeper.close()?;
     Some((made?, found?))
 }

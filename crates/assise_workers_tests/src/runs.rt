@@ -3,12 +3,13 @@ ghost use Rattle.std.specs.Prelude.{◌≡◌};
 ghost use Rattle.assise_keeper.specs.Clients.{MayOpenClients};
 ghost use Rattle.assise_keeper.specs.Passes.{IsPassOf, opens};
 
-use crate::begun::calls_in;
+use crate::begun::{calls_in, lent};
 use assise_keeper::keeper::Keeper;
 use assise_keeper::pass::Pass;
 use assise_lease_table::revoker::Revoker;
 use assise_libfs::libfs::LibFs;
 use assise_machine::cluster::Cluster;
+use assise_names::call::Op;
 use assise_names::durability::Durability;
 use assise_workers::gate::Gate;
 use assise_workers::nodes::workers_up_to;
@@ -32,7 +33,16 @@ pub(crate) struct Clients<'a> {
     pub(crate) scripts: &'a str,
 }
 
-/// Opens a client on a node, with a revoker and the calls of lines.
+/// The calls of all clients. None where a line has none, or memory runs out.
+fn calls_of_all(alloc: Global, scripts: &str) -> Option<Vec<Vec<Op>>> {
+    let mut all = Vec::new(alloc);
+    for lines in scripts.split("\n\n") {
+        all.push(calls_in(alloc, lines)?).ok()?;
+    }
+    Some(all)
+}
+
+/// Opens a client on a node, with a revoker and its calls.
 fn list_of<'a, R: Wait>(
     rt: &R,
     alloc: Global,
@@ -41,13 +51,13 @@ fn list_of<'a, R: Wait>(
     node: u32,
     revoker: Revoker,
     durability: Durability,
-    lines: &str,
+    calls: &'a [Op],
 ) -> Option<ClientList<'a, Cluster>>
     requires { IsPassOf keeper.now main.old × MayOpenClients (opens main.old) }
     ensures { IsPassOf keeper.now main.new × MayOpenClients (opens main.new) }
 {
     let pass = keeper.split_sharing(main);
-    let calls = calls_in(alloc, lines)?;
+    let calls = lent(alloc, calls)?;
     let libfs = LibFs::open(rt, alloc, keeper, pass, node, revoker, durability, TURNS).ok()?;
     ClientList::new(alloc, libfs, calls).ok()
 }
@@ -60,16 +70,18 @@ fn lists_of<'a, R: Wait>(
     main: &mut Pass<Cluster>,
     revokers: &mut Vec<Revoker>,
     clients: &Clients<'_>,
+    calls: &'a [Vec<Op>],
 ) -> Option<Vec<ClientList<'a, Cluster>>>
     requires { IsPassOf keeper.now main.old × MayOpenClients (opens main.old) }
     ensures { IsPassOf keeper.now main.new × MayOpenClients (opens main.new) }
 {
     let mut lists = Vec::new(alloc);
     let mut node = 0_u32;
-    for lines in clients.scripts.split("\n\n") {
+    for own in calls {
         node = if node < clients.nodes { node + 1 } else { 1 };
         let (revoker, durability) = (revokers.pop()?, clients.durability);
-        let list = list_of(rt, alloc, keeper, main, node, revoker, durability, lines)?;
+        let own = own.as_slice();
+        let list = list_of(rt, alloc, keeper, main, node, revoker, durability, own)?;
         lists.push(list).ok()?;
     }
     Some(lists)
@@ -86,19 +98,20 @@ fn count_answered(ends: &[ClientEnd<'_, Cluster>]) -> usize {
     count
 }
 
-fn serve<G: Gate, R: Threads + Wait + Sync>(
-    rt: &R,
+fn serve<'a, G: Gate, R: Threads + Wait + Sync>(
+    rt: &'a R,
     alloc: Global,
-    keeper: &Keeper<Cluster>,
+    keeper: &'a Keeper<Cluster>,
     main: &mut Pass<Cluster>,
     revokers: &mut Vec<Revoker>,
-    gate: &G,
+    gate: &'a G,
     clients: &Clients<'_>,
+    calls: &'a [Vec<Op>],
 ) -> Option<usize>
     requires { IsPassOf keeper.now main.old × MayOpenClients (opens main.old) }
 {
     let nodes = workers_up_to(alloc, keeper, main, clients.nodes).ok()?;
-    let lists = lists_of(rt, alloc, keeper, main, revokers, clients)?;
+    let lists = lists_of(rt, alloc, keeper, main, revokers, clients, calls)?;
     let ends = run_cluster(rt, alloc, nodes, gate, lists).ok()?;
     Some(count_answered(ends.as_slice()))
 }
@@ -112,8 +125,12 @@ pub(crate) fn answered<G: Gate, R: Threads + Wait + Sync>(
     gate: &G,
     clients: &Clients<'_>,
 ) -> Option<usize> {
+    let calls = calls_of_all(alloc, clients.scripts)?;
     let (keeper, mut main) = Keeper::new(alloc, cluster).ok()?;
-    let count = serve(rt, alloc, &keeper, &mut main, revokers, gate, clients);
+    let calls = calls.as_slice();
+    let count = serve(
+        rt, alloc, &keeper, &mut main, revokers, gate, clients, calls,
+    );
     keeper.close()?;
     count
 }
