@@ -14,13 +14,12 @@ loop-piece-preserved c =
     c.in_ok-list.ensures.ok ∙ ap (λ ks. ks ++ keys_of (live c.piece-item.result)) c.loop-piece.invariant
     ∙ sym (listed_pieces c.deref-piece-items.result.now c.loop-piece.piece-index c.piece-item.result c.loop-piece-test.true c.piece-item.is)
 
-all_listed : (c : goal.After-loop-piece) → c.loop-piece.names.items ≡ keys_of (live (slots_in c.self.inside.pieces.items))
-all_listed c =
-    c.loop-piece.invariant ∙ ap (λ ps. keys_of (live (slots_in ps))) (take_all c.loop-piece.piece-index c.deref-piece-items.result.now c.loop-piece-test.false ∙ c.deref-piece-items.ensures.value)
-
 pub from_vec-requires : goal.from_vec-requires
-from_vec-requires c = subst (IsStrictlySortedBy (slice_cmp nat_cmp)) (sym (all_listed c)) (listed_sorted c.self.inside.pieces.items c.self.invariant.ascend)
+from_vec-requires c =
+    let all = c.loop-piece.invariant ∙ ap (λ ps. keys_of (live (slots_in ps))) (take_all c.loop-piece.piece-index c.deref-piece-items.result.now c.loop-piece-test.false ∙ c.deref-piece-items.ensures.value) in
+    record { ascending = subst (IsStrictlySortedBy (slice_cmp nat_cmp)) (sym all) (listed_sorted c.self.inside.pieces.items c.self.invariant.ascend) }
 
 pub returns-clause-names : goal.returns-clause-names
 returns-clause-names c =
-    IfOk-weaker c.from_vec.result _ _ (λ names e. e ∙ all_listed c ∙ sym (listed_all c.self.inside.pieces.items c.self.invariant.ascend) ∙ ap map.keys c.self.view_is) c.from_vec.ensures.names
+    let all = c.loop-piece.invariant ∙ ap (λ ps. keys_of (live (slots_in ps))) (take_all c.loop-piece.piece-index c.deref-piece-items.result.now c.loop-piece-test.false ∙ c.deref-piece-items.ensures.value) in
+    IfOk-weaker c.from_vec.result _ _ (λ names e. e ∙ all ∙ sym (listed_all c.self.inside.pieces.items c.self.invariant.ascend) ∙ ap map.keys c.self.view_is) c.from_vec.ensures.names
