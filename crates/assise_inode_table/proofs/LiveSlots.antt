@@ -10,12 +10,12 @@ use Rattle.std.specs.FinMap as map
 use Rattle.std.specs.FinMap.{IsAntisymmetric}
 use Rattle.std.proofs.lemmas.List.{map-append}
 use Rattle.std.proofs.lemmas.List.Concat.{flat_map-append}
-use Rattle.assise_inode_table.specs.Pieces.{Slot, entry_of, live}
+use Rattle.assise_inode_table.specs.Pieces.{Slot, live_entry, live}
 use Rattle.assise_inode_table.proofs.MapView.{get-view, insert-view, remove-view, keys-view, length-keys}
 use Rattle.assise_inode_table.proofs.KeyOrder.{all_weaker, below_next, above_head, sorted_right, sorted_between, turned}
 
 pub live-append : (xs ys : List Slot) → live (xs ++ ys) ≡ live xs ++ live ys
-live-append xs ys = flat_map-append (λ s. entry_of s.0 s.1) xs ys
+live-append xs ys = flat_map-append (λ s. live_entry s.0 s.1) xs ys
 
 pub keys-append : {X : Type 0} (xs ys : List (List ℕ × X)) → keys_of (xs ++ ys) ≡ keys_of xs ++ keys_of ys
 keys-append xs ys = map-append (λ e. e.0) xs ys
@@ -70,39 +70,39 @@ module _ {R : List ℕ → List ℕ → Ordering} (o : IsTotalOrder R) (same : I
   none_behind k xs zs p =
       nowhere k (live zs) (live_all (λ y. is_at (R k) y ≡ false) zs (all_weaker (λ key. R k key ≡ Less) (λ y. is_at (R k) y ≡ false) (keys_of zs) (λ y h. ap is_eq h) p.greater))
 
-  here : (k : List ℕ) (link : Option ℕ) → lookup (is_at (R k)) (entry_of k link) ≡ link
+  here : (k : List ℕ) (link : Option ℕ) → lookup (is_at (R k)) (live_entry k link) ≡ link
   here k None = refl
   here k (Some inode) = ap (λ b. cond b (Some inode) None) (ap is_eq (tied_itself o k))
 
-  elsewhere : (q k : List ℕ) (link : Option ℕ) → is_at (R q) k ≡ false → lookup (is_at (R q)) (entry_of k link) ≡ None
+  elsewhere : (q k : List ℕ) (link : Option ℕ) → is_at (R q) k ≡ false → lookup (is_at (R q)) (live_entry k link) ≡ None
   elsewhere q k None h = refl
   elsewhere q k (Some inode) h = ap (λ b. cond b (Some inode) None) h
 
-  found : (k : List ℕ) (link : Option ℕ) (xs zs : List Slot) → Parts R k xs zs → lookup (is_at (R k)) (live xs ++ (entry_of k link ++ live zs)) ≡ link
+  found : (k : List ℕ) (link : Option ℕ) (xs zs : List Slot) → Parts R k xs zs → lookup (is_at (R k)) (live xs ++ (live_entry k link ++ live zs)) ≡ link
   found k link xs zs p =
-      lookup_middle (is_at (R k)) (live xs) (entry_of k link) (live zs)
-      ∙ ap (λ a. option_or a (option_or (lookup (is_at (R k)) (entry_of k link)) (lookup (is_at (R k)) (live zs)))) (none_before k xs zs p)
+      lookup_middle (is_at (R k)) (live xs) (live_entry k link) (live zs)
+      ∙ ap (λ a. option_or a (option_or (lookup (is_at (R k)) (live_entry k link)) (lookup (is_at (R k)) (live zs)))) (none_before k xs zs p)
       ∙ ap (λ a. option_or a (lookup (is_at (R k)) (live zs))) (here k link)
       ∙ ap (option_or link) (none_behind k xs zs p)
       ∙ or_none link
 
   other : (q k : List ℕ) (link : Option ℕ) (xs zs : List Slot) → is_at (R q) k ≡ false
-      → lookup (is_at (R q)) (live xs ++ (entry_of k link ++ live zs)) ≡ option_or (lookup (is_at (R q)) (live xs)) (lookup (is_at (R q)) (live zs))
+      → lookup (is_at (R q)) (live xs ++ (live_entry k link ++ live zs)) ≡ option_or (lookup (is_at (R q)) (live xs)) (lookup (is_at (R q)) (live zs))
   other q k link xs zs h =
-      lookup_middle (is_at (R q)) (live xs) (entry_of k link) (live zs)
+      lookup_middle (is_at (R q)) (live xs) (live_entry k link) (live zs)
       ∙ ap (λ a. option_or (lookup (is_at (R q)) (live xs)) (option_or a (lookup (is_at (R q)) (live zs)))) (elsewhere q k link h)
 
   changed : (k : List ℕ) (old new : Option ℕ) (xs zs : List Slot) → Parts R k xs zs → (q : List ℕ)
-      → lookup (is_at (R q)) (live xs ++ (entry_of k new ++ live zs)) ≡ cond (is_at (R k) q) new (lookup (is_at (R q)) (live xs ++ (entry_of k old ++ live zs)))
+      → lookup (is_at (R q)) (live xs ++ (live_entry k new ++ live zs)) ≡ cond (is_at (R k) q) new (lookup (is_at (R q)) (live xs ++ (live_entry k old ++ live zs)))
   changed k old new xs zs p q = go (is_at (R k) q) refl
     where
-      go : (b : Bool) → is_at (R k) q ≡ b → lookup (is_at (R q)) (live xs ++ (entry_of k new ++ live zs)) ≡ cond b new (lookup (is_at (R q)) (live xs ++ (entry_of k old ++ live zs)))
-      go true e = subst (λ q. lookup (is_at (R q)) (live xs ++ (entry_of k new ++ live zs)) ≡ new) (same k q (tied (R k q) e)) (found k new xs zs p)
+      go : (b : Bool) → is_at (R k) q ≡ b → lookup (is_at (R q)) (live xs ++ (live_entry k new ++ live zs)) ≡ cond b new (lookup (is_at (R q)) (live xs ++ (live_entry k old ++ live zs)))
+      go true e = subst (λ q. lookup (is_at (R q)) (live xs ++ (live_entry k new ++ live zs)) ≡ new) (same k q (tied (R k q) e)) (found k new xs zs p)
       go false e =
           let apart = (eq_by_cmp_equiv o).symm q k ∙ e in
           other q k new xs zs apart ∙ sym (other q k old xs zs apart)
 
-  at_slot : (k : List ℕ) (link : Option ℕ) (xs zs : List Slot) → live (xs ++ (k, link) ∷ zs) ≡ live xs ++ (entry_of k link ++ live zs)
+  at_slot : (k : List ℕ) (link : Option ℕ) (xs zs : List Slot) → live (xs ++ (k, link) ∷ zs) ≡ live xs ++ (live_entry k link ++ live zs)
   at_slot k link xs zs = live-append xs ((k, link) ∷ zs)
 
   -- what the map has at a slot's name, and at one in a gap
@@ -117,14 +117,14 @@ module _ {R : List ℕ → List ℕ → Ordering} (o : IsTotalOrder R) (same : I
       → map.from_entries {R = R} (live (xs ++ (k, Some v) ∷ zs)) ≡ map.insert (map.from_entries (live (xs ++ (k, old) ∷ zs))) k v
   slot_linked k old v xs zs p =
       ap (map.from_entries {R = R}) (at_slot k (Some v) xs zs)
-      ∙ insert-view o same (live xs ++ (entry_of k old ++ live zs)) (live xs ++ (entry_of k (Some v) ++ live zs)) k v (changed k old (Some v) xs zs p)
+      ∙ insert-view o same (live xs ++ (live_entry k old ++ live zs)) (live xs ++ (live_entry k (Some v) ++ live zs)) k v (changed k old (Some v) xs zs p)
       ∙ ap (λ es. map.insert (map.from_entries {R = R} es) k v) (sym (at_slot k old xs zs))
 
   pub gap_linked : (k : List ℕ) (v : ℕ) (xs zs : List Slot) → Parts R k xs zs
       → map.from_entries {R = R} (live (xs ++ (k, Some v) ∷ zs)) ≡ map.insert (map.from_entries (live (xs ++ zs))) k v
   gap_linked k v xs zs p =
       ap (map.from_entries {R = R}) (at_slot k (Some v) xs zs)
-      ∙ insert-view o same (live xs ++ live zs) (live xs ++ (entry_of k (Some v) ++ live zs)) k v (changed k None (Some v) xs zs p)
+      ∙ insert-view o same (live xs ++ live zs) (live xs ++ (live_entry k (Some v) ++ live zs)) k v (changed k None (Some v) xs zs p)
       ∙ ap (λ es. map.insert (map.from_entries {R = R} es) k v) (sym (live-append xs zs))
 
   -- a slot whose entry goes, and a name that has none
@@ -132,7 +132,7 @@ module _ {R : List ℕ → List ℕ → Ordering} (o : IsTotalOrder R) (same : I
       → map.from_entries {R = R} (live (xs ++ (k, None) ∷ zs)) ≡ map.remove (map.from_entries (live (xs ++ (k, old) ∷ zs))) k
   slot_unlinked k old xs zs p =
       ap (map.from_entries {R = R}) (at_slot k None xs zs)
-      ∙ remove-view o same (live xs ++ (entry_of k old ++ live zs)) (live xs ++ live zs) k (changed k old None xs zs p)
+      ∙ remove-view o same (live xs ++ (live_entry k old ++ live zs)) (live xs ++ live zs) k (changed k old None xs zs p)
       ∙ ap (λ es. map.remove (map.from_entries {R = R} es) k) (sym (at_slot k old xs zs))
 
   -- the slots on both sides of one
@@ -159,9 +159,9 @@ module _ {R : List ℕ → List ℕ → Ordering} (o : IsTotalOrder R) (same : I
   live_count slots s = length-keys o (live slots) (live_sorted R slots s)
 
 -- ---- how many entries there are
-pub count_slot : (k : List ℕ) (link : Option ℕ) (xs zs : List Slot) → length (live (xs ++ (k, link) ∷ zs)) ≡ length (live xs) + (length (entry_of k link) + length (live zs))
+pub count_slot : (k : List ℕ) (link : Option ℕ) (xs zs : List Slot) → length (live (xs ++ (k, link) ∷ zs)) ≡ length (live xs) + (length (live_entry k link) + length (live zs))
 count_slot k link xs zs =
-    ap length (live-append xs ((k, link) ∷ zs)) ∙ length-append (live xs) (entry_of k link ++ live zs) ∙ ap (λ n. length (live xs) + n) (length-append (entry_of k link) (live zs))
+    ap length (live-append xs ((k, link) ∷ zs)) ∙ length-append (live xs) (live_entry k link ++ live zs) ∙ ap (λ n. length (live xs) + n) (length-append (live_entry k link) (live zs))
 
 pub count_gap : (xs zs : List Slot) → length (live (xs ++ zs)) ≡ length (live xs) + length (live zs)
 count_gap xs zs = ap length (live-append xs zs) ∙ length-append (live xs) (live zs)

@@ -7,7 +7,7 @@ use Rattle.std.specs.Cmp.Lexicographic.{slice_cmp}
 use Rattle.std.proofs.lemmas.List.{length-set, length-append, length-take, length-drop, drop_all, take_all}
 use Rattle.std.proofs.lemmas.List.Edits.{length-insert}
 use Rattle.std.proofs.lemmas.List.Elements.{All-append, All-cons, All-take, All-drop, All-set}
-use Rattle.assise_inode_table.specs.Pieces.{Slot, live, slots_in, links_in, piece_at, name_at, link_at, Ascend, AreFilled}
+use Rattle.assise_inode_table.specs.Pieces.{Slot, live, slots_in, links_in, piece_at, slot_name, slot_link, Ascend, AreFilled}
 use Rattle.assise_inode_table.proofs.KeyOrder.{sorted_without}
 use Rattle.assise_inode_table.proofs.LiveSlots.{live-append, keys-append}
 use Rattle.assise_inode_table.proofs.PieceSlots.{three_parts, slots-append, insert_filled}

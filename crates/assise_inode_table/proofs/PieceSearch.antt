@@ -14,7 +14,7 @@ use Rattle.std.proofs.lemmas.List.{length-set, length-append, length-take, lengt
 use Rattle.std.proofs.lemmas.List.Edits.{length-insert}
 use Rattle.std.proofs.lemmas.List.Elements.{recursion_from_All}
 use borrow.Rule.Slice.PartMut.{put_mid, mid_of, post_of}
-use Rattle.assise_inode_table.specs.Pieces.{Slot, entry_of, live, name_at, link_at, IsSlotOf, IsGapFor}
+use Rattle.assise_inode_table.specs.Pieces.{Slot, live_entry, live, slot_name, slot_link, IsSlotOf, IsGapFor}
 use Rattle.assise_inode_table.proofs.KeyOrder.{turned_back}
 use Rattle.assise_inode_table.proofs.LiveSlots.{live-append, keys-append}
 use Rattle.assise_inode_table.proofs.PieceChanges.{length-side, keys-side, name-side, link-side, set-side, side-append, insert-side, part-side}
@@ -94,23 +94,23 @@ module _ (ns : List (List ℕ)) (ls : List (Option ℕ)) (few : length ns ≤ le
   one_more =
       let inside : at < length (zip ns ls) = omega (arith, length-side ns ls few) in
       take_more (zip ns ls) at ([], None) inside
-      ∙ ap (λ n. take at (zip ns ls) ++ (n, link_at (zip ns ls) at) ∷ []) (name-side ns ls at [] None h few)
+      ∙ ap (λ n. take at (zip ns ls) ++ (n, slot_link (zip ns ls) at) ∷ []) (name-side ns ls at [] None h few)
       ∙ ap (λ l. take at (zip ns ls) ++ (get_or ns at [], l) ∷ []) (link-side ns ls at [] None inside)
 
-  live_more : live (take (at + 1) (zip ns ls)) ≡ live (take at (zip ns ls)) ++ entry_of (get_or ns at []) (get_or ls at None)
+  live_more : live (take (at + 1) (zip ns ls)) ≡ live (take at (zip ns ls)) ++ live_entry (get_or ns at []) (get_or ls at None)
   live_more =
       ap live one_more ∙ live-append (take at (zip ns ls)) ((get_or ns at [], get_or ls at None) ∷ [])
-      ∙ ap (λ es. live (take at (zip ns ls)) ++ es) (append-nil (entry_of (get_or ns at []) (get_or ls at None)))
+      ∙ ap (λ es. live (take at (zip ns ls)) ++ es) (append-nil (live_entry (get_or ns at []) (get_or ls at None)))
 
   pub gone_more : get_or ls at None ≡ None → live (take at (zip ns ls)) ≡ [] → live (take (at + 1) (zip ns ls)) ≡ []
-  gone_more none gone = live_more ∙ ap (λ l. live (take at (zip ns ls)) ++ entry_of (get_or ns at []) l) none ∙ append-nil (live (take at (zip ns ls))) ∙ gone
+  gone_more none gone = live_more ∙ ap (λ l. live (take at (zip ns ls)) ++ live_entry (get_or ns at []) l) none ∙ append-nil (live (take at (zip ns ls))) ∙ gone
 
   pub listed_none : get_or ls at None ≡ None → keys_of (live (take (at + 1) (zip ns ls))) ≡ keys_of (live (take at (zip ns ls)))
-  listed_none none = ap keys_of (live_more ∙ ap (λ l. live (take at (zip ns ls)) ++ entry_of (get_or ns at []) l) none ∙ append-nil (live (take at (zip ns ls))))
+  listed_none none = ap keys_of (live_more ∙ ap (λ l. live (take at (zip ns ls)) ++ live_entry (get_or ns at []) l) none ∙ append-nil (live (take at (zip ns ls))))
 
   pub listed_some : (v : ℕ) → get_or ls at None ≡ Some v → keys_of (live (take (at + 1) (zip ns ls))) ≡ keys_of (live (take at (zip ns ls))) ++ get_or ns at [] ∷ []
   listed_some v some =
-      ap keys_of (live_more ∙ ap (λ l. live (take at (zip ns ls)) ++ entry_of (get_or ns at []) l) some) ∙ keys-append (live (take at (zip ns ls))) ((get_or ns at [], v) ∷ [])
+      ap keys_of (live_more ∙ ap (λ l. live (take at (zip ns ls)) ++ live_entry (get_or ns at []) l) some) ∙ keys-append (live (take at (zip ns ls))) ((get_or ns at [], v) ∷ [])
 
 pub take_side_all : (ns : List (List ℕ)) (ls : List (Option ℕ)) (at : ℕ) → length ns ≤ length ls → length ns ≤ at → take at (zip ns ls) ≡ zip ns ls
 take_side_all ns ls at few h = take_all at (zip ns ls) (omega (arith, length-side ns ls few))
@@ -119,8 +119,8 @@ take_side_all ns ls at few h = take_all at (zip ns ls) (omega (arith, length-sid
 pub slots_count : {K X : Type 0} (ns : List K) (ls : List X) (slots : List (K × X)) → zip ns ls ≡ slots → length ns ≤ 32 → length ls ≡ 32 → length slots ≡ length ns
 slots_count ns ls slots e few all = ap length (sym e) ∙ length-side ns ls (omega arith)
 
-pub link_is : (ns : List (List ℕ)) (ls : List (Option ℕ)) (slots : List Slot) (at : ℕ) → zip ns ls ≡ slots → at < length slots → get_or ls at None ≡ link_at slots at
-link_is ns ls slots at e h = sym (link-side ns ls at [] None (subst (λ s. at < length s) (sym e) h)) ∙ ap (λ s. link_at s at) e
+pub link_is : (ns : List (List ℕ)) (ls : List (Option ℕ)) (slots : List Slot) (at : ℕ) → zip ns ls ≡ slots → at < length slots → get_or ls at None ≡ slot_link slots at
+link_is ns ls slots at e h = sym (link-side ns ls at [] None (subst (λ s. at < length s) (sym e) h)) ∙ ap (λ s. slot_link s at) e
 
 pub put_length : {X : Type 0} (at : ℕ) (ls : List X) (l : X) (new : List X) → length ls ≡ 32 → at < 32 → new ≡ l ∷ take (length (mid_of at (32 - at) ls) - 1) (mid_of at (32 - at) ls)
     → length (put_mid at (32 - at) ls new) ≡ 32

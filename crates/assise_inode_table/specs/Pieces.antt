@@ -14,13 +14,13 @@ use Rattle.assise_inode_table.specs.Contents.{Links}
 abbrev pub Slot : Type 0
 Slot = List ℕ × Option ℕ
 
-abbrev pub entry_of : List ℕ → Option ℕ → List (List ℕ × ℕ)
-entry_of name None = []
-entry_of name (Some inode) = (name, inode) ∷ []
+abbrev pub live_entry : List ℕ → Option ℕ → List (List ℕ × ℕ)
+live_entry name None = []
+live_entry name (Some inode) = (name, inode) ∷ []
 
 -- the entries that aren't gone
 abbrev pub live : List Slot → List (List ℕ × ℕ)
-live slots = flat_map (λ s. entry_of s.0 s.1) slots
+live slots = flat_map (λ s. live_entry s.0 s.1) slots
 
 -- the slots of all pieces
 abbrev pub slots_in : List (List Slot) → List Slot
@@ -33,18 +33,18 @@ links_in pieces = map.from_entries (live (slots_in pieces))
 abbrev pub piece_at : List (List Slot) → ℕ → List Slot
 piece_at pieces i = slice_index_or pieces i []
 
-abbrev pub name_at : List Slot → ℕ → List ℕ
-name_at slots at = (slice_index_or slots at ([], None)).0
+abbrev pub slot_name : List Slot → ℕ → List ℕ
+slot_name slots at = (slice_index_or slots at ([], None)).0
 
-abbrev pub link_at : List Slot → ℕ → Option ℕ
-link_at slots at = (slice_index_or slots at ([], None)).1
+abbrev pub slot_link : List Slot → ℕ → Option ℕ
+slot_link slots at = (slice_index_or slots at ([], None)).1
 
 -- the slots before a place in a piece, and those from there on
-abbrev pub before : List (List Slot) → ℕ → ℕ → List Slot
-before pieces piece at = slots_in (take piece pieces) ++ take at (piece_at pieces piece)
+abbrev pub slots_before : List (List Slot) → ℕ → ℕ → List Slot
+slots_before pieces piece at = slots_in (take piece pieces) ++ take at (piece_at pieces piece)
 
-abbrev pub behind : List (List Slot) → ℕ → ℕ → List Slot
-behind pieces piece at = drop at (piece_at pieces piece) ++ slots_in (drop (suc piece) pieces)
+abbrev pub slots_behind : List (List Slot) → ℕ → ℕ → List Slot
+slots_behind pieces piece at = drop at (piece_at pieces piece) ++ slots_in (drop (suc piece) pieces)
 
 -- each name is below those after it
 abbrev pub Ascend : List Slot → Type 0
@@ -67,7 +67,7 @@ pub record IsDirectory (pieces : List (List Slot)) (count : ℕ) : Type 0 where
 -- a name stands at a place of a piece
 pub record IsSlotOf (name : List ℕ) (slots : List Slot) (at : ℕ) : Type 0 where
   pub within : at < length slots
-  pub named : name_at slots at ≡ name
+  pub named : slot_name slots at ≡ name
 
 -- a name would stand at a place of a piece
 pub record IsGapFor (name : List ℕ) (slots : List Slot) (at : ℕ) : Type 0 where
@@ -78,8 +78,8 @@ pub record IsGapFor (name : List ℕ) (slots : List Slot) (at : ℕ) : Type 0 wh
 -- a name belongs in a piece: the last whose first name isn't behind it, or the first
 pub record IsPieceFor (name : List ℕ) (pieces : List (List Slot)) (piece : ℕ) : Type 0 where
   pub within : piece < length pieces
-  pub from : 0 < piece → is_gt (slice_cmp nat_cmp (name_at (piece_at pieces piece) 0) name) ≡ false
-  pub until : suc piece < length pieces → is_gt (slice_cmp nat_cmp (name_at (piece_at pieces (suc piece)) 0) name) ≡ true
+  pub from : 0 < piece → is_gt (slice_cmp nat_cmp (slot_name (piece_at pieces piece) 0) name) ≡ false
+  pub until : suc piece < length pieces → is_gt (slice_cmp nat_cmp (slot_name (piece_at pieces (suc piece)) 0) name) ≡ true
 
 -- a name stands at a place of a piece among pieces
 pub record StandsAt (name : List ℕ) (pieces : List (List Slot)) (piece at : ℕ) : Type 0 where
@@ -87,9 +87,9 @@ pub record StandsAt (name : List ℕ) (pieces : List (List Slot)) (piece at : �
   pub slot : IsSlotOf name (piece_at pieces piece) at
 
 -- what a new name leaves of pieces: its slot stands at its place, or it is given back and they are as they were
-abbrev pub Adds : List (List Slot) → ℕ → ℕ → Slot → Option (List ℕ) → List (List Slot) → Type 0
-Adds old piece at slot None new = slots_in new ≡ before old piece at ++ slot ∷ behind old piece at
-Adds old piece at slot (Some name) new = (name ≡ slot.0) × (slots_in new ≡ slots_in old)
+abbrev pub AddsSlot : List (List Slot) → ℕ → ℕ → Slot → Option (List ℕ) → List (List Slot) → Type 0
+AddsSlot old piece at slot None new = slots_in new ≡ slots_before old piece at ++ slot ∷ slots_behind old piece at
+AddsSlot old piece at slot (Some name) new = (name ≡ slot.0) × (slots_in new ≡ slots_in old)
 
 -- what a new name leaves of a directory: it links to the inode, or it is given back and the directory is as it was
 abbrev pub Puts : Links → List ℕ → ℕ → Links → Option (List ℕ) → Type 0

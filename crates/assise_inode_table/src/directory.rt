@@ -3,7 +3,7 @@ ghost use Rattle.std.specs.Prelude.{◌≡◌, ◌+◌, ◌<◌, ◌≤◌, ◌=
 ghost use Rattle.std.specs.FinMap as map;
 ghost use Rattle.assise_names.specs.declared.refusal.Refusal.TheVariants.{OutOfMemory};
 ghost use Rattle.assise_inode_table.specs.Calls.{room_among};
-ghost use Rattle.assise_inode_table.specs.Pieces.{Adds, AreFilled, Ascend, IsGapFor, IsPieceFor, Puts, StandsAt, link_at, links_in, live, piece_at, slots_in};
+ghost use Rattle.assise_inode_table.specs.Pieces.{AddsSlot, AreFilled, Ascend, IsGapFor, IsPieceFor, Puts, StandsAt, slot_link, links_in, live, piece_at, slots_in};
 
 use crate::piece::{MOST_NAMES, Piece, shared};
 use assise_names::name::Name;
@@ -285,7 +285,8 @@ fn add(
     requires piece { piece < length pieces.old.items }
     requires at { at ≤ length (piece_at pieces.old.items piece) }
     requires filled { AreFilled pieces.old.items }
-    ensures ok { IfOk result (λ left. Adds pieces.old.items piece at (name, Some inode) left pieces.new.items) }
+    ensures ok { IfOk result (λ left. AddsSlot pieces.old.items piece at (name, Some inode) left
+        pieces.new.items) }
     ensures err { OnErr result (slots_in pieces.new.items ≡ slots_in pieces.old.items) }
     ensures filled { AreFilled pieces.new.items }
 {

@@ -4,7 +4,7 @@ ghost use Rattle.std.specs.Arc.{arc_value};
 ghost use Rattle.std.specs.List.{insert};
 ghost use Rattle.std.specs.Map.{keys_of};
 ghost use Rattle.assise_names.specs.declared.refusal.Refusal.TheVariants.{OutOfMemory};
-ghost use Rattle.assise_inode_table.specs.Pieces.{Ascend, IsGapFor, IsSlotOf, link_at, live, name_at};
+ghost use Rattle.assise_inode_table.specs.Pieces.{Ascend, IsGapFor, IsSlotOf, slot_link, live, slot_name};
 
 use assise_names::name::Name;
 use assise_names::refusal::Refusal;
@@ -54,7 +54,7 @@ impl Piece {
     /// The first name.
     pub fn first(&self) -> &Name
         requires { 0 < length self.now }
-        ensures { result.now ≡ name_at self.now 0 }
+        ensures { result.now ≡ slot_name self.now 0 }
     {
         &self.names.as_slice()[0]
     }
@@ -71,7 +71,7 @@ impl Piece {
     /// The inode that a name links to, if its entry isn't gone.
     pub fn link(&self, at: usize) -> Option<u64>
         requires { at < length self.now }
-        ensures { result ≡ link_at self.now at }
+        ensures { result ≡ slot_link self.now at }
     {
         match self.links.get(at) {
             Some(link) => *link,
@@ -82,7 +82,7 @@ impl Piece {
     /// Links a name to an inode, or lets its entry go.
     pub fn set(&mut self, at: usize, link: Option<u64>)
         requires { at < length self.old }
-        ensures { self.new ≡ set self.old at (name_at self.old at, link) }
+        ensures { self.new ≡ set self.old at (slot_name self.old at, link) }
     {
         set_link(&mut self.links, at, link);
     }
@@ -187,7 +187,8 @@ fn insert_name(
     name: Name,
 ) -> Result<(), AllocError>
     requires { at ≤ length (arc_value names.old).items }
-    ensures ok { OnOk result ((arc_value names.new).items ≡ insert (arc_value names.old).items at name) }
+    ensures ok { OnOk result ((arc_value names.new).items ≡ insert (arc_value names.old).items at
+        name) }
     ensures err { OnErr result ((arc_value names.new).items ≡ (arc_value names.old).items) }
 {
     if let Some(own) = Arc::get_mut(names) {

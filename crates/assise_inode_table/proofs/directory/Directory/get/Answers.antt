@@ -1,6 +1,6 @@
 use Rattle.std.proofs.Common.{◌∙◌, sym, ap, subst}
 use Rattle.std.specs.FinMap as map
-use Rattle.assise_inode_table.specs.Pieces.{StandsAt, link_at}
+use Rattle.assise_inode_table.specs.Pieces.{StandsAt, slot_link}
 use Rattle.assise_inode_table.proofs.PieceSlots.{got_slot, read_piece}
 use Rattle.assise_inode_table.proofs.directory.Directory.get.Goals as goal
 
@@ -11,5 +11,5 @@ returns-in-Some c =
     let at = c.in-Some.place.at in
     let name = c.args.name.now in
     let stands = subst (λ qs. StandsAt name qs w at) c.deref.ensures.value c.in-Some.ensures.there in
-    c.link.ensures ∙ ap (λ p. link_at p at) (read_piece ps w c.index.result.now stands.within c.index.ensures)
+    c.link.ensures ∙ ap (λ p. slot_link p at) (read_piece ps w c.index.result.now stands.within c.index.ensures)
     ∙ sym (got_slot name ps w at c.self.invariant.ascend stands) ∙ ap (λ m. map.get m name) c.self.view_is

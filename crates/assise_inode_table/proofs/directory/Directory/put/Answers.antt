@@ -3,7 +3,7 @@ use Rattle.std.specs.FinMap as map
 use Rattle.std.specs.Cmp.Lexicographic.{slice_cmp}
 use Rattle.std.proofs.lemmas.List.{nil_from_length}
 use Rattle.assise_inode_table.proofs.TableView.{on_err}
-use Rattle.assise_inode_table.specs.Pieces.{Adds, Ascend, IsDirectory, IsGapFor, IsPieceFor, IsSlotOf, StandsAt, link_at, live, name_at, piece_at}
+use Rattle.assise_inode_table.specs.Pieces.{AddsSlot, Ascend, IsDirectory, IsGapFor, IsPieceFor, IsSlotOf, StandsAt, slot_link, live, slot_name, piece_at}
 use Rattle.assise_inode_table.proofs.PieceSlots.{nothing_at, one_entry, piece_ascend, read_piece, got_none, got_slot, added_links, added_ascend, added_count, count_any, full_gone, gone_count, not_below, put_slot, set_ascend, set_filled}
 use Rattle.assise_inode_table.proofs.directory.Directory.put.Goals as goal
 
@@ -48,7 +48,7 @@ returns-in_default-clause-asked c =
     let name = c.args.name in
     let is = subst (λ qs. IsPieceFor name qs w) c.deref.ensures.value c.piece_of-piece.ensures in
     let stands : StandsAt name ps w at = record { within = is.within; slot = subst (λ p. IsSlotOf name p at) (read_piece ps w c.index.result.now is.within c.index.ensures) c.in-Ok.ensures.found } in
-    let old : c.link.result ≡ link_at (piece_at ps w) at = c.link.ensures ∙ ap (λ p. link_at p at) (read_piece ps w c.index-in-Ok.result.now is.within c.index-in-Ok.ensures) in
+    let old : c.link.result ≡ slot_link (piece_at ps w) at = c.link.ensures ∙ ap (λ p. slot_link p at) (read_piece ps w c.index-in-Ok.result.now is.within c.index-in-Ok.ensures) in
     let more = gone_count c.link.result c.is_none-gone.result c.from.result c.is_none-gone.ensures c.from.ensures in
     let full = not_below (c.self.inside.len + c.from.result) c.in_default.ensures in
     ap (λ m. map.get m name) (sym c.self.view_is) ∙ got_slot name ps w at c.self.invariant.ascend stands ∙ sym old ∙ full_gone c.link.result c.self.inside.len c.from.result more (search rules) full
@@ -62,9 +62,9 @@ invariant_of-self-in-Ok-1 c =
     let is = subst (λ qs. IsPieceFor name qs w) c.deref.ensures.value c.piece_of-piece.ensures in
     let stands : StandsAt name ps w at = record { within = is.within; slot = subst (λ p. IsSlotOf name p at) (read_piece ps w c.index.result.now is.within c.index.ensures) c.in-Ok.ensures.found } in
     let qs = set ps w c.set.new.self in
-    let new : qs ≡ set ps w (set (piece_at ps w) at (name_at (piece_at ps w) at, Some c.args.inode)) =
-    ap (set ps w) (c.set.ensures ∙ ap (λ p. set p at (name_at p at, Some c.args.inode)) (read_piece ps w c.index_mut.result.now is.within c.index_mut.ensures.value)) in
-    let old : c.link.result ≡ link_at (piece_at ps w) at = c.link.ensures ∙ ap (λ p. link_at p at) (read_piece ps w c.index-in-Ok.result.now is.within c.index-in-Ok.ensures) in
+    let new : qs ≡ set ps w (set (piece_at ps w) at (slot_name (piece_at ps w) at, Some c.args.inode)) =
+    ap (set ps w) (c.set.ensures ∙ ap (λ p. set p at (slot_name p at, Some c.args.inode)) (read_piece ps w c.index_mut.result.now is.within c.index_mut.ensures.value)) in
+    let old : c.link.result ≡ slot_link (piece_at ps w) at = c.link.ensures ∙ ap (λ p. slot_link p at) (read_piece ps w c.index-in-Ok.result.now is.within c.index-in-Ok.ensures) in
     let more = gone_count c.link.result c.is_none-gone.result c.from.result c.is_none-gone.ensures c.from.ensures in
     let len : c.in-Some.len ≡ c.self.inside.len + c.from.result = c.in-Some.ensures.1 in
     record {
@@ -82,8 +82,8 @@ returns-in-Some-clause-ok c =
     let is = subst (λ qs. IsPieceFor name qs w) c.deref.ensures.value c.piece_of-piece.ensures in
     let stands : StandsAt name ps w at = record { within = is.within; slot = subst (λ p. IsSlotOf name p at) (read_piece ps w c.index.result.now is.within c.index.ensures) c.in-Ok.ensures.found } in
     let qs = set ps w c.set.new.self in
-    let new : qs ≡ set ps w (set (piece_at ps w) at (name_at (piece_at ps w) at, Some c.args.inode)) =
-    ap (set ps w) (c.set.ensures ∙ ap (λ p. set p at (name_at p at, Some c.args.inode)) (read_piece ps w c.index_mut.result.now is.within c.index_mut.ensures.value)) in
+    let new : qs ≡ set ps w (set (piece_at ps w) at (slot_name (piece_at ps w) at, Some c.args.inode)) =
+    ap (set ps w) (c.set.ensures ∙ ap (λ p. set p at (slot_name p at, Some c.args.inode)) (read_piece ps w c.index_mut.result.now is.within c.index_mut.ensures.value)) in
     put_slot name ps qs w at stands c.args.inode c.self.invariant.ascend new ∙ ap (λ m. map.insert m name c.args.inode) c.self.view_is
 
 -- ---- where it would stand
@@ -113,7 +113,7 @@ invariant_of-self-in-None c =
     let name = c.args.name in
     let is = subst (λ qs. IsPieceFor name qs w) c.deref.ensures.value c.piece_of-piece.ensures in
     let gap = subst (λ p. IsGapFor name p at) (read_piece ps w c.index.result.now is.within c.index.ensures) c.in-Err.ensures.absent in
-    let new = subst (λ l. Adds ps w at (name, Some c.args.inode) l c.add.new.pieces.items) c.in-None.is c.in_ok-add-in-Err.ensures.ok in
+    let new = subst (λ l. AddsSlot ps w at (name, Some c.args.inode) l c.add.new.pieces.items) c.in-None.is c.in_ok-add-in-Err.ensures.ok in
     let len : c.in-Some-checked_add.len ≡ c.self.inside.len + 1 = c.in-Some-checked_add.ensures.1 in
     record {
       ascend = added_ascend name c.args.inode ps c.add.new.pieces.items w at c.self.invariant.ascend c.self.invariant.filled is gap new;
@@ -129,7 +129,7 @@ returns-in-None-clause-ok c =
     let name = c.args.name in
     let is = subst (λ qs. IsPieceFor name qs w) c.deref.ensures.value c.piece_of-piece.ensures in
     let gap = subst (λ p. IsGapFor name p at) (read_piece ps w c.index.result.now is.within c.index.ensures) c.in-Err.ensures.absent in
-    let new = subst (λ l. Adds ps w at (name, Some c.args.inode) l c.add.new.pieces.items) c.in-None.is c.in_ok-add-in-Err.ensures.ok in
+    let new = subst (λ l. AddsSlot ps w at (name, Some c.args.inode) l c.add.new.pieces.items) c.in-None.is c.in_ok-add-in-Err.ensures.ok in
     added_links name c.args.inode ps c.add.new.pieces.items w at c.self.invariant.ascend c.self.invariant.filled is gap new ∙ ap (λ m. map.insert m name c.args.inode) c.self.view_is
 
 pub returns-in-Some-2-clause-ok : goal.returns-in-Some-2-clause-ok
@@ -140,7 +140,7 @@ returns-in-Some-2-clause-ok c =
     let name = c.args.name in
     let is = subst (λ qs. IsPieceFor name qs w) c.deref.ensures.value c.piece_of-piece.ensures in
     let gap = subst (λ p. IsGapFor name p at) (read_piece ps w c.index.result.now is.within c.index.ensures) c.in-Err.ensures.absent in
-    let left = subst (λ l. Adds ps w at (name, Some c.args.inode) l c.add.new.pieces.items) c.in-Some-2.is c.in_ok-add-in-Err.ensures.ok in (
+    let left = subst (λ l. AddsSlot ps w at (name, Some c.args.inode) l c.add.new.pieces.items) c.in-Some-2.is c.in_ok-add-in-Err.ensures.ok in (
       left.0,
       ap (λ slots. map.from_entries {R = slice_cmp nat_cmp} (live slots)) left.1 ∙ c.self.view_is,
       ap (λ m. map.get m name) (sym c.self.view_is) ∙ got_none name ps w at c.self.invariant.ascend c.self.invariant.filled is gap,

@@ -1,6 +1,6 @@
 use Rattle.std.proofs.Common.{◌≡◌, ◌∙◌, sym, ap, None, [], length, set, arith, zip}
 use Rattle.std.specs.Arc.{arc_value}
-use Rattle.assise_inode_table.specs.Pieces.{name_at}
+use Rattle.assise_inode_table.specs.Pieces.{slot_name}
 use Rattle.assise_inode_table.proofs.PieceChanges.{set-side}
 use Rattle.assise_inode_table.proofs.PieceSearch.{slots_count}
 use Rattle.assise_inode_table.proofs.piece.Piece.set.Goals as goal
@@ -15,4 +15,4 @@ returns c =
     let ns = (arc_value c.self.inside.names).items in
     ap (zip ns) c.set_link.ensures
     ∙ set-side ns c.self.inside.links c.args.at [] None c.args.link
-    ∙ ap (λ slots. set slots c.args.at (name_at slots c.args.at, c.args.link)) c.self.view_is
+    ∙ ap (λ slots. set slots c.args.at (slot_name slots c.args.at, c.args.link)) c.self.view_is
