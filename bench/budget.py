@@ -28,7 +28,7 @@ def large_directory(bench):
 def with_threads(bench, nodes):
     """The processor time of eight clients' calls with threads, to that on one thread."""
     script = bench.script("crowd", 2000, nodes=nodes, clients=8)
-    return bench.fastest(script, "--threads")[1] / bench.fastest(script)[1]
+    return bench.fastest(script, "--threads").processors / bench.fastest(script).processors
 
 
 def threads_on_one_node(bench):

@@ -3,10 +3,12 @@
 import os
 import re
 import shutil
+import statistics
 import subprocess
 import sys
 import tempfile
 import time
+from typing import NamedTuple
 
 HERE = os.path.dirname(os.path.abspath(__file__))
 PROGRAM = os.path.join(HERE, "../crates/assise/out/assise")
@@ -33,8 +35,16 @@ def plain_program():
     return os.path.join(BUILT, "release/assise_plain")
 
 
+class Taken(NamedTuple):
+    """What a run takes: nanoseconds by the clock and of all processors, and its most memory, in bytes."""
+
+    clock: int
+    processors: int
+    memory: int
+
+
 def taken(words):
-    """The nanoseconds that a command takes: by the clock, and of all processors."""
+    """What a run of a command takes."""
     with open(os.devnull, "r+b") as null:
         begin = time.perf_counter_ns()
         child = subprocess.Popen(words, stdin=null, stdout=null)
@@ -43,7 +53,13 @@ def taken(words):
     child.returncode = os.waitstatus_to_exitcode(status)
     if child.returncode != 0:
         raise subprocess.CalledProcessError(child.returncode, words)
-    return clock, int((usage.ru_utime + usage.ru_stime) * 10**9)
+    return Taken(clock, int((usage.ru_utime + usage.ru_stime) * 10**9), usage.ru_maxrss * 1024)
+
+
+def medians(commands, runs):
+    """The medians of what each command takes.  They run in turn, so that a slow second of the machine meets all of them."""
+    rounds = [[taken(words) for words in commands] for _ in range(runs)]
+    return [Taken(*map(statistics.median, zip(*tries))) for tries in zip(*rounds)]
 
 
 class Bench:
@@ -88,12 +104,12 @@ class Bench:
                     return one == two
 
     def fastest(self, script, *options):
-        """The nanoseconds of the fastest run: by the clock, and of all processors."""
+        """What the fastest run takes."""
         return min(taken([self.program, script, *options]) for _ in range(TRIES))
 
     def best(self, script, *options):
         """The nanoseconds of the fastest run by the clock."""
-        return self.fastest(script, *options)[0]
+        return self.fastest(script, *options).clock
 
     def kernel_calls(self, script, *options):
         """How often a run calls the kernel; none where strace isn't there, which counts that."""

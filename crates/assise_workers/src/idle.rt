@@ -21,13 +21,15 @@ const FIRST_NAP_MICROS: u64 = 10_000;
 /// The longest that it waits, in microseconds.
 const LONGEST_NAP_MICROS: u64 = 40_000;
 
-/// How many turns in a row a worker found nothing to do, after how many it sleeps, and how long next and at most.
+/// How many turns in a row a worker found nothing to do, after how many it sleeps, how long next and at most, and what the count was
+/// when it slept last.
 #[derive(Drop)]
 pub(crate) struct Idle {
     turns: u32,
     brief: u32,
     next_nap: u64,
     longest_nap: u64,
+    slept_at: Option<u64>,
 }
 
 impl Idle {
@@ -38,6 +40,7 @@ impl Idle {
             brief: BRIEF_TURNS,
             next_nap: NAP_MICROS,
             longest_nap: NAP_MICROS,
+            slept_at: None,
         }
     }
 
@@ -48,16 +51,17 @@ impl Idle {
             brief: 0,
             next_nap: FIRST_NAP_MICROS,
             longest_nap: LONGEST_NAP_MICROS,
+            slept_at: None,
         }
     }
 
     /// Comes before the first turn: a worker of one node waits until something happened since the count was read, or for its first nap.
-    pub(crate) fn begin<R: Wait>(&self, rt: &R, progress: &EventCount, read: u64) {
-        progress.wait(rt, read, Duration::from_micros(self.next_nap));
+    pub(crate) fn begin<R: Wait>(&mut self, rt: &R, progress: &EventCount, read: u64) {
+        self.sleep(rt, progress, read);
     }
 
     /// Leaves the state to others behind a turn, before which the count was read. It answers whether the worker goes on. Where the turn
-    /// did something, those that wait are woken.
+    /// did something, those that wait are woken, if something happened since the worker slept: else no call waits that asked for it.
     pub(crate) fn rest<R: Wait>(
         &mut self,
         rt: &R,
@@ -70,7 +74,9 @@ impl Idle {
             TurnEnd::Did(0) | TurnEnd::Refused(_) => self.pause(rt, progress, read),
             TurnEnd::Did(_) => {
                 self.turns = 0;
-                progress.advance();
+                if self.slept_at != Some(progress.read()) {
+                    progress.advance();
+                }
                 thread::yield_now();
             }
         }
@@ -83,8 +89,13 @@ impl Idle {
             self.turns += 1;
             thread::yield_now();
         } else {
-            progress.wait(rt, read, Duration::from_micros(self.next_nap));
+            self.sleep(rt, progress, read);
             self.next_nap = self.next_nap.saturating_mul(2).min(self.longest_nap);
         }
+    }
+
+    fn sleep<R: Wait>(&mut self, rt: &R, progress: &EventCount, read: u64) {
+        self.slept_at = Some(read);
+        progress.wait(rt, read, Duration::from_micros(self.next_nap));
     }
 }
