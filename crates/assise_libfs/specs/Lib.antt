@@ -3,3 +3,4 @@ pub mod Calling
 pub mod Opening
 pub mod Clients
 pub mod InTurns
+pub mod MadeCalls

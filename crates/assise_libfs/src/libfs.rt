@@ -65,6 +65,7 @@ impl<'a, S: Served> LibFs<'a, S> {
     ghost use Rattle.assise_libfs.specs.Lives.{EndsWithOpening, IsOpenedAs, OpensNoOther};
     ghost use Rattle.assise_libfs.specs.Opening.{MayRefuseOpen};
     ghost use Rattle.assise_libfs.specs.InTurns.{IsPassTurn, TurnsOnce, TurnsTo};
+    ghost use Rattle.assise_libfs.specs.MadeCalls.{MakesOwnCall};
     ghost use Rattle.assise_model_events.specs.Events.{open_client, opened, refused};
 
     /// Opens a client on a node, with this durability, for calls of 1 to 1,000,000 turns. The client is the pass's from
@@ -130,28 +131,16 @@ impl<'a, S: Served> LibFs<'a, S> {
 
     /// Makes a file without bytes at a path where nothing is.
     pub fn create<R: Wait>(&mut self, rt: &R, alloc: Global, path: Path) -> Result<Reply, Refusal>
-        ensures same { IsSameClient self.old self.new }
-        ensures sees { SeesCall (client_of self.old) (Create path)
-            (seen_by self.old) result (seen_by self.new) }
-        ensures legal { ∥ IsLegal (seen_by self.new) ∥₁ }
-        ensures refused { IfErr result (λ r. MayRefuse (client_of self.old) (Create path)
-            (seen_by self.new) r) }
-        ensures turns { TurnsTo S.Growing.history S.acts (client_of self.old) (Create path)
-            (limit_of self.old) result (seen_by self.old) (seen_by self.new) }
+        ensures makes { MakesOwnCall S.Growing.history S.acts self.old (Create path)
+            result self.new }
     {
         self.call(rt, alloc, &Op::Create(path))
     }
 
     /// Makes a directory without entries at a path where nothing is.
     pub fn mkdir<R: Wait>(&mut self, rt: &R, alloc: Global, path: Path) -> Result<Reply, Refusal>
-        ensures same { IsSameClient self.old self.new }
-        ensures sees { SeesCall (client_of self.old) (Mkdir path)
-            (seen_by self.old) result (seen_by self.new) }
-        ensures legal { ∥ IsLegal (seen_by self.new) ∥₁ }
-        ensures refused { IfErr result (λ r. MayRefuse (client_of self.old) (Mkdir path)
-            (seen_by self.new) r) }
-        ensures turns { TurnsTo S.Growing.history S.acts (client_of self.old) (Mkdir path)
-            (limit_of self.old) result (seen_by self.old) (seen_by self.new) }
+        ensures makes { MakesOwnCall S.Growing.history S.acts self.old (Mkdir path)
+            result self.new }
     {
         self.call(rt, alloc, &Op::Mkdir(path))
     }
@@ -165,15 +154,8 @@ impl<'a, S: Served> LibFs<'a, S> {
         offset: u64,
         most: u64,
     ) -> Result<Reply, Refusal>
-        ensures same { IsSameClient self.old self.new }
-        ensures sees { SeesCall (client_of self.old) (Read path offset most)
-            (seen_by self.old) result (seen_by self.new) }
-        ensures legal { ∥ IsLegal (seen_by self.new) ∥₁ }
-        ensures refused { IfErr result (λ r. MayRefuse (client_of self.old) (Read path offset most)
-            (seen_by self.new) r) }
-        ensures turns { TurnsTo S.Growing.history S.acts (client_of self.old)
-            (Read path offset most) (limit_of self.old) result
-            (seen_by self.old) (seen_by self.new) }
+        ensures makes { MakesOwnCall S.Growing.history S.acts self.old (Read path offset most)
+            result self.new }
     {
         self.call(rt, alloc, &Op::Read(path, offset, most))
     }
@@ -187,15 +169,8 @@ impl<'a, S: Served> LibFs<'a, S> {
         offset: u64,
         bytes: ByteString,
     ) -> Result<Reply, Refusal>
-        ensures same { IsSameClient self.old self.new }
-        ensures sees { SeesCall (client_of self.old) (Write path offset bytes)
-            (seen_by self.old) result (seen_by self.new) }
-        ensures legal { ∥ IsLegal (seen_by self.new) ∥₁ }
-        ensures refused { IfErr result (λ r. MayRefuse
-            (client_of self.old) (Write path offset bytes) (seen_by self.new) r) }
-        ensures turns { TurnsTo S.Growing.history S.acts (client_of self.old)
-            (Write path offset bytes) (limit_of self.old) result
-            (seen_by self.old) (seen_by self.new) }
+        ensures makes { MakesOwnCall S.Growing.history S.acts self.old (Write path offset bytes)
+            result self.new }
     {
         self.call(rt, alloc, &Op::Write(path, offset, bytes))
     }
@@ -208,14 +183,8 @@ impl<'a, S: Served> LibFs<'a, S> {
         path: Path,
         size: u64,
     ) -> Result<Reply, Refusal>
-        ensures same { IsSameClient self.old self.new }
-        ensures sees { SeesCall (client_of self.old) (Truncate path size)
-            (seen_by self.old) result (seen_by self.new) }
-        ensures legal { ∥ IsLegal (seen_by self.new) ∥₁ }
-        ensures refused { IfErr result (λ r. MayRefuse (client_of self.old) (Truncate path size)
-            (seen_by self.new) r) }
-        ensures turns { TurnsTo S.Growing.history S.acts (client_of self.old) (Truncate path size)
-            (limit_of self.old) result (seen_by self.old) (seen_by self.new) }
+        ensures makes { MakesOwnCall S.Growing.history S.acts self.old (Truncate path size)
+            result self.new }
     {
         self.call(rt, alloc, &Op::Truncate(path, size))
     }
@@ -228,70 +197,39 @@ impl<'a, S: Served> LibFs<'a, S> {
         from: Path,
         to: Path,
     ) -> Result<Reply, Refusal>
-        ensures same { IsSameClient self.old self.new }
-        ensures sees { SeesCall (client_of self.old) (Rename from to)
-            (seen_by self.old) result (seen_by self.new) }
-        ensures legal { ∥ IsLegal (seen_by self.new) ∥₁ }
-        ensures refused { IfErr result (λ r. MayRefuse (client_of self.old) (Rename from to)
-            (seen_by self.new) r) }
-        ensures turns { TurnsTo S.Growing.history S.acts (client_of self.old) (Rename from to)
-            (limit_of self.old) result (seen_by self.old) (seen_by self.new) }
+        ensures makes { MakesOwnCall S.Growing.history S.acts self.old (Rename from to)
+            result self.new }
     {
         self.call(rt, alloc, &Op::Rename(from, to))
     }
 
     /// Removes a file.
     pub fn unlink<R: Wait>(&mut self, rt: &R, alloc: Global, path: Path) -> Result<Reply, Refusal>
-        ensures same { IsSameClient self.old self.new }
-        ensures sees { SeesCall (client_of self.old) (Unlink path)
-            (seen_by self.old) result (seen_by self.new) }
-        ensures legal { ∥ IsLegal (seen_by self.new) ∥₁ }
-        ensures refused { IfErr result (λ r. MayRefuse (client_of self.old) (Unlink path)
-            (seen_by self.new) r) }
-        ensures turns { TurnsTo S.Growing.history S.acts (client_of self.old) (Unlink path)
-            (limit_of self.old) result (seen_by self.old) (seen_by self.new) }
+        ensures makes { MakesOwnCall S.Growing.history S.acts self.old (Unlink path)
+            result self.new }
     {
         self.call(rt, alloc, &Op::Unlink(path))
     }
 
     /// Removes a directory without entries.
     pub fn rmdir<R: Wait>(&mut self, rt: &R, alloc: Global, path: Path) -> Result<Reply, Refusal>
-        ensures same { IsSameClient self.old self.new }
-        ensures sees { SeesCall (client_of self.old) (Rmdir path)
-            (seen_by self.old) result (seen_by self.new) }
-        ensures legal { ∥ IsLegal (seen_by self.new) ∥₁ }
-        ensures refused { IfErr result (λ r. MayRefuse (client_of self.old) (Rmdir path)
-            (seen_by self.new) r) }
-        ensures turns { TurnsTo S.Growing.history S.acts (client_of self.old) (Rmdir path)
-            (limit_of self.old) result (seen_by self.old) (seen_by self.new) }
+        ensures makes { MakesOwnCall S.Growing.history S.acts self.old (Rmdir path)
+            result self.new }
     {
         self.call(rt, alloc, &Op::Rmdir(path))
     }
 
     /// Lists the names of a directory's entries, in ascending order of their bytes.
     pub fn list<R: Wait>(&mut self, rt: &R, alloc: Global, path: Path) -> Result<Reply, Refusal>
-        ensures same { IsSameClient self.old self.new }
-        ensures sees { SeesCall (client_of self.old) (Lists path)
-            (seen_by self.old) result (seen_by self.new) }
-        ensures legal { ∥ IsLegal (seen_by self.new) ∥₁ }
-        ensures refused { IfErr result (λ r. MayRefuse (client_of self.old) (Lists path)
-            (seen_by self.new) r) }
-        ensures turns { TurnsTo S.Growing.history S.acts (client_of self.old) (Lists path)
-            (limit_of self.old) result (seen_by self.old) (seen_by self.new) }
+        ensures makes { MakesOwnCall S.Growing.history S.acts self.old (Lists path)
+            result self.new }
     {
         self.call(rt, alloc, &Op::List(path))
     }
 
     /// Says what stands at a path, with its count of bytes or entries.
     pub fn stat<R: Wait>(&mut self, rt: &R, alloc: Global, path: Path) -> Result<Reply, Refusal>
-        ensures same { IsSameClient self.old self.new }
-        ensures sees { SeesCall (client_of self.old) (Stat path)
-            (seen_by self.old) result (seen_by self.new) }
-        ensures legal { ∥ IsLegal (seen_by self.new) ∥₁ }
-        ensures refused { IfErr result (λ r. MayRefuse (client_of self.old) (Stat path)
-            (seen_by self.new) r) }
-        ensures turns { TurnsTo S.Growing.history S.acts (client_of self.old) (Stat path)
-            (limit_of self.old) result (seen_by self.old) (seen_by self.new) }
+        ensures makes { MakesOwnCall S.Growing.history S.acts self.old (Stat path) result self.new }
     {
         self.call(rt, alloc, &Op::Stat(path))
     }
@@ -299,28 +237,14 @@ impl<'a, S: Served> LibFs<'a, S> {
     /// Where the client was opened pessimistic, as [`LibFs::dsync`]. Where it was opened optimistic it is answered at once, and
     /// promises nothing.
     pub fn fsync<R: Wait>(&mut self, rt: &R, alloc: Global) -> Result<Reply, Refusal>
-        ensures same { IsSameClient self.old self.new }
-        ensures sees { SeesCall (client_of self.old) Fsync
-            (seen_by self.old) result (seen_by self.new) }
-        ensures legal { ∥ IsLegal (seen_by self.new) ∥₁ }
-        ensures refused { IfErr result (λ r. MayRefuse (client_of self.old) Fsync
-            (seen_by self.new) r) }
-        ensures turns { TurnsTo S.Growing.history S.acts (client_of self.old) Fsync
-            (limit_of self.old) result (seen_by self.old) (seen_by self.new) }
+        ensures makes { MakesOwnCall S.Growing.history S.acts self.old Fsync result self.new }
     {
         self.call(rt, alloc, &Op::Fsync)
     }
 
     /// Is answered once all full nodes have all that the client has written.
     pub fn dsync<R: Wait>(&mut self, rt: &R, alloc: Global) -> Result<Reply, Refusal>
-        ensures same { IsSameClient self.old self.new }
-        ensures sees { SeesCall (client_of self.old) Dsync
-            (seen_by self.old) result (seen_by self.new) }
-        ensures legal { ∥ IsLegal (seen_by self.new) ∥₁ }
-        ensures refused { IfErr result (λ r. MayRefuse (client_of self.old) Dsync
-            (seen_by self.new) r) }
-        ensures turns { TurnsTo S.Growing.history S.acts (client_of self.old) Dsync
-            (limit_of self.old) result (seen_by self.old) (seen_by self.new) }
+        ensures makes { MakesOwnCall S.Growing.history S.acts self.old Dsync result self.new }
     {
         self.call(rt, alloc, &Op::Dsync)
     }
