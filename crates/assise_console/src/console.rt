@@ -99,9 +99,9 @@ impl<C: Revokes + Drop> ConsoleOf<C> {
     }
 
     /// Runs a command, by events on the cluster.
-    pub fn step(&mut self, alloc: Global, command: Command) -> Response
-        ensures does { Does (console_seen self.old) command result (console_seen self.new) }
-        ensures stores { Stores command result self.old self.new }
+    pub fn step(&mut self, alloc: Global, command: &Command) -> Response
+        ensures does { Does (console_seen self.old) command.now result (console_seen self.new) }
+        ensures stores { Stores command.now result self.old self.new }
     {
         match command {
             Command::Cluster { .. } => Response::Quiet,
@@ -113,20 +113,20 @@ impl<C: Revokes + Drop> ConsoleOf<C> {
                 node,
                 kind,
                 durability,
-            } => self.open(alloc, node, kind, durability),
-            Command::Call { client, op } => self.call(alloc, client, &op),
-            Command::Carry { node } => self.carry(alloc, node),
-            Command::Link { node, kind } => self.link(node, kind),
-            Command::Hot { node, capacity } => self.set_hot(node, capacity),
-            Command::Digest { node } => self.digest(alloc, node),
+            } => self.open(alloc, *node, *kind, *durability),
+            Command::Call { client, op } => self.call(alloc, *client, op),
+            Command::Carry { node } => self.carry(alloc, *node),
+            Command::Link { node, kind } => self.link(*node, *kind),
+            Command::Hot { node, capacity } => self.set_hot(*node, *capacity),
+            Command::Digest { node } => self.digest(alloc, *node),
             Command::Release => commands::release(&mut self.cluster),
-            Command::Crash { client } => self.crash(client),
-            Command::Fail { node } => self.fail(alloc, node),
-            Command::Back { node } => self.back(alloc, node),
-            Command::Refill { node } => self.refill(alloc, node),
-            Command::Join { node } => self.join(alloc, node),
-            Command::Raise { node } => self.raise(node),
-            Command::Tree { node } => self.tree(alloc, node),
+            Command::Crash { client } => self.crash(*client),
+            Command::Fail { node } => self.fail(alloc, *node),
+            Command::Back { node } => self.back(alloc, *node),
+            Command::Refill { node } => self.refill(alloc, *node),
+            Command::Join { node } => self.join(alloc, *node),
+            Command::Raise { node } => self.raise(*node),
+            Command::Tree { node } => self.tree(alloc, *node),
             Command::History => Response::History,
             Command::Check => self.check(alloc),
         }

@@ -59,7 +59,7 @@ pub fn run_script<W: Write, C: Revokes + Drop>(
         (W.contents writer.new)) }
 {
     match parse(alloc, script) {
-        Ok(commands) => run_commands(alloc, commands, writer, stock, turns),
+        Ok(commands) => run_commands(alloc, commands.as_slice(), writer, stock, turns),
         Err(found) => Err(EngineFault::Script(found.line, found.fault)),
     }
 }
@@ -91,13 +91,13 @@ fn read_fault(kind: ErrorKind) -> EngineFault
 /// Runs the commands of a script, the first of which makes its cluster.
 fn run_commands<W: Write, C: Revokes + Drop>(
     alloc: Global,
-    commands: Vec<NumberedCommand>,
+    commands: &[NumberedCommand],
     writer: &mut W,
     stock: Stock<C>,
     turns: u32,
 ) -> Result<(), EngineFault>
-    requires cluster_first { ClusterFirst commands.items }
-    ensures done { OnOk result (Ran (stocks stock) turns commands.items (W.contents writer.old)
+    requires cluster_first { ClusterFirst commands.now }
+    ensures done { OnOk result (Ran (stocks stock) turns commands.now (W.contents writer.old)
         (W.contents writer.new)) }
     ensures faulty { IfErr result (λ e. IsRunFault e (W.contents writer.old)
         (W.contents writer.new)) }
@@ -143,10 +143,10 @@ fn console_of<C: Revokes + Drop>(
 fn run<W: Write, C: Revokes + Drop>(
     alloc: Global,
     mut console: ConsoleOf<C>,
-    commands: Vec<NumberedCommand>,
+    commands: &[NumberedCommand],
     writer: &mut W,
 ) -> Result<(), EngineFault>
-    ensures done { OnOk result (RunsFrom (console_seen console) commands.items
+    ensures done { OnOk result (RunsFrom (console_seen console) commands.now
         (W.contents writer.old) (W.contents writer.new)) }
     ensures only_write { IsOkUnless result EngineFault.Write }
 {
@@ -157,10 +157,10 @@ fn run<W: Write, C: Revokes + Drop>(
 fn run_to_end<W: Write, C: Revokes + Drop>(
     alloc: Global,
     console: &mut ConsoleOf<C>,
-    commands: Vec<NumberedCommand>,
+    commands: &[NumberedCommand],
     writer: &mut W,
 ) -> Result<(), EngineFault>
-    ensures done { OnOk result (RunsFrom (console_seen console.old) commands.items
+    ensures done { OnOk result (RunsFrom (console_seen console.old) commands.now
         (W.contents writer.old) (W.contents writer.new)) }
     ensures only_write { IsOkUnless result EngineFault.Write }
 {
@@ -172,10 +172,10 @@ fn run_to_end<W: Write, C: Revokes + Drop>(
 fn run_lines<W: Write, C: Revokes + Drop>(
     alloc: Global,
     console: &mut ConsoleOf<C>,
-    commands: Vec<NumberedCommand>,
+    commands: &[NumberedCommand],
     writer: &mut W,
 ) -> Result<(), EngineFault>
-    ensures done { OnOk result (PrintsAll (console_seen console.old) commands.items
+    ensures done { OnOk result (PrintsAll (console_seen console.old) commands.now
         (console_seen console.new) (W.contents writer.old) (W.contents writer.new)) }
     ensures only_write { IsOkUnless result EngineFault.Write }
 {
@@ -189,16 +189,15 @@ fn run_lines<W: Write, C: Revokes + Drop>(
 fn run_line<W: Write, C: Revokes + Drop>(
     alloc: Global,
     console: &mut ConsoleOf<C>,
-    command: NumberedCommand,
+    command: &NumberedCommand,
     writer: &mut W,
 ) -> Result<(), EngineFault>
-    ensures done { OnOk result (PrintsOne (console_seen console.old) command
+    ensures done { OnOk result (PrintsOne (console_seen console.old) command.now
         (console_seen console.new) (W.contents writer.old) (W.contents writer.new)) }
     ensures only_write { IsOkUnless result EngineFault.Write }
 {
-    let number = command.line;
-    let answer = console.step(alloc, command.command);
-    print(writer, number, console.history(), &answer)
+    let answer = console.step(alloc, &command.command);
+    print(writer, command.line, console.history(), &answer)
 }
 
 /// Writes the line of an answer to the command at this line, numbered from 1, where the history so far is this. The one fault is

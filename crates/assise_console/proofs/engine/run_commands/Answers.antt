@@ -1,4 +1,3 @@
-use Rattle.std.proofs.Common.{◌≡◌, true, ltb, length, get_or, subst}
 use Rattle.assise_console.specs.Consoles.{console_seen, stocks}
 use Rattle.assise_console.proofs.PrintedLines.{on_ok}
 use Rattle.assise_console.proofs.ScriptRuns.{ran_all}
@@ -6,9 +5,7 @@ use Rattle.assise_console.proofs.engine.run_commands.Goals as goal
 
 pub returns-in_ok-console-in-Some-clause-done : goal.returns-in_ok-console-in-Some-clause-done
 returns-in_ok-console-in-Some-clause-done g c =
-    let first = c.in-Some.first.now in
     let item = c.in-Some.ensures.item in
     on_ok c.run.result _ _ c.run.ensures.done (λ runs.
-    ran_all (stocks c.args.stock) c.args.turns c.args.commands.items first (console_seen c.in_ok-console-in-Some.console) _ _
-    (subst (λ xs. true ≡ ltb 0 (length xs)) c.deref.ensures.value item.0) (subst (λ xs. first ≡ get_or xs 0 first) c.deref.ensures.value item.1)
-    c.requires.cluster_first c.in_ok-console-in-Some.ensures.begun runs)
+    ran_all (stocks c.args.stock) c.args.turns c.args.commands.now c.in-Some.first.now (console_seen c.in_ok-console-in-Some.console) _ _
+    item.0 item.1 c.requires.cluster_first c.in_ok-console-in-Some.ensures.begun runs)
