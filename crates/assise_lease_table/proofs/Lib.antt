@@ -3,6 +3,6 @@ pub mod Compatibles
 pub mod AskLoop
 pub mod LeaseChanges
 mod Lists
-mod Retained
-mod Unasked
+pub mod Retained
+pub mod Unasked
 pub mod Room

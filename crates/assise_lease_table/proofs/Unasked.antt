@@ -1,20 +1,18 @@
 -- The chosen leases that aren't revoked, of one inode and of all.
-use Rattle.std.proofs.Common.{◌≡◌, ℕ, ◌==◌, ◌+◌, ◌<◌, Bool, true, false, cond, not, ◌&&◌, ◌||◌, List, [], ◌∷◌, ◌++◌, length, drop, get_or, Option, Some, None, nat_eq, inl, inr, sym, refl, ap, ◌∙◌, eq-eqb}
-use Rattle.std.proofs.lemmas.List.{drop_more, append_assoc}
+use Rattle.std.proofs.Common.{◌≡◌, ℕ, ◌==◌, Bool, true, false, cond, not, ◌&&◌, ◌||◌, List, [], ◌∷◌, ◌++◌, Option, Some, None, nat_eq, inl, inr, sym, refl, ap, ◌∙◌, eq-eqb}
 use Rattle.std.proofs.lemmas.List.Folds.{list_all-append, list_any-append}
 use Rattle.std.specs.List.{IsDistinct, list_any, list_all}
 use Rattle.std.specs.Map.{lookup, keys_of}
-use Rattle.smallvec.specs.SmallVec.{SmallVec}
 use Rattle.assise_lease_table.specs.Cuts.{is_of, is_asked, are_once, are_uncut, asked_at}
 use Rattle.assise_lease_table.specs.Leases.{stand_together, compatible, is_own, is_to_ask}
-use Rattle.assise_lease_table.specs.Lists.{items_or_none}
+use Rattle.assise_lease_table.specs.Lists.{leases_in}
 use Rattle.assise_lease_table.specs.declared.lease.Asked.{Asked}
 use Rattle.assise_lease_table.specs.declared.lease.Lease.{Lease}
 use Rattle.assise_lease_table.proofs.Compatibles.{same_number}
 use Rattle.assise_lease_table.proofs.Elements.{cases_of, both_true, and_true, not_true, true_not}
 use Rattle.assise_lease_table.proofs.Retained.{absent}
 
-module _ (choice : Lease → Bool) where
+module _ {V : Type 0} (leases : V → List Lease) (choice : Lease → Bool) where
   -- it is the client's, chosen and not revoked
   abbrev pub wanted : ℕ → Lease → Bool
   wanted c l = is_own c l && is_to_ask choice l
@@ -23,24 +21,9 @@ module _ (choice : Lease → Bool) where
   answer_at i l = record { client = l.holder; inode = i; cut = 0 }
 
   -- all of them, inode by inode
-  abbrev pub unasked_in : List (ℕ × SmallVec Lease) → List Asked
+  abbrev pub unasked_in : List (ℕ × V) → List Asked
   unasked_in [] = []
-  unasked_in (e ∷ es) = asked_at choice e.0 e.1.items ++ unasked_in es
-
-  -- ---- a loop that lists one inode's
-
-  pub listed_more : (asked : List Asked) (all : List Asked) (i : ℕ) (ls : List Lease) (k : ℕ) (d : Lease) → k < length ls → asked ++ asked_at choice i (drop k ls) ≡ all
-      → is_to_ask choice (get_or ls k d) ≡ true → (asked ++ answer_at i (get_or ls k d) ∷ []) ++ asked_at choice i (drop (k + 1) ls) ≡ all
-  listed_more asked all i ls k d h so_far chosen =
-      append_assoc asked (answer_at i (get_or ls k d) ∷ []) (asked_at choice i (drop (k + 1) ls))
-      ∙ ap (λ b. asked ++ cond b (answer_at i (get_or ls k d) ∷ asked_at choice i (drop (k + 1) ls)) (asked_at choice i (drop (k + 1) ls))) (sym chosen)
-      ∙ ap (λ xs. asked ++ asked_at choice i xs) (sym (drop_more ls k d h)) ∙ so_far
-
-  pub listed_same : (asked : List Asked) (all : List Asked) (i : ℕ) (ls : List Lease) (k : ℕ) (d : Lease) → k < length ls → asked ++ asked_at choice i (drop k ls) ≡ all
-      → is_to_ask choice (get_or ls k d) ≡ false → asked ++ asked_at choice i (drop (k + 1) ls) ≡ all
-  listed_same asked all i ls k d h so_far passed =
-      ap (λ b. asked ++ cond b (answer_at i (get_or ls k d) ∷ asked_at choice i (drop (k + 1) ls)) (asked_at choice i (drop (k + 1) ls))) (sym passed)
-      ∙ ap (λ xs. asked ++ asked_at choice i xs) (sym (drop_more ls k d h)) ∙ so_far
+  unasked_in (e ∷ es) = asked_at choice e.0 (leases e.1) ++ unasked_in es
 
   -- ---- which they are
 
@@ -74,18 +57,18 @@ module _ (choice : Lease → Bool) where
   turned a b true e = eq-eqb b a (sym (same_number a b e))
   turned a b false e = elim (cases_of (b == a)) [ inl same ↦ ap (λ z. z) (same ∙ sym (eq-eqb a b (sym (same_number b a same))) ∙ e) | inr other ↦ other ]
 
-  which_step : (m : Bool) (i c : ℕ) (j : ℕ) (v : SmallVec Lease) (rest : Option (SmallVec Lease)) (more_of : List Asked) → nat_eq i j ≡ m → (m ≡ true → rest ≡ None) → is_asked more_of c i ≡ list_any (wanted c) (items_or_none rest)
-      → is_asked (asked_at choice j v.items ++ more_of) c i ≡ list_any (wanted c) (items_or_none (cond m (Some v) rest))
+  which_step : (m : Bool) (i c : ℕ) (j : ℕ) (v : V) (rest : Option V) (more_of : List Asked) → nat_eq i j ≡ m → (m ≡ true → rest ≡ None) → is_asked more_of c i ≡ list_any (wanted c) (leases_in leases rest)
+      → is_asked (asked_at choice j (leases v) ++ more_of) c i ≡ list_any (wanted c) (leases_in leases (cond m (Some v) rest))
   which_step true i c j v rest more_of at gone more =
-      list_any-append (is_of c i) (asked_at choice j v.items) more_of
-      ∙ or_none (is_asked (asked_at choice j v.items) c i) (is_asked more_of c i) (more ∙ ap (λ o. list_any (wanted c) (items_or_none o)) (gone refl))
-      ∙ asked_here j i c (turned i j true at) v.items
+      list_any-append (is_of c i) (asked_at choice j (leases v)) more_of
+      ∙ or_none (is_asked (asked_at choice j (leases v)) c i) (is_asked more_of c i) (more ∙ ap (λ o. list_any (wanted c) (leases_in leases o)) (gone refl))
+      ∙ asked_here j i c (turned i j true at) (leases v)
   which_step false i c j v rest more_of at gone more =
-      list_any-append (is_of c i) (asked_at choice j v.items) more_of
-      ∙ ap (λ b. b || is_asked more_of c i) (asked_elsewhere j i c (turned i j false at) v.items)
+      list_any-append (is_of c i) (asked_at choice j (leases v)) more_of
+      ∙ ap (λ b. b || is_asked more_of c i) (asked_elsewhere j i c (turned i j false at) (leases v))
       ∙ more
 
-  pub which_in : (es : List (ℕ × SmallVec Lease)) → IsDistinct nat_eq (keys_of es) → (c i : ℕ) → is_asked (unasked_in es) c i ≡ list_any (wanted c) (items_or_none (lookup (nat_eq i) es))
+  pub which_in : (es : List (ℕ × V)) → IsDistinct nat_eq (keys_of es) → (c i : ℕ) → is_asked (unasked_in es) c i ≡ list_any (wanted c) (leases_in leases (lookup (nat_eq i) es))
   unfolding IsDistinct
   which_in [] distinct c i = refl
   which_in (e ∷ es) distinct c i =
@@ -127,20 +110,20 @@ module _ (choice : Lease → Bool) where
   once_both j bs new rest [] once = rest
   once_both j bs new rest (l ∷ ls) once = both_step (is_to_ask choice l) (answer_at j l) (asked_at choice j ls) bs (new l.holder) (once_both j bs new rest ls) once
 
-  abbrev pub FitEach : List (ℕ × SmallVec Lease) → Type 0
-  FitEach es = (i : ℕ) → compatible (items_or_none (lookup (nat_eq i) es)) ≡ true
+  abbrev pub FitEach : List (ℕ × V) → Type 0
+  FitEach es = (i : ℕ) → compatible (leases_in leases (lookup (nat_eq i) es)) ≡ true
 
-  fits_rest : (m : Bool) (v : SmallVec Lease) (rest : Option (SmallVec Lease)) → (m ≡ true → rest ≡ None) → compatible (items_or_none (cond m (Some v) rest)) ≡ true → compatible (items_or_none rest) ≡ true
-  fits_rest true v rest gone fits = ap (λ o. compatible (items_or_none o)) (gone refl)
+  fits_rest : (m : Bool) (v : V) (rest : Option V) → (m ≡ true → rest ≡ None) → compatible (leases_in leases (cond m (Some v) rest)) ≡ true → compatible (leases_in leases rest) ≡ true
+  fits_rest true v rest gone fits = ap (λ o. compatible (leases_in leases o)) (gone refl)
   fits_rest false v rest gone fits = fits
 
-  pub once_in : (es : List (ℕ × SmallVec Lease)) → IsDistinct nat_eq (keys_of es) → FitEach es → are_once (unasked_in es) ≡ true
+  pub once_in : (es : List (ℕ × V)) → IsDistinct nat_eq (keys_of es) → FitEach es → are_once (unasked_in es) ≡ true
   unfolding IsDistinct
   once_in [] distinct fits = refl
   once_in (e ∷ es) distinct fits =
-      once_both e.0 (unasked_in es) (λ c. which_in es distinct.1 c e.0 ∙ ap (λ o. list_any (wanted c) (items_or_none o)) (absent e.0 e.0 es (eq-eqb e.0 e.0 refl) distinct.0))
+      once_both e.0 (unasked_in es) (λ c. which_in es distinct.1 c e.0 ∙ ap (λ o. list_any (wanted c) (leases_in leases o)) (absent e.0 e.0 es (eq-eqb e.0 e.0 refl) distinct.0))
       (once_in es distinct.1 (λ i. fits_rest (nat_eq i e.0) e.1 (lookup (nat_eq i) es) (λ same. absent i e.0 es same distinct.0) (fits i)))
-      e.1.items (once_at e.0 e.1.items (ap (λ b. compatible (items_or_none (cond b (Some e.1) (lookup (nat_eq e.0) es)))) (sym (eq-eqb e.0 e.0 refl)) ∙ fits e.0))
+      (leases e.1) (once_at e.0 (leases e.1) (ap (λ b. compatible (leases_in leases (cond b (Some e.1) (lookup (nat_eq e.0) es)))) (sym (eq-eqb e.0 e.0 refl)) ∙ fits e.0))
 
   -- ---- nobody answered
 
@@ -152,11 +135,11 @@ module _ (choice : Lease → Bool) where
   uncut_at j [] = refl
   uncut_at j (l ∷ ls) = uncut_step (is_to_ask choice l) j l (asked_at choice j ls) (uncut_at j ls)
 
-  pub uncut_in : (es : List (ℕ × SmallVec Lease)) → are_uncut (unasked_in es) ≡ true
+  pub uncut_in : (es : List (ℕ × V)) → are_uncut (unasked_in es) ≡ true
   uncut_in [] = refl
   uncut_in (e ∷ es) =
-      list_all-append (λ (a : Asked). a.cut == 0) (asked_at choice e.0 e.1.items) (unasked_in es)
-      ∙ and_true (are_uncut (asked_at choice e.0 e.1.items)) (are_uncut (unasked_in es)) (uncut_at e.0 e.1.items) (uncut_in es)
+      list_all-append (λ (a : Asked). a.cut == 0) (asked_at choice e.0 (leases e.1)) (unasked_in es)
+      ∙ and_true (are_uncut (asked_at choice e.0 (leases e.1))) (are_uncut (unasked_in es)) (uncut_at e.0 (leases e.1)) (uncut_in es)
 
   nothing_more : (asked : List Asked) → asked ++ [] ≡ asked
   nothing_more [] = refl
@@ -164,5 +147,5 @@ module _ (choice : Lease → Bool) where
 
   -- ---- the end of a loop over all
 
-  pub all_listed : (asked : List Asked) (es left : List (ℕ × SmallVec Lease)) → left ≡ [] → asked ++ unasked_in left ≡ unasked_in es → asked ≡ unasked_in es
+  pub all_listed : (asked : List Asked) (es left : List (ℕ × V)) → left ≡ [] → asked ++ unasked_in left ≡ unasked_in es → asked ≡ unasked_in es
   all_listed asked es left done so_far = sym (nothing_more asked) ∙ ap (λ xs. asked ++ unasked_in xs) (sym done) ∙ so_far

@@ -8,14 +8,21 @@ abbrev pub is_any : List Lease → Bool
 is_any [] = false
 is_any (l ∷ ls) = true
 
-abbrev pub items_or_none : Option (SmallVec Lease) → List Lease
-items_or_none None = []
-items_or_none (Some v) = v.items
+-- the leases of an entry, where there is one
+abbrev pub leases_in : {V : Type 0} → (V → List Lease) → Option V → List Lease
+leases_in leases None = []
+leases_in leases (Some v) = leases v
 
--- a list that is there has a lease: nothing is kept for what is not held
+-- an entry that is there has a lease: nothing is kept for what is not held
+abbrev pub is_held : {V : Type 0} → (V → Bool) → Option V → Bool
+is_held any None = true
+is_held any (Some v) = any v
+
+abbrev pub items_or_none : Option (SmallVec Lease) → List Lease
+items_or_none o = leases_in (λ v. v.items) o
+
 abbrev pub holds_lease : Option (SmallVec Lease) → Bool
-holds_lease None = true
-holds_lease (Some v) = is_any v.items
+holds_lease o = is_held (λ v. is_any v.items) o
 
 -- the list has a place for a lease of the holder: that of its old one, or one more
 abbrev pub HasPlaceIn : ℕ → SmallVec Lease → Type 0

@@ -4,8 +4,9 @@ ghost use Rattle.indexmap.specs.IndexMap.{get};
 ghost use Rattle.assise_lease_table.specs.LeaseMaps.{leases_at};
 ghost use Rattle.assise_lease_table.specs.Leases.{compatible, Among};
 
-use crate::holders::{lease_of_holder, may_be_held};
-use crate::lease::{Asked, Chooses, Lease, Own, Rivals, is_strong, is_to_ask};
+use crate::asking::{answers, store};
+use crate::holders::{lease_of_holder, may_be_held, serves};
+use crate::lease::{Asked, Chooses, Lease, Own, Rivals};
 use crate::lease_map::LeaseMap;
 use crate::revoker::{Revoker, Revokes};
 use crate::views::Views;
@@ -45,7 +46,7 @@ impl<C: Revokes + Drop> ClientTableOf<C> {
     ghost use Rattle.assise_lease_table.specs.Cuts.{is_asked, are_once, are_uncut};
     ghost use Rattle.assise_lease_table.specs.LeaseMaps.{Becomes, SameLeases};
     ghost use Rattle.assise_lease_table.specs.Leases.{Among, with_lease, new_lease, without_holder, revoke, is_own, is_rival, is_to_ask, lease_of, may_be_held, may_raise, serves, IsFree, compatible};
-    ghost use Rattle.assise_lease_table.specs.Answers.{AnswerAll, IsAnswer};
+    ghost use Rattle.assise_lease_table.specs.Answers.{AnswerAll};
     ghost use Rattle.assise_lease_table.specs.Tables.{client_leases, revoker_of, HasClientRoom, Enrols, SameRevokers};
 
     /// No clients. It takes no memory.
@@ -76,10 +77,7 @@ impl<C: Revokes + Drop> ClientTableOf<C> {
         ensures given_back { IfErr result (λ back. back ≡ (OutOfMemory, revoker)) }
         ensures leases { SameLeases (client_leases self.old) (client_leases self.new) }
     {
-        match self.revokers.insert(client, revoker) {
-            Ok(_) => Ok(()),
-            Err(failed) => Err((Refusal::OutOfMemory, failed.value.1)),
-        }
+        store(&mut self.revokers, client, revoker)
     }
 
     /// The leases of an inode.
@@ -127,10 +125,7 @@ impl<C: Revokes + Drop> ClientTableOf<C> {
     pub fn holds(&self, client: u32, inode: u64, mode: Mode) -> bool
         ensures { result ≡ serves (lease_of (client_leases self.now inode) client) mode }
     {
-        match self.lease(client, inode) {
-            Some(lease) => !lease.revoked && is_strong(lease.mode, mode),
-            None => false,
-        }
+        serves(self.leases.leases(inode), client, mode)
     }
 
     /// Whether [`ClientTableOf::hold`] may be called: the client was taken in, its own lease of the inode, if any, is
@@ -233,27 +228,6 @@ impl<C: Revokes + Drop> ClientTableOf<C> {
         self.leases.revoke(inode, test);
     }
 
-    /// What a client answers when its lease of an inode is asked for, raised to the end of its group.
-    fn answer<V: Views>(&self, client: u32, inode: u64, views: &V) -> Asked
-        requires enrolled { is_some (revoker_of self.now client) ≡ true }
-        requires viewed { is_some (V.view_of views.now client) ≡ true }
-        ensures client_is { result.client ≡ client }
-        ensures answer { IsAnswer C.answers (revoker_of self.now)
-            (V.view_of views.now) inode result }
-    {
-        let Some(revoker) = self.revokers.get(&client) else {
-            unreachable!()
-        };
-        let Some(view) = views.view(client) else {
-            unreachable!()
-        };
-        Asked {
-            client,
-            inode,
-            cut: view.group_end(revoker.cut(view, inode)),
-        }
-    }
-
     /// The answers of those whose leases are chosen and not revoked yet. Nothing is revoked. The one refusal is
     /// [`Refusal::OutOfMemory`], which never comes where nobody is asked.
     pub fn answers<T: Chooses, V: Views>(
@@ -271,12 +245,8 @@ impl<C: Revokes + Drop> ClientTableOf<C> {
             false → IsOk result }
         ensures only_memory { IsOkUnless result OutOfMemory }
     {
-        let mut asked = Vec::new(self.alloc);
-        for lease in self.leases.leases(inode) {
-            if is_to_ask(test, lease) {
-                asked.push(self.answer(lease.holder, inode, views))?;
-            }
-        }
+        let leases = self.leases.leases(inode);
+        let asked = answers(self.alloc, &self.revokers, leases, inode, test, views)?;
         Ok(asked)
     }
 

@@ -1,8 +1,9 @@
 //! Who holds which inode: one level of leases, of clients and of nodes, and the revokers that clients store.
 #![tactic(auto)]
 
+pub mod asking;
 pub mod client_table;
-mod holders;
+pub mod holders;
 pub mod lease;
 mod lease_map;
 pub mod node_table;

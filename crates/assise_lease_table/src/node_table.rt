@@ -3,8 +3,8 @@ ghost use Rattle.std.specs.Prelude.{◌≡◌, ℕ, true};
 ghost use Rattle.assise_lease_table.specs.LeaseMaps.{leases_at};
 ghost use Rattle.assise_lease_table.specs.Leases.{compatible};
 
-use crate::holders::{lease_of_holder, may_be_held};
-use crate::lease::{Chooses, Lease, Own, Rivals, is_any_chosen, is_strong};
+use crate::holders::{lease_of_holder, may_be_held, serves};
+use crate::lease::{Chooses, Lease, Own, Rivals, is_any_chosen};
 use crate::lease_map::LeaseMap;
 use assise_names::mode::Mode;
 use assise_names::refusal::Refusal;
@@ -53,10 +53,7 @@ impl NodeTable {
     pub fn holds(&self, node: u32, inode: u64, mode: Mode) -> bool
         ensures { result ≡ serves (lease_of (node_leases self.now inode) node) mode }
     {
-        match self.lease(node, inode) {
-            Some(lease) => !lease.revoked && is_strong(lease.mode, mode),
-            None => false,
-        }
+        serves(self.leases.leases(inode), node, mode)
     }
 
     /// Whether [`NodeTable::hold`] may be called: the node's own lease of the inode, if any, is neither revoked nor

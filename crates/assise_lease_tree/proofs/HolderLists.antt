@@ -1,11 +1,8 @@
 -- Which leases are listed where a test looks at holders alone.
-use Rattle.std.proofs.Common.{◌≡◌, ℕ, ◌==◌, Bool, true, false, cond, not, ◌&&◌, ◌||◌, List, [], ◌∷◌, Option, Some, Result, Ok, Err, IfOk, sym, refl, ap, ◌∙◌}
-use Rattle.std.specs.Global.{Vec}
+use Rattle.std.proofs.Common.{◌≡◌, ℕ, ◌==◌, Bool, true, false, cond, not, ◌&&◌, ◌||◌, List, [], ◌∷◌, Option, Some, sym, refl, ap, ◌∙◌}
 use Rattle.std.specs.List.{list_any, list_all}
-use Rattle.assise_names.specs.declared.refusal.Refusal.{Refusal}
-use Rattle.assise_lease_table.specs.Cuts.{is_asked, is_unasked}
+use Rattle.assise_lease_table.specs.Cuts.{is_unasked}
 use Rattle.assise_lease_table.specs.Leases.{stand_together, compatible, is_own, is_to_ask, lease_of}
-use Rattle.assise_lease_table.specs.declared.lease.Asked.{Asked}
 use Rattle.assise_lease_table.specs.declared.lease.Lease.{Lease}
 use Rattle.assise_lease_table.proofs.Compatibles.{same_number, other_number, differ}
 use Rattle.assise_lease_table.proofs.Elements.{both_true, not_true}
@@ -54,9 +51,3 @@ module _ (by : ℕ → Bool) where
       left_step (l.holder == c) l c (lease_of ls c) (list_any (chosen c) ls)
       (λ own. let same = same_number l.holder c own in (same, ap (λ z. list_any (chosen z) ls) (sym same) ∙ none_left l ls parts.0))
       (listed_of c ls parts.1)
-
-  -- what is listed of all inodes
-  pub all_listed : (leases : ℕ → List Lease) → ((i : ℕ) → compatible (leases i) ≡ true) → (r : Result (Vec Asked) Refusal)
-      → IfOk r (λ asked. (c i : ℕ) → is_asked asked.items c i ≡ list_any (chosen c) (leases i)) → IfOk r (λ asked. (c i : ℕ) → is_asked asked.items c i ≡ left_of c (leases i))
-  all_listed leases fits (Ok asked) which = λ c i. which c i ∙ listed_of c (leases i) (fits i)
-  all_listed leases fits (Err refusal) which = tt

@@ -2,6 +2,7 @@ pub mod ClientHomes
 mod GrantSound
 mod AskSound
 mod ReleaseSound
+mod CallsOnInode
 mod CallsOnLevels
 mod Lawful
 mod HolderLists

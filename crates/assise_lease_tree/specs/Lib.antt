@@ -1,4 +1,6 @@
+pub mod BothLevels
 pub mod LeaseCalls
+pub mod LeaseLevels
 pub mod Levels
 pub mod Trees
 pub mod Turns

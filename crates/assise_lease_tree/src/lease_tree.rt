@@ -1,42 +1,48 @@
 // The leases of clients below their nodes, and of nodes from the manager.
-ghost use Rattle.std.specs.Prelude.{◌≡◌, ℕ, nat_eq, is_some};
+ghost use Rattle.std.specs.Prelude.{◌≡◌, ℕ, nat_eq, true, is_some};
 ghost use Rattle.indexmap.specs.IndexMap.{get};
-ghost use Rattle.assise_lease_table.specs.Tables.{client_leases, node_leases, revoker_of};
+ghost use Rattle.assise_lease_table.specs.Leases.{compatible};
+ghost use Rattle.assise_lease_tree.specs.LeaseLevels.{clients_at, nodes_at};
 ghost use Rattle.assise_lease_tree.specs.Levels.{Under, AskedBelow};
 
 use crate::acquired::Acquired;
-use crate::levels::{GivenUp, InTheWay, OfNode, is_busy, is_revoked, raised};
+use crate::lease_levels::LeaseLevels;
+use crate::levels::{InTheWay, OfNode};
 use crate::request::Request;
-use assise_lease_table::client_table::ClientTableOf;
-use assise_lease_table::lease::{Asked, Lease, Own, is_any_chosen};
-use assise_lease_table::node_table::NodeTable;
+use assise_lease_table::asking::{answers, store};
+use assise_lease_table::holders::serves;
+use assise_lease_table::lease::{Asked, Lease, Own};
 use assise_lease_table::revoker::{Revoker, Revokes};
 use assise_lease_table::views::Views;
 use assise_names::mode::Mode;
 use assise_names::refusal::Refusal;
 use indexmap::IndexMap;
-use std::alloc::Global;
+use std::alloc::{AllocError, Global};
 
 /// Who holds which inode on two levels (Assise, OSDI 2020, section 3): the manager delegates leases to nodes, and a node to
 /// its clients. On each level two hold one inode only if both read. A client's lease lies under one of its node that is as
 /// strong. Below a node's lease that was asked for some client holds the inode, and each that does was asked: such a lease
 /// grants nothing.
 pub struct LeaseTreeOf<C> {
+    alloc: Global,
     homes: IndexMap<u32, u32>,
-    clients: ClientTableOf<C>,
-    nodes: NodeTable,
-    ghost under: { (i : ℕ) → Under (get nat_eq homes) (client_leases clients i) (node_leases nodes i) },
-    ghost asked_below: { (i : ℕ) → AskedBelow (get nat_eq homes) (client_leases clients i) (node_leases nodes i) },
-    ghost known: { (c : ℕ) → is_some (get nat_eq homes c) ≡ is_some (revoker_of clients c) },
+    revokers: IndexMap<u32, C>,
+    leases: LeaseLevels,
+    ghost compatible_clients: { (i : ℕ) → compatible (clients_at leases i) ≡ true },
+    ghost compatible_nodes: { (i : ℕ) → compatible (nodes_at leases i) ≡ true },
+    ghost under: { (i : ℕ) → Under (get nat_eq homes) (clients_at leases i) (nodes_at leases i) },
+    ghost asked_below: { (i : ℕ) → AskedBelow (get nat_eq homes) (clients_at leases i) (nodes_at leases i) },
+    ghost known: { (c : ℕ) → is_some (get nat_eq homes c) ≡ is_some (get nat_eq revokers c) },
 }
 
 // One call lets go of it, wherever it is owned.
 impl<C: Drop> Drop for LeaseTreeOf<C> {
     fn drop(self) {
         let LeaseTreeOf {
+            alloc: _,
             homes: _,
-            clients: _,
-            nodes: _,
+            revokers: _,
+            leases: _,
         } = self;
     }
 }
@@ -64,9 +70,10 @@ impl<C: Revokes + Drop> LeaseTreeOf<C> {
         ensures revokers { (c : ℕ) → stored_by result c ≡ None }
     {
         LeaseTreeOf {
+            alloc,
             homes: IndexMap::new(alloc),
-            clients: ClientTableOf::new(alloc),
-            nodes: NodeTable::new(alloc),
+            revokers: IndexMap::new(alloc),
+            leases: LeaseLevels::new(alloc),
         }
     }
 
@@ -91,7 +98,7 @@ impl<C: Revokes + Drop> LeaseTreeOf<C> {
         let Ok(()) = self.homes.reserve(1) else {
             return Err((Refusal::OutOfMemory, revoker));
         };
-        self.clients.enrol(client, revoker)?;
+        store(&mut self.revokers, client, revoker)?;
         let Ok(_) = self.homes.insert(client, node) else {
             unreachable!()
         };
@@ -102,7 +109,7 @@ impl<C: Revokes + Drop> LeaseTreeOf<C> {
     pub fn leases(&self, inode: u64) -> &[Lease]
         ensures { result.now ≡ (levels_of self.now).clients inode }
     {
-        self.clients.leases(inode)
+        self.leases.clients(inode)
     }
 
     /// Whether a client's lease serves where the mode is wanted: it is strong enough and not revoked.
@@ -111,7 +118,7 @@ impl<C: Revokes + Drop> LeaseTreeOf<C> {
             mode }
         ensures lawful { LevelsInvariant (levels_of self.now) }
     {
-        self.clients.holds(client, inode, mode)
+        serves(self.leases.clients(inode), client, mode)
     }
 
     /// Whether a request is granted at once: nobody stands in its way.
@@ -119,14 +126,7 @@ impl<C: Revokes + Drop> LeaseTreeOf<C> {
         ensures { result ≡ is_free_for (levels_of self.now) request.client request.node
             request.inode request.mode }
     {
-        let way = InTheWay {
-            request,
-            homes: &self.homes,
-            nodes: self.nodes.leases(request.inode),
-        };
-        !is_any_chosen(&way, self.clients.leases(request.inode))
-            && !is_revoked(self.clients.lease(request.client, request.inode))
-            && !is_revoked(self.nodes.lease(request.node, request.inode))
+        self.leases.is_free(&self.homes, request)
     }
 
     /// Grants a request that nobody stands in the way of. The one refusal is [`Refusal::OutOfMemory`], which leaves all leases
@@ -144,24 +144,32 @@ impl<C: Revokes + Drop> LeaseTreeOf<C> {
         ensures only_memory { IsOkUnless result OutOfMemory }
         ensures revokers { KeepsRevokers self.old self.new }
     {
-        let Request {
-            client,
-            node,
-            inode,
-            mode,
-        } = request;
-        self.clients.reserve(client, inode)?;
-        self.nodes.reserve(node, inode)?;
-        let client_mode = raised(mode, self.clients.lease(client, inode));
-        let node_mode = raised(mode, self.nodes.lease(node, inode));
-        let given_up = GivenUp {
+        self.leases.grant(&self.homes, request)?;
+        Ok(())
+    }
+
+    /// What those answer who stand in the way of a request and weren't asked yet. Nobody is asked for good, and nothing is revoked.
+    /// It fails only where memory runs out, and never where nobody is asked.
+    fn answers<V: Views>(&self, request: Request, views: &V) -> Result<Vec<Asked>, AllocError>
+        requires viewed { (l : _) → Among ((levels_of self.now).clients request.inode) l →
+            l.revoked ≡ false → is_some (V.view_of views.now l.holder) ≡ true }
+        ensures answers { IfOk result (λ asked. AnswerAll C.answers (stored_by self.now)
+            (V.view_of views.now) request.inode
+            (in_way (levels_of self.now).home
+            ((levels_of self.now).nodes request.inode) request.client request.node request.mode)
+            ((levels_of self.now).clients request.inode) asked.items) }
+        ensures nobody { list_any (is_to_ask (in_way (levels_of self.now).home
+            ((levels_of self.now).nodes request.inode) request.client request.node request.mode))
+            ((levels_of self.now).clients request.inode) ≡ false → IsOk result }
+    {
+        let inode = request.inode;
+        let way = InTheWay {
             request,
             homes: &self.homes,
-            clients: self.clients.leases(inode),
+            nodes: self.leases.nodes(inode),
         };
-        self.nodes.hold_over(node, inode, node_mode, &given_up);
-        self.clients.hold_reserved(client, inode, client_mode);
-        Ok(())
+        let clients = self.leases.clients(inode);
+        answers(self.alloc, &self.revokers, clients, inode, &way, views)
     }
 
     /// Asks those who stand in the way of a request, and answers their cuts. Who was asked before isn't asked again. Where no other
@@ -188,27 +196,8 @@ impl<C: Revokes + Drop> LeaseTreeOf<C> {
         ensures only_memory { IsOkUnless result OutOfMemory }
         ensures revokers { KeepsRevokers self.old self.new }
     {
-        let Request {
-            node,
-            inode,
-            mode,
-            ..
-        } = request;
-        let way = InTheWay {
-            request,
-            homes: &self.homes,
-            nodes: self.nodes.leases(inode),
-        };
-        let asked = self.clients.answers(inode, &way, views)?;
-        self.clients.revoke_chosen(inode, &way);
-        let given_up = GivenUp {
-            request,
-            homes: &self.homes,
-            clients: self.clients.leases(inode),
-        };
-        self.nodes.take(inode, &given_up);
-        self.nodes.ask(inode, mode, node);
-        self.nodes.raise(inode, node, mode);
+        let asked = self.answers(request, views)?;
+        self.leases.ask(&self.homes, request);
         Ok(asked)
     }
 
@@ -282,13 +271,7 @@ impl<C: Revokes + Drop> LeaseTreeOf<C> {
         let Some(home) = self.homes.get(&client) else {
             return;
         };
-        let node = *home;
-        self.clients.release(client, inode);
-        if is_revoked(self.nodes.lease(node, inode))
-            && !is_busy(&self.homes, self.clients.leases(inode), node)
-        {
-            self.nodes.release(node, inode);
-        }
+        self.leases.release(&self.homes, client, *home, inode);
     }
 
     /// Freezes a client: all its leases are revoked. No revoker is called, and it takes no memory.
@@ -296,7 +279,7 @@ impl<C: Revokes + Drop> LeaseTreeOf<C> {
         ensures revoked { IsRevoked (levels_of self.old) (levels_of self.new) client }
         ensures revokers { KeepsRevokers self.old self.new }
     {
-        self.clients.freeze(client);
+        self.leases.revoke(&Own { holder: client });
     }
 
     /// Revokes all leases of a node's clients. No revoker is called, and it takes no memory.
@@ -311,7 +294,7 @@ impl<C: Revokes + Drop> LeaseTreeOf<C> {
             homes: &self.homes,
             node,
         };
-        self.clients.revoke_everywhere(&of_node);
+        self.leases.revoke(&of_node);
     }
 
     /// Each lease of a client that is not revoked, once, with 0 as its cut: no revoker is called. It walks over all leases of
@@ -324,7 +307,8 @@ impl<C: Revokes + Drop> LeaseTreeOf<C> {
             (lease_of ((levels_of self.now).clients i) c))) }
         ensures only_memory { IsOkUnless result OutOfMemory }
     {
-        self.clients.unasked(&Own { holder: client })
+        let asked = self.leases.unasked(&Own { holder: client })?;
+        Ok(asked)
     }
 
     /// Each lease of a node's clients that is not revoked, as [`LeaseTreeOf::unasked_of`] lists those of one client.
@@ -340,7 +324,8 @@ impl<C: Revokes + Drop> LeaseTreeOf<C> {
             homes: &self.homes,
             node,
         };
-        self.clients.unasked(&of_node)
+        let asked = self.leases.unasked(&of_node)?;
+        Ok(asked)
     }
 
     /// Whether no client of a node holds an inode, revoked or not. It walks over all leases of clients.
@@ -353,7 +338,7 @@ impl<C: Revokes + Drop> LeaseTreeOf<C> {
             homes: &self.homes,
             node,
         };
-        !self.clients.is_any_chosen(&of_node)
+        !self.leases.is_any_chosen(&of_node)
     }
 
     /// Takes all leases of a node away, none of whose clients holds one. It takes no memory.
@@ -362,6 +347,6 @@ impl<C: Revokes + Drop> LeaseTreeOf<C> {
         ensures freed { IsFreed (levels_of self.old) (levels_of self.new) node }
         ensures revokers { KeepsRevokers self.old self.new }
     {
-        self.nodes.free(node);
+        self.leases.free(node);
     }
 }

@@ -2,7 +2,9 @@
 #![tactic(auto)]
 
 pub mod acquired;
+mod both_levels;
 pub mod laws;
+mod lease_levels;
 pub mod lease_tree;
 mod levels;
 pub mod request;

@@ -1,7 +1,7 @@
-use Rattle.std.proofs.Common.{◌==◌}
-use Rattle.assise_lease_table.specs.Tables.{client_leases}
-use Rattle.assise_lease_tree.proofs.HolderLists.{all_listed}
+use Rattle.std.proofs.Common.{◌==◌, ◌∙◌}
+use Rattle.assise_lease_tree.specs.LeaseLevels.{clients_at}
+use Rattle.assise_lease_tree.proofs.HolderLists.{listed_of}
 use Rattle.assise_lease_tree.proofs.lease_tree.LeaseTreeOf.unasked_of.Goals as goal
 
 pub returns-clause-all : goal.returns-clause-all
-returns-clause-all g c = all_listed (λ h. h == c.args.client) (client_leases c.args.self.now.clients) c.args.self.now.clients.compatible_leases c.unasked.result c.unasked.ensures.which
+returns-clause-all g c d i = c.in_ok-asked.ensures.which d i ∙ listed_of (λ h. h == c.args.client) d (clients_at c.args.self.now.leases i) (c.args.self.now.compatible_clients i)

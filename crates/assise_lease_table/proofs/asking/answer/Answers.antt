@@ -1,6 +1,6 @@
 use Rattle.std.proofs.Common.{refl, rules, subst, sym}
 use Rattle.assise_private_log.specs.Touches.{Covers}
-use Rattle.assise_lease_table.proofs.client_table.ClientTableOf.answer.Goals as goal
+use Rattle.assise_lease_table.proofs.asking.answer.Goals as goal
 
 pub returns-clause-answer : goal.returns-clause-answer
 returns-clause-answer g c = record {
