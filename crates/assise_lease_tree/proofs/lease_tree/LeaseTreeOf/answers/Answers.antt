@@ -1,9 +1,8 @@
-use Rattle.std.proofs.Common.{◌≡◌, nat_eq, is_some, true, sym, subst, ◌∙◌}
+use Rattle.std.proofs.Common.{nat_eq, sym, subst, ◌∙◌}
 use Rattle.std.specs.Prelude.{IfOk}
 use Rattle.indexmap.specs.IndexMap.{get}
 use Rattle.assise_lease_table.specs.Answers.{AnswerAll}
 use Rattle.assise_lease_table.specs.Leases.{Among}
-use Rattle.assise_lease_table.specs.declared.lease.Lease.{Lease}
 use Rattle.assise_lease_tree.specs.LeaseLevels.{clients_at}
 use Rattle.assise_lease_tree.specs.Levels.{in_way}
 use Rattle.assise_lease_tree.specs.Trees.{levels_of, stored_by}
