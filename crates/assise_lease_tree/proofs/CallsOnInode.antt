@@ -28,4 +28,3 @@ given_up_alike home cs ds n mode ns same =
 -- what is given up over clients' leases of which some were revoked
 pub given_up_still : (home : Homes) (choice : Lease → Bool) (cs : List Lease) (n : ℕ) (mode : Mode) (ns : List Lease) → leave_out (gives_up home (revoke choice cs) n mode) ns ≡ leave_out (gives_up home cs n mode) ns
 given_up_still home choice cs n mode ns = given_up_alike home cs (revoke choice cs) n mode ns (busy_same home choice cs)
-

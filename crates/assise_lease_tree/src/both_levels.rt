@@ -98,7 +98,10 @@ impl BothLevels {
         ensures in_use { is_in_use self.new ≡ true }
     {
         let Request {
-            client, node, mode, ..
+            client,
+            node,
+            mode,
+            ..
         } = request;
         let client_lease = granted(self.clients.as_slice(), client, mode);
         let node_lease = granted(self.nodes.as_slice(), node, mode);

@@ -132,13 +132,7 @@ impl LeaseLevels {
     }
 
     /// Takes a client's lease of an inode away, and the asked lease of its node with the last client below. It takes no memory.
-    pub(crate) fn release(
-        &mut self,
-        homes: &IndexMap<u32, u32>,
-        client: u32,
-        node: u32,
-        inode: u64,
-    )
+    pub(crate) fn release(&mut self, homes: &IndexMap<u32, u32>, client: u32, node: u32, inode: u64)
         ensures clients { Becomes (clients_at self.old) (clients_at self.new) inode
             (without_holder client (clients_at self.old inode)) }
         ensures nodes { Becomes (nodes_at self.old) (nodes_at self.new) inode

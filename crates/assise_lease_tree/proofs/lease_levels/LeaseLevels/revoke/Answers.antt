@@ -12,7 +12,7 @@ invariant_of-self g c =
     record {
       held = λ i. held_after is_in_use _ _ (λ k v b w f' t.
           middle (λ (is : (w.clients.items ≡ revoke choice v.clients.items) × (w.nodes ≡ v.nodes)).
-              ap (λ z. z || is_any w.nodes.items) (ap is_any is.0 ∙ revoke_any choice v.clients.items) ∙ ap (λ n. is_any v.clients.items || is_any n.items) is.1) (search rules)) _ _ c.retain.ensures.filtered i ∙ c.args.self.now.held i;
+          ap (λ z. z || is_any w.nodes.items) (ap is_any is.0 ∙ revoke_any choice v.clients.items) ∙ ap (λ n. is_any v.clients.items || is_any n.items) is.1) (search rules)) _ _ c.retain.ensures.filtered i ∙ c.args.self.now.held i;
       unique = c.retain.ensures.unique;
     }
 
