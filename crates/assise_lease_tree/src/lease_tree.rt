@@ -148,8 +148,8 @@ impl<C: Revokes + Drop> LeaseTreeOf<C> {
         Ok(())
     }
 
-    /// What those answer who stand in the way of a request and weren't asked yet. Nobody is asked for good, and nothing is revoked.
-    /// It fails only where memory runs out, and never where nobody is asked.
+    /// The answers of those who stand in the way of a request and weren't asked yet. Nothing is revoked. It fails only where memory
+    /// runs out, and never where nobody is asked.
     fn answers<V: Views>(&self, request: Request, views: &V) -> Result<Vec<Asked>, AllocError>
         requires viewed { (l : _) → Among ((levels_of self.now).clients request.inode) l →
             l.revoked ≡ false → is_some (V.view_of views.now l.holder) ≡ true }
