@@ -1,4 +1,4 @@
-// The inodes of a node: the recently used ones in a hot part, the others in a cold one.
+//! The inodes of a node: the recently used ones in a hot part, the others in a cold one.
 ghost use Rattle.std.specs.Prelude.{◌≡◌, ◌≤◌, ◌<◌, ℕ, IfOk, IsOk, IsOkUnless, None, OnErr, OnOk, length, nat_eq, option_copied, option_map};
 ghost use Rattle.std.specs.FinMap as map;
 ghost use Rattle.std.specs.List.{IsDistinct};

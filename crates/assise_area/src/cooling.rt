@@ -1,4 +1,4 @@
-// Hot inodes that become cold, the longest unused ones first.
+//! Hot inodes that become cold, the longest unused ones first.
 ghost use Rattle.std.specs.Prelude.{◌≡◌, ◌<◌, ℕ, IfOk, IsOkUnless, IsSome, None, OnErr, OnOk, Some, [], drop, false, length, nat_eq, take, true};
 ghost use Rattle.std.specs.List.{list_any};
 ghost use Rattle.std.specs.Map.{keys_of};

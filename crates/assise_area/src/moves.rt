@@ -1,4 +1,4 @@
-// Inodes that move between the hot part and the cold one.
+//! Inodes that move between the hot part and the cold one.
 ghost use Rattle.std.specs.Prelude.{◌≡◌, ◌-◌, ℕ, IfOk, IsOkUnless, IsSome, None, OnErr, OnOk, Some, cond, nat_eq, option_map, slice_get};
 ghost use Rattle.assise_area.specs.Parts.{AreDisjoint, IsPushed, IsWarmed, cold_at, hot_at};
 ghost use Rattle.assise_names.specs.declared.refusal.Refusal.TheVariants.{OutOfMemory};

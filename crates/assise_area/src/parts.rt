@@ -1,4 +1,4 @@
-// What is done to one of the two parts.
+//! What is done to one of the two parts.
 ghost use Rattle.std.specs.Prelude.{◌≡◌, ◌≤◌, ℕ, IsOk, IsOkUnless, IsSome, OnErr, OnOk, Some, cond, nat_eq, option_map};
 ghost use Rattle.std.specs.NonZero.{non_zero_usize_get};
 ghost use Rattle.assise_area.specs.Parts.{cold_at};

@@ -1,4 +1,4 @@
-// Inodes that are put in place of what their numbers had, once there is room for all of them.
+//! Inodes that are put in place of what their numbers had, once there is room for all of them.
 ghost use Rattle.std.specs.Prelude.{◌≡◌, ◌+◌, ◌<◌, ◌≤◌, ℕ, Some, cond, nat_eq};
 ghost use Rattle.std.specs.Map.{keys_of};
 ghost use Rattle.std.specs.Option.{option_or};

@@ -1,4 +1,4 @@
-// What a use makes hot, and what becomes cold for it.
+//! What a use makes hot, and what becomes cold for it.
 use assise_area::area::{Area, MOST_HOT};
 use assise_inode_table::inode::Inode;
 use assise_inode_table::table::InodeTable;

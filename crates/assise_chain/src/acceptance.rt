@@ -1,4 +1,4 @@
-// What a node takes in of a message.
+//! What a node takes in of a message.
 ghost use Rattle.std.specs.Prelude.{◌≡◌, ◌+◌, ◌≤◌, ◌↔◌, IfErr, IfOk, IsOk, OnErr, OnOk, length, max, true};
 ghost use Rattle.assise_names.specs.declared.refusal.Refusal.TheVariants.{StaleMessage};
 ghost use Rattle.assise_private_log.specs.NumberedLog.{end};

@@ -1,4 +1,4 @@
-// Laws of chains. Each function does nothing: its contract is the law.
+//! Laws of chains. Each function does nothing: its contract is the law.
 ghost use Rattle.std.specs.Prelude.{Bool, ◌≡◌, ◌≢◌, ◌+◌, ◌<◌, ◌≤◌, true, length, ◌↔◌, ℕ, List, [], ◌∷◌, ◌++◌, Some, None};
 ghost use Rattle.assise_record.specs.LogFrame.{LogFrame};
 ghost use Rattle.assise_private_log.specs.NumberedLog.{IsNumberedLog, NumberedLog, end, is_border};

@@ -1,4 +1,4 @@
-// What a node sends of its log.
+//! What a node sends of its log.
 ghost use Rattle.std.specs.Prelude.{◌≡◌, ◌+◌, ◌<◌, ◌^◌, IfOk, IsOk, IsOkUnless, [], take};
 ghost use Rattle.assise_private_log.specs.NumberedLog.{records_from};
 ghost use Rattle.assise_names.specs.declared.refusal.Refusal.TheVariants.{OutOfMemory};

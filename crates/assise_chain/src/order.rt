@@ -1,4 +1,4 @@
-// The order of the nodes in a chain.
+//! The order of the nodes in a chain.
 ghost use Rattle.std.specs.Prelude.{◌≡◌};
 ghost use Rattle.assise_chain.specs.Chains.{behind, chain};
 

@@ -1,4 +1,4 @@
-// How far all nodes have come.
+//! How far all nodes have come.
 ghost use Rattle.std.specs.Prelude.{◌<◌, ◌≤◌, ℕ, Contains, length};
 
 /// The number below which every node has received all: the least of what each has received.

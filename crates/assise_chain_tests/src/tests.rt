@@ -1,4 +1,4 @@
-// A log goes from one node to the next.
+//! A log goes from one node to the next.
 ghost use Rattle.std.specs.Prelude.{◌≡◌, ◌+◌, ◌≤◌, true, length};
 
 use assise_chain::acceptance::accept;

@@ -1,4 +1,4 @@
-// A cluster on which a script's commands are run.
+//! A cluster on which a script's commands are run.
 ghost use Rattle.std.specs.Prelude.{◌≡◌, ◌<◌, ◌≤◌, IfOk, IsOkUnless, Some, false, map, true};
 ghost use Rattle.assise_names.specs.declared.refusal.Refusal.TheVariants.{OutOfMemory};
 ghost use Rattle.assise_model_events.specs.Events.{crash, digest, fail, join, raise, refill};

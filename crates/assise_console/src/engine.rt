@@ -1,4 +1,4 @@
-// Runs a script's commands and prints their answers.
+//! Runs a script's commands and prints their answers.
 ghost use Rattle.std.specs.Prelude.{◌≡◌, IfErr, IfOk, IsOkUnless, OnOk};
 ghost use Rattle.std.specs.Io.KnownBytes.{Appends, Keeps};
 ghost use Rattle.assise_console.specs.Consoles.{console_seen, stocks};

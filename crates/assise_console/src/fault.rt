@@ -1,4 +1,4 @@
-// Why the program ends without running its script to the end.
+//! Why the program ends without running its script to the end.
 ghost use Rattle.std.specs.Prelude.{◌≡◌, IfOk, IsOkUnless, Some, string_bytes};
 ghost use Rattle.assise_console.specs.Faults.{fault_line, status};
 ghost use Rattle.assise_names.specs.declared.refusal.Refusal.TheVariants.{OutOfMemory};

@@ -1,4 +1,4 @@
-// Laws of the commands. Each function does nothing: its contract is the law.
+//! Laws of the commands. Each function does nothing: its contract is the law.
 ghost use Rattle.std.specs.Prelude.{◌≡◌, ◌++◌, ◌<◌, List, [], false, ℕ};
 ghost use Rattle.assise_history.specs.Legal.{IsLegal};
 ghost use Rattle.assise_fault_script.specs.declared.command.Command as commands;

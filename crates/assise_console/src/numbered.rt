@@ -1,4 +1,4 @@
-// Numbers of nodes and of clients.
+//! Numbers of nodes and of clients.
 ghost use Rattle.std.specs.Prelude.{◌≡◌, ◌^◌, ◌≤◌, IfSome, None};
 
 /// The number of a node or of a client. What doesn't fit 32 bits names none.

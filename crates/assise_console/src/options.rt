@@ -1,4 +1,4 @@
-// The command line.
+//! The command line.
 ghost use Rattle.std.specs.Prelude.{◌≡◌, ◌≤◌, IfErr, IfOk, IsTrue, Some, [], false, map};
 ghost use Rattle.clap.specs.Words.{HasKind, app_of, kind_of, rule_of};
 ghost use Rattle.assise_console.specs.CommandLine.{faults_of, is_taken, program, script_of, script_rule, threads_of, threads_rule, turns_of, turns_rule};

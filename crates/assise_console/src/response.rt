@@ -1,4 +1,4 @@
-// What commands answer.
+//! What commands answer.
 use assise_names::refusal::Refusal;
 use assise_names::reply::Reply;
 use assise_seq_tree::tree::Tree;

@@ -1,4 +1,4 @@
-// Revokers for the clients that are to be opened.
+//! Revokers for the clients that are to be opened.
 ghost use Rattle.std.specs.Option.{option_to_list};
 ghost use Rattle.std.specs.Prelude.{◌≡◌, ◌<◌, ◌++◌, ◌∷◌, [], IfErr, IsOk, IsSome, None, OnErr, OnOk, vec_capacity, vec_len};
 ghost use Rattle.assise_fault_script.specs.declared.command.RevokerKind.{RevokerKind as Kind};

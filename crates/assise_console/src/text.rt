@@ -1,4 +1,4 @@
-// What answers look like.
+//! What answers look like.
 ghost use Rattle.std.specs.Prelude.{◌++◌, Some, codes};
 ghost use Rattle.std.specs.Fmt.{WritesOnOk, decimal};
 ghost use Rattle.assise_console.specs.Lines.{answer_text, lost_text, numbered_line};

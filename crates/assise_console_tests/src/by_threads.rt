@@ -1,4 +1,4 @@
-// What scripts print with a thread for each client.
+//! What scripts print with a thread for each client.
 use crate::scripts::{NOWHERE, RUNS};
 use crate::stock::stock_of;
 use assise_names::limits::{MOST_CLIENTS, MOST_NODES};

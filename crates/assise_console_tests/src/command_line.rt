@@ -1,4 +1,4 @@
-// The words of the command line.
+//! The words of the command line.
 use assise_console::options::{CommandLine, options};
 use clap::Error;
 use std::alloc::{AllocError, Global};

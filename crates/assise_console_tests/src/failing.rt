@@ -1,4 +1,4 @@
-// Readers and writers that fail.
+//! Readers and writers that fail.
 use crate::failures::HAS_ALL;
 use crate::scripts::NOWHERE;
 use crate::stock::stock_of;

@@ -1,4 +1,4 @@
-// Scripts whose clients crash and whose nodes fail and come back.
+//! Scripts whose clients crash and whose nodes fail and come back.
 use crate::scripts::Run;
 use assise_test_rows::scripts::{
     BACK_AND_ALONE, BACK_BY_HAND, CARRIED_IN_PART, CRASHED, CUT_AT_AN_FSYNC, DONOR_FAILS,

@@ -1,4 +1,4 @@
-// What ends a run early.
+//! What ends a run early.
 use crate::scripts::NOWHERE;
 use crate::stock::stock_of;
 use assise_console::engine::engine;

@@ -1,4 +1,4 @@
-// Links that lose, repeat, delay and cut, and areas of which another number of inodes is hot.
+//! Links that lose, repeat, delay and cut, and areas of which another number of inodes is hot.
 use crate::scripts::Run;
 
 /// Scripts that set links, and how many inodes may be hot.

@@ -1,4 +1,4 @@
-// Scripts that are made, and others on few turns.
+//! Scripts that are made, and others on few turns.
 use crate::scripts::{NOWHERE, prints};
 use assise_console::options::CommandLine;
 use std::alloc::{AllocError, Global};

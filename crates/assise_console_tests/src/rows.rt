@@ -1,4 +1,4 @@
-// Scripts on a cluster: replication, leases, digests and what each node has.
+//! Scripts on a cluster: replication, leases, digests and what each node has.
 use crate::scripts::Run;
 use assise_test_rows::scripts::{CROSSING, HANDED_BY_HAND, SHARED_FILE};
 

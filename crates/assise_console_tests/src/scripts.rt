@@ -1,4 +1,4 @@
-// What scripts print.
+//! What scripts print.
 use crate::stock::stock_of;
 use crate::{failures, links, rows};
 use assise_console::engine::engine;

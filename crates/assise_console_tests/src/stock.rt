@@ -1,4 +1,4 @@
-// Revokers for the clients of a script.
+//! Revokers for the clients of a script.
 use assise_console::stock::Stock;
 use assise_lease_table::revoker::Revoker;
 use assise_names::limits::MOST_CLIENTS;

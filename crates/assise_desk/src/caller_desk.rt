@@ -1,4 +1,4 @@
-// A place in a caller's memory at which requests are served.
+//! A place in a caller's memory at which requests are served.
 ghost use Rattle.std.specs.Prelude.{◌≡◌, IfErr, IfOk, None, Ok};
 ghost use Rattle.std.specs.Option.{option_map};
 ghost use Rattle.assise_link.specs.TestLinks.{kind_of_link};

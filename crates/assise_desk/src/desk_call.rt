@@ -1,4 +1,4 @@
-// What a request's number asks for.
+//! What a request's number asks for.
 ghost use Rattle.std.specs.Prelude.{◌≡◌, ◌≢◌, MatchOption};
 ghost use Rattle.assise_desk.specs.CallNumbers.{desk_call_number};
 ghost use Rattle.assise_desk.specs.declared.desk_call.DeskCall.{DeskCall as AnyCall};

@@ -1,4 +1,4 @@
-// Why a request has no answer, as a number.
+//! Why a request has no answer, as a number.
 ghost use Rattle.std.specs.Prelude.{◌≡◌};
 ghost use Rattle.assise_desk.specs.FaultCodes.{fault_code, path_code, refusal_code, tree_error_code};
 

@@ -1,4 +1,4 @@
-// What a caller asks for.
+//! What a caller asks for.
 ghost use Rattle.std.specs.Prelude.{◌≡◌, IfErr, IfOk};
 ghost use Rattle.assise_desk.specs.RequestedOps.{IsRequestedAt, MayAskForNone, MayFault, MayFaultPath, PathIs, RequestsOp};
 ghost use Rattle.assise_desk.specs.FaultCodes.{no_memory};

@@ -1,4 +1,4 @@
-// A law of what is asked at a desk. The function does nothing: its contract is the law.
+//! A law of what is asked at a desk. The function does nothing: its contract is the law.
 ghost use Rattle.std.specs.Prelude.{List, Result, ℕ};
 ghost use Rattle.assise_names.specs.declared.reply.Reply.{Reply};
 ghost use Rattle.assise_link.specs.Kinds.{Kind};

@@ -1,4 +1,4 @@
-// What a call listed, as it stands in the history.
+//! What a call listed, as it stands in the history.
 ghost use Rattle.std.specs.Prelude.{◌≡◌};
 ghost use Rattle.std.specs.Option.{option_map};
 ghost use Rattle.assise_desk.specs.Listings.{ShowsListed, names_at};

@@ -1,4 +1,4 @@
-// Answers as bytes.
+//! Answers as bytes.
 ghost use Rattle.std.specs.Prelude.{◌≡◌, ◌+◌, ◌<◌, ◌≤◌, [], ◌∷◌, ◌++◌, IfErr, IfOk, IfSome, IsSome, MatchOption, drop, length, take};
 ghost use Rattle.assise_desk.specs.Pages.{IsPage, loss_bytes, losses_bytes};
 ghost use Rattle.assise_desk.specs.declared.desk_fault.DeskFault.TheVariants.{NoRoom};

@@ -1,4 +1,4 @@
-// What a desk tells of its cluster.
+//! What a desk tells of its cluster.
 ghost use Rattle.std.specs.Prelude.{◌≡◌};
 ghost use Rattle.assise_desk.specs.Queries.{AnswersQuery, phase_number, standing_number};
 

@@ -1,4 +1,4 @@
-// Replies as numbers and bytes.
+//! Replies as numbers and bytes.
 ghost use Rattle.assise_desk.specs.ShownReplies.{ShowsReply};
 
 use crate::desk_fault::DeskFault;

@@ -1,4 +1,4 @@
-// Texts of a cluster, and their pages.
+//! Texts of a cluster, and their pages.
 ghost use Rattle.std.specs.Prelude.{◌≡◌, ◌-◌, ◌≤◌, IfOk, IfErr, drop, length, min, string_bytes, take};
 ghost use Rattle.assise_desk.specs.Texts.{IsTextOf, MayNotPrint, text_kept};
 

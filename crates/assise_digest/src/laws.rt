@@ -1,4 +1,4 @@
-// Laws of what is kept beside an area. Each function does nothing: its contract is the law.
+//! Laws of what is kept beside an area. Each function does nothing: its contract is the law.
 ghost use Rattle.std.specs.Prelude.{◌≡◌, ◌++◌, ◌+◌, List, length, ℕ};
 ghost use Rattle.assise_record.specs.LogRecord.{LogRecord};
 ghost use Rattle.assise_record.specs.Records.{all_effects};

@@ -1,4 +1,4 @@
-// Numbers of records by inodes.
+//! Numbers of records by inodes.
 ghost use Rattle.std.specs.Prelude.{◌≡◌, ◌&&◌, ℕ, IfOk, IsOkUnless, IsSome, None, OnErr, OnOk, is_some, nat_eq, not};
 ghost use Rattle.std.specs.List.{list_any};
 ghost use Rattle.std.specs.FinMap as map;

@@ -1,4 +1,4 @@
-// Inodes with what records make of them.
+//! Inodes with what records make of them.
 ghost use Rattle.std.specs.Prelude.{◌≡◌, IfOk, IsOkUnless};
 ghost use Rattle.assise_inode_table.specs.Contents.{values};
 ghost use Rattle.assise_inode_table.specs.Spelled.{SpellsFrom};

@@ -1,4 +1,4 @@
-// What a client's own records make, before they are digested.
+//! What a client's own records make, before they are digested.
 ghost use Rattle.std.specs.Prelude.{◌≡◌, ◌+◌, ◌<◌, ◌^◌, length, IfOk, IsOkUnless, OnErr, OnOk, None, cond, is_some, nat_eq, option_copied, ℕ};
 ghost use Rattle.std.specs.List.{list_any};
 ghost use Rattle.assise_record.specs.Records.{all_effects};

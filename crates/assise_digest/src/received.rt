@@ -1,4 +1,4 @@
-// What a node received of a client's log.
+//! What a node received of a client's log.
 ghost use Rattle.std.specs.Prelude.{◌≡◌, ◌≢◌, ◌⊎◌, ◌+◌, ◌^◌, ◌<◌, ◌≤◌, ◌++◌, IfErr, IfOk, IfSome, IsOk, IsOkUnless, List, Option, Some, None, OnErr, OnOk, false, is_some, length, take, true, option_map, ℕ};
 ghost use Rattle.assise_record.specs.Records.{all_effects};
 ghost use Rattle.assise_inode_table.specs.Contents.{InodeMap};

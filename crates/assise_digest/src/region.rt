@@ -1,4 +1,4 @@
-// A node's region.
+//! A node's region.
 ghost use Rattle.std.specs.Prelude.{◌≡◌, ◌↔◌, ◌⊎◌, ◌+◌, ◌^◌, ◌<◌, ◌≤◌, [], ◌∷◌, ◌++◌, IfErr, IfOk, IsOk, IsOkUnless, List, None, Some, OnErr, OnOk, false, true, length, option_copied, ℕ};
 ghost use Rattle.std.specs.FinMap as map;
 ghost use Rattle.assise_record.specs.Records.{all_effects};

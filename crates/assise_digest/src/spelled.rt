@@ -1,4 +1,4 @@
-// From the inodes that spell a tree, the tree.
+//! From the inodes that spell a tree, the tree.
 ghost use Rattle.std.specs.Prelude.{◌≡◌, ◌≤◌, ◌++◌, IfOk, IsOkUnless, Ok, OnOk, Some, length, map, reverse};
 ghost use Rattle.assise_names.specs.declared.refusal.Refusal.TheVariants.{OutOfMemory};
 ghost use Rattle.assise_seq_tree.specs.Tree.{Tree as PlainTree};

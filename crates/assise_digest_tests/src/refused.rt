@@ -1,4 +1,4 @@
-// Allocations that are refused: `checks/allocations digest` refuses each in turn.
+//! Allocations that are refused: `checks/allocations digest` refuses each in turn.
 use crate::regions::{append, coalesce, digest, region_of, seen};
 use assise_digest::region::Region;
 use assise_names::refusal::Refusal;

@@ -1,4 +1,4 @@
-// A region of one client, and what is seen of it.
+//! A region of one client, and what is seen of it.
 ghost use Rattle.std.specs.Prelude.{◌≡◌, true};
 ghost use Rattle.assise_digest.specs.Region.{HasClient};
 

@@ -1,4 +1,4 @@
-// What no contract of a region says: that groups are digested at once, and what is hot.
+//! What no contract of a region says: that groups are digested at once, and what is hot.
 ghost use Rattle.std.specs.Prelude.{◌≡◌, [], true};
 
 use crate::regions::{digest, region_of, seen};

@@ -1,4 +1,4 @@
-// A row for each call of a client.
+//! A row for each call of a client.
 ghost use Rattle.std.specs.Prelude.{◌≡◌, map};
 ghost use Rattle.assise_fault_script.specs.Calls.{call_command, call_word, create_of, list_of, mkdir_of, path_word, read_of, rename_of, rmdir_of, stat_of, truncate_of, unlink_of, write_of};
 ghost use Rattle.assise_fault_script.specs.declared.fault.ScriptFault.{ScriptFault};

@@ -1,4 +1,4 @@
-// The commands of a script.
+//! The commands of a script.
 
 use assise_names::call::Op;
 use assise_names::durability::Durability;

@@ -1,4 +1,4 @@
-// The data of a write.
+//! The data of a write.
 ghost use Rattle.std.specs.Prelude.{◌≡◌, IfOk, IsOk, IsOkUnless, Ok, replicate};
 ghost use Rattle.assise_fault_script.specs.Data.{data_of, byte_of_hex, hex_bytes, hex_value, zeros};
 ghost use Rattle.assise_fault_script.specs.declared.fault.ScriptFault.{ScriptFault};

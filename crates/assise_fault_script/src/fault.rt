@@ -1,4 +1,4 @@
-// What is wrong with a script.
+//! What is wrong with a script.
 ghost use Rattle.std.specs.Prelude.{Some};
 ghost use Rattle.assise_fault_script.specs.Fault.{fault_text};
 

@@ -1,4 +1,4 @@
-// A row for each command that begins with a keyword.
+//! A row for each command that begins with a keyword.
 ghost use Rattle.std.specs.Prelude.{◌≡◌, map};
 ghost use Rattle.assise_fault_script.specs.Keywords.{back_of, carry_of, cluster_of, crash_of, cut_link_of, digest_of, fail_of, hot_capacity_of, hot_of, join_of, keyword_command, keyword_of, kind_of, link_kind_of, mode_of, node_link_of, open_in_mode_of, open_of, opening_of, raise_of, refill_of, tree_command, uncut_link_of};
 

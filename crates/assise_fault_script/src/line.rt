@@ -1,4 +1,4 @@
-// What a line says.
+//! What a line says.
 ghost use Rattle.std.specs.Prelude.{◌≡◌, ◌∷◌, map};
 ghost use Rattle.assise_fault_script.specs.Line.{AnswersLine, begins_with_digit, client_command, cluster_there, command_of, in_turn, is_comment, line_says, nameless_call, other_command};
 ghost use Rattle.assise_fault_script.specs.Words.{words_of};

@@ -1,4 +1,4 @@
-// Numbers.
+//! Numbers.
 ghost use Rattle.std.specs.Prelude.{◌≡◌};
 ghost use Rattle.std.specs.List.{list_all};
 ghost use Rattle.assise_fault_script.specs.Number.{is_digit, is_digits, limited, number_of};

@@ -1,4 +1,4 @@
-// The lines of a script.
+//! The lines of a script.
 ghost use Rattle.std.specs.Prelude.{◌≡◌, ◌⊎◌, ◌+◌, ◌<◌, ◌^◌, IfErr, IfOk, OnOk, Ok, Err};
 ghost use Rattle.assise_fault_script.specs.declared.fault.ScriptFault.TheVariants.{Memory};
 ghost use Rattle.assise_fault_script.specs.Script.{ClusterFirst, GivesNext, IsCommandAt, IsLineReached, commands_of, start};

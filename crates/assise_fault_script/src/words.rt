@@ -1,4 +1,4 @@
-// The lines of a script, and the words of a line.
+//! The lines of a script, and the words of a line.
 ghost use Rattle.std.specs.Prelude.{◌≡◌, ◌<◌, ◌∷◌, ◌++◌, [], IfNone, IfSome, filter, length, map, take};
 ghost use Rattle.std.specs.List.{position};
 ghost use Rattle.assise_fault_script.specs.Words.{is_line_feed, is_word, lines_of, without_return, words_of};

@@ -1,4 +1,4 @@
-// Lines of scripts behind a cluster.
+//! Lines of scripts behind a cluster.
 use assise_fault_script::command::Command;
 use assise_fault_script::fault::LineFault;
 use assise_fault_script::parse::parse;

@@ -1,4 +1,4 @@
-// The kinds of revokers as one type.
+//! The kinds of revokers as one type.
 use assise_lease_table::revoker::Revokes;
 use assise_private_log::log_view::LogView;
 use assise_revokers::kinds::{eights, least, whole};

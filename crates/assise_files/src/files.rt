@@ -1,4 +1,4 @@
-// A cluster that one caller uses.
+//! A cluster that one caller uses.
 use crate::cut_kind::CutKind;
 use crate::redo::{Unmade, is_done, lost_changes};
 use assise_history::check::check;

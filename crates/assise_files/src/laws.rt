@@ -1,4 +1,4 @@
-// Laws of what one caller does. Each function does nothing: its contract is the law.
+//! Laws of what one caller does. Each function does nothing: its contract is the law.
 ghost use Rattle.std.specs.Prelude.{◌≡◌, ◌++◌, ◌∷◌, [], List, Result, ⊤, ℕ};
 ghost use Rattle.assise_names.specs.declared.call.Op.{Op};
 ghost use Rattle.assise_names.specs.declared.durability.Durability.{Durability};

@@ -1,4 +1,4 @@
-// A client's changes that a failure took.
+//! A client's changes that a failure took.
 ghost use Rattle.std.specs.Prelude.{◌≡◌, ◌↔◌, ◌||◌, IsTrue, Ok, nat_le, ℕ, ◌∷◌, ◌++◌, IfOk, IsOkUnless, List, OnOk, reverse};
 ghost use Rattle.assise_names.specs.declared.refusal.Refusal.TheVariants.{OutOfMemory};
 ghost use Rattle.assise_names.specs.declared.reply.Reply.TheVariants.{Done};

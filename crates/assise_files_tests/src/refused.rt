@@ -1,4 +1,4 @@
-// Allocations that are refused: `checks/allocations desk` refuses each in turn.
+//! Allocations that are refused: `checks/allocations desk` refuses each in turn.
 use crate::requests::Requests;
 use std::alloc::Global;
 

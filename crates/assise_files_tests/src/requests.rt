@@ -1,4 +1,4 @@
-// Requests as text, one behind another at one desk.
+//! Requests as text, one behind another at one desk.
 use assise_desk::caller_desk::{CallerDesk, serve_desk};
 use assise_desk::desk_request::DeskRequest;
 use assise_test_rows::{Subject, split_word};

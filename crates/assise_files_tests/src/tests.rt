@@ -1,4 +1,4 @@
-// Rows of requests.
+//! Rows of requests.
 use crate::requests::Requests;
 use assise_test_rows::wrong_rows;
 use std::alloc::Global;

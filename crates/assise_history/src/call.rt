@@ -1,4 +1,4 @@
-// Answered calls, and what a failure loses.
+//! Answered calls, and what a failure loses.
 
 use assise_names::call::Op;
 use assise_names::reply::Reply;

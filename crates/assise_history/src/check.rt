@@ -1,4 +1,4 @@
-// Whether a history is legal.
+//! Whether a history is legal.
 ghost use Rattle.std.specs.Prelude.{◌↔◌, IsTrue, IfOk, IsOkUnless};
 ghost use Rattle.assise_history.specs.Legal.{IsLegal};
 ghost use Rattle.assise_names.specs.declared.refusal.Refusal.TheVariants.{OutOfMemory};

@@ -1,4 +1,4 @@
-// Entries, which clauses see as plain data.
+//! Entries, which clauses see as plain data.
 ghost use Rattle.std.specs.Prelude.{◌≡◌, Some};
 ghost use Rattle.assise_history.specs.Entries.{opens, calls, crashes, fails, returns};
 ghost use Rattle.assise_history.specs.Seen.{event_of};

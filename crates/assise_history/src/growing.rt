@@ -1,4 +1,4 @@
-// A state with a history that only grows.
+//! A state with a history that only grows.
 ghost use Rattle.std.specs.Prelude.{List};
 ghost use Rattle.assise_history.specs.Entries.{EntryValue};
 ghost use Rattle.assise_history.specs.Opened.{OpensOnce};

@@ -1,4 +1,4 @@
-// What happened, in order.
+//! What happened, in order.
 ghost use Rattle.std.specs.Prelude.{◌≡◌, ◌<◌, ◌-◌, ◌^◌, [], ◌∷◌, ◌++◌, IsOk, IsOkUnless, OnOk, Some, length, min};
 ghost use Rattle.assise_history.specs.Payload.{payloads};
 ghost use Rattle.assise_history.specs.Text.{history_text};

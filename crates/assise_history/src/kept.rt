@@ -1,4 +1,4 @@
-// The calls that no later failure loses.
+//! The calls that no later failure loses.
 ghost use Rattle.std.specs.Prelude.{◌≡◌, IfOk, IsOkUnless, OnOk, false, map, filter, not};
 ghost use Rattle.assise_history.specs.Kept.{kept, kept_more, loses};
 ghost use Rattle.assise_names.specs.declared.refusal.Refusal.TheVariants.{OutOfMemory};

@@ -1,4 +1,4 @@
-// Laws of legal histories and of what is kept. Each function does nothing: its contract is the law.
+//! Laws of legal histories and of what is kept. Each function does nothing: its contract is the law.
 ghost use Rattle.std.specs.Prelude.{◌≡◌, ◌↔◌, ◌+◌, ◌++◌, ◌∷◌, Contains, IsTrue, List, [], filter, not, ℕ};
 ghost use Rattle.assise_history.specs.declared.call.Call.{Call};
 ghost use Rattle.assise_history.specs.declared.call.Loss.{Loss};

@@ -1,4 +1,4 @@
-// How many bytes an entry keeps of what its call wrote, read or listed.
+//! How many bytes an entry keeps of what its call wrote, read or listed.
 ghost use Rattle.std.specs.Prelude.{◌≡◌, ◌-◌, ◌^◌, min};
 ghost use Rattle.assise_history.specs.Payload.{bytes_answered, bytes_written, name_bytes, payload};
 

@@ -1,4 +1,4 @@
-// The kept calls of a prefix, with the tree that they leave.
+//! The kept calls of a prefix, with the tree that they leave.
 ghost use Rattle.std.specs.Prelude.{◌≡◌, ◌++◌, ◌∷◌, [], IfOk, IsOkUnless};
 ghost use Rattle.assise_history.specs.Kept.{kept_more};
 ghost use Rattle.assise_history.specs.Played.{IsPlayed, Goes, played_calls};

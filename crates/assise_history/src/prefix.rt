@@ -1,4 +1,4 @@
-// What a prefix of a history says.
+//! What a prefix of a history says.
 ghost use Rattle.std.specs.Prelude.{◌≡◌, ◌==◌, ◌&&◌, OnOk, map, filter, not};
 ghost use Rattle.assise_history.specs.Legal.{is_sync};
 ghost use Rattle.assise_history.specs.Summary.{summary_after, follows, nothing_yet, newly_opened, is_fair, is_down, is_past, comes_next, makes_next_call, may_lose, ascend_from, summary_with_call, with_crash, with_failure};

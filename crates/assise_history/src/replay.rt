@@ -1,4 +1,4 @@
-// Calls, one after another from the opening tree.
+//! Calls, one after another from the opening tree.
 ghost use Rattle.std.specs.Prelude.{◌≡◌, ◌↔◌, IfOk, IsOkUnless, IsTrue, MatchOption, map};
 ghost use Rattle.assise_seq_tree.specs.Tree.{opening};
 ghost use Rattle.assise_history.specs.Kept.{IsRun, tree_after};

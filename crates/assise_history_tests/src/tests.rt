@@ -1,4 +1,4 @@
-// Histories that grow entry by entry.
+//! Histories that grow entry by entry.
 use assise_history::call::{Call, Loss};
 use assise_history::check::check;
 use assise_history::entry::Entry;

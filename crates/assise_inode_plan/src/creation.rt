@@ -1,4 +1,4 @@
-// Plans of the calls that make an inode.
+//! Plans of the calls that make an inode.
 ghost use Rattle.std.specs.Prelude.{◌≡◌, ◌∷◌, IfOk, IsOkUnless, OnErr, []};
 ghost use Rattle.assise_inode_plan.specs.Leased.{NotesAVisit};
 ghost use Rattle.assise_inode_plan.specs.Planning.{shown};

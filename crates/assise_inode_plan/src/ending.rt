@@ -1,4 +1,4 @@
-// Plans where the visits of a call end.
+//! Plans where the visits of a call end.
 ghost use Rattle.std.specs.Prelude.{◌≡◌, []};
 ghost use Rattle.assise_inode_plan.specs.Planning.{ready, shown};
 ghost use Rattle.assise_inode_plan.specs.Walking.{plan_stopped};

@@ -1,4 +1,4 @@
-// Plans of the calls that change a file's bytes.
+//! Plans of the calls that change a file's bytes.
 ghost use Rattle.std.specs.Prelude.{◌≡◌, ◌∷◌, ◌+◌, ◌≤◌, IfOk, IsOkUnless, OnErr, [], length};
 ghost use Rattle.assise_inode_plan.specs.Leased.{NotesAVisit};
 ghost use Rattle.assise_inode_plan.specs.Planning.{shown};

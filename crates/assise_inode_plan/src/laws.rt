@@ -1,4 +1,4 @@
-// Laws of plans. Each function does nothing: its contract is the law.
+//! Laws of plans. Each function does nothing: its contract is the law.
 ghost use Rattle.std.specs.Prelude.{◌≡◌, ◌++◌, ◌∷◌, List, false, true, ℕ};
 ghost use Rattle.assise_inode_plan.specs.Leased.{AreLeased, LeaseView, wants};
 ghost use Rattle.assise_inode_plan.specs.Planning.{missing, plan_of, ready, visited_plan_of};

@@ -1,4 +1,4 @@
-// Plans of calls.
+//! Plans of calls.
 ghost use Rattle.std.specs.Prelude.{◌≡◌, ◌≤◌, IfOk, IsOkUnless, None, OnErr, [], length};
 ghost use Rattle.std.specs.FinMap as map;
 ghost use Rattle.assise_inode_plan.specs.Leased.{NotesAVisit};

@@ -1,4 +1,4 @@
-// Plans of the calls that remove an entry.
+//! Plans of the calls that remove an entry.
 ghost use Rattle.std.specs.Prelude.{◌≡◌, ◌∷◌, IfOk, IsOkUnless, OnErr, []};
 ghost use Rattle.assise_inode_plan.specs.Leased.{NotesAVisit};
 ghost use Rattle.assise_inode_plan.specs.Planning.{shown};

@@ -1,4 +1,4 @@
-// Plans of renames.
+//! Plans of renames.
 ghost use Rattle.std.specs.Prelude.{◌≡◌, ◌==◌, ◌&&◌, ◌<◌, ◌≤◌, ◌++◌, IfOk, IsOkUnless, MatchResult, OnErr, OnOk, [], length, take, true, ℕ};
 ghost use Rattle.std.specs.Cmp.Lexicographic.{pointwise};
 ghost use Rattle.std.specs.FinMap as map;

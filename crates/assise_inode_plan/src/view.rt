@@ -1,4 +1,4 @@
-// Inodes of which some are leased.
+//! Inodes of which some are leased.
 ghost use Rattle.std.specs.Prelude.{◌≡◌, MatchOption, None, Some, option_copied, true};
 ghost use Rattle.std.specs.FinMap as map;
 ghost use Rattle.assise_inode_plan.specs.Leased.{LeaseView, first_missing, for_writing};

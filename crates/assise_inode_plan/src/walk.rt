@@ -1,4 +1,4 @@
-// Walks along paths over leased inodes.
+//! Walks along paths over leased inodes.
 ghost use Rattle.std.specs.Prelude.{◌≡◌, ◌≤◌, ◌++◌, ◌∷◌, IfOk, IsOkUnless, MatchResult, OnErr, Option, [], length, option_copied, take, true, ℕ};
 ghost use Rattle.assise_inode_plan.specs.Walking.{EndsAt, plan_from, plan_stopped};
 ghost use Rattle.assise_inode_table.specs.Calls.{walk, walk_from, walk_to_entry};

@@ -1,4 +1,4 @@
-// A call of each kind, and what is planned for it.
+//! A call of each kind, and what is planned for it.
 ghost use Rattle.std.specs.Prelude.{IsTrue};
 ghost use Rattle.assise_inode_plan.specs.Planning.{IsWritable};
 

@@ -1,4 +1,4 @@
-// Blocks of bytes.
+//! Blocks of bytes.
 ghost use Rattle.std.specs.Prelude.{◌≡◌, ◌+◌, ◌-◌, ◌*◌, ◌^◌, ◌<◌, ◌≤◌, ◌++◌, IfOk, OnErr, OnOk, length, take, drop};
 ghost use Rattle.std.specs.List.{concat};
 ghost use Rattle.assise_seq_tree.specs.Contents.{bytes_from, overwritten};

@@ -1,4 +1,4 @@
-// What a few inodes become by effects, made on copies of them and put in all or none.
+//! What a few inodes become by effects, made on copies of them and put in all or none.
 ghost use Rattle.std.specs.Prelude.{◌≡◌, ◌||◌, ◌<◌, ◌==◌, [], ◌∷◌, IfOk, IsOkUnless, MatchOption, None, OnErr, OnOk, Option, false, if◌then◌else◌, is_some, length, option_copied, slice_index, ℕ};
 ghost use Rattle.std.specs.FinMap as map;
 ghost use Rattle.assise_inode_table.specs.Changes.{AreDistinctChanges, IsPlace, Lacks, found, is_among, placed, placed_one, map_without};

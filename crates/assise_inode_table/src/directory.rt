@@ -1,4 +1,4 @@
-// The links of a directory.
+//! The links of a directory.
 ghost use Rattle.std.specs.Prelude.{◌≡◌, ◌+◌, ◌<◌, ◌≤◌, ◌==◌, IfErr, IfNone, IfOk, IfSome, IsOkUnless, None, OnErr, OnOk, Some, length, suc};
 ghost use Rattle.std.specs.FinMap as map;
 ghost use Rattle.assise_names.specs.declared.refusal.Refusal.TheVariants.{OutOfMemory};

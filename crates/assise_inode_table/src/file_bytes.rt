@@ -1,4 +1,4 @@
-// The bytes of a file.
+//! The bytes of a file.
 ghost use Rattle.std.specs.Prelude.{◌≡◌, ◌+◌, ◌-◌, ◌^◌, ◌<◌, ◌≤◌, ◌==◌, IfOk, IsOk, IsOkUnless, OnErr, OnOk, [], length, take};
 ghost use Rattle.assise_names.specs.declared.refusal.Refusal.TheVariants.{OutOfMemory};
 ghost use Rattle.assise_seq_tree.specs.Contents.{bytes_from, overwritten, resized};

@@ -1,4 +1,4 @@
-// A map of inodes, however it is held.
+//! A map of inodes, however it is held.
 ghost use Rattle.std.specs.Prelude.{◌≡◌, option_copied};
 ghost use Rattle.std.specs.FinMap as map;
 ghost use Rattle.assise_inode_table.specs.Contents.{InodeMap};

@@ -1,5 +1,5 @@
-// Laws of inodes, of what effects make of them, and of calls over them. Each function does nothing: its contract is
-// the law.
+//! Laws of inodes, of what effects make of them, and of calls over them. Each function does nothing: its contract is
+//! the law.
 ghost use Rattle.std.specs.Prelude.{◌≡◌, ◌++◌, ◌∷◌, ◌≤◌, ◌<◌, ◌^◌, ◌≢◌, ◌||◌, Bool, List, None, Ok, Option, Some, [], false, filter, length, true, ℕ};
 ghost use Rattle.std.specs.List.{list_any};
 ghost use Rattle.std.specs.FinMap as map;

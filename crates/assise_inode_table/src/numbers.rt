@@ -1,4 +1,4 @@
-// The numbers of inodes.
+//! The numbers of inodes.
 ghost use Rattle.std.specs.Prelude.{◌≡◌, ◌^◌, ◌<◌};
 ghost use Rattle.assise_inode_table.specs.Numbers.{inode_number};
 

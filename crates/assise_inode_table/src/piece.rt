@@ -1,4 +1,4 @@
-// A part of a directory.
+//! A part of a directory.
 ghost use Rattle.std.specs.Prelude.{◌≡◌, ◌-◌, ◌<◌, ◌≤◌, ◌++◌, ◌∷◌, ◌==◌, [], IfErr, IfOk, IsOkUnless, OnErr, OnOk, Some, drop, false, length, set, take, true};
 ghost use Rattle.std.specs.Arc.{arc_value};
 ghost use Rattle.std.specs.List.{insert};

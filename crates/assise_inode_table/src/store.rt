@@ -1,4 +1,4 @@
-// A map of inodes that can be changed, however it is held.
+//! A map of inodes that can be changed, however it is held.
 ghost use Rattle.std.specs.Prelude.{◌≡◌, IfOk, IsOk, IsOkUnless, None, OnErr, OnOk, ℕ};
 ghost use Rattle.std.specs.FinMap as map;
 ghost use Rattle.assise_inode_table.specs.Effects.{AsksForMemory, TakesAway, applied};

@@ -1,4 +1,4 @@
-// A table of inodes.
+//! A table of inodes.
 ghost use Rattle.std.specs.Prelude.{◌≡◌, IfNone, IfOk, IfSome, IsOk, IsOkUnless, None, OnErr, OnOk, Some, option_copied, option_map};
 ghost use Rattle.std.specs.FinMap as map;
 ghost use Rattle.assise_names.specs.declared.refusal.Refusal.TheVariants.{OutOfMemory};

@@ -1,4 +1,4 @@
-// Effects of a call that are made all or none.
+//! Effects of a call that are made all or none.
 ghost use Rattle.std.specs.Prelude.{◌≡◌, ◌++◌, ◌∷◌, [], IsOk, IsOkUnless, IsSome, OnErr, OnOk, true};
 ghost use Rattle.std.specs.FinMap as map;
 ghost use Rattle.std.specs.List.{list_all};

@@ -1,4 +1,4 @@
-// Effects, and what they make of inodes.
+//! Effects, and what they make of inodes.
 use assise_inode_table::changes::apply_all_on_copies;
 use assise_inode_table::table::InodeTable;
 use assise_test_effects::effects::{effect_of, make};

@@ -1,4 +1,4 @@
-// How often something happened that threads wait for.
+//! How often something happened that threads wait for.
 
 use std::sync::Wait;
 use std::sync::atomic::{AtomicU64, Ordering};

@@ -1,4 +1,4 @@
-// A state that is out of its keeper.
+//! A state that is out of its keeper.
 use std::marker::Model;
 
 /// The state while a pass holds it. It is no value that may be let go: it must be given back. A contract sees it as

@@ -1,4 +1,4 @@
-// The keeper of a state.
+//! The keeper of a state.
 ghost use Rattle.std.specs.Prelude.{◌≡◌};
 
 use crate::event_count::EventCount;

@@ -1,4 +1,4 @@
-// What a thread has seen.
+//! What a thread has seen.
 use crate::view::View;
 use atomic_table::Seat;
 

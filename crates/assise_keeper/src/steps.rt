@@ -1,4 +1,4 @@
-// The rule of a keeper, and what each step tells the thread that makes it.
+//! The rule of a keeper, and what each step tells the thread that makes it.
 ghost use Rattle.assise_keeper.specs.declared.view.Opens.TheVariants.{Never, AmongOthers};
 ghost use Rattle.assise_keeper.specs.Rule.{IsKept};
 ghost use Rattle.assise_keeper.specs.Views.{newcomer, spent, together, with_right, with_no_client, own_of, guest_of};

@@ -1,4 +1,4 @@
-// What a pass knows. No value of these types is made: they stand in contracts alone.
+//! What a pass knows. No value of these types is made: they stand in contracts alone.
 use assise_history::entry::Entry;
 use std::collections::LinkedList;
 

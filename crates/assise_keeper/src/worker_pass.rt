@@ -1,4 +1,4 @@
-// The pass of a worker.
+//! The pass of a worker.
 ghost use Rattle.std.specs.Prelude.{◌≡◌, None};
 ghost use Rattle.assise_keeper.specs.Passes.{client};
 

@@ -1,4 +1,4 @@
-// A keeper ends, its cluster is renewed, and the next keeper begins.
+//! A keeper ends, its cluster is renewed, and the next keeper begins.
 ghost use Rattle.std.specs.Prelude.{◌≡◌, ◌<◌, ◌≤◌, IfErr, IfOk, None};
 ghost use Rattle.assise_names.specs.declared.limits.TheConstants.{MOST_NODES};
 ghost use Rattle.assise_keeper.specs.declared.view.Opens.TheVariants.{Alone};

@@ -1,4 +1,4 @@
-// A small state: a history and a counter.
+//! A small state: a history and a counter.
 ghost use Rattle.std.specs.Prelude.{◌≡◌, ◌≤◌, ℕ};
 ghost use Rattle.assise_history.specs.Opened.{OpensOnce};
 ghost use Rattle.assise_keeper.specs.Clients.{openings};

@@ -1,4 +1,4 @@
-// Turns of a client and of a worker: a take, what is done with the state, and the give.
+//! Turns of a client and of a worker: a take, what is done with the state, and the give.
 ghost use Rattle.std.specs.Prelude.{◌≡◌, ◌++◌, map, Some, None, IfOk, OnErr};
 ghost use Rattle.assise_keeper.specs.Clients.{Extends, ExtendsByOne, MayOpenClients};
 ghost use Rattle.assise_keeper.specs.Passes.{seen, client, mine, opens, IsPassOf};

@@ -1,4 +1,4 @@
-// What contracts can't say: that two threads get on, and that a keeper has its state once it is closed.
+//! What contracts can't say: that two threads get on, and that a keeper has its state once it is closed.
 use crate::book::Book;
 use crate::threads::{Ended, two_clients};
 use assise_keeper::keeper::Keeper;

@@ -1,4 +1,4 @@
-// Two clients and a worker in threads of their own.
+//! Two clients and a worker in threads of their own.
 ghost use Rattle.std.specs.Prelude.{◌≡◌, map, Some, None, IfSome};
 ghost use Rattle.assise_keeper.specs.Clients.{MayOpenClients};
 ghost use Rattle.assise_keeper.specs.Passes.{IsPassOf, seen, client, mine, opens};

@@ -5,7 +5,7 @@ use Rattle.std.specs.Map.{lookup, keys_of, values_of}
 use Rattle.std.specs.Map.Calls.{RetainsPairs}
 use Rattle.assise_lease_table.specs.declared.lease.Lease.{Lease}
 use Rattle.assise_lease_table.specs.Leases.{revoke}
-use Rattle.assise_lease_table.specs.Lists.{leases_in, is_held, is_any}
+use Rattle.assise_lease_table.specs.Lists.{leases_in, is_none_or, is_any}
 use Rattle.assise_lease_table.proofs.Compatibles.{same_number}
 use Rattle.assise_lease_table.proofs.Elements.{neither, or_cases}
 
@@ -40,16 +40,16 @@ middle follows said = (said.0, follows said.1, said.2)
 -- each entry is kept, and has a lease where it had one
 module _ {V F : Type 0} (any : V → Bool) (T : F → ℕ → V → Bool → V → F → Type 0) (f : F)
     (says : (k : ℕ) (v : V) (b : Bool) (w : V) (f' : F) → T f k v b w f' → (b ≡ true) × (any w ≡ any v) × (f' ≡ f)) where
-  held_head : (b : Bool) (v w : V) (old new : Option V) → any w ≡ any v → is_held any new ≡ is_held any old → is_held any (cond b (Some w) new) ≡ is_held any (cond b (Some v) old)
+  held_head : (b : Bool) (v w : V) (old new : Option V) → any w ≡ any v → is_none_or any new ≡ is_none_or any old → is_none_or any (cond b (Some w) new) ≡ is_none_or any (cond b (Some v) old)
   held_head true v w old new written rest = written
   held_head false v w old new written rest = rest
 
-  pub held_after : (es kept : List (ℕ × V)) → RetainsPairs T f es kept → (i : ℕ) → is_held any (lookup (nat_eq i) kept) ≡ is_held any (lookup (nat_eq i) es)
-  held_after [] kept r i = ap (λ z. is_held any (lookup (nat_eq i) z)) r
+  pub held_after : (es kept : List (ℕ × V)) → RetainsPairs T f es kept → (i : ℕ) → is_none_or any (lookup (nat_eq i) kept) ≡ is_none_or any (lookup (nat_eq i) es)
+  held_after [] kept r i = ap (λ z. is_none_or any (lookup (nat_eq i) z)) r
   held_after (e ∷ es) kept r i =
       let a = says e.0 e.1 r.0 r.1 r.2 r.4 in
       let more = held_after es r.3 (subst (λ u. RetainsPairs T u es r.3) a.2 r.5) i in
-      ap (λ z. is_held any (lookup (nat_eq i) z)) (r.6 ∙ ap (λ b. cond b ((e.0, r.1) ∷ r.3) r.3) a.0)
+      ap (λ z. is_none_or any (lookup (nat_eq i) z)) (r.6 ∙ ap (λ b. cond b ((e.0, r.1) ∷ r.3) r.3) a.0)
       ∙ held_head (nat_eq i e.0) e.1 r.1 (lookup (nat_eq i) es) (lookup (nat_eq i) r.3) a.1 more
 
 -- no entry behind a key has it too
@@ -80,17 +80,17 @@ module _ {V F : Type 0} (leases : V → List Lease) (any : V → Bool) (empty : 
       ap (λ z. leases_in leases (lookup (nat_eq i) z)) r.6
       ∙ kept_head r.0 (nat_eq i e.0) i e.0 e.1 r.1 r.3 (lookup (nat_eq i) es) refl a.0 a.1 more (λ same. absent i e.0 es same distinct.0)
 
-  all_head : (b m : Bool) (w : V) (i k : ℕ) (rest : List (ℕ × V)) → nat_eq i k ≡ m → b ≡ any w → is_held any (lookup (nat_eq i) rest) ≡ true → is_held any (lookup (nat_eq i) (cond b ((k, w) ∷ rest) rest)) ≡ true
-  all_head true true w i k rest at at_any more = ap (λ z. is_held any (cond z (Some w) (lookup (nat_eq i) rest))) at ∙ sym at_any
-  all_head true false w i k rest at at_any more = ap (λ z. is_held any (cond z (Some w) (lookup (nat_eq i) rest))) at ∙ more
+  all_head : (b m : Bool) (w : V) (i k : ℕ) (rest : List (ℕ × V)) → nat_eq i k ≡ m → b ≡ any w → is_none_or any (lookup (nat_eq i) rest) ≡ true → is_none_or any (lookup (nat_eq i) (cond b ((k, w) ∷ rest) rest)) ≡ true
+  all_head true true w i k rest at at_any more = ap (λ z. is_none_or any (cond z (Some w) (lookup (nat_eq i) rest))) at ∙ sym at_any
+  all_head true false w i k rest at at_any more = ap (λ z. is_none_or any (cond z (Some w) (lookup (nat_eq i) rest))) at ∙ more
   all_head false m w i k rest at at_any more = more
 
-  pub all_held : (es kept : List (ℕ × V)) → RetainsPairs T f es kept → (i : ℕ) → is_held any (lookup (nat_eq i) kept) ≡ true
-  all_held [] kept r i = ap (λ z. is_held any (lookup (nat_eq i) z)) r
+  pub all_held : (es kept : List (ℕ × V)) → RetainsPairs T f es kept → (i : ℕ) → is_none_or any (lookup (nat_eq i) kept) ≡ true
+  all_held [] kept r i = ap (λ z. is_none_or any (lookup (nat_eq i) z)) r
   all_held (e ∷ es) kept r i =
       let a = says e.0 e.1 r.0 r.1 r.2 r.4 in
       let more = all_held es r.3 (subst (λ u. RetainsPairs T u es r.3) a.2 r.5) i in
-      ap (λ z. is_held any (lookup (nat_eq i) z)) r.6 ∙ all_head r.0 (nat_eq i e.0) r.1 i e.0 r.3 refl a.0 more
+      ap (λ z. is_none_or any (lookup (nat_eq i) z)) r.6 ∙ all_head r.0 (nat_eq i e.0) r.1 i e.0 r.3 refl a.0 more
 
 -- ---- whether some entry has a chosen lease
 

@@ -14,15 +14,15 @@ leases_in leases None = []
 leases_in leases (Some v) = leases v
 
 -- an entry that is there has a lease: nothing is kept for what is not held
-abbrev pub is_held : {V : Type 0} → (V → Bool) → Option V → Bool
-is_held any None = true
-is_held any (Some v) = any v
+abbrev pub is_none_or : {V : Type 0} → (V → Bool) → Option V → Bool
+is_none_or any None = true
+is_none_or any (Some v) = any v
 
 abbrev pub items_or_none : Option (SmallVec Lease) → List Lease
 items_or_none o = leases_in (λ v. v.items) o
 
 abbrev pub holds_lease : Option (SmallVec Lease) → Bool
-holds_lease o = is_held (λ v. is_any v.items) o
+holds_lease o = is_none_or (λ v. is_any v.items) o
 
 -- the list has a place for a lease of the holder: that of its old one, or one more
 abbrev pub HasPlaceIn : ℕ → SmallVec Lease → Type 0

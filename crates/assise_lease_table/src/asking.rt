@@ -1,4 +1,4 @@
-// What clients stored to be asked for their leases, and what they answer.
+//! What clients stored to be asked for their leases, and what they answer.
 ghost use Rattle.std.specs.Prelude.{◌≡◌, ℕ, nat_eq, true, false, is_some, IsOk, IfOk, OnOk, OnErr, IfErr, Some};
 ghost use Rattle.std.specs.List.{list_any};
 ghost use Rattle.indexmap.specs.IndexMap.{get};

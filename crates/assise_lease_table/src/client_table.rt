@@ -1,4 +1,4 @@
-// The leases of clients, and their revokers.
+//! The leases of clients, and their revokers.
 ghost use Rattle.std.specs.Prelude.{◌≡◌, ℕ, true, nat_eq, is_some};
 ghost use Rattle.indexmap.specs.IndexMap.{get};
 ghost use Rattle.assise_lease_table.specs.LeaseMaps.{leases_at};

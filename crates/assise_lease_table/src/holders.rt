@@ -1,4 +1,4 @@
-// The leases of one inode.
+//! The leases of one inode.
 ghost use Rattle.std.specs.Prelude.{◌≡◌, ◌≤◌, ◌++◌, true, is_some, IsOk, OnOk};
 ghost use Rattle.smallvec.specs.SmallVec.{small_vec_len, HasRoomFor};
 ghost use Rattle.assise_lease_table.specs.Cuts.{asked_at};

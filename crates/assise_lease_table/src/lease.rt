@@ -1,4 +1,4 @@
-// One lease.
+//! One lease.
 ghost use Rattle.std.specs.Prelude.{◌≡◌};
 ghost use Rattle.std.specs.List.{list_any};
 ghost use Rattle.assise_lease_table.specs.Leases.{is_own, is_rival, is_to_ask};

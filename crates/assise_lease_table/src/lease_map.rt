@@ -1,4 +1,4 @@
-// Leases by inodes.
+//! Leases by inodes.
 ghost use Rattle.std.proofs.Props.{props};
 ghost use Rattle.std.specs.Prelude.{◌≡◌, ℕ, nat_eq, true};
 ghost use Rattle.indexmap.specs.IndexMap.{IsUnique, get};

@@ -1,4 +1,4 @@
-// The leases of nodes.
+//! The leases of nodes.
 ghost use Rattle.std.specs.Prelude.{◌≡◌, ℕ, true};
 ghost use Rattle.assise_lease_table.specs.LeaseMaps.{leases_at};
 ghost use Rattle.assise_lease_table.specs.Leases.{compatible};

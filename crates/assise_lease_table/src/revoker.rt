@@ -1,4 +1,4 @@
-// What a client answers when its lease is asked for.
+//! What a client answers when its lease is asked for.
 ghost use Rattle.std.specs.Prelude.{◌≡◌, ◌<◌, ◌^◌, ℕ};
 ghost use Rattle.assise_private_log.specs.Touches.{Covers};
 

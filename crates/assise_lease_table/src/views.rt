@@ -1,4 +1,4 @@
-// The logs that clients' revokers look at.
+//! The logs that clients' revokers look at.
 
 use assise_private_log::log_view::LogView;
 

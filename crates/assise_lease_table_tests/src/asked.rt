@@ -1,4 +1,4 @@
-// Whose revokers an asking calls, and how often.
+//! Whose revokers an asking calls, and how often.
 use crate::logs::OneLog;
 use assise_lease_table::client_table::ClientTableOf;
 use assise_lease_table::revoker::Revokes;

@@ -1,4 +1,4 @@
-// What the kinds of revokers answer.
+//! What the kinds of revokers answer.
 use assise_private_log::log::Log;
 use assise_record::effect::Effect;
 use assise_record::record::Record;

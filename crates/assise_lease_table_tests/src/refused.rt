@@ -1,4 +1,4 @@
-// Allocations that are refused: `checks/allocations leases` refuses each in turn.
+//! Allocations that are refused: `checks/allocations leases` refuses each in turn.
 use crate::logs::OneLog;
 use assise_lease_table::client_table::{ClientTable, ClientTableOf};
 use assise_lease_table::revoker::Revoker;

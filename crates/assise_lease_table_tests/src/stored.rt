@@ -1,4 +1,4 @@
-// A revoker that is made and asked.
+//! A revoker that is made and asked.
 ghost use Rattle.std.specs.Prelude.{IfOk};
 ghost use Rattle.assise_private_log.specs.Touches.{Covers};
 

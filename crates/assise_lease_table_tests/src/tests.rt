@@ -1,4 +1,4 @@
-// Leases are held and asked for, and a revoker is stored, while there is memory.
+//! Leases are held and asked for, and a revoker is stored, while there is memory.
 use crate::refused::asks_or_leaves;
 use crate::stored::stored_cut;
 use assise_lease_table::node_table::NodeTable;

@@ -1,4 +1,4 @@
-// What an acquire answers.
+//! What an acquire answers.
 
 use assise_lease_table::lease::Asked;
 

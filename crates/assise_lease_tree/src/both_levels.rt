@@ -1,4 +1,4 @@
-// The leases of one inode on both levels.
+//! The leases of one inode on both levels.
 ghost use Rattle.std.specs.Prelude.{◌≡◌, ℕ, nat_eq, [], true, false, is_some, OnOk, OnErr, IsOk};
 ghost use Rattle.indexmap.specs.IndexMap.{get};
 ghost use Rattle.assise_lease_table.specs.Leases.{new_lease, without_holder, revoke, lease_of};

@@ -1,4 +1,4 @@
-// Laws of leases. Each function does nothing: its contract is the law.
+//! Laws of leases. Each function does nothing: its contract is the law.
 ghost use Rattle.std.specs.Prelude.{List};
 ghost use Rattle.assise_lease_tree.specs.LeaseCalls.{LeaseCall, LeaseCallDoes, AllLeaseCalls};
 ghost use Rattle.assise_lease_tree.specs.TwoLevels.{TwoLevels, nobody, LevelsInvariant};

@@ -1,8 +1,8 @@
-// The leases of all inodes on both levels.
+//! The leases of all inodes on both levels.
 ghost use Rattle.std.proofs.Props.{props};
 ghost use Rattle.std.specs.Prelude.{◌≡◌, ℕ, nat_eq, true};
 ghost use Rattle.indexmap.specs.IndexMap.{IsUnique, get};
-ghost use Rattle.assise_lease_table.specs.Lists.{is_held};
+ghost use Rattle.assise_lease_table.specs.Lists.{is_none_or};
 ghost use Rattle.assise_lease_tree.specs.BothLevels.{is_in_use};
 
 use crate::both_levels::BothLevels;
@@ -17,7 +17,7 @@ use std::alloc::{AllocError, Global};
 pub(crate) struct LeaseLevels {
     alloc: Global,
     inodes: IndexMap<u64, BothLevels>,
-    ghost held: { (i : ℕ) → is_held is_in_use (get nat_eq inodes i) ≡ true },
+    ghost held: { (i : ℕ) → is_none_or is_in_use (get nat_eq inodes i) ≡ true },
     ghost unique: { IsUnique nat_eq inodes } by { Prim.hlevel props },
 }
 

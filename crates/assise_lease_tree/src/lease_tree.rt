@@ -1,4 +1,4 @@
-// The leases of clients below their nodes, and of nodes from the manager.
+//! The leases of clients below their nodes, and of nodes from the manager.
 ghost use Rattle.std.specs.Prelude.{◌≡◌, ℕ, nat_eq, true, is_some};
 ghost use Rattle.indexmap.specs.IndexMap.{get};
 ghost use Rattle.assise_lease_table.specs.Leases.{compatible};

@@ -1,4 +1,4 @@
-// The leases of one inode on two levels.
+//! The leases of one inode on two levels.
 ghost use Rattle.std.specs.Prelude.{◌≡◌, ◌&&◌, ℕ, nat_eq};
 ghost use Rattle.std.specs.List.{list_any};
 ghost use Rattle.indexmap.specs.IndexMap.{get};

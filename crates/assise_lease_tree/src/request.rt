@@ -1,4 +1,4 @@
-// What a client wants.
+//! What a client wants.
 
 use assise_names::mode::Mode;
 

@@ -1,4 +1,4 @@
-// The log that all clients of a test have.
+//! The log that all clients of a test have.
 
 use assise_lease_table::views::Views;
 use assise_private_log::log::Log;

@@ -1,4 +1,4 @@
-// Leases are acquired and listed while there is memory.
+//! Leases are acquired and listed while there is memory.
 use crate::refused::acquires_or_leaves;
 
 #[test]

@@ -1,4 +1,4 @@
-// A cluster serves clients.
+//! A cluster serves clients.
 ghost use Rattle.std.proofs.Math.Logic.{∥∥₁_map};
 ghost use Rattle.assise_machine.specs.Clusters.{machine};
 ghost use Rattle.assise_machine.specs.Following.{led_by, worked_by};

@@ -1,4 +1,4 @@
-// A client's file system.
+//! A client's file system.
 ghost use Rattle.std.specs.Prelude.{◌≡◌, ◌≤◌, Some};
 ghost use Rattle.assise_history.specs.Legal.{IsLegal, calls_made};
 ghost use Rattle.assise_keeper.specs.Passes.{IsPassOf, client as client_of_pass, seen};

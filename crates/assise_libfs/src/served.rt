@@ -1,4 +1,4 @@
-// A state that serves clients.
+//! A state that serves clients.
 ghost use Rattle.std.specs.Prelude.{◌≡◌, List, [], ◌∷◌, ◌++◌, IfErr, IfOk, OnErr};
 ghost use Rattle.assise_history.specs.Entries.{EntryValue, opens};
 ghost use Rattle.assise_history.specs.Legal.{IsLegal};

@@ -1,4 +1,4 @@
-// Turns of a client: a take, one try, and the give.
+//! Turns of a client: a take, one try, and the give.
 ghost use Rattle.std.specs.Prelude.{◌≡◌, IfErr, IfOk, None, OnErr, Some};
 ghost use Rattle.assise_history.specs.Legal.{IsLegal, calls_made};
 ghost use Rattle.assise_keeper.specs.declared.view.Opens.TheVariants.{Alone};

@@ -1,4 +1,4 @@
-// What a client does behind a try that waits.
+//! What a client does behind a try that waits.
 
 use assise_keeper::event_count::EventCount;
 use std::sync::Wait;

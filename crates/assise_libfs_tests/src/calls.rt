@@ -1,4 +1,4 @@
-// Calls that are lines of text.
+//! Calls that are lines of text.
 use assise_fault_script::command::Command;
 use assise_fault_script::parse::parse;
 use assise_libfs::libfs::LibFs;

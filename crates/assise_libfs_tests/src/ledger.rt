@@ -1,4 +1,4 @@
-// A small state that serves clients.
+//! A small state that serves clients.
 ghost use Rattle.std.specs.Prelude.{◌≡◌, ◌≤◌};
 ghost use Rattle.assise_names.specs.declared.limits.TheConstants.{MOST_CLIENTS};
 ghost use Rattle.std.proofs.Math.Logic.{∥∥₁_map};

@@ -1,4 +1,4 @@
-// Clients of a ledger.
+//! Clients of a ledger.
 ghost use Rattle.std.specs.Prelude.{◌≡◌, ◌≤◌, None};
 ghost use Rattle.assise_keeper.specs.Clients.{MayOpenClients};
 ghost use Rattle.assise_keeper.specs.Passes.{IsPassOf, client, opens};

@@ -1,5 +1,5 @@
-// A keeper, a client and its calls, where each allocation of a run is refused in turn: what is refused gives back what it was given,
-// changes nothing, and is done when it is made again.
+//! A keeper, a client and its calls, where each allocation of a run is refused in turn: what is refused gives back what it was given,
+//! changes nothing, and is done when it is made again.
 ghost use Rattle.std.specs.Prelude.{◌≡◌, IfSome, None};
 ghost use Rattle.assise_keeper.specs.Clients.{MayOpenClients};
 ghost use Rattle.assise_keeper.specs.Passes.{IsPassOf, client, opens};

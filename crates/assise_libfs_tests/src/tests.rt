@@ -1,4 +1,4 @@
-// What contracts can't say: that calls are answered, and after how many tries they are refused.
+//! What contracts can't say: that calls are answered, and after how many tries they are refused.
 use crate::ledger::Ledger;
 use crate::ledgers::{calls_of_two, sync_once};
 use std::test::Fail;

@@ -1,4 +1,4 @@
-// The way of a frame over a link.
+//! The way of a frame over a link.
 ghost use Rattle.std.specs.Prelude.{◌≡◌, ◌⊎◌, ◌≤◌, IfNone, IfSome};
 ghost use Rattle.assise_link.specs.Kinds.{perfect};
 ghost use Rattle.assise_link.specs.Links.{ComesOver, LinkAnswer};

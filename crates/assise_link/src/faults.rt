@@ -1,4 +1,4 @@
-// Faults that a link counts.
+//! Faults that a link counts.
 ghost use Rattle.std.specs.Prelude.{◌≡◌, ◌+◌, None, OnErr, OnOk};
 ghost use Rattle.assise_link.specs.Kinds.{IsFault};
 ghost use Rattle.assise_link.specs.Links.{link_answer};

@@ -1,4 +1,4 @@
-// Links that lose, repeat, delay and cut what they carry.
+//! Links that lose, repeat, delay and cut what they carry.
 ghost use Rattle.std.specs.Prelude.{◌≡◌, None};
 
 use crate::faults::Faults;

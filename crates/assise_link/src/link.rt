@@ -1,4 +1,4 @@
-// What carries bytes from node to node.
+//! What carries bytes from node to node.
 ghost use Rattle.std.specs.Prelude.{◌≡◌, ◌+◌, ◌⊎◌, ℕ, Contains, IfSome, List, OnErr, OnOk};
 ghost use Rattle.assise_link.specs.Kinds.{Kind, perfect};
 ghost use Rattle.assise_link.specs.Links.{IsFaithful, IsPrefixOnLink, LinkAnswer, gave, link_answer};

@@ -1,4 +1,4 @@
-// A link of any kind.
+//! A link of any kind.
 
 use crate::hostile::{CuttingLink, DelayingLink, FaultyLink, LosingLink, RepeatingLink};
 use crate::link::{Link, LinkFault, PerfectLink};

@@ -1,4 +1,4 @@
-// A frame goes as its bytes, over a perfect link too.
+//! A frame goes as its bytes, over a perfect link too.
 ghost use Rattle.std.specs.Prelude.{◌≡◌, IfSome};
 ghost use Rattle.assise_record.specs.Spelling.{spelling};
 

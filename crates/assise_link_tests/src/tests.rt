@@ -1,4 +1,4 @@
-// What comes over links of tests.
+//! What comes over links of tests.
 use assise_link::hostile::{CuttingLink, DelayingLink, FaultyLink, LosingLink, RepeatingLink};
 use assise_link::link::{Link, LinkFault, PerfectLink};
 use assise_link::test_link::TestLink;

@@ -1,4 +1,4 @@
-// What an event is answered with.
+//! What an event is answered with.
 use assise_machine_calls::turn::Turn;
 use assise_names::refusal::Refusal;
 use assise_record::frame::Frame;

@@ -1,4 +1,4 @@
-// A cluster.
+//! A cluster.
 use crate::delivery::{deliver, deliver_copy};
 use crate::digesting::digest;
 use crate::hot::set_hot;

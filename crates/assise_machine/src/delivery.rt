@@ -1,4 +1,4 @@
-// Records that come to a node.
+//! Records that come to a node.
 ghost use Rattle.std.specs.Prelude.{◌≡◌, ◌+◌, ◌<◌, ◌≤◌, ◌^◌, IfNone, IfOk, IfSome, IsOkUnless, None, Some, false, length, take, true};
 ghost use Rattle.assise_names.specs.declared.refusal.Refusal.{Refusal as Refused};
 ghost use Rattle.assise_names.specs.declared.refusal.Refusal.TheVariants.{OutOfMemory, StaleMessage};

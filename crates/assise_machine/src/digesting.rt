@@ -1,4 +1,4 @@
-// A node digests what all full nodes have.
+//! A node digests what all full nodes have.
 ghost use Rattle.std.specs.Prelude.{◌≡◌, ◌<◌, ◌≤◌, IfOk, IsOkUnless, OnErr, false, length, min, take, true};
 ghost use Rattle.assise_names.specs.declared.refusal.Refusal.TheVariants.{OutOfMemory};
 ghost use Rattle.assise_record.specs.Records.{all_effects};

@@ -1,4 +1,4 @@
-// What may happen to a cluster.
+//! What may happen to a cluster.
 use crate::hot::HotCapacity;
 use assise_names::call::Op;
 use assise_names::durability::Durability;

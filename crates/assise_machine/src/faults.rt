@@ -1,4 +1,4 @@
-// Why a node can't send or digest, whatever memory there is: the first fault that stands.
+//! Why a node can't send or digest, whatever memory there is: the first fault that stands.
 ghost use Rattle.std.specs.Prelude.{◌≡◌};
 ghost use Rattle.assise_model_events.specs.Faults.{node_fault};
 ghost use Rattle.assise_machine_state.specs.Whole.{machine_of};

@@ -1,4 +1,4 @@
-// The headline.
+//! The headline.
 ghost use Rattle.std.specs.Prelude.{◌≡◌, ◌≤◌, false, ℕ};
 ghost use Rattle.assise_seq_tree.specs.Tree.{opening};
 ghost use Rattle.assise_history.specs.Kept.{IsRun, tree_after};

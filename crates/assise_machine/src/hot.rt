@@ -1,4 +1,4 @@
-// How many inodes may be hot at a node.
+//! How many inodes may be hot at a node.
 ghost use Rattle.std.specs.Prelude.{◌≡◌, ◌<◌, ◌≤◌, ◌↔◌, Err, IfSome, IsSome, OnErr, OnOk};
 ghost use Rattle.assise_names.specs.declared.refusal.Refusal.TheVariants.{OutOfMemory};
 ghost use Rattle.assise_lease_tree.specs.Trees.{KeepsRevokers};

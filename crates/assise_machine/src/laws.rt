@@ -1,4 +1,4 @@
-// Whatever events are served.
+//! Whatever events are served.
 ghost use Rattle.std.specs.Prelude.{◌≡◌, ◌≢◌, ◌++◌, List, Some, ℕ};
 ghost use Rattle.assise_history.specs.declared.call.Loss.{Loss};
 ghost use Rattle.assise_model_world.specs.NodeSteps.{kept_at_failure};

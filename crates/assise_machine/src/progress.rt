@@ -1,4 +1,4 @@
-// How far a digest came.
+//! How far a digest came.
 
 /// How many records were digested, whether memory ran out before the next, and whether that, or a next group that is longer than
 /// what is left of the most, ended it before all were.

@@ -1,4 +1,4 @@
-// Nodes that are raised to the next version of frames.
+//! Nodes that are raised to the next version of frames.
 ghost use Rattle.assise_lease_tree.specs.Trees.{KeepsRevokers};
 ghost use Rattle.assise_model_events.specs.MemberEvents.{Raising};
 ghost use Rattle.assise_machine_state.specs.Whole.{machine_of};

@@ -1,4 +1,4 @@
-// Lists of events.
+//! Lists of events.
 ghost use Rattle.std.specs.Option.{option_to_list};
 ghost use Rattle.std.specs.Prelude.{◌≡◌, ◌-◌, ◌≤◌, ◌++◌, ℕ, Contains, IfOk, IsOkUnless, OnErr, OnOk, length, take};
 ghost use Rattle.assise_names.specs.declared.call.Op.{Op};

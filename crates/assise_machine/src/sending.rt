@@ -1,4 +1,4 @@
-// Frames that a node sends.
+//! Frames that a node sends.
 ghost use Rattle.std.specs.Prelude.{◌≡◌, [], IfOk, IsOk, IsOkUnless, true};
 ghost use Rattle.std.specs.Option.{option_to_list};
 ghost use Rattle.assise_names.specs.declared.refusal.Refusal.TheVariants.{OutOfMemory};

@@ -1,4 +1,4 @@
-// Those who stand in a call's way are asked for their leases.
+//! Those who stand in a call's way are asked for their leases.
 ghost use Rattle.std.specs.Prelude.{◌≡◌, ◌+◌, ◌≤◌, ◌++◌, None, OnErr, OnOk, IsOkUnless, false, length, vec_capacity};
 ghost use Rattle.assise_names.specs.declared.refusal.Refusal.TheVariants.{OutOfMemory};
 ghost use Rattle.assise_lease_table.specs.declared.lease.Asked.{Asked as Answer};

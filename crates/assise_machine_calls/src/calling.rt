@@ -1,4 +1,4 @@
-// A client's call.
+//! A client's call.
 ghost use Rattle.std.specs.Prelude.{◌≡◌, IfErr, IfOk, None, false, true};
 ghost use Rattle.assise_lease_tree.specs.Trees.{KeepsRevokers, stored_by};
 ghost use Rattle.assise_model_events.specs.ClientEvents.{Calling};

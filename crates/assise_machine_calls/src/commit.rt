@@ -1,4 +1,4 @@
-// A call that has its leases is answered.
+//! A call that has its leases is answered.
 ghost use Rattle.std.specs.Prelude.{◌≡◌, ◌==◌, ◌+◌, ◌<◌, ◌≤◌, ◌^◌, IsOkUnless, None, OnErr, OnOk, length, true};
 ghost use Rattle.std.specs.List.{list_any};
 ghost use Rattle.assise_names.specs.declared.refusal.Refusal.TheVariants.{OutOfMemory};

@@ -1,4 +1,4 @@
-// A client crashes.
+//! A client crashes.
 ghost use Rattle.assise_lease_tree.specs.Trees.{KeepsRevokers};
 ghost use Rattle.assise_model_events.specs.ClientEvents.{Crashing};
 ghost use Rattle.assise_machine_state.specs.Whole.{machine_of};

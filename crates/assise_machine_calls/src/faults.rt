@@ -1,4 +1,4 @@
-// Why a call is refused, whatever memory there is: the first fault that stands.
+//! Why a call is refused, whatever memory there is: the first fault that stands.
 ghost use Rattle.std.specs.Prelude.{◌≡◌};
 ghost use Rattle.assise_model_events.specs.Faults.{call_fault, client_fault, is_too_large, open_fault};
 ghost use Rattle.assise_machine_state.specs.Whole.{machine_of};

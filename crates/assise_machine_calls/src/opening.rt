@@ -1,4 +1,4 @@
-// A client is opened.
+//! A client is opened.
 ghost use Rattle.std.specs.Prelude.{◌≡◌, ◌+◌, ◌<◌, IfErr, IsOkUnless, OnErr, OnOk, length};
 ghost use Rattle.assise_names.specs.declared.refusal.Refusal.TheVariants.{OutOfMemory};
 ghost use Rattle.assise_lease_table.specs.Tables.{Enrols};

@@ -1,4 +1,4 @@
-// What is planned for a call that has its leases.
+//! What is planned for a call that has its leases.
 use assise_inode_plan::plan::Visits;
 use assise_names::reply::Reply;
 use assise_record::effect::Effect;

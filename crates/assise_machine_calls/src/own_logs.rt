@@ -1,4 +1,4 @@
-// The clients' own logs, as they are lent.
+//! The clients' own logs, as they are lent.
 ghost use Rattle.std.specs.Prelude.{◌≡◌, ℕ};
 ghost use Rattle.assise_manager.specs.Whole.{membership};
 ghost use Rattle.assise_machine_state.specs.ClientValues.{client_in};

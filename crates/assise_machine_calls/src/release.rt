@@ -1,4 +1,4 @@
-// Leases that were asked for go, where they may.
+//! Leases that were asked for go, where they may.
 ghost use Rattle.std.specs.Prelude.{◌≡◌, ◌++◌, ◌≤◌, drop, filter, length, take};
 ghost use Rattle.assise_lease_tree.specs.Trees.{KeepsRevokers};
 ghost use Rattle.assise_model_leases.specs.Leases.{AreLeases};

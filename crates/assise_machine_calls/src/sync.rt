@@ -1,4 +1,4 @@
-// A client's syncs: an fsync, and a dsync.
+//! A client's syncs: an fsync, and a dsync.
 ghost use Rattle.std.specs.Prelude.{◌≡◌, ◌<◌, None};
 ghost use Rattle.assise_history.specs.Legal.{durability_of};
 ghost use Rattle.assise_lease_tree.specs.Trees.{KeepsRevokers};

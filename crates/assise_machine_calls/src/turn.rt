@@ -1,4 +1,4 @@
-// What a call that was tried came to.
+//! What a call that was tried came to.
 use assise_names::reply::Reply;
 
 /// What a call that was tried came to.

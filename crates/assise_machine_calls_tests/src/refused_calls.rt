@@ -1,5 +1,5 @@
-// Steps that are refused as out of memory: `checks/allocations state` refuses each allocation in turn. What is refused leaves all
-// as it was but for leases that it got, and the same step answers then.
+//! Steps that are refused as out of memory: `checks/allocations state` refuses each allocation in turn. What is refused leaves all
+//! as it was but for leases that it got, and the same step answers then.
 use crate::seen::seen;
 use crate::steps::{Sound, cluster_of, put_step};
 use std::alloc::Global;

@@ -1,4 +1,4 @@
-// What a refused call leaves as it was.
+//! What a refused call leaves as it was.
 use crate::steps::Sound;
 use crate::told::{put_client, put_view};
 use assise_inode_table::inode::Inode;

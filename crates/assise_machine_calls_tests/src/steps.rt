@@ -1,4 +1,4 @@
-// Steps on a cluster, as text.
+//! Steps on a cluster, as text.
 use assise_fault_script::command::Command;
 use assise_fault_script::parse::parse;
 use assise_lease_table::revoker::Revokes;

@@ -1,4 +1,4 @@
-// What is told of a cluster.
+//! What is told of a cluster.
 use crate::steps::Sound;
 use assise_inode_table::inode::Inode;
 use assise_inode_table::inodes::Inodes;

@@ -1,4 +1,4 @@
-// A node that was down comes back.
+//! A node that was down comes back.
 ghost use Rattle.assise_lease_tree.specs.Trees.{KeepsRevokers};
 ghost use Rattle.assise_model_events.specs.MemberEvents.{Returning};
 ghost use Rattle.assise_machine_state.specs.Whole.{machine_of};

@@ -1,4 +1,4 @@
-// Copies of inodes that a node loses.
+//! Copies of inodes that a node loses.
 ghost use Rattle.std.specs.Prelude.{◌≡◌, [], Some, true};
 ghost use Rattle.std.specs.FinSet as set;
 ghost use Rattle.assise_manager.specs.Changes.{is_returning, stale_of};

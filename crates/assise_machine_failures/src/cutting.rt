@@ -1,4 +1,4 @@
-// The logs of a failed node's clients end where they are kept.
+//! The logs of a failed node's clients end where they are kept.
 ghost use Rattle.std.specs.Prelude.{◌≡◌, ◌≤◌, length, ℕ};
 ghost use Rattle.assise_machine_state.specs.Changes.{with_clients_cut, with_clients_failed};
 ghost use Rattle.assise_machine_state.specs.ClientValues.{client_seen};

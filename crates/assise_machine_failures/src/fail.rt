@@ -1,4 +1,4 @@
-// A node fails.
+//! A node fails.
 ghost use Rattle.std.specs.Prelude.{◌≡◌, ◌≤◌, IfOk, IsOkUnless, None, OnErr, OnOk, Some, length, take, true};
 ghost use Rattle.std.specs.FinSet as set;
 ghost use Rattle.assise_names.specs.declared.refusal.Refusal.TheVariants.{OutOfMemory};

@@ -1,4 +1,4 @@
-// What the failure of a full node comes to.
+//! What the failure of a full node comes to.
 ghost use Rattle.std.specs.Prelude.{◌<◌, ◌^◌, IfOk, IsOkUnless, length};
 ghost use Rattle.assise_names.specs.declared.refusal.Refusal.TheVariants.{OutOfMemory};
 ghost use Rattle.assise_machine_state.specs.Observed.{world_of};

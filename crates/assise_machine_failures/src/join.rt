@@ -1,4 +1,4 @@
-// A node that came back is full again.
+//! A node that came back is full again.
 ghost use Rattle.assise_lease_tree.specs.Trees.{KeepsRevokers};
 ghost use Rattle.assise_model_events.specs.MemberEvents.{Joining};
 ghost use Rattle.assise_machine_state.specs.Whole.{machine_of};

@@ -1,4 +1,4 @@
-// What a failure lists before anything changes.
+//! What a failure lists before anything changes.
 ghost use Rattle.std.specs.Prelude.{◌≡◌, ◌+◌, ◌^◌, ◌<◌, IfOk, IsOkUnless, length, map as mapped};
 ghost use Rattle.assise_names.specs.declared.refusal.Refusal.TheVariants.{OutOfMemory};
 ghost use Rattle.assise_model_world.specs.NodeSteps.{kept_at_failure};

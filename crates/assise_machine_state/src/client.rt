@@ -1,4 +1,4 @@
-// One client.
+//! One client.
 ghost use Rattle.std.specs.Prelude.{◌≡◌};
 
 use assise_names::durability::Durability;

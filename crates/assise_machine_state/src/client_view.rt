@@ -1,4 +1,4 @@
-// What a client reads.
+//! What a client reads.
 ghost use Rattle.std.specs.Prelude.{◌≡◌};
 ghost use Rattle.assise_lease_table.specs.Leases.{lease_of, serves};
 ghost use Rattle.assise_lease_tree.specs.Trees.{levels_of};

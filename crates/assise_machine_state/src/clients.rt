@@ -1,4 +1,4 @@
-// What is known of all clients.
+//! What is known of all clients.
 ghost use Rattle.std.specs.Prelude.{◌≡◌, ◌==◌, ◌+◌, ◌^◌, ◌<◌, ◌≤◌, [], ◌∷◌, ◌++◌, IfOk, IsOkUnless, length, vec_capacity};
 ghost use Rattle.assise_names.specs.declared.refusal.Refusal.TheVariants.{OutOfMemory};
 ghost use Rattle.assise_names.specs.declared.limits.TheConstants.{MOST_CLIENTS};

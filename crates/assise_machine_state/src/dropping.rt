@@ -1,4 +1,4 @@
-// Records go from all nodes once all full nodes have digested them.
+//! Records go from all nodes once all full nodes have digested them.
 ghost use Rattle.std.specs.Prelude.{◌≡◌, ◌≤◌, length};
 ghost use Rattle.assise_machine_state.specs.Changes.{drops_to};
 ghost use Rattle.assise_machine_state.specs.Observed.{world_of};

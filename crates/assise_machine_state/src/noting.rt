@@ -1,4 +1,4 @@
-// Answers of those who were asked for leases.
+//! Answers of those who were asked for leases.
 ghost use Rattle.std.specs.Prelude.{◌≡◌, ◌+◌, ◌≤◌, ◌++◌, length, vec_capacity};
 
 use assise_lease_table::lease::Asked;

@@ -1,4 +1,4 @@
-// What the laws observe of a change of clients.
+//! What the laws observe of a change of clients.
 ghost use Rattle.std.specs.Prelude.{◌≡◌, ◌≤◌, ◌==◌, List, false, true, suc, length, ℕ};
 ghost use Rattle.assise_record.specs.Groups.{AllHaveEffects};
 ghost use Rattle.assise_inode_table.specs.Traces.{NumberedCall};

@@ -1,4 +1,4 @@
-// What the laws observe of a node that fails, and of one that comes back.
+//! What the laws observe of a node that fails, and of one that comes back.
 ghost use Rattle.std.specs.Prelude.{◌≡◌, List, length, None, Option, Some, ℕ};
 ghost use Rattle.std.specs.Ordering.{nat_cmp};
 ghost use Rattle.std.specs.FinSet as set;

@@ -1,4 +1,4 @@
-// What the laws observe of a change of nodes, and what is read of them.
+//! What the laws observe of a change of nodes, and what is read of them.
 ghost use Rattle.std.specs.Prelude.{◌≡◌, ◌<◌, ◌≤◌, true, suc, length, slice_index_or, List, ℕ};
 ghost use Rattle.std.specs.Ordering.{nat_cmp};
 ghost use Rattle.std.specs.FinMap as map;

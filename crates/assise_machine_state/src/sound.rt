@@ -1,4 +1,4 @@
-// The state as it is between events.
+//! The state as it is between events.
 ghost use Rattle.assise_machine_state.specs.Whole.{StateInvariant, machine_of};
 
 use crate::client::Client;

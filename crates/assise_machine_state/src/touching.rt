@@ -1,4 +1,4 @@
-// The inodes that records of a log touch.
+//! The inodes that records of a log touch.
 ghost use Rattle.std.specs.Prelude.{◌≡◌, ◌++◌, IsOkUnless, OnOk, take};
 ghost use Rattle.assise_names.specs.declared.refusal.Refusal.TheVariants.{OutOfMemory};
 ghost use Rattle.assise_record.specs.Records.{all_effects};

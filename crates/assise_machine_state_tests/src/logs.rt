@@ -1,4 +1,4 @@
-// What is done to nodes with the logs of clients. What can't be done answers none.
+//! What is done to nodes with the logs of clients. What can't be done answers none.
 ghost use Rattle.std.specs.Prelude.{◌≡◌, IfSome, true};
 ghost use Rattle.assise_inode_table.specs.Whole.{CanBeMadeWhole};
 ghost use Rattle.assise_machine_state.specs.NodeValues.{HasLog};

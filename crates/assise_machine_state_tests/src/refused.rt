@@ -1,4 +1,4 @@
-// Allocations that are refused, each in turn.
+//! Allocations that are refused, each in turn.
 use crate::seen::{has_node, is_quiet};
 use assise_inode_table::inode::Inode;
 use assise_machine_state::clients::Clients;

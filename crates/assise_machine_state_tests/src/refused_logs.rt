@@ -1,4 +1,4 @@
-// Logs that are refused: each allocation of a run is refused in turn, and the call is made again.
+//! Logs that are refused: each allocation of a run is refused in turn, and the call is made again.
 use crate::logs::{append, begin_logs, digest, without_second};
 use crate::seen::{has_node, is_quiet, logs_of};
 use assise_machine_state::nodes::Nodes;

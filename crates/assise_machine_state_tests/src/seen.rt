@@ -1,4 +1,4 @@
-// What is seen of nodes.
+//! What is seen of nodes.
 ghost use Rattle.std.specs.Prelude.{◌≡◌, [], true, ℕ};
 ghost use Rattle.assise_digest.specs.Region.{IsQuiet};
 ghost use Rattle.assise_machine_state.specs.NodeValues.{region_in};

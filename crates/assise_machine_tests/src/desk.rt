@@ -1,4 +1,4 @@
-// A cluster, the links of its nodes, and the steps that were made on it.
+//! A cluster, the links of its nodes, and the steps that were made on it.
 use assise_fault_script::command::RevokerKind;
 use assise_lease_table::revoker::Revokes;
 use assise_link::test_link::TestLink;

@@ -1,4 +1,4 @@
-// Numbers that come out by chance, but the same in each run.
+//! Numbers that come out by chance, but the same in each run.
 ghost use Rattle.std.specs.Prelude.{◌<◌};
 
 /// A linear congruential generator (Knuth, The Art of Computer Programming, volume 2, section 3.3.4: the factor of MMIX).

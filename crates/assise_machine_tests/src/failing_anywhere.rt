@@ -1,4 +1,4 @@
-// Scripts in which a node fails at each place, and comes back.
+//! Scripts in which a node fails at each place, and comes back.
 use crate::desk::Desk;
 use crate::faults::{fault_at_the_end, fault_behind};
 use crate::tasks::{Task, on_desk};

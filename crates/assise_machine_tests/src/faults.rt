@@ -1,4 +1,4 @@
-// What is wrong with a cluster between steps.
+//! What is wrong with a cluster between steps.
 use crate::desk::{Cluster, Desk};
 use crate::scripts::WAITS;
 use crate::trees::put_tree;

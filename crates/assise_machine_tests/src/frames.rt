@@ -1,4 +1,4 @@
-// The bytes of a frame, and when a node takes it.
+//! The bytes of a frame, and when a node takes it.
 use crate::desk::{Asked, Cluster};
 use assise_fault_script::command::RevokerKind;
 use assise_names::call::Op;

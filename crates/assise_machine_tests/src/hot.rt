@@ -1,4 +1,4 @@
-// Which inodes are hot at a node.
+//! Which inodes are hot at a node.
 use crate::desk::{Cluster, Desk};
 use crate::tasks::{Task, on_desk};
 use std::alloc::Global;

@@ -1,4 +1,4 @@
-// Lists of steps by chance.
+//! Lists of steps by chance.
 use crate::desk::Desk;
 use crate::dice::Dice;
 use crate::faults::{fault_at_the_end, fault_behind};

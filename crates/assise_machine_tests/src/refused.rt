@@ -1,5 +1,5 @@
-// Steps that are refused as out of memory, where each allocation of a run is refused in turn. What is refused leaves all as it
-// was, and the same step answers then.
+//! Steps that are refused as out of memory, where each allocation of a run is refused in turn. What is refused leaves all as it
+//! was, and the same step answers then.
 use crate::desk::Desk;
 use crate::seen::see;
 use crate::tasks::{Task, on_desk};

@@ -1,4 +1,4 @@
-// Scripts that are served step by step.
+//! Scripts that are served step by step.
 use crate::desk::Desk;
 use std::alloc::Global;
 

@@ -1,4 +1,4 @@
-// What a refused step leaves as it was.
+//! What a refused step leaves as it was.
 use crate::desk::Cluster;
 use assise_digest::region::Region;
 use std::alloc::AllocError;

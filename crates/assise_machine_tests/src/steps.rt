@@ -1,4 +1,4 @@
-// Steps on a cluster: lines of scripts.
+//! Steps on a cluster: lines of scripts.
 use crate::desk::{Asked, Desk};
 use assise_fault_script::command::{Command, LinkKind};
 use assise_fault_script::parse::parse;

@@ -1,4 +1,4 @@
-// What tests make on a cluster. One function alone owns it.
+//! What tests make on a cluster. One function alone owns it.
 use crate::desk::Desk;
 use crate::failing_anywhere::see_failures;
 use crate::hot::see_hot;

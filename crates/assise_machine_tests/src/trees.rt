@@ -1,4 +1,4 @@
-// Trees, as text.
+//! Trees, as text.
 use assise_names::call::Op;
 use assise_names::path::Path;
 use assise_seq_tree::answer::answer;

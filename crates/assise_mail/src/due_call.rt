@@ -1,4 +1,4 @@
-// Calls in order, for each of which a reply is due.
+//! Calls in order, for each of which a reply is due.
 ghost use Rattle.std.specs.Prelude.{◌≡◌, IfErr, OnOk};
 ghost use Rattle.assise_libfs.specs.Clients.{IsSameClient, client_of, seen_by};
 ghost use Rattle.assise_mail.specs.DueCalls.{AnyTurns, StopsAt, replies_of, ops_of, call_done};

@@ -1,4 +1,4 @@
-// Why a call of the mail store came to nothing.
+//! Why a call of the mail store came to nothing.
 ghost use Rattle.std.specs.Prelude.{Some};
 ghost use Rattle.assise_mail.specs.Faults.{mail_fault_text};
 

@@ -1,4 +1,4 @@
-// Laws of deliveries. Each function does nothing: its contract is the law.
+//! Laws of deliveries. Each function does nothing: its contract is the law.
 ghost use Rattle.std.specs.Prelude.{◌≡◌, ◌⊎◌, ◌++◌, ◌∷◌, Err, List, Ok, filter, length, nat_lt, ◌<◌, ℕ};
 ghost use Rattle.assise_history.specs.Entries.{EntryValue, calls};
 ghost use Rattle.assise_names.specs.declared.reply.TreeError.TheVariants.{NoEnt};

@@ -1,4 +1,4 @@
-// Messages in a file system.
+//! Messages in a file system.
 ghost use Rattle.std.specs.Prelude.{◌≡◌, ◌⊎◌, IfErr, IfOk, IsOkUnless, OnOk, Ok};
 ghost use Rattle.assise_names.specs.declared.call.Op.TheVariants.{List as ListCall, Read};
 ghost use Rattle.assise_names.specs.declared.refusal.Refusal.TheVariants.{OutOfMemory};

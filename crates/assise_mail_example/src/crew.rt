@@ -1,4 +1,4 @@
-// The threads, each with what it needs.
+//! The threads, each with what it needs.
 ghost use Rattle.std.specs.Prelude.{◌≡◌};
 ghost use Rattle.assise_keeper.specs.Clients.{MayOpenClients};
 ghost use Rattle.assise_keeper.specs.Passes.{IsPassOf, opens};

@@ -1,4 +1,4 @@
-// A thread that delivers or reads, with its client.
+//! A thread that delivers or reads, with its client.
 ghost use Rattle.assise_keeper.specs.Clients.{MayOpenClients};
 ghost use Rattle.assise_keeper.specs.Passes.{IsPassOf, opens};
 

@@ -1,4 +1,4 @@
-// A node fails, and comes back.
+//! A node fails, and comes back.
 ghost use Rattle.std.specs.Prelude.{◌≡◌, ℕ, List, Option};
 ghost use Rattle.assise_history.specs.Entries.{EntryValue};
 ghost use Rattle.assise_keeper.specs.declared.view.Opens.{Opens};

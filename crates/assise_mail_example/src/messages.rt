@@ -1,4 +1,4 @@
-// Which messages are delivered, where they stand, and what they say.
+//! Which messages are delivered, where they stand, and what they say.
 
 use assise_mail::fault::MailFault;
 use assise_names::byte_string::ByteString;

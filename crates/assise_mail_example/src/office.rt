@@ -1,4 +1,4 @@
-// What all threads do, and what they saw.
+//! What all threads do, and what they saw.
 ghost use Rattle.std.specs.Prelude.{◌≡◌};
 ghost use Rattle.assise_keeper.specs.Clients.{MayOpenClients};
 ghost use Rattle.assise_keeper.specs.Passes.{IsPassOf, opens};

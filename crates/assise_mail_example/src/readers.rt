@@ -1,4 +1,4 @@
-// Threads that read.
+//! Threads that read.
 
 use crate::mailer::Mailer;
 use crate::messages::{MESSAGES, Message, WRITERS, mailbox, place, text};

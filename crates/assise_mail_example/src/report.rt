@@ -1,4 +1,4 @@
-// What all threads saw, as text.
+//! What all threads saw, as text.
 
 use crate::mailer::SURVIVOR;
 use crate::members::FAILING;

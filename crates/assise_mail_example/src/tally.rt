@@ -1,4 +1,4 @@
-// What threads tell each other.
+//! What threads tell each other.
 
 use crate::messages::{MESSAGES, WRITERS};
 use assise_workers::gate::{Gate, Point};

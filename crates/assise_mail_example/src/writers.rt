@@ -1,4 +1,4 @@
-// Threads that deliver.
+//! Threads that deliver.
 
 use crate::mailer::Mailer;
 use crate::messages::{MESSAGES, Message, draft, place, text};

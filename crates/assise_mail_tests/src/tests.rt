@@ -1,4 +1,4 @@
-// What no contract says: that calls of a mail store succeed.
+//! What no contract says: that calls of a mail store succeed.
 ghost use Rattle.std.specs.Prelude.{◌≡◌, None};
 ghost use Rattle.assise_keeper.specs.Clients.{MayOpenClients};
 ghost use Rattle.assise_keeper.specs.Passes.{IsPassOf, client, opens};

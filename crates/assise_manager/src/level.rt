@@ -1,4 +1,4 @@
-// Levels of nodes.
+//! Levels of nodes.
 ghost use Rattle.std.specs.Prelude.{◌≡◌, ◌≤◌, ℕ, length, Some};
 ghost use Rattle.assise_manager.specs.NodeLevels.{greater, joined_levels, level_of, with_level};
 

@@ -1,4 +1,4 @@
-// The members of a cluster.
+//! The members of a cluster.
 ghost use Rattle.std.specs.Prelude.{◌≡◌, ◌-◌, ◌<◌, ◌≤◌, ◌^◌, map, vec_len, vec_capacity};
 ghost use Rattle.assise_manager.specs.Membership.{IsMembership};
 ghost use Rattle.assise_manager.specs.Seen.{listed_inodes, standing};

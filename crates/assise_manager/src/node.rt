@@ -1,4 +1,4 @@
-// One node of the cluster.
+//! One node of the cluster.
 ghost use Rattle.std.specs.Prelude.{◌≡◌, ℕ, ◌<◌, ◌≤◌, ◌^◌, ◌-◌, IsSome, Some, None, option_map, option_copied, IfOk, IsOkUnless, OnErr, OnOk, drop, length, map, true, vec_capacity};
 ghost use Rattle.std.specs.FinSet as set;
 ghost use Rattle.std.specs.List.{list_all};

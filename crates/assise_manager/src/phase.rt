@@ -1,4 +1,4 @@
-// Phases of nodes.
+//! Phases of nodes.
 
 /// How a node stands in the cluster (Assise, OSDI 2020, section 3, on recovery).
 #[derive(Clone, Copy, PartialEq, Eq, Debug)]

@@ -1,4 +1,4 @@
-// Inodes that a node may lack.
+//! Inodes that a node may lack.
 ghost use Rattle.std.specs.List.Sorted.{IsStrictlySortedBy};
 ghost use Rattle.std.specs.Ordering.{nat_cmp};
 ghost use Rattle.std.proofs.Props.{props};

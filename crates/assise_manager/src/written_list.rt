@@ -1,4 +1,4 @@
-// Inodes that were written in an epoch.
+//! Inodes that were written in an epoch.
 ghost use Rattle.std.specs.Prelude.{◌≡◌, ◌≤◌, IfOk, IsOk, IsOkUnless, OnOk, length, map, nat_eq, true};
 ghost use Rattle.std.specs.FinSet as set;
 ghost use Rattle.std.specs.List.{IsDistinct};

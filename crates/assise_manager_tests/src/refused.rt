@@ -1,4 +1,4 @@
-// Allocations that are refused: `checks/allocations members` refuses each in turn.
+//! Allocations that are refused: `checks/allocations members` refuses each in turn.
 use assise_manager::members::Members;
 use assise_names::refusal::Refusal;
 use std::alloc::Global;

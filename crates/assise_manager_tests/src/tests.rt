@@ -1,4 +1,4 @@
-// Members fail, are filled and join while there is memory.
+//! Members fail, are filled and join while there is memory.
 use crate::refused::steps_or_stays;
 
 #[test]

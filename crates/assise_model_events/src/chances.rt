@@ -1,4 +1,4 @@
-// Each outcome of an event can come, where what it asks for holds.
+//! Each outcome of an event can come, where what it asks for holds.
 ghost use Rattle.std.specs.Prelude.{◌≡◌, ◌+◌, ◌<◌, ◌≤◌, List, [], None, false, length, min, suc, true, ℕ};
 ghost use Rattle.assise_names.specs.declared.call.Op.{Op};
 ghost use Rattle.assise_names.specs.declared.durability.Durability.{Durability};

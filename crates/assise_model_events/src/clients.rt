@@ -1,4 +1,4 @@
-// What clients do keeps the invariant, and is told by the entries of its answers.
+//! What clients do keeps the invariant, and is told by the entries of its answers.
 ghost use Rattle.std.specs.Prelude.{◌≡◌, ◌++◌, ℕ, false, true};
 ghost use Rattle.assise_history.specs.Legal.{durability_of, is_sync};
 ghost use Rattle.assise_model_events.specs.ClientEvents.{Calling, Crashing, Opening, Syncing};

@@ -1,4 +1,4 @@
-// A dsync of an optimistic client keeps the invariant, tells its answer, and can happen.
+//! A dsync of an optimistic client keeps the invariant, tells its answer, and can happen.
 ghost use Rattle.std.specs.Prelude.{◌≡◌, ◌++◌, ◌<◌, None, true, ℕ};
 ghost use Rattle.assise_names.specs.declared.call.Op.TheVariants.{Dsync};
 ghost use Rattle.assise_names.specs.declared.reply.Reply.{Reply};

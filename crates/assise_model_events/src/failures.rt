@@ -1,4 +1,4 @@
-// Failures and returns of nodes keep the invariant, and are told by the entries of their answers.
+//! Failures and returns of nodes keep the invariant, and are told by the entries of their answers.
 ghost use Rattle.std.specs.Prelude.{◌≡◌, ◌++◌, ℕ};
 ghost use Rattle.assise_model_events.specs.MemberEvents.{Failing, Joining, Refilling, Returning};
 ghost use Rattle.assise_model_events.specs.Events.{Answer, back, fail, join, refill, entries_of};

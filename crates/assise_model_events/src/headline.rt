@@ -1,4 +1,4 @@
-// Whatever happens: from the start, and from any state on.
+//! Whatever happens: from the start, and from any state on.
 ghost use Rattle.std.specs.Prelude.{◌≡◌, ◌<◌, ◌++◌, List, [], ◌∷◌, Contains, false, map, true, ℕ};
 ghost use Rattle.assise_seq_tree.specs.Runs.{tree_after_calls};
 ghost use Rattle.assise_seq_tree.specs.Tree.{opening};

@@ -1,4 +1,4 @@
-// What nodes do keeps the invariant, and no entry tells of it.
+//! What nodes do keeps the invariant, and no entry tells of it.
 ghost use Rattle.std.specs.Prelude.{◌≡◌, ◌++◌, ℕ};
 ghost use Rattle.assise_model_events.specs.NodeEvents.{Delivering, Digesting, Releasing, Sending, SettingHot};
 ghost use Rattle.assise_model_events.specs.Events.{Answer, deliver, digest, outgoing, release_ready, set_hot, entries_of};

@@ -1,4 +1,4 @@
-// Each outcome of each event comes in a state that the cluster can come to.
+//! Each outcome of each event comes in a state that the cluster can come to.
 ghost use Rattle.std.specs.Prelude.{◌≡◌, ◌≢◌, List, Some, [], ◌∷◌, suc, ℕ};
 ghost use Rattle.assise_names.specs.declared.call.Op.{Op};
 ghost use Rattle.assise_names.specs.declared.call.Op.TheVariants.{Create, Fsync};

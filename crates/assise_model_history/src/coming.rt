@@ -1,4 +1,4 @@
-// Each entry can come.
+//! Each entry can come.
 ghost use Rattle.std.specs.Prelude.{◌≡◌, List, false, true, ℕ};
 ghost use Rattle.assise_history.specs.Legal.{syncs};
 ghost use Rattle.assise_inode_table.specs.Traces.{NumberedCall};

@@ -1,4 +1,4 @@
-// Each entry is recorded.
+//! Each entry is recorded.
 ghost use Rattle.std.specs.Prelude.{◌≡◌, List, [], suc, true, ℕ};
 ghost use Rattle.assise_history.specs.Kept.{kept, tree_after};
 ghost use Rattle.assise_history.specs.Legal.{IsAlive, IsDown, IsFair, IsNextCall, MayOpen, syncs};

@@ -1,4 +1,4 @@
-// What a failure lists.
+//! What a failure lists.
 ghost use Rattle.std.specs.Prelude.{◌≡◌, ◌<◌, ◌↔◌, ◌++◌, ◌∷◌, Contains, List, filter, not, ℕ};
 ghost use Rattle.assise_history.specs.declared.call.Loss.{Loss};
 ghost use Rattle.assise_history.specs.Kept.{loses};

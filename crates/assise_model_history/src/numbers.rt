@@ -1,4 +1,4 @@
-// The calls of a history, with the numbers of the inodes that they make.
+//! The calls of a history, with the numbers of the inodes that they make.
 ghost use Rattle.std.specs.List.{list_any};
 ghost use Rattle.std.specs.Prelude.{◌≡◌, ◌↔◌, ◌≤◌, ◌++◌, Contains, List, filter, length, map, not, ℕ};
 ghost use Rattle.assise_history.specs.Entries.{EntryValue};

@@ -1,4 +1,4 @@
-// Whatever happens.
+//! Whatever happens.
 ghost use Rattle.std.specs.Prelude.{List, ℕ};
 ghost use Rattle.assise_model_history.specs.Traces.{EntryHappens, IsTrace, IsSafe, IsLasting, last_of};
 ghost use Rattle.assise_model_history.specs.State.{IsRecorded, State, begun_with};

@@ -1,4 +1,4 @@
-// Each step of leases can be made.
+//! Each step of leases can be made.
 ghost use Rattle.std.specs.Prelude.{◌≡◌, false, true, ℕ};
 ghost use Rattle.assise_names.specs.declared.mode.Mode.{Mode};
 ghost use Rattle.assise_inode_table.specs.Traces.{NumberedCall};

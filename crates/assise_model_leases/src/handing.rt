@@ -1,4 +1,4 @@
-// Each step of leases keeps what holds of them, and each other step does too.
+//! Each step of leases keeps what holds of them, and each other step does too.
 ghost use Rattle.std.specs.Prelude.{◌≡◌, ◌≤◌, List, Some, ℕ};
 ghost use Rattle.assise_names.specs.declared.mode.Mode.{Mode};
 ghost use Rattle.assise_record.specs.LogRecord.{LogRecord};

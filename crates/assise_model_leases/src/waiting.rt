@@ -1,4 +1,4 @@
-// Who waits for whom.
+//! Who waits for whom.
 ghost use Rattle.std.specs.Prelude.{◌≡◌, ◌≢◌, ◌≤◌, true, false, ℕ, Some};
 ghost use Rattle.std.specs.List.{list_any};
 ghost use Rattle.assise_names.specs.declared.mode.Mode.{Mode};

@@ -1,4 +1,4 @@
-// Each step can be made: where what it asks for holds, there is a state to which it leads.
+//! Each step can be made: where what it asks for holds, there is a state to which it leads.
 ghost use Rattle.std.specs.FinSet as set;
 ghost use Rattle.std.specs.Ordering.{nat_cmp};
 ghost use Rattle.std.specs.Prelude.{◌≡◌, ◌≢◌, ◌<◌, None, Some, [], true, ℕ};

@@ -1,4 +1,4 @@
-// What holds of the members is kept by failures, by digests, and by whatever leaves the areas.
+//! What holds of the members is kept by failures, by digests, and by whatever leaves the areas.
 ghost use Rattle.std.specs.FinSet as set;
 ghost use Rattle.std.specs.Ordering.{nat_cmp};
 ghost use Rattle.std.specs.Prelude.{◌≡◌, ◌<◌, ℕ};

@@ -1,4 +1,4 @@
-// Each step is one of the machine's own, or two.
+//! Each step is one of the machine's own, or two.
 ghost use Rattle.std.specs.FinSet as set;
 ghost use Rattle.std.specs.Ordering.{nat_cmp};
 ghost use Rattle.std.specs.Prelude.{List, [], ◌∷◌, ℕ};

@@ -1,4 +1,4 @@
-// What holds of the members is kept by returns.
+//! What holds of the members is kept by returns.
 ghost use Rattle.std.specs.Prelude.{ℕ};
 ghost use Rattle.assise_model_world.specs.NodeSteps.{Joins};
 ghost use Rattle.assise_model_world.specs.World.{World};

@@ -1,4 +1,4 @@
-// What is stale: the inodes that a node may lack while it comes back.
+//! What is stale: the inodes that a node may lack while it comes back.
 ghost use Rattle.std.specs.FinSet as set;
 ghost use Rattle.std.specs.Ordering.{nat_cmp};
 ghost use Rattle.std.specs.Prelude.{◌≡◌, ◌≢◌, ◌⊎◌, ◌↔◌, Some, true, ℕ};

@@ -1,4 +1,4 @@
-// Each step can be made.
+//! Each step can be made.
 ghost use Rattle.std.specs.Prelude.{◌≡◌, ◌≤◌, false, true, ℕ};
 ghost use Rattle.assise_names.specs.declared.mode.Mode.{Mode};
 ghost use Rattle.assise_record.specs.Records.{all_effects};

@@ -1,4 +1,4 @@
-// What is read: by a client at its home, and of a node alone.
+//! What is read: by a client at its home, and of a node alone.
 ghost use Rattle.std.specs.Prelude.{◌≡◌, List, false, true, ℕ};
 ghost use Rattle.assise_record.specs.Records.{all_effects};
 ghost use Rattle.assise_inode_table.specs.Effects.{contains, touched};

@@ -1,4 +1,4 @@
-// What all full nodes have, and what others have seen.
+//! What all full nodes have, and what others have seen.
 ghost use Rattle.std.specs.Prelude.{◌≡◌, ◌≢◌, ◌<◌, ◌≤◌, ◌==◌, List, false, filter, true, ℕ};
 ghost use Rattle.assise_record.specs.Records.{all_effects};
 ghost use Rattle.assise_inode_table.specs.Effects.{contains, touched};

@@ -1,4 +1,4 @@
-// Steps, one after another.
+//! Steps, one after another.
 ghost use Rattle.std.specs.Prelude.{List, ℕ};
 ghost use Rattle.assise_model_world.specs.Runs.{Moves, NoneFalls, Runs, StayReplicated, begun, last};
 ghost use Rattle.assise_model_world.specs.Invariant.{AreDropped, WorldInvariant};

@@ -1,4 +1,4 @@
-// Each step keeps the invariant.
+//! Each step keeps the invariant.
 ghost use Rattle.std.specs.Prelude.{◌≡◌, List, ℕ};
 ghost use Rattle.assise_names.specs.declared.mode.Mode.{Mode};
 ghost use Rattle.assise_inode_table.specs.Traces.{NumberedCall};

@@ -1,4 +1,4 @@
-// The calls of the file system.
+//! The calls of the file system.
 ghost use Rattle.std.specs.Prelude.{◌≡◌, ◌++◌, codes, IfOk, IsOk, IsOkUnless, Some};
 ghost use Rattle.std.specs.Fmt.{WritesOnOk};
 ghost use Rattle.assise_names.specs.Path.{path_spelling};

@@ -1,4 +1,4 @@
-// How a client's fsyncs are served.
+//! How a client's fsyncs are served.
 
 /// How a client is opened: what its fsyncs wait for (Assise, OSDI 2020, section 3).
 #[derive(Clone, Copy, PartialEq, Eq, Debug)]

@@ -1,4 +1,4 @@
-// How large a cluster may be.
+//! How large a cluster may be.
 
 /// The most nodes of a cluster. They are numbered from 1.
 pub const MOST_NODES: u32 = 16;

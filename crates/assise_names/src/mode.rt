@@ -1,4 +1,4 @@
-// How an inode is leased.
+//! How an inode is leased.
 
 /// How an inode is leased to a client: what a call visits is leased for reading, and what it changes for writing
 /// (Assise, OSDI 2020, section 3).

@@ -1,4 +1,4 @@
-// The name of an entry.
+//! The name of an entry.
 ghost use Rattle.std.specs.Prelude.{◌≡◌, ◌==◌, IfOk, IsOk, IsOkUnless, IsTrue, MatchResult, Some, length};
 ghost use Rattle.std.specs.List.{list_any};
 ghost use Rattle.std.proofs.Common.{rules};

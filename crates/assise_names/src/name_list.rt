@@ -1,4 +1,4 @@
-// A list of names as one value.
+//! A list of names as one value.
 ghost use Rattle.std.specs.Prelude.{◌≡◌, ◌==◌, ◌↔◌, IfOk, IsOk, IsOkUnless, IsTrue, length};
 ghost use Rattle.std.proofs.Common.{rules};
 ghost use Rattle.std.specs.Cmp.Rules.{comparing};

@@ -1,4 +1,4 @@
-// A path from the root.
+//! A path from the root.
 ghost use Rattle.std.specs.Prelude.{All, ◌≡◌, ◌==◌, ◌+◌, ◌≤◌, ◌↔◌, [], ◌∷◌, IfErr, IfOk, IsOk, IsOkUnless, IsTrue, List, MatchResult, Some, count_by, length, min, ℕ};
 ghost use Rattle.std.proofs.Common.{rules};
 ghost use Rattle.std.specs.Cmp.Rules.{comparing};

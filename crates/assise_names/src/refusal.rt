@@ -1,4 +1,4 @@
-// Why a call is not made.
+//! Why a call is not made.
 ghost use Rattle.std.specs.Prelude.{Some};
 ghost use Rattle.assise_names.specs.Text.{refusal_text};
 

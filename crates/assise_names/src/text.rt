@@ -1,4 +1,4 @@
-// A text that lies in its value where it is short.
+//! A text that lies in its value where it is short.
 ghost use Rattle.std.specs.Prelude.{◌≡◌, IfOk, IsTrue, None, length};
 
 use arrayvec::ArrayString;

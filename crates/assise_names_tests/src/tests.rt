@@ -1,4 +1,4 @@
-// Calls and replies that are made and copied, and what is printed of the copy.
+//! Calls and replies that are made and copied, and what is printed of the copy.
 use assise_names::byte_string::ByteString;
 use assise_names::name::Name;
 use assise_names::name_list::NameList;

@@ -1,4 +1,4 @@
-// A group of records, without what is overridden in it.
+//! A group of records, without what is overridden in it.
 ghost use Rattle.std.specs.Prelude.{◌≡◌, ◌≤◌, ◌++◌, true, IfOk, IsOkUnless, OnOk, length};
 ghost use Rattle.std.specs.List.{list_any};
 ghost use Rattle.assise_names.specs.declared.refusal.Refusal.TheVariants.{OutOfMemory};

@@ -1,4 +1,4 @@
-// Laws of logs. Each function does nothing: its contract is the law.
+//! Laws of logs. Each function does nothing: its contract is the law.
 ghost use Rattle.std.specs.Prelude.{◌≡◌, ◌≢◌, ◌+◌, ◌-◌, ◌<◌, ◌≤◌, ◌⊎◌, ◌++◌, length, take, None, Option, Some, true, false, ℕ};
 ghost use Rattle.assise_record.specs.Groups.{AllHaveEffects, all_coalesced, are_whole, groups_of};
 ghost use Rattle.assise_record.specs.LogRecord.{LogRecord};

@@ -1,4 +1,4 @@
-// A log as it is lent: its numbers, and which records touch an inode.
+//! A log as it is lent: its numbers, and which records touch an inode.
 ghost use Rattle.std.specs.Prelude.{◌≡◌, ◌+◌, ◌<◌, ◌≤◌, ◌^◌, false, true, IfSome, length, option_copied, ℕ};
 ghost use Rattle.std.specs.List.{slice_index_or};
 ghost use Rattle.std.specs.Map.Iter.{ShowsInOrder, ShowsInReverse, deref};

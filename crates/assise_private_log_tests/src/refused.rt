@@ -1,4 +1,4 @@
-// Allocations that are refused: `checks/allocations logs` refuses each in turn.
+//! Allocations that are refused: `checks/allocations logs` refuses each in turn.
 use assise_names::name::Name;
 use assise_private_log::log::Log;
 use assise_record::effect::Effect;

@@ -1,4 +1,4 @@
-// Logs are filled, copied and regrouped while there is memory.
+//! Logs are filled, copied and regrouped while there is memory.
 use crate::refused::{copy_is_alike, regroups_or_stays};
 
 #[test]

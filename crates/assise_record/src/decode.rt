@@ -1,4 +1,4 @@
-// Frames of bytes.
+//! Frames of bytes.
 ghost use Rattle.std.specs.Prelude.{◌≡◌, ◌<◌, ◌≤◌, ◌⊎◌, ◌++◌, ℕ, IfOk, IfErr, IsOkUnless, OnOk, Ok, Err, length, take, drop};
 ghost use Rattle.std.specs.Option.{option_to_list};
 ghost use Rattle.assise_record.specs.LogFrame.{HasMarks, LogFrame, is_marked};

@@ -1,4 +1,4 @@
-// What a call does to one inode.
+//! What a call does to one inode.
 ghost use Rattle.std.specs.Prelude.{◌≡◌, ◌==◌, ◌+◌, ◌<◌, ◌≤◌, IfOk, IsOkUnless, OnErr, length};
 ghost use Rattle.std.proofs.Common.{rules};
 ghost use Rattle.std.specs.Cmp.Rules.{comparing};

@@ -1,4 +1,4 @@
-// The effects of a record, as they stand in the body of a frame.
+//! The effects of a record, as they stand in the body of a frame.
 ghost use Rattle.std.specs.Prelude.{◌≡◌, ◌-◌, IfOk, IsOkUnless, IsTrue, length};
 ghost use Rattle.assise_record.specs.Reading.{Exactly, GivesFrame, IsRest, many_at, effect_at, fields_at, rest_of, write_at, set_len_at, link_at, unlink_at};
 ghost use Rattle.assise_names.specs.Name.{is_name};

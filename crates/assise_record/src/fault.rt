@@ -1,4 +1,4 @@
-// Why bytes are no frame.
+//! Why bytes are no frame.
 ghost use Rattle.std.specs.Prelude.{Some};
 ghost use Rattle.assise_record.specs.FaultText.{frame_fault_text};
 

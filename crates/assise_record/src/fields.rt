@@ -1,4 +1,4 @@
-// The fields of frames. Where the bytes end first, the fault is the one that is handed in.
+//! The fields of frames. Where the bytes end first, the fault is the one that is handed in.
 ghost use Rattle.std.specs.Prelude.{◌≡◌, ◌≤◌, IfOk, IsTrue, length};
 ghost use Rattle.assise_names.specs.Name.{is_name};
 ghost use Rattle.assise_record.specs.Patch.{IsPatch};

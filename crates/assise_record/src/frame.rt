@@ -1,4 +1,4 @@
-// Records as they are sent.
+//! Records as they are sent.
 ghost use Rattle.std.specs.Prelude.{◌≡◌, ◌+◌, ◌-◌, ◌<◌, ◌≤◌, [], IfOk, IsOkUnless, get_or, length, true};
 ghost use Rattle.assise_names.specs.declared.refusal.Refusal.TheVariants.{OutOfMemory};
 ghost use Rattle.assise_record.specs.LogFrame.{HasRanges};

@@ -1,4 +1,4 @@
-// Laws of frames and of groups of records. Each function does nothing: its contract is the law.
+//! Laws of frames and of groups of records. Each function does nothing: its contract is the law.
 ghost use Rattle.std.specs.Prelude.{◌≡◌, ◌↔◌, ◌<◌, ◌≤◌, ◌++◌, ◌∷◌, [], All, Err, IsTrue, List, None, Ok, flat_map, length, map, true, ℕ};
 ghost use Rattle.std.specs.List.{slice_index_or};
 ghost use Rattle.assise_record.specs.Groups.{AllHaveEffects, AreGroups, all_coalesced, all_marks, all_records, are_whole, coalesced_group, groups_of, were};

@@ -1,4 +1,4 @@
-// How many bytes records have in a frame.
+//! How many bytes records have in a frame.
 ghost use Rattle.std.specs.Prelude.{◌≡◌, ◌≤◌, None, length};
 ghost use Rattle.std.specs.List.{flat_map};
 ghost use Rattle.assise_record.specs.LogFrame.{HasRanges};

@@ -1,4 +1,4 @@
-// Frames byte by byte.
+//! Frames byte by byte.
 use assise_record::decode::{decode, decode_owned, decode_up_to};
 use assise_record::encode::encode;
 use assise_record::fault::FrameFault;

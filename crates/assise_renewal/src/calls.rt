@@ -1,4 +1,4 @@
-// A call of a client, where nobody else works on the cluster.
+//! A call of a client, where nobody else works on the cluster.
 ghost use Rattle.assise_machine.specs.Clusters.{machine};
 ghost use Rattle.assise_renewal.specs.Led.{IsThisCall, IsLedBy};
 

@@ -1,4 +1,4 @@
-// Client 1 makes a tree. No clause says which tree its calls leave: who asks for it compares.
+//! Client 1 makes a tree. No clause says which tree its calls leave: who asks for it compares.
 ghost use Rattle.assise_machine.specs.Clusters.{machine};
 ghost use Rattle.assise_renewal.specs.Led.{IsLedBy, IsOfFirst};
 

@@ -1,4 +1,4 @@
-// A cluster is replaced by a new one with the same tree.
+//! A cluster is replaced by a new one with the same tree.
 ghost use Rattle.std.specs.Prelude.{◌≡◌, ◌<◌, ◌≤◌, IfOk, IsTrue};
 ghost use Rattle.assise_names.specs.declared.limits.TheConstants.{MOST_NODES};
 ghost use Rattle.assise_seq_tree.specs.Tree.{opening};

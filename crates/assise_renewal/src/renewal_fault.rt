@@ -1,4 +1,4 @@
-// Why a cluster isn't renewed.
+//! Why a cluster isn't renewed.
 use assise_names::refusal::Refusal;
 
 /// Why a cluster isn't renewed.

@@ -1,4 +1,4 @@
-// Whether all calls of a cluster are replicated.
+//! Whether all calls of a cluster are replicated.
 ghost use Rattle.std.specs.Prelude.{◌≡◌, IsTrue};
 ghost use Rattle.assise_history.specs.Kept.{kept};
 ghost use Rattle.assise_machine.specs.Headline.{history_of, replicated_calls};

@@ -1,4 +1,4 @@
-// The calls of a cluster's clients are made safe.
+//! The calls of a cluster's clients are made safe.
 ghost use Rattle.std.specs.Prelude.{◌≡◌};
 ghost use Rattle.assise_machine.specs.Clusters.{machine};
 ghost use Rattle.assise_renewal.specs.Led.{IsDsync, IsLedBy};

@@ -1,4 +1,4 @@
-// The tree of a cluster's replicated calls.
+//! The tree of a cluster's replicated calls.
 ghost use Rattle.std.specs.Prelude.{◌≡◌, IfOk};
 ghost use Rattle.assise_seq_tree.specs.Tree.{opening};
 ghost use Rattle.assise_history.specs.Kept.{tree_after};

@@ -1,4 +1,4 @@
-// What the kinds of revokers answer.
+//! What the kinds of revokers answer.
 ghost use Rattle.std.specs.Prelude.{◌≡◌, ◌<◌, ◌^◌, ℕ};
 ghost use Rattle.assise_private_log.specs.NumberedLog.{end};
 ghost use Rattle.assise_private_log.specs.Touches.{Covers};

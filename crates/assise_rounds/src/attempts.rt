@@ -1,4 +1,4 @@
-// A call is tried until it is settled.
+//! A call is tried until it is settled.
 ghost use Rattle.std.specs.Prelude.{◌≡◌, ◌≤◌, length, map};
 ghost use Rattle.assise_names.specs.declared.limits.TheConstants.{MOST_NODES};
 ghost use Rattle.assise_machine.specs.Clusters.{machine};

@@ -1,4 +1,4 @@
-// Laws of rounds, tries and returns. Each function does nothing: its contract is the law.
+//! Laws of rounds, tries and returns. Each function does nothing: its contract is the law.
 ghost use Rattle.std.specs.Prelude.{◌≡◌, ◌≤◌, ◌++◌, ⊤, Bool, List, Result, map, ℕ};
 ghost use Rattle.assise_names.specs.declared.call.Op.{Op};
 ghost use Rattle.assise_names.specs.declared.refusal.Refusal.{Refusal};

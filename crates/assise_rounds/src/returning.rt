@@ -1,4 +1,4 @@
-// How a node that failed comes back.
+//! How a node that failed comes back.
 ghost use Rattle.std.specs.Prelude.{IfErr, OnOk};
 ghost use Rattle.assise_machine.specs.Clusters.{machine};
 ghost use Rattle.assise_rounds.specs.Traces.{Told};

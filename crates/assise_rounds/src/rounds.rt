@@ -1,4 +1,4 @@
-// What a cluster does between the tries of a call: replicate turns, and rounds.
+//! What a cluster does between the tries of a call: replicate turns, and rounds.
 ghost use Rattle.std.specs.Prelude.{◌≡◌, ◌≤◌, IfErr, IfNone, IfOk, IfSome, Some, is_none, length, map};
 ghost use Rattle.assise_names.specs.declared.refusal.Refusal.TheVariants.{BadNode};
 ghost use Rattle.assise_names.specs.declared.limits.TheConstants.{MOST_NODES};

@@ -1,4 +1,4 @@
-// The tree that one node's region gives.
+//! The tree that one node's region gives.
 ghost use Rattle.std.specs.Prelude.{◌≡◌, IfOk, IsOkUnless, Err, List, None, Some, ℕ};
 ghost use Rattle.assise_names.specs.declared.refusal.Refusal.{Refusal as Refused};
 ghost use Rattle.assise_names.specs.declared.refusal.Refusal.TheVariants.{OutOfMemory};

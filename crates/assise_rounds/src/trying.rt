@@ -1,4 +1,4 @@
-// Tries of a client's call.
+//! Tries of a client's call.
 ghost use Rattle.std.specs.Prelude.{◌≡◌, ◌≤◌, length, map};
 ghost use Rattle.assise_names.specs.declared.limits.TheConstants.{MOST_NODES};
 ghost use Rattle.assise_machine.specs.Clusters.{machine};

@@ -1,4 +1,4 @@
-// What reads and writes do with the bytes of a file.
+//! What reads and writes do with the bytes of a file.
 ghost use Rattle.std.specs.Prelude.{◌≡◌, ◌+◌, ◌^◌, ◌<◌, ◌≤◌, ◌++◌, IfOk, IsOkUnless, OnOk, OnErr, length, nat_le, take, drop};
 ghost use Rattle.assise_names.specs.declared.refusal.Refusal.TheVariants.{OutOfMemory};
 ghost use Rattle.assise_seq_tree.specs.Contents.{bytes_from, is_within, overwritten, resized};

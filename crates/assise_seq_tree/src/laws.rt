@@ -1,4 +1,4 @@
-// Laws of the tree and of its calls. Each function does nothing: its contract is the law.
+//! Laws of the tree and of its calls. Each function does nothing: its contract is the law.
 ghost use Rattle.std.specs.Prelude.{◌≡◌, ◌+◌, ◌-◌, ◌<◌, ◌≤◌, [], Contains, Err, List, Ok, false, length, max, replicate, ℕ};
 ghost use Rattle.std.specs.Cmp.Lexicographic.{slice_cmp};
 ghost use Rattle.std.specs.List.Sorted.{IsStrictlySortedBy};

@@ -1,4 +1,4 @@
-// The lines of a tree: each entry by its full path.
+//! The lines of a tree: each entry by its full path.
 ghost use Rattle.std.specs.Prelude.{◌≡◌, ◌∷◌, ◌++◌, [], IfOk, List, Some, codes, map};
 ghost use Rattle.std.specs.Fmt.{WritesOnOk, decimal};
 ghost use Rattle.std.specs.List.{flat_map};

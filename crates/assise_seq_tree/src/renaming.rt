@@ -1,4 +1,4 @@
-// Moves of what stands at a path to another.
+//! Moves of what stands at a path to another.
 ghost use Rattle.std.specs.Prelude.{◌≡◌, IfOk, IsErr, IsOk, IsOkUnless, OnErr};
 ghost use Rattle.assise_names.specs.declared.refusal.Refusal.TheVariants.{OutOfMemory};
 ghost use Rattle.assise_names.specs.declared.reply.Reply.TheVariants.{Error};

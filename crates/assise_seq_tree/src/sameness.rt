@@ -1,4 +1,4 @@
-// Whether two trees are the same.
+//! Whether two trees are the same.
 ghost use Rattle.std.specs.Prelude.{◌≡◌, ◌↔◌, ◌≤◌, ◌+◌, IfOk, IsOkUnless, IsTrue, OnOk};
 ghost use Rattle.assise_names.specs.declared.refusal.Refusal.TheVariants.{OutOfMemory};
 ghost use Rattle.assise_seq_tree.specs.Sameness.{ArePairsSame, size_of_pairs};

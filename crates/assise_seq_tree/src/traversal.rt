@@ -1,4 +1,4 @@
-// A traversal of a tree in preorder: each entry before what it holds.
+//! A traversal of a tree in preorder: each entry before what it holds.
 ghost use Rattle.std.specs.Prelude.{◌≡◌, ◌∷◌, ◌++◌, [], IfOk, IsOkUnless, MatchOption, OnErr, OnOk, map};
 ghost use Rattle.assise_names.specs.declared.refusal.Refusal.TheVariants.{OutOfMemory};
 ghost use Rattle.assise_seq_tree.specs.Lines.{places_below, places_of};

@@ -1,4 +1,4 @@
-// A tree of files and directories, and the walks along a path.
+//! A tree of files and directories, and the walks along a path.
 ghost use Rattle.std.specs.Prelude.{◌≡◌, ◌∷◌, ◌+◌, ◌^◌, ◌<◌, ◌≤◌, IfNone, IfSome, IsErr, IsFalse, IsOkUnless, IsTrue, List, MatchResult, OnErr, OnOk, [], length, ℕ};
 ghost use Rattle.assise_names.specs.declared.refusal.Refusal.TheVariants.{OutOfMemory};
 ghost use Rattle.assise_seq_tree.specs.Answer.{as_directory, as_file, description_of, may_replace, parent_of};

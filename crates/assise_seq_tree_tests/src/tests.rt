@@ -1,4 +1,4 @@
-// Worked examples of the calls.
+//! Worked examples of the calls.
 use assise_names::call::Op;
 use assise_names::name::Name;
 use assise_seq_tree::answer::answer;

@@ -1,4 +1,4 @@
-// Effects written as text: a name, the inode that is changed, and what else there is.
+//! Effects written as text: a name, the inode that is changed, and what else there is.
 use assise_inode_table::store::InodeStore;
 use assise_names::name::Name;
 use assise_record::effect::{Effect, Extent, FileSize, MOST_FILE_BYTES};

@@ -1,4 +1,4 @@
-// Inodes as text.
+//! Inodes as text.
 use assise_inode_table::directory::Directory;
 use assise_inode_table::file_bytes::FileBytes;
 use assise_inode_table::inode::Inode;

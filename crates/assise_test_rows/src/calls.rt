@@ -1,4 +1,4 @@
-// Calls and commands written as a line of a script.
+//! Calls and commands written as a line of a script.
 use assise_fault_script::command::Command;
 use assise_fault_script::parse::{NumberedCommand, parse};
 use assise_names::call::Op;

@@ -1,4 +1,4 @@
-// Scripts on several nodes that more than one crate of tests serves.
+//! Scripts on several nodes that more than one crate of tests serves.
 
 /// Two clients on two nodes write and read one file.
 pub const SHARED_FILE: &str = "\

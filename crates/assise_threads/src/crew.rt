@@ -1,4 +1,4 @@
-// Runs commands with a main thread, and a thread for each client.
+//! Runs commands with a main thread, and a thread for each client.
 ghost use Rattle.std.specs.Prelude.{◌≡◌, ◌≤◌, [], IfErr, OnOk};
 ghost use Rattle.std.specs.Io.KnownBytes.{Appends};
 ghost use Rattle.assise_console.specs.Lines.{line_text};

@@ -1,4 +1,4 @@
-// Runs a script with a thread for each client, and prints its answers.
+//! Runs a script with a thread for each client, and prints its answers.
 ghost use Rattle.std.specs.Prelude.{◌≡◌, ◌≤◌, [], IfErr, IfOk, IsOkUnless, OnOk};
 ghost use Rattle.std.specs.Io.KnownBytes.{Keeps};
 ghost use Rattle.assise_fault_script.specs.Script.{ClusterFirst, IsCluster};

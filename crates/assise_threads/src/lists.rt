@@ -1,4 +1,4 @@
-// The calls of clients among commands that stand together.
+//! The calls of clients among commands that stand together.
 ghost use Rattle.std.specs.Prelude.{◌≡◌, IfOk, IsOkUnless, map};
 ghost use Rattle.std.specs.List.{AllZip};
 ghost use Rattle.assise_names.specs.declared.refusal.Refusal.TheVariants.{OutOfMemory};

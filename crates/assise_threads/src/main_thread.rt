@@ -1,4 +1,4 @@
-// The main thread: what it does with a pass of its own.
+//! The main thread: what it does with a pass of its own.
 ghost use Rattle.std.specs.Prelude.{◌≡◌, ◌↔◌, IfOk, IsTrue, None, is_some, string_bytes, true};
 ghost use Rattle.assise_console.specs.declared.response.Response.TheVariants.{Refused};
 ghost use Rattle.assise_names.specs.declared.refusal.Refusal.TheVariants.{Busy};

@@ -1,4 +1,4 @@
-// Clients meet with a pass of nobody.
+//! Clients meet with a pass of nobody.
 ghost use Rattle.std.specs.Prelude.{◌≡◌, [], None, is_some, true};
 ghost use Rattle.assise_keeper.specs.declared.view.Opens.TheVariants.{Alone};
 ghost use Rattle.assise_keeper.specs.Passes.{IsPassOf, client as client_of_pass, last, opens, seen};

@@ -1,4 +1,4 @@
-// What came of clients' calls, until it is written.
+//! What came of clients' calls, until it is written.
 ghost use Rattle.std.specs.Prelude.{◌≡◌, ℕ, IfOk, map};
 ghost use Rattle.assise_threads.specs.Hearing.{sights};
 ghost use Rattle.assise_threads.specs.Stretches.{TakesFirst, libfs_at, outcomes_at, outcomes_of, sight_at, untold};

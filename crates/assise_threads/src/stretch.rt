@@ -1,4 +1,4 @@
-// Calls that stand together: each client's are made in a thread of its own, and the lines are written in order.
+//! Calls that stand together: each client's are made in a thread of its own, and the lines are written in order.
 ghost use Rattle.std.specs.Prelude.{◌≡◌, ℕ, IfErr, IfOk, OnOk};
 ghost use Rattle.assise_model_events.specs.Machine.{Machine};
 ghost use Rattle.assise_threads.specs.Hearing.{sights};

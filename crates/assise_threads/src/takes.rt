@@ -1,4 +1,4 @@
-// What the main thread does to the cluster in one take.
+//! What the main thread does to the cluster in one take.
 ghost use Rattle.assise_machine.specs.Clusters.{machine};
 ghost use Rattle.assise_rounds.specs.Traces.{Told};
 ghost use Rattle.assise_threads.specs.Takes.{AddsNobodys};

@@ -1,4 +1,4 @@
-// What a node's digester does.
+//! What a node's digester does.
 
 use crate::gate::{Gate, Point};
 use crate::idle::Idle;

@@ -1,4 +1,4 @@
-// Where workers may be held.
+//! Where workers may be held.
 ghost use Rattle.std.specs.Prelude.{◌≡◌, true};
 
 use std::alloc::Global;

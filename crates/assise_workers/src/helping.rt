@@ -1,4 +1,4 @@
-// What a client's own thread does for the nodes.
+//! What a client's own thread does for the nodes.
 
 use crate::gate::Gate;
 use crate::replicated::Replicated;

@@ -1,4 +1,4 @@
-// What a worker does between two turns.
+//! What a worker does between two turns.
 
 use crate::worker::TurnEnd;
 use assise_keeper::event_count::EventCount;

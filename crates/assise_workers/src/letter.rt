@@ -1,4 +1,4 @@
-// A frame that is to be sent.
+//! A frame that is to be sent.
 ghost use Rattle.std.specs.Prelude.{◌≤◌};
 
 use assise_record::frame::Frame;

@@ -1,4 +1,4 @@
-// The workers of nodes.
+//! The workers of nodes.
 ghost use Rattle.std.specs.Prelude.{◌≡◌, IfOk, map};
 ghost use Rattle.assise_keeper.specs.Passes.{IsPassOf, client, last as last_of, opens, seen};
 ghost use Rattle.assise_workers.specs.Working.{node_at, nodes_up_to};

@@ -1,4 +1,4 @@
-// A state whose nodes replicate and digest.
+//! A state whose nodes replicate and digest.
 ghost use Rattle.std.specs.Prelude.{◌≡◌, ◌≤◌, ℕ, IfOk};
 ghost use Rattle.assise_manager.specs.NodeLevels.{level_of, newest};
 ghost use Rattle.assise_machine.specs.Answers.{delivery_answer, digesting_answer, sending_answer};

@@ -1,4 +1,4 @@
-// What a node's replicator does.
+//! What a node's replicator does.
 ghost use Rattle.std.specs.Prelude.{◌≡◌, ◌≤◌, IfErr, IfOk};
 ghost use Rattle.assise_model_events.specs.Events.{Answer, outgoing, sent};
 ghost use Rattle.assise_workers.specs.Letters.{AreReadBy, letters_seen};

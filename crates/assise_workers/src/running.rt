@@ -1,4 +1,4 @@
-// Workers and clients in the threads of a scope.
+//! Workers and clients in the threads of a scope.
 ghost use Rattle.std.specs.Prelude.{◌≡◌, ◌≤◌, [], IfOk, IfSome, vec_capacity, vec_len};
 ghost use Rattle.std.specs.List.{AllZip};
 ghost use Rattle.assise_workers.specs.ClusterTurns.{cluster_acts, cluster_history};

@@ -1,4 +1,4 @@
-// A client's list of calls.
+//! A client's list of calls.
 ghost use Rattle.std.specs.Prelude.{◌≡◌, ◌≤◌, [], length, map, vec_capacity, vec_len};
 ghost use Rattle.assise_libfs.specs.Clients.{IsSameClient, client_of, limit_of, seen_by};
 ghost use Rattle.assise_workers.specs.Told.{SeesAll, Turned};

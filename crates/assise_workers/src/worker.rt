@@ -1,4 +1,4 @@
-// A worker: a lent keeper, and a pass through which no entry is added.
+//! A worker: a lent keeper, and a pass through which no entry is added.
 ghost use Rattle.std.specs.Prelude.{◌≡◌};
 ghost use Rattle.assise_keeper.specs.Passes.{IsPassOf};
 ghost use Rattle.assise_workers.specs.Acting.{both_ends};

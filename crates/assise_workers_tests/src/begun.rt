@@ -1,4 +1,4 @@
-// Clusters on which a client made calls before anything runs.
+//! Clusters on which a client made calls before anything runs.
 use assise_fault_script::command::Command;
 use assise_fault_script::parse::parse;
 use assise_lease_table::revoker::Revoker;

@@ -1,4 +1,4 @@
-// Many clients.
+//! Many clients.
 use crate::begun::revokers;
 use crate::runs::{Clients, answered};
 use assise_machine::cluster::Cluster;

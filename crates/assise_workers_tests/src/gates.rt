@@ -1,4 +1,4 @@
-// Gates that hold workers while others go on.
+//! Gates that hold workers while others go on.
 use assise_workers::gate::{Gate, Point};
 use std::sync::atomic::{AtomicBool, AtomicU64, Ordering};
 use std::thread;

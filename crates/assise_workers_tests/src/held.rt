@@ -1,4 +1,4 @@
-// What goes on while a frame is held: two clients on two nodes.
+//! What goes on while a frame is held: two clients on two nodes.
 ghost use Rattle.std.specs.Prelude.{◌≡◌};
 ghost use Rattle.assise_keeper.specs.Clients.{MayOpenClients};
 ghost use Rattle.assise_keeper.specs.Passes.{IsPassOf, opens};

@@ -1,4 +1,4 @@
-// Turns of workers, where each allocation of a run is refused in turn: what a turn doesn't do as out of memory the next one does.
+//! Turns of workers, where each allocation of a run is refused in turn: what a turn doesn't do as out of memory the next one does.
 ghost use Rattle.assise_keeper.specs.Passes.{IsPassOf};
 
 use crate::begun::begin;

@@ -1,5 +1,5 @@
-// A cluster that threads took in turn is renewed: a client of the next keeper finds what one of the last made. Each helps the nodes, so
-// that no thread but its own is needed.
+//! A cluster that threads took in turn is renewed: a client of the next keeper finds what one of the last made. Each helps the nodes, so
+//! that no thread but its own is needed.
 ghost use Rattle.std.specs.Prelude.{◌≡◌, IfSome, None};
 ghost use Rattle.assise_keeper.specs.Clients.{MayOpenClients};
 ghost use Rattle.assise_keeper.specs.Passes.{IsPassOf, client, opens};

@@ -1,4 +1,4 @@
-// Clients in threads of their own, beside the workers of all nodes.
+//! Clients in threads of their own, beside the workers of all nodes.
 ghost use Rattle.std.specs.Prelude.{◌≡◌};
 ghost use Rattle.assise_keeper.specs.Clients.{MayOpenClients};
 ghost use Rattle.assise_keeper.specs.Passes.{IsPassOf, opens};

@@ -1,4 +1,4 @@
-// What contracts can't say: that workers and clients get on, and that none is held up by another's frame.
+//! What contracts can't say: that workers and clients get on, and that none is held up by another's frame.
 use crate::begun::{begin, revokers};
 use crate::crowds::{Crowd, run_crowd};
 use crate::gates::{AllAtOnce, UntilAnswered};
