@@ -1,5 +1,5 @@
 //! Plans of renames.
-ghost use Rattle.std.specs.Prelude.{◌≡◌, ◌==◌, ◌&&◌, ◌<◌, ◌≤◌, ◌++◌, IfOk, IsOkUnless, MatchResult, OnErr, OnOk, [], length, take, true, ℕ};
+ghost use Rattle.std.specs.Prelude.{◌≡◌, ◌==◌, ◌&&◌, ◌<◌, ◌≤◌, ◌+◌, ◌++◌, IfOk, IsOkUnless, MatchResult, OnErr, OnOk, [], length, take, true, ℕ};
 ghost use Rattle.std.specs.Cmp.Lexicographic.{pointwise};
 ghost use Rattle.std.specs.FinMap as map;
 ghost use Rattle.assise_inode_plan.specs.Moving.{effects_of_move};
@@ -9,8 +9,10 @@ ghost use Rattle.assise_inode_plan.specs.Walking.{EndsAt, plan_from, plan_stoppe
 ghost use Rattle.assise_inode_table.specs.Calls.{content_may_replace, move_to, receive, rename_call, replace_target, walk};
 ghost use Rattle.assise_inode_table.specs.Contents.{Content, values};
 ghost use Rattle.assise_inode_table.specs.Interaction.{Interaction, visits_of};
+ghost use Rattle.assise_names.specs.declared.mode.Mode.TheVariants.{Read};
 ghost use Rattle.assise_names.specs.declared.refusal.Refusal.TheVariants.{OutOfMemory};
 ghost use Rattle.assise_seq_tree.specs.Answer.{parent_of};
+ghost use Rattle.smallvec.specs.SmallVec.{HasRoomFor};
 
 use crate::ending::{answered, finished, stopped};
 use crate::plan::{Planned, Visits};
@@ -19,6 +21,8 @@ use crate::view::View;
 use crate::walk::{Entry, Stop, reach, walk, walk_to_entry};
 use assise_inode_table::directory::Directory;
 use assise_inode_table::inode::Inode;
+use assise_inode_table::table::ROOT;
+use assise_names::mode::Mode;
 use assise_names::name::Name;
 use assise_names::path::Path;
 use assise_names::refusal::Refusal;
@@ -61,10 +65,31 @@ pub(crate) fn plan_rename<V: View>(
     if from.is_front_of(to) {
         return Ok(answered(alloc, Reply::Error(TreeError::Invalid), reads));
     }
+    make_room_for_walks(view, from, to, &mut reads)?;
     match walk_to_entry(view, parent, name, &mut reads)? {
         Ok(entry) => plan_move(alloc, view, names, new_names, &entry, reads),
         Err(stop) => Ok(stopped(alloc, stop, reads)),
     }
+}
+
+/// Makes room for the visits of both walks of a rename at once: the root and each name of the first path, then the root
+/// and each name but the last of the other. Where the root isn't leased, nothing is visited.
+fn make_room_for_walks<V: View>(
+    view: &V,
+    from: &Path,
+    to: &Path,
+    reads: &mut Visits,
+) -> Result<(), Refusal>
+    ensures same { reads.new.items ≡ reads.old.items }
+    ensures room { OnOk result (V.leased view.now 0 Read ≡ true →
+        HasRoomFor reads.new (length from.now + length to.now + 1)) }
+    ensures asked { OnErr result (V.leased view.now 0 Read ≡ true) }
+    ensures only_memory { IsOkUnless result OutOfMemory }
+{
+    if view.leases(ROOT, Mode::Read) {
+        reads.reserve(from.names().len() + to.names().len() + 1)?;
+    }
+    Ok(())
 }
 
 /// Moves an entry that is found, the one of the first path, to the second path. Neither is the root.
