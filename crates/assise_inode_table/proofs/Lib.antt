@@ -23,6 +23,7 @@ pub mod KeyOrder
 pub mod LiveSlots
 pub mod PieceSlots
 pub mod PieceChanges
+pub mod PieceLinks
 pub mod PieceSearch
 pub mod TableView
 pub mod ReachedSpelling

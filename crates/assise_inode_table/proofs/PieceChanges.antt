@@ -1,13 +1,12 @@
 -- A piece that is split, and one that goes; a piece's names and links side by side.
-use Rattle.std.proofs.Common.{◌≡◌, ℕ, zero, suc, ◌+◌, ◌-◌, ◌<◌, ◌≤◌, min, List, [], ◌∷◌, ◌++◌, length, Option, Some, None, take, drop, set, insert, remove, get_or, zip, refl, sym, ap, subst, ◌∙◌, arith, append_assoc, nat_cmp, take-append-drop}
-use Rattle.std.specs.List.{All, AllByRecursion}
+use Rattle.std.proofs.Common.{◌≡◌, ℕ, zero, suc, ◌+◌, ◌<◌, ◌≤◌, List, [], ◌∷◌, ◌++◌, length, take, drop, set, insert, remove, get_or, zip, refl, sym, ap, subst, ◌∙◌, arith, append_assoc, nat_cmp, take-append-drop}
 use Rattle.std.specs.List.Sorted.{IsStrictlySortedBy}
 use Rattle.std.specs.Map.{keys_of}
 use Rattle.std.specs.Cmp.Lexicographic.{slice_cmp}
-use Rattle.std.proofs.lemmas.List.{length-set, length-append, length-take, length-drop, drop_all, take_all}
+use Rattle.std.proofs.lemmas.List.{length-set, length-drop, take_all}
 use Rattle.std.proofs.lemmas.List.Edits.{length-insert}
-use Rattle.std.proofs.lemmas.List.Elements.{All-append, All-cons, All-take, All-drop, All-set}
-use Rattle.assise_inode_table.specs.Pieces.{Slot, live, slots_in, links_in, piece_at, slot_name, slot_link, Ascend, AreFilled}
+use Rattle.std.proofs.lemmas.List.Elements.{All-append, All-take, All-drop, All-set}
+use Rattle.assise_inode_table.specs.Pieces.{Slot, live, slots_in, piece_at, Ascend, AreFilled}
 use Rattle.assise_inode_table.proofs.KeyOrder.{sorted_without}
 use Rattle.assise_inode_table.proofs.LiveSlots.{live-append, keys-append}
 use Rattle.assise_inode_table.proofs.PieceSlots.{three_parts, slots-append, insert_filled}
@@ -114,10 +113,6 @@ module _ {K X : Type 0} where
   insert-side (suc i) k [] ls n l h j m = absurd (omega arith)
   insert-side (suc i) k (o ∷ ns) [] n l h j m = absurd (omega arith)
   insert-side (suc i) k (o ∷ ns) (x ∷ ls) n l h j m = ap (λ zs. (o, x) ∷ zs) (insert-side i k ns ls n l (omega arith) (omega arith) (omega arith))
-
-  -- a part of the names, with the links turned so that theirs come first
-  pub part-side : (s k : ℕ) (ns : List K) (ls : List X) → length (take k (drop s ns)) ≤ length (drop s ls) → zip (take k (drop s ns)) (drop s ls ++ take s ls) ≡ take k (drop s (zip ns ls))
-  part-side s k ns ls h = side-append (take k (drop s ns)) (drop s ls) (take s ls) h ∙ take-side k (drop s ns) (drop s ls) ∙ ap (take k) (drop-side s ns ls)
 
 -- a full piece is its two halves
 pub halves : {X : Type 0} (p : List X) → length p ≡ 32 → p ≡ take 16 p ++ take 16 (drop 16 p)

@@ -1,6 +1,6 @@
 -- What a search among a piece's names finds, and a piece's names and links as slots.
-use Rattle.std.proofs.Common.{◌≡◌, ℕ, zero, suc, ◌+◌, ◌-◌, ◌<◌, ◌≤◌, min, List, [], ◌∷◌, ◌++◌, length, Option, Some, None, Result, Ok, Err, IfOk, IfErr, take, drop, set, insert, get_or, zip, map, refl, sym, ap, subst, ◌∙◌, arith, append_assoc, append-nil, nat_cmp, Ordering, Less, Equal, Greater, true, false, is_some, true≢false, inl, inr}
-use Rattle.std.specs.List.{All, AllByRecursion}
+use Rattle.std.proofs.Common.{◌≡◌, ℕ, ◌+◌, ◌<◌, ◌≤◌, List, [], ◌∷◌, ◌++◌, length, Option, Some, None, Result, Ok, Err, IfOk, IfErr, take, drop, set, get_or, zip, refl, sym, ap, subst, ◌∙◌, arith, append-nil, nat_cmp, Ordering, Less, Equal, Greater, inl, inr}
+use Rattle.std.specs.List.{AllByRecursion}
 use Rattle.std.specs.List.Sorted.{IsStrictlySortedBy, IsSearchInRange, IsBinarySearchResult, IsNonDecreasingBy}
 use Rattle.std.specs.Map.{keys_of}
 use Rattle.std.specs.Ordering.{ordering_index}
@@ -10,14 +10,12 @@ use Rattle.std.specs.Cmp.Lexicographic.{slice_cmp, nat_list_cmp_total}
 use Rattle.std.proofs.lemmas.Map.Lookups.{exact_bytes}
 use Rattle.std.proofs.lemmas.Map.Keys.{Less-from_sorted}
 use Rattle.std.proofs.lemmas.Bool.{cases_lt}
-use Rattle.std.proofs.lemmas.List.{length-set, length-append, length-take, length-drop, drop_all, take_all, get_or-take, get_or-drop, take-map, drop-map, take_more, take-append-drop}
-use Rattle.std.proofs.lemmas.List.Edits.{length-insert}
+use Rattle.std.proofs.lemmas.List.{length-take, length-drop, take_all, get_or-take, get_or-drop, take-map, drop-map, take_more}
 use Rattle.std.proofs.lemmas.List.Elements.{recursion_from_All}
-use borrow.Rule.Slice.PartMut.{put_mid, mid_of, post_of}
-use Rattle.assise_inode_table.specs.Pieces.{Slot, live_entry, live, slot_name, slot_link, IsSlotOf, IsGapFor}
+use Rattle.assise_inode_table.specs.Pieces.{live_entry, live, slot_link, IsSlotOf, IsGapFor}
 use Rattle.assise_inode_table.proofs.KeyOrder.{turned_back}
 use Rattle.assise_inode_table.proofs.LiveSlots.{live-append, keys-append}
-use Rattle.assise_inode_table.proofs.PieceChanges.{length-side, keys-side, name-side, link-side, set-side, side-append, insert-side, part-side}
+use Rattle.assise_inode_table.proofs.PieceChanges.{length-side, keys-side, name-side, link-side}
 
 module _ {K : Type 0} {R : K → K → Ordering} (o : IsTotalOrder R) (same : IsAntisymmetric R) where
   at_most_two : (r : Ordering) → ordering_index r ≤ 2
@@ -69,20 +67,7 @@ module _ (name : List ℕ) (ns : List (List ℕ)) (ls : List (Option ℕ)) (few 
   search_missed (Ok at) s within is = tt
   search_missed (Err at) s within is = let parted = is (searchable nat_list_cmp_total exact_bytes ns name s) in missed at within parted.0 parted.1
 
--- a link that comes in at its place, where the last goes
-pub insert_put : {K X : Type 0} (at : ℕ) (ns : List K) (ls : List X) (n : K) (l : X) (new : List X) → length ns < 32 → length ls ≡ 32 → at ≤ length ns
-    → new ≡ l ∷ take (length (mid_of at (32 - at) ls) - 1) (mid_of at (32 - at) ls) → zip (insert ns at n) (put_mid at (32 - at) ls new) ≡ insert (zip ns ls) at (n, l)
-insert_put at ns ls n l new few all h is =
-    let back : length (drop at ls) ≡ 32 - at = omega (arith, length-drop at ls) in
-    let mid : mid_of at (32 - at) ls ≡ drop at ls = take_all (32 - at) (drop at ls) (omega arith) in
-    let count : length (mid_of at (32 - at) ls) - 1 ≡ 31 - at = omega (arith, ap length mid) in
-    let made : new ≡ l ∷ take (31 - at) (drop at ls) = is ∙ ap (λ m. l ∷ take m (mid_of at (32 - at) ls)) count ∙ ap (λ ys. l ∷ take (31 - at) ys) mid in
-    ap (λ ys. zip (insert ns at n) (take at ls ++ (ys ++ post_of at (32 - at) ls))) made
-    ∙ ap (zip (insert ns at n)) (sym (append_assoc (take at ls) (l ∷ take (31 - at) (drop at ls)) (post_of at (32 - at) ls)))
-    ∙ side-append (insert ns at n) (take at ls ++ l ∷ take (31 - at) (drop at ls)) (post_of at (32 - at) ls)
-    (omega (arith, length-insert ns at n h, length-append (take at ls) (l ∷ take (31 - at) (drop at ls)), length-take at ls, length-take (31 - at) (drop at ls), back))
-    ∙ insert-side at (31 - at) ns ls n l h (omega arith) (omega arith)
-
+-- what is put in front of a list whose last is let go
 pub first_set : {X : Type 0} (xs ys : List X) (x : X) → length xs ≡ 1 → set (xs ++ ys) 0 x ≡ x ∷ ys
 first_set [] ys x h = absurd (omega arith)
 first_set (z ∷ []) ys x h = refl
@@ -102,9 +87,6 @@ module _ (ns : List (List ℕ)) (ls : List (Option ℕ)) (few : length ns ≤ le
       ap live one_more ∙ live-append (take at (zip ns ls)) ((get_or ns at [], get_or ls at None) ∷ [])
       ∙ ap (λ es. live (take at (zip ns ls)) ++ es) (append-nil (live_entry (get_or ns at []) (get_or ls at None)))
 
-  pub gone_more : get_or ls at None ≡ None → live (take at (zip ns ls)) ≡ [] → live (take (at + 1) (zip ns ls)) ≡ []
-  gone_more none gone = live_more ∙ ap (λ l. live (take at (zip ns ls)) ++ live_entry (get_or ns at []) l) none ∙ append-nil (live (take at (zip ns ls))) ∙ gone
-
   pub listed_none : get_or ls at None ≡ None → keys_of (live (take (at + 1) (zip ns ls))) ≡ keys_of (live (take at (zip ns ls)))
   listed_none none = ap keys_of (live_more ∙ ap (λ l. live (take at (zip ns ls)) ++ live_entry (get_or ns at []) l) none ∙ append-nil (live (take at (zip ns ls))))
 
@@ -114,29 +96,3 @@ module _ (ns : List (List ℕ)) (ls : List (Option ℕ)) (few : length ns ≤ le
 
 pub take_side_all : (ns : List (List ℕ)) (ls : List (Option ℕ)) (at : ℕ) → length ns ≤ length ls → length ns ≤ at → take at (zip ns ls) ≡ zip ns ls
 take_side_all ns ls at few h = take_all at (zip ns ls) (omega (arith, length-side ns ls few))
-
--- a piece's slots are as many as its names
-pub slots_count : {K X : Type 0} (ns : List K) (ls : List X) (slots : List (K × X)) → zip ns ls ≡ slots → length ns ≤ 32 → length ls ≡ 32 → length slots ≡ length ns
-slots_count ns ls slots e few all = ap length (sym e) ∙ length-side ns ls (omega arith)
-
-pub link_is : (ns : List (List ℕ)) (ls : List (Option ℕ)) (slots : List Slot) (at : ℕ) → zip ns ls ≡ slots → at < length slots → get_or ls at None ≡ slot_link slots at
-link_is ns ls slots at e h = sym (link-side ns ls at [] None (subst (λ s. at < length s) (sym e) h)) ∙ ap (λ s. slot_link s at) e
-
-pub put_length : {X : Type 0} (at : ℕ) (ls : List X) (l : X) (new : List X) → length ls ≡ 32 → at < 32 → new ≡ l ∷ take (length (mid_of at (32 - at) ls) - 1) (mid_of at (32 - at) ls)
-    → length (put_mid at (32 - at) ls new) ≡ 32
-put_length at ls l new all h is =
-    let back : length (drop at ls) ≡ 32 - at = omega (arith, length-drop at ls) in
-    let mid : mid_of at (32 - at) ls ≡ drop at ls = take_all (32 - at) (drop at ls) (omega arith) in
-    let count : length (mid_of at (32 - at) ls) ≡ 32 - at = ap length mid ∙ back in
-    let made = ap length is in
-    let rest = length-take (length (mid_of at (32 - at) ls) - 1) (mid_of at (32 - at) ls) in
-    let post = length-drop (32 - at) (drop at ls) in
-    omega (arith, length-append (take at ls) (new ++ post_of at (32 - at) ls), length-append new (post_of at (32 - at) ls), length-take at ls)
-
-pub none_of : (o : Option ℕ) → false ≡ is_some o → o ≡ None
-none_of None e = refl
-none_of (Some v) e = absurd (true≢false (sym e))
-
-pub some_of : (o : Option ℕ) → true ≡ is_some o → (v : ℕ) × (o ≡ Some v)
-some_of None e = absurd (true≢false e)
-some_of (Some v) e = (v, refl)

@@ -1,6 +1,6 @@
 -- A directory in pieces: its names in order, and beside each the inode that it links to.
 -- Bayer and McCreight, Organization and Maintenance of Large Ordered Indices, Acta Informatica 1972, section 3: keys in pages, which are split.
-use Rattle.std.specs.Prelude.{◌≡◌, ℕ, suc, ◌<◌, ◌≤◌, List, [], ◌∷◌, ◌++◌, length, Option, Some, None, take, drop, slice_index_or, true, false}
+use Rattle.std.specs.Prelude.{◌≡◌, ℕ, Bool, suc, ◌<◌, ◌≤◌, List, [], ◌∷◌, ◌++◌, length, Option, Some, None, take, drop, slice_index_or, true, false}
 use Rattle.std.specs.List.{flat_map, All, AllByRecursion}
 use Rattle.std.specs.List.Sorted.{IsStrictlySortedBy}
 use Rattle.std.specs.Map.{keys_of}
@@ -13,6 +13,17 @@ use Rattle.assise_inode_table.specs.Contents.{Links}
 -- a name, and the inode that it links to, or none where its entry is gone
 abbrev pub Slot : Type 0
 Slot = List ℕ × Option ℕ
+
+-- what a name links to, where its entry isn't gone
+abbrev pub link_or_none : ℕ → Bool → Option ℕ
+link_or_none link true = None
+link_or_none link false = Some link
+
+-- the same for each name
+unfoldable pub links_or_none : List ℕ → List Bool → List (Option ℕ)
+links_or_none [] gone = []
+links_or_none (link ∷ links) [] = []
+links_or_none (link ∷ links) (gone ∷ rest) = link_or_none link gone ∷ links_or_none links rest
 
 abbrev pub live_entry : List ℕ → Option ℕ → List (List ℕ × ℕ)
 live_entry name None = []
@@ -53,10 +64,11 @@ Ascend slots = IsStrictlySortedBy (slice_cmp nat_cmp) (keys_of slots)
 abbrev pub AreFilled : List (List Slot) → Type 0
 AreFilled pieces = All (λ piece. 0 < length piece) pieces
 
--- a piece: names, and room for as many links as a piece may have
-pub record IsPiece (names : List (List ℕ)) (links : List (Option ℕ)) : Type 0 where
+-- a piece: names, and room for as many links as a piece may have, and for which entries are gone
+pub record IsPiece (names : List (List ℕ)) (links : List ℕ) (gone : List Bool) : Type 0 where
   pub few : length names ≤ 32
   pub room : length links ≡ 32
+  pub gone_room : length gone ≡ 32
 
 -- a directory with its count
 pub record IsDirectory (pieces : List (List Slot)) (count : ℕ) : Type 0 where

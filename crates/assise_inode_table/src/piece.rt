@@ -4,7 +4,7 @@ ghost use Rattle.std.specs.Arc.{arc_value};
 ghost use Rattle.std.specs.List.{insert};
 ghost use Rattle.std.specs.Map.{keys_of};
 ghost use Rattle.assise_names.specs.declared.refusal.Refusal.TheVariants.{OutOfMemory};
-ghost use Rattle.assise_inode_table.specs.Pieces.{Ascend, IsGapFor, IsSlotOf, slot_link, live, slot_name};
+ghost use Rattle.assise_inode_table.specs.Pieces.{Ascend, IsGapFor, IsSlotOf, slot_link, links_or_none, live, slot_name};
 
 use assise_names::name::Name;
 use assise_names::refusal::Refusal;
@@ -20,34 +20,39 @@ pub const MOST_NAMES: usize = 32;
 #[derive(Debug, Drop)]
 pub(crate) struct Piece {
     names: Arc<Vec<Name>>,
-    links: [Option<u64>; MOST_NAMES],
+    /// What each name links to, if its entry isn't gone.
+    links: [u64; MOST_NAMES],
+    /// Whether the entry of each name is gone.
+    gone: [bool; MOST_NAMES],
 }
 
 impl Model for Piece {
     ghost use Rattle.std.specs.Prelude.{List, Option, ℕ};
     ghost use Rattle.std.specs.List.{zip};
     ghost use Rattle.std.specs.Arc.{arc_value};
-    ghost use Rattle.assise_inode_table.specs.Pieces.{IsPiece};
+    ghost use Rattle.assise_inode_table.specs.Pieces.{IsPiece, links_or_none};
 
     ghost Value = { List (List ℕ × Option ℕ) };
 
-    ghost view = { λ p. zip (arc_value p.names).items p.links };
+    ghost view = { λ p. zip (arc_value p.names).items (links_or_none p.links p.gone) };
 
-    ghost invariant = { λ p. IsPiece (arc_value p.names).items p.links };
+    ghost invariant = { λ p. IsPiece (arc_value p.names).items p.links p.gone };
 }
 
 impl Piece {
     /// A piece of one entry.
+    #[tactic(auto, unfolding(crate::specs::Pieces::links_or_none))]
     pub fn of_one(alloc: Global, name: Name, inode: u64) -> Result<Piece, AllocError>
         ensures { IfOk result (λ piece. piece ≡ (name, Some inode) ∷ []) }
     {
         let mut names = Vec::with_capacity(alloc, 1)?;
         names.push(name)?;
-        let mut links = [None; MOST_NAMES];
-        links[0] = Some(inode);
+        let mut links = [0; MOST_NAMES];
+        links[0] = inode;
         Ok(Piece {
             names: Arc::new(alloc, names)?,
             links,
+            gone: [false; MOST_NAMES],
         })
     }
 
@@ -73,9 +78,10 @@ impl Piece {
         requires { at < length self.now }
         ensures { result ≡ slot_link self.now at }
     {
-        match self.links.get(at) {
-            Some(link) => *link,
-            None => None,
+        if self.gone[at] {
+            None
+        } else {
+            Some(self.links[at])
         }
     }
 
@@ -84,7 +90,7 @@ impl Piece {
         requires { at < length self.old }
         ensures { self.new ≡ set self.old at (slot_name self.old at, link) }
     {
-        set_link(&mut self.links, at, link);
+        set_link(&mut self.links, &mut self.gone, at, link);
     }
 
     /// Whether there is room for one name more.
@@ -108,8 +114,10 @@ impl Piece {
         ensures ok { OnOk result (self.new ≡ insert self.old at (name, Some inode)) }
         ensures err { OnErr result (self.new ≡ self.old) }
     {
+        let len = self.names.len();
         insert_name(alloc, &mut self.names, at, name)?;
-        shift_in(&mut self.links[at..], Some(inode));
+        shift_in(&mut self.links[at..=len], inode);
+        shift_in(&mut self.gone[at..=len], false);
         Ok(())
     }
 
@@ -119,11 +127,14 @@ impl Piece {
         ensures { IfOk result (λ part. part ≡ take (end - start) (drop start self.now)) }
     {
         let names = copied(alloc, &self.names.as_slice()[start..end], 0)?;
-        let mut links = self.links;
-        links.rotate_left(start);
+        let mut links = [0; MOST_NAMES];
+        let mut gone = [false; MOST_NAMES];
+        copy_in_front(&mut links, &self.links[start..end]);
+        copy_in_front(&mut gone, &self.gone[start..end]);
         Ok(Piece {
             names: Arc::new(alloc, names)?,
             links,
+            gone,
         })
     }
 
@@ -131,12 +142,7 @@ impl Piece {
     pub fn is_gone(&self) -> bool
         ensures { result ≡ true → live self.now ≡ [] }
     {
-        for at in 0..self.names.len() {
-            if self.links[at].is_some() {
-                return false;
-            }
-        }
-        true
+        self.gone[..self.names.len()].iter().all(|gone| *gone)
     }
 
     /// Adds the names whose entries aren't gone to a list.
@@ -145,7 +151,7 @@ impl Piece {
         ensures only_memory { IsOkUnless result OutOfMemory }
     {
         for at in 0..self.names.len() {
-            if self.links[at].is_some() {
+            if !self.gone[at] {
                 names.push(self.names[at].copy()?)?;
             }
         }
@@ -163,6 +169,7 @@ pub(crate) fn shared(alloc: Global, pieces: &[Piece]) -> Result<Vec<Piece>, Allo
         shared.push_reserved(Piece {
             names,
             links: piece.links,
+            gone: piece.gone,
         });
     }
     Ok(shared)
@@ -202,19 +209,37 @@ fn insert_name(
     Ok(())
 }
 
-/// Sets the link at a place.
-fn set_link(links: &mut [Option<u64>], at: usize, link: Option<u64>)
-    requires { at < length links.old }
-    ensures { links.new ≡ set links.old at link }
+/// Sets the link at a place, or lets the entry there go.
+fn set_link(links: &mut [u64], gone: &mut [bool], at: usize, link: Option<u64>)
+    requires within { at < length links.old }
+    requires as_many { length gone.old ≡ length links.old }
+    ensures linked { links_or_none links.new gone.new ≡ set (links_or_none links.old gone.old) at
+        link }
+    ensures links_len { length links.new ≡ length links.old }
+    ensures gone_len { length gone.new ≡ length gone.old }
 {
-    links[at] = link;
+    match link {
+        Some(inode) => {
+            links[at] = inode;
+            gone[at] = false;
+        }
+        None => gone[at] = true,
+    }
 }
 
-/// Puts a link in front, and lets the last go.
-fn shift_in(links: &mut [Option<u64>], link: Option<u64>)
-    requires { 0 < length links.old }
-    ensures { links.new ≡ link ∷ take (length links.old - 1) links.old }
+/// Puts an element in front, and lets the last go.
+fn shift_in<T: Copy>(row: &mut [T], first: T)
+    requires { 0 < length row.old }
+    ensures { row.new ≡ first ∷ take (length row.old - 1) row.old }
 {
-    links.rotate_right(1);
-    links[0] = link;
+    row.rotate_right(1);
+    row[0] = first;
+}
+
+/// Copies elements over the first of a row.
+fn copy_in_front<T: Copy>(row: &mut [T], front: &[T])
+    requires { length front.now ≤ length row.old }
+    ensures { row.new ≡ front.now ++ drop (length front.now) row.old }
+{
+    row[..front.len()].copy_from_slice(front);
 }

@@ -1,18 +1,16 @@
 use Rattle.std.proofs.Common.{◌≡◌, length, arith, rules, ltb-true, ltb-false}
 use Rattle.std.specs.Arc.{arc_value}
-use Rattle.assise_inode_table.proofs.PieceSearch.{slots_count}
+use Rattle.assise_inode_table.proofs.PieceLinks.{slots_count}
 use Rattle.assise_inode_table.proofs.piece.Piece.has_room.Goals as goal
 
 pub returns-clause-room : goal.returns-clause-room
 returns-clause-room c less =
-    let n : length c.self.inside.links ≡ 32 = c.self.invariant.room in
-    let count = slots_count (arc_value c.self.inside.names).items c.self.inside.links c.args.self.now c.self.view_is c.self.invariant.few n in
+    let count = slots_count c.self.invariant c.self.view_is in
     let names : c.len.result ≡ length (arc_value c.self.inside.names).items = search (arith, rules) in
     omega (arith, count, names, ltb-true _ _ less)
 
 pub returns-clause-full : goal.returns-clause-full
 returns-clause-full c less =
-    let n : length c.self.inside.links ≡ 32 = c.self.invariant.room in
-    let count = slots_count (arc_value c.self.inside.names).items c.self.inside.links c.args.self.now c.self.view_is c.self.invariant.few n in
+    let count = slots_count c.self.invariant c.self.view_is in
     let names : c.len.result ≡ length (arc_value c.self.inside.names).items = search (arith, rules) in
     omega (arith, count, names, c.self.invariant.few, ltb-false _ _ less)

@@ -1,20 +1,26 @@
-use Rattle.std.proofs.Common.{◌≡◌, ◌∙◌, ◌<◌, None, length, arith}
-use Rattle.std.specs.Arc.{arc_value}
-use Rattle.std.proofs.lemmas.List.{get_or_default}
-use Rattle.assise_inode_table.proofs.PieceSearch.{slots_count, link_is}
+use Rattle.std.proofs.Common.{◌∙◌, arith, ap, sym, get_or}
+use Rattle.assise_inode_table.specs.Pieces.{link_or_none}
+use Rattle.assise_inode_table.proofs.PieceLinks.{slots_count, link_is}
 use Rattle.assise_inode_table.proofs.piece.Piece.link.Goals as goal
 
-pub returns-in-Some : goal.returns-in-Some
-returns-in-Some c =
-    let ns = (arc_value c.self.inside.names).items in
-    let ls = c.self.inside.links in
-    let count = slots_count ns ls c.args.self.now c.self.view_is c.self.invariant.few c.self.invariant.room in
-    let found = c.in-Some.ensures.lookup in
-    found.1 ∙ get_or_default ls c.args.at c.in-Some.link.now None (omega (arith, count, c.requires, c.self.invariant.few, c.self.invariant.room)) ∙ link_is ns ls c.args.self.now c.args.at c.self.view_is c.requires
+pub bounds-self-inside-at : goal.bounds-self-inside-at
+bounds-self-inside-at c = omega (arith, slots_count c.self.invariant c.self.view_is, c.requires, c.self.invariant.few)
 
-pub returns-in-None : goal.returns-in-None
-returns-in-None c =
-    let ns = (arc_value c.self.inside.names).items in
-    let ls = c.self.inside.links in
-    let count = slots_count ns ls c.args.self.now c.self.view_is c.self.invariant.few c.self.invariant.room in
-    absurd (omega (arith, count, c.requires, c.self.invariant.few, c.self.invariant.room, c.in-None.ensures.lookup.3))
+pub offset_bounds-self-inside-at : goal.offset_bounds-self-inside-at
+offset_bounds-self-inside-at c =
+    let count = slots_count c.self.invariant c.self.view_is in
+    let few = c.self.invariant.few in
+    omega (arith, count, c.requires, few)
+
+pub bounds-self-inside-at-else-self-at : goal.bounds-self-inside-at-else-self-at
+bounds-self-inside-at-else-self-at c = omega (arith, slots_count c.self.invariant c.self.view_is, c.requires, c.self.invariant.few)
+
+pub returns-then-self-at : goal.returns-then-self-at
+returns-then-self-at c =
+    ap (link_or_none (get_or c.self.inside.links c.args.at 0)) (sym c.if-self-at.true)
+    ∙ link_is c.self.invariant c.args.self.now c.args.at c.self.view_is c.requires
+
+pub returns-else-self-at : goal.returns-else-self-at
+returns-else-self-at c =
+    ap (link_or_none (get_or c.self.inside.links c.args.at 0)) (sym c.if-self-at.false)
+    ∙ link_is c.self.invariant c.args.self.now c.args.at c.self.view_is c.requires

@@ -1,8 +1,10 @@
 use Rattle.std.proofs.Common.{◌≡◌, ◌++◌, take, zip}
 use Rattle.std.specs.Arc.{arc_value}
 use Rattle.std.specs.Map.{keys_of}
-use Rattle.assise_inode_table.specs.Pieces.{live}
+use Rattle.assise_inode_table.specs.Pieces.{links_or_none, live}
 use Rattle.assise_inode_table.proofs.piece.Piece.list.Given as goal
 
 abbrev pub invariant-loop-at : goal.invariant-loop-at
-invariant-loop-at l = l.names.items ≡ l.initial.names.items ++ keys_of (live (take l.at (zip (arc_value l.self-inside.names).items l.self-inside.links)))
+invariant-loop-at l =
+    let slots = zip (arc_value l.self-inside.names).items (links_or_none l.self-inside.links l.self-inside.gone) in
+    l.names.items ≡ l.initial.names.items ++ keys_of (live (take l.at slots))

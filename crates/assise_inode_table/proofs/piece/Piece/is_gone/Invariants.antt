@@ -1,7 +1,0 @@
-use Rattle.std.proofs.Common.{◌≡◌, [], take, zip}
-use Rattle.std.specs.Arc.{arc_value}
-use Rattle.assise_inode_table.specs.Pieces.{live}
-use Rattle.assise_inode_table.proofs.piece.Piece.is_gone.Given as goal
-
-abbrev pub invariant-loop-at : goal.invariant-loop-at
-invariant-loop-at l = live (take l.at (zip (arc_value l.self-inside.names).items l.self-inside.links)) ≡ []
