@@ -67,12 +67,6 @@ module _ (name : List ℕ) (ns : List (List ℕ)) (ls : List (Option ℕ)) (few 
   search_missed (Ok at) s within is = tt
   search_missed (Err at) s within is = let parted = is (searchable nat_list_cmp_total exact_bytes ns name s) in missed at within parted.0 parted.1
 
--- what is put in front of a list whose last is let go
-pub first_set : {X : Type 0} (xs ys : List X) (x : X) → length xs ≡ 1 → set (xs ++ ys) 0 x ≡ x ∷ ys
-first_set [] ys x h = absurd (omega arith)
-first_set (z ∷ []) ys x h = refl
-first_set (z ∷ w ∷ xs) ys x h = absurd (omega arith)
-
 -- ---- a piece slot by slot
 module _ (ns : List (List ℕ)) (ls : List (Option ℕ)) (few : length ns ≤ length ls) (at : ℕ) (h : at < length ns) where
   one_more : take (at + 1) (zip ns ls) ≡ take at (zip ns ls) ++ (get_or ns at [], get_or ls at None) ∷ []

@@ -232,7 +232,7 @@ fn shift_in<T: Copy>(row: &mut [T], first: T)
     requires { 0 < length row.old }
     ensures { row.new ≡ first ∷ take (length row.old - 1) row.old }
 {
-    row.rotate_right(1);
+    row.copy_within(0..row.len() - 1, 1);
     row[0] = first;
 }
 
