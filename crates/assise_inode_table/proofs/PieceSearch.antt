@@ -1,5 +1,5 @@
 -- What a search among a piece's names finds, and a piece's names and links as slots.
-use Rattle.std.proofs.Common.{◌≡◌, ℕ, ◌+◌, ◌<◌, ◌≤◌, List, [], ◌∷◌, ◌++◌, length, Option, Some, None, Result, Ok, Err, IfOk, IfErr, take, drop, set, get_or, zip, refl, sym, ap, subst, ◌∙◌, arith, append-nil, nat_cmp, Ordering, Less, Equal, Greater, inl, inr}
+use Rattle.std.proofs.Common.{◌≡◌, ℕ, ◌+◌, ◌<◌, ◌≤◌, List, [], ◌∷◌, ◌++◌, length, Option, Some, None, Result, Ok, Err, IfOk, IfErr, take, drop, get_or, zip, refl, sym, ap, subst, ◌∙◌, arith, append-nil, nat_cmp, Ordering, Less, Equal, Greater, inl, inr}
 use Rattle.std.specs.List.{AllByRecursion}
 use Rattle.std.specs.List.Sorted.{IsStrictlySortedBy, IsSearchInRange, IsBinarySearchResult, IsNonDecreasingBy}
 use Rattle.std.specs.Map.{keys_of}

@@ -1,6 +1,6 @@
 -- The slots of pieces about a place, and what an edit of a piece makes of them.
-use Rattle.std.proofs.Common.{◌≡◌, ℕ, zero, suc, ◌+◌, ◌^◌, ◌<◌, ◌≤◌, List, [], ◌∷◌, ◌++◌, length, Option, Some, None, take, drop, set, insert, remove, get_or, refl, sym, ap, subst, ◌∙◌, arith, true, false, is_gt, append_assoc, append-nil, nat_cmp, Less, take-append-drop, add-zero, true≢false, is_none, is_eq, cond, Bool, not, is_some, Ordering, Equal, Greater, inl, inr}
-use Rattle.std.specs.List.{All, AllByRecursion}
+use Rattle.std.proofs.Common.{◌≡◌, ℕ, zero, suc, ◌+◌, ◌^◌, ◌<◌, ◌≤◌, List, [], ◌∷◌, ◌++◌, length, Option, Some, None, take, drop, set, insert, get_or, refl, sym, ap, subst, ◌∙◌, arith, true, false, is_gt, append_assoc, append-nil, nat_cmp, Less, take-append-drop, add-zero, true≢false, is_none, is_eq, cond, Bool, not, is_some, Ordering, Equal, Greater, inl, inr}
+use Rattle.std.specs.List.{AllByRecursion}
 use Rattle.std.specs.List.Sorted.{IsStrictlySortedBy}
 use Rattle.std.specs.Map.{keys_of}
 use Rattle.std.specs.Int.{from_bool}
@@ -10,11 +10,11 @@ use Rattle.assise_inode_table.specs.Contents.{Links}
 use Rattle.std.specs.Cmp.Lexicographic.{slice_cmp, nat_list_cmp_total}
 use Rattle.std.specs.FinMap as map
 use Rattle.std.proofs.lemmas.Map.Lookups.{exact_bytes}
-use Rattle.std.proofs.lemmas.List.{set-get_or, set_split, take_all, drop_all, get_or-drop, length-set, length-take-le, length-drop, take_more, length-append, get_or_read}
+use Rattle.std.proofs.lemmas.List.{set-get_or, set_split, take_all, drop_all, get_or-drop, length-set, length-drop, take_more, get_or_read}
 use Rattle.std.proofs.lemmas.List.Concat.{flat_map-append}
 use Rattle.std.proofs.lemmas.List.Elements.{All-append, All-cons, All-take, All-drop, All-set}
-use Rattle.assise_inode_table.specs.Pieces.{Slot, live, slots_in, links_in, piece_at, slot_name, slot_link, slots_before, slots_behind, Ascend, AreFilled, IsDirectory, IsSlotOf, IsGapFor, IsPieceFor, StandsAt}
-use Rattle.assise_inode_table.proofs.KeyOrder.{all_both, all_weaker, below_next, above_head, sorted_left, sorted_right, sorted_without, below_through, turned_back, is_greater}
+use Rattle.assise_inode_table.specs.Pieces.{Slot, live, slots_in, links_in, piece_at, slot_name, slot_link, slots_before, slots_behind, Ascend, AreFilled, IsDirectory, IsGapFor, IsPieceFor, StandsAt}
+use Rattle.assise_inode_table.proofs.KeyOrder.{all_both, all_weaker, below_next, above_head, sorted_left, sorted_right, below_through, turned_back, is_greater}
 use Rattle.assise_inode_table.proofs.LiveSlots.{Parts, live-append, keys-append, parts_of_slot, slot_got, gap_got, slot_linked, gap_linked, slot_unlinked, slot_sorted, gap_sorted, count_linked, count_gone, count_relinked, live_keys, live_count, live_sorted}
 
 pub slots-append : (ps qs : List (List Slot)) → slots_in (ps ++ qs) ≡ slots_in ps ++ slots_in qs

@@ -1,5 +1,5 @@
-use Rattle.std.proofs.Common.{◌≡◌, ◌+◌, ◌≤◌, ◌∙◌, ◌∷◌, [], Some, sym, ap, refl, subst, length, set, insert, arith}
-use Rattle.assise_inode_table.specs.Pieces.{Slot, live, piece_at, slots_in}
+use Rattle.std.proofs.Common.{◌+◌, ◌≤◌, ◌∙◌, Some, ap, refl, length, set, insert, arith}
+use Rattle.assise_inode_table.specs.Pieces.{Slot, piece_at, slots_in}
 use Rattle.assise_inode_table.proofs.PieceSlots.{read_piece, inserted_slots, begun_behind}
 use Rattle.assise_inode_table.proofs.directory.add.Goals as goal
 

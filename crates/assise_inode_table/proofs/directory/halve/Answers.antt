@@ -1,5 +1,5 @@
-use Rattle.std.proofs.Common.{◌≡◌, ◌∙◌, ◌+◌, ◌-◌, ◌++◌, sym, refl, ap, ap₂, subst, length, take, drop, set, insert, arith, take-append-drop}
-use Rattle.std.proofs.lemmas.List.{take_all, length-drop, length-take}
+use Rattle.std.proofs.Common.{◌≡◌, ◌∙◌, ◌+◌, ◌++◌, sym, refl, ap, ap₂, subst, length, take, drop, set, arith}
+use Rattle.std.proofs.lemmas.List.{length-drop, length-take}
 use Rattle.assise_inode_table.specs.Pieces.{AreFilled, Ascend, live, piece_at, slots_in}
 use Rattle.assise_inode_table.proofs.PieceSlots.{read_piece}
 use Rattle.assise_inode_table.proofs.PieceChanges.{split_slots, split_filled, halves}

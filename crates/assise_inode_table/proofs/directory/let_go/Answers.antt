@@ -1,5 +1,5 @@
-use Rattle.std.proofs.Common.{◌≡◌, ◌∙◌, sym, ap, subst}
-use Rattle.assise_inode_table.specs.Pieces.{Ascend, live, piece_at, slots_in}
+use Rattle.std.proofs.Common.{◌∙◌, sym, ap, subst}
+use Rattle.assise_inode_table.specs.Pieces.{Ascend, live, slots_in}
 use Rattle.assise_inode_table.proofs.PieceSlots.{read_piece}
 use Rattle.assise_inode_table.proofs.PieceChanges.{gone_live, gone_ascend}
 use Rattle.assise_inode_table.proofs.directory.let_go.Goals as goal

@@ -1,5 +1,5 @@
-use Rattle.std.proofs.Common.{◌≡◌, ◌∙◌, sym, ap, subst, length, arith, rules, tests}
-use Rattle.assise_inode_table.specs.Pieces.{Ascend, IsGapFor, piece_at, slots_in}
+use Rattle.std.proofs.Common.{sym, subst, arith, rules, tests}
+use Rattle.assise_inode_table.specs.Pieces.{Ascend, IsGapFor}
 use Rattle.assise_inode_table.proofs.PieceSlots.{got_none, nothing_at, piece_ascend, read_piece}
 use Rattle.assise_inode_table.proofs.directory.place_of.Goals as goal
 

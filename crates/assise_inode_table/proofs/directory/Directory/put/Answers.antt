@@ -1,4 +1,4 @@
-use Rattle.std.proofs.Common.{◌≡◌, ◌+◌, ◌^◌, ◌≤◌, ◌∙◌, ◌∷◌, ◌++◌, [], None, Some, cond, is_none, sym, ap, set, subst, length, arith, rules, tests, nat_cmp}
+use Rattle.std.proofs.Common.{◌≡◌, ◌+◌, ◌∙◌, ◌∷◌, ◌++◌, [], Some, cond, is_none, sym, ap, set, subst, length, arith, rules, tests, nat_cmp}
 use Rattle.std.specs.FinMap as map
 use Rattle.std.specs.Cmp.Lexicographic.{slice_cmp}
 use Rattle.std.proofs.lemmas.List.{nil_from_length}

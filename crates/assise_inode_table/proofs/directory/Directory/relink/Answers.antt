@@ -1,4 +1,4 @@
-use Rattle.std.proofs.Common.{◌≡◌, ◌∙◌, None, Some, sym, ap, set, subst, rules}
+use Rattle.std.proofs.Common.{◌≡◌, ◌∙◌, Some, sym, ap, set, subst, rules}
 use Rattle.std.specs.FinMap as map
 use Rattle.assise_inode_table.specs.Pieces.{StandsAt, slot_link, slot_name, piece_at}
 use Rattle.assise_inode_table.proofs.PieceSlots.{got_slot, read_piece, is_gone, is_linked, set_ascend, set_filled, count_kept, put_slot}

@@ -1,8 +1,8 @@
-use Rattle.std.proofs.Common.{◌≡◌, ◌-◌, ◌∙◌, suc, None, Some, sym, ap, set, length, subst, arith, rules}
+use Rattle.std.proofs.Common.{◌≡◌, ◌∙◌, None, sym, ap, set, length, subst, arith, rules}
 use Rattle.std.specs.FinMap as map
 use Rattle.std.specs.Cmp.Lexicographic.{slice_cmp}
 use Rattle.std.specs.Ordering.{nat_cmp}
-use Rattle.assise_inode_table.specs.Pieces.{StandsAt, slot_link, links_in, live, slot_name, piece_at, slots_in}
+use Rattle.assise_inode_table.specs.Pieces.{StandsAt, slot_link, links_in, slot_name, piece_at}
 use Rattle.assise_inode_table.proofs.PieceSlots.{got_slot, read_piece, is_gone, is_linked, set_ascend, set_filled, count_cut, cut_slot, remove_none}
 use Rattle.assise_inode_table.proofs.directory.Directory.remove.Goals as goal
 
