@@ -5,7 +5,7 @@ ghost use Rattle.assise_fault_script.specs.declared.fault.ScriptFault.{ScriptFau
 ghost use Rattle.assise_fault_script.specs.Fault.{Answers, Makes};
 
 use crate::command::CallWord;
-use crate::data::{check_data, checked_data};
+use crate::data::data_made;
 use crate::fault::ScriptFault;
 use crate::number::number;
 use assise_names::call::Op;
@@ -33,7 +33,8 @@ pub fn call_word(word: &str) -> Result<CallWord, ScriptFault>
     }
 }
 
-/// The call that the words behind its name make. All words are checked before memory is asked for.
+/// The call that the words behind its name make. That memory ran out is answered only where no word
+/// has a fault.
 pub fn call(alloc: Global, name: CallWord, words: &[&str]) -> Result<Op, ScriptFault>
     ensures { Answers result (call_command name (map (λ w. w.now) words.now)) }
 {
@@ -103,9 +104,9 @@ fn write(alloc: Global, word: &str, offset: &str, bytes: &str) -> Result<Op, Scr
 {
     let path = path_made(alloc, word)?;
     let offset = number(offset)?;
-    check_data(bytes)?;
+    let bytes = data_made(alloc, bytes)?;
     let path = path.ok_or(ScriptFault::Memory)?;
-    let bytes = checked_data(alloc, bytes)?;
+    let bytes = bytes.ok_or(ScriptFault::Memory)?;
     Ok(Op::Write(path, offset, bytes))
 }
 

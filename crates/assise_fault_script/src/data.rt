@@ -1,8 +1,7 @@
 //! The data of a write.
-ghost use Rattle.std.specs.Prelude.{◌≡◌, IfOk, IsOk, IsOkUnless, Ok, replicate};
+ghost use Rattle.std.specs.Prelude.{◌≡◌, Ok, replicate};
 ghost use Rattle.assise_fault_script.specs.Data.{data_of, byte_of_hex, hex_bytes, hex_value, zeros};
-ghost use Rattle.assise_fault_script.specs.declared.fault.ScriptFault.{ScriptFault};
-ghost use Rattle.assise_fault_script.specs.Fault.{Checks, GivesCommand};
+ghost use Rattle.assise_fault_script.specs.Fault.{Checks, GivesCommand, Makes};
 ghost use Rattle.assise_fault_script.specs.Number.{number_of};
 
 use crate::fault::ScriptFault;
@@ -13,8 +12,23 @@ use std::alloc::Global;
 /// The most bytes that a word of `z` writes.
 const MOST_ZEROS: u64 = 1_048_576;
 
-/// Whether a word is data.
-pub fn check_data(word: &str) -> Result<(), ScriptFault>
+/// The bytes that a word of data writes, or none where memory ran out. Where memory is refused, the word is looked
+/// through for a fault first.
+pub fn data_made(alloc: Global, word: &str) -> Result<Option<ByteString>, ScriptFault>
+    ensures { Makes result (data_of word.now) }
+{
+    match data(alloc, word) {
+        Ok(bytes) => Ok(Some(bytes)),
+        Err(ScriptFault::Memory) => {
+            check_data(word)?;
+            Ok(None)
+        }
+        Err(fault) => Err(fault),
+    }
+}
+
+/// Whether a word is data, or its fault. It takes no memory.
+fn check_data(word: &str) -> Result<(), ScriptFault>
     ensures { Checks result (data_of word.now) }
 {
     if word.strip_prefix('t').is_some() {
@@ -60,18 +74,6 @@ fn few_zeros(count: u64) -> Result<(), ScriptFault>
         Ok(())
     } else {
         Err(ScriptFault::BadData)
-    }
-}
-
-/// The bytes that a checked word of data writes.
-pub fn checked_data(alloc: Global, word: &str) -> Result<ByteString, ScriptFault>
-    requires { IsOk (data_of word.now) }
-    ensures written { IfOk result (λ bytes. data_of word.now ≡ Ok bytes) }
-    ensures only_memory { IsOkUnless result ScriptFault.Memory }
-{
-    match data(alloc, word) {
-        Ok(bytes) => Ok(bytes),
-        Err(_) => Err(ScriptFault::Memory),
     }
 }
 
