@@ -104,10 +104,10 @@ fn copied(alloc: Global, bytes: &[u8]) -> Result<ByteString, ScriptFault>
 fn hex(alloc: Global, digits: &[u8]) -> Result<ByteString, ScriptFault>
     ensures { GivesCommand result (hex_bytes digits.now) }
 {
-    let mut bytes = Vec::new(alloc);
+    let mut bytes = Vec::with_capacity(alloc, digits.len() / 2)?;
     let mut rest = digits;
     while let [high, low, more @ ..] = rest {
-        bytes.push(pair(*high, *low)?)?;
+        bytes.push_reserved(pair(*high, *low)?);
         rest = more;
     }
     if !rest.is_empty() {
