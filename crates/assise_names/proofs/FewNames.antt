@@ -1,10 +1,10 @@
 -- Paths of one to three names, and of more.
-use Rattle.std.proofs.Common.{◌≡◌, ◌==◌, ◌∷◌, [], ◌∙◌, ℕ, Bool, false, List, Result, Ok, Err, IfOk, All, IsTrue, length, ap, sym, subst}
+use Rattle.std.proofs.Common.{◌≡◌, ◌==◌, ◌∷◌, [], ◌∙◌, ℕ, Bool, false, List, Ok, Err, length, ap}
 use Rattle.std.specs.List.{slice_split}
-use Rattle.assise_names.specs.Name.{is_name, name_of}
-use Rattle.assise_names.specs.Path.{◌>>=◌, GivesPath, no_deeper, path_behind, path_of_pieces, pieces_as_names}
+use Rattle.assise_names.specs.Name.{name_of}
+use Rattle.assise_names.specs.Path.{◌>>=◌, no_deeper, path_behind, path_of_pieces, pieces_as_names}
 use Rattle.assise_names.specs.declared.path.PathFault.{PathFault}
-use Rattle.assise_names.proofs.PathLemmas.{behind, not_cut}
+use Rattle.assise_names.proofs.PathLemmas.{behind}
 
 -- ---- a fault of a name is the path's
 
@@ -46,10 +46,3 @@ three_named p q r n m k first second third =
 
 pub of_pieces : (bs : List ℕ) (b : Bool) → b ≡ (length bs == 0) → b ≡ false → (pieces : List (List ℕ)) → slice_split (λ b. b == 47) bs ≡ pieces → path_behind bs ≡ path_of_pieces pieces
 of_pieces bs b e f pieces cut = ap (λ r. r >>= no_deeper) (behind bs b e f) ∙ ap path_of_pieces cut
-
--- ---- however many names
-
--- what names have that are made to a path
-pub all_lawful : (r : Result (List (List ℕ)) PathFault) (names : List (List ℕ)) → GivesPath r (no_deeper names) → All (λ name. IsTrue (is_name name)) names → IfOk r (λ path. All (λ name. IsTrue (is_name name)) path)
-all_lawful (Ok path) names h lawful = subst (All (λ name. IsTrue (is_name name))) (sym (not_cut names path h)) lawful
-all_lawful (Err e) names h lawful = tt

@@ -66,6 +66,11 @@ abbrev pub pieces_as_names : List (List ℕ) → Result (List (List ℕ)) PathFa
 pieces_as_names [] = Ok []
 pieces_as_names (piece ∷ pieces) = name_of piece >>= λ name. pieces_as_names pieces >>= λ names. Ok (name ∷ names)
 
+-- these names, and then those that are read
+abbrev pub with_prefix : List (List ℕ) → Result (List (List ℕ)) PathFault → Result (List (List ℕ)) PathFault
+with_prefix prefix (Ok names) = Ok (prefix ++ names)
+with_prefix prefix (Err e) = Err e
+
 abbrev pub no_deeper : List (List ℕ) → Result (List (List ℕ)) PathFault
 no_deeper names = if nat_le (length names) 32 then Ok names else Err TooDeep
 

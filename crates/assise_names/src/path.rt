@@ -1,11 +1,12 @@
 //! A path from the root.
-ghost use Rattle.std.specs.Prelude.{All, ◌≡◌, ◌==◌, ◌+◌, ◌≤◌, ◌↔◌, [], ◌∷◌, IfErr, IfOk, IsOk, IsOkUnless, IsTrue, List, MatchResult, Some, count_by, length, min, ℕ};
+ghost use Rattle.std.specs.Prelude.{All, ◌≡◌, ◌==◌, ◌+◌, ◌<◌, ◌≤◌, ◌↔◌, [], ◌∷◌, IfErr, IfOk, IsOk, IsOkUnless, IsTrue, List, MatchResult, Some, count_by, length, min, ℕ};
 ghost use Rattle.std.proofs.Common.{rules};
 ghost use Rattle.std.specs.Cmp.Rules.{comparing};
+ghost use Rattle.std.specs.List.{slice_split};
 ghost use Rattle.std.specs.Cmp.Lexicographic.{pointwise};
 ghost use Rattle.std.specs.Ordering.{on};
 ghost use Rattle.assise_names.specs.Name.{is_name};
-ghost use Rattle.assise_names.specs.Path.{GivesPath, GivesNames, IsProperPrefix, SpellsPath, name_count, is_proper_prefix, no_deeper, path_behind, path_of, path_of_pieces, names_behind, path_spelling};
+ghost use Rattle.assise_names.specs.Path.{GivesPath, GivesNames, IsProperPrefix, SpellsPath, name_count, is_proper_prefix, no_deeper, path_behind, path_of, path_of_pieces, names_behind, path_spelling, pieces_as_names, with_prefix};
 ghost use Rattle.assise_names.specs.Text.{path_fault_text};
 ghost use Rattle.assise_names.specs.declared.path.PathFault.{PathFault};
 ghost use Rattle.assise_names.specs.declared.refusal.Refusal.TheVariants.{OutOfMemory};
@@ -262,13 +263,13 @@ fn path_behind(alloc: Global, text: &str) -> Result<Path, PathFault>
     let Some((first, rest)) = text.split_once('/') else {
         return path_of_one(alloc, text);
     };
-    let Some((second, third)) = rest.split_once('/') else {
+    let Some((second, last)) = rest.split_once('/') else {
         return path_of_two(alloc, first, rest);
     };
-    let Some(_) = third.split_once('/') else {
-        return path_of_three(alloc, first, second, third);
+    let Some((third, more)) = last.split_once('/') else {
+        return path_of_three(alloc, first, second, last);
     };
-    path_of_many(alloc, text)
+    path_of_many(alloc, first, second, third, more)
 }
 
 /// The path of one name.
@@ -308,25 +309,33 @@ fn path_of_three(alloc: Global, text: &str, next: &str, last: &str) -> Result<Pa
     })
 }
 
-/// The path of however many names.
-fn path_of_many(alloc: Global, text: &str) -> Result<Path, PathFault>
-    ensures first_fault { GivesPath result (path_behind text.now) }
+/// The path of three names and those that stand between the slashes of a text.
+fn path_of_many(
+    alloc: Global,
+    first: &str,
+    second: &str,
+    third: &str,
+    rest: &str,
+) -> Result<Path, PathFault>
+    ensures first_fault { GivesPath result (path_of_pieces
+        (first.now ∷ second.now ∷ third.now ∷ slice_split (λ b. b == 47) rest.now)) }
     ensures lawful { IfOk result (λ path. All (λ name. IsTrue (is_name name)) path) }
 {
-    path_of_names(names_of(alloc, text)?)
+    let mut names = Vec::with_capacity(alloc, room_for_path(rest))?;
+    names.push(Name::parse(alloc, first)?)?;
+    names.push(Name::parse(alloc, second)?)?;
+    names.push(Name::parse(alloc, third)?)?;
+    push_names(alloc, &mut names, rest)?;
+    path_of_names(names)
 }
 
-/// The path of these names, unless they are too many. The root takes no memory.
+/// The path of these names, unless they are too many.
 fn path_of_names(names: Vec<Name>) -> Result<Path, PathFault>
+    requires { 0 < length names.items }
     ensures first_fault { GivesPath result (no_deeper names.items) }
 {
     if names.len() > MOST_NAMES {
         return Err(PathFault::TooDeep);
-    }
-    if names.is_empty() {
-        return Ok(Path {
-            names: PathNames::Root,
-        });
     }
     Ok(Path {
         names: PathNames::More(ArcSlice::from_vec(names)?),
@@ -351,31 +360,29 @@ fn count_names(text: &str) -> Result<usize, PathFault>
     Ok(count + 1)
 }
 
-/// For how many names a text that isn't empty gets room: for one more than it has slashes, and for 32 at most.
-fn room_for_names(text: &str) -> usize
-    ensures { result ≡ min (count_by (λ b. b == 47) text.now) 31 + 1 }
+/// How many names a path gets room for whose fourth name begins this text: four more than the text has slashes, and 32 at most.
+fn room_for_path(text: &str) -> usize
+    ensures { result ≡ min (count_by (λ b. b == 47) text.now) 28 + 4 }
 {
     let slashes = text.as_bytes().iter().filter(|byte| **byte == b'/').count();
-    slashes.min(MOST_NAMES - 1) + 1
+    slashes.min(MOST_NAMES - 4) + 4
 }
 
-/// The names that stand between slashes, or none where there is no text.
-fn names_of(alloc: Global, text: &str) -> Result<Vec<Name>, PathFault>
-    ensures first_fault { GivesNames (λ names. names.items) result (names_behind text.now) }
-    ensures none { length text.now ≡ 0 → IsOk result }
-    ensures lawful { IfOk result (λ names. All (λ name. IsTrue (is_name name)) names.items) }
+/// Pushes the names that stand between the slashes of a text, from the left.
+fn push_names(alloc: Global, names: &mut Vec<Name>, text: &str) -> Result<(), PathFault>
+    ensures first_fault { GivesNames (λ _. names.new.items) result
+        (with_prefix names.old.items (pieces_as_names (slice_split (λ b. b == 47) text.now))) }
+    ensures some { IfOk result (λ _. 0 < length names.new.items) }
+    ensures lawful { All (λ name. IsTrue (is_name name)) names.old.items →
+        IfOk result (λ _. All (λ name. IsTrue (is_name name)) names.new.items) }
 {
-    if text.is_empty() {
-        return Ok(Vec::new(alloc));
-    }
-    let mut names = Vec::with_capacity(alloc, room_for_names(text))?;
     let mut rest = text;
     while let Some((piece, more)) = rest.split_once('/') {
         names.push(Name::parse(alloc, piece)?)?;
         rest = more;
     }
     names.push(Name::parse(alloc, rest)?)?;
-    Ok(names)
+    Ok(())
 }
 
 impl Display for Path {
