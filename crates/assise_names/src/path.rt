@@ -322,9 +322,9 @@ fn path_of_many(
     ensures lawful { IfOk result (λ path. All (λ name. IsTrue (is_name name)) path) }
 {
     let mut names = Vec::with_capacity(alloc, room_for_path(rest))?;
-    names.push(Name::parse(alloc, first)?)?;
-    names.push(Name::parse(alloc, second)?)?;
-    names.push(Name::parse(alloc, third)?)?;
+    for piece in [first, second, third] {
+        names.push(Name::parse(alloc, piece)?)?;
+    }
     push_names(alloc, &mut names, rest)?;
     path_of_names(names)
 }
