@@ -52,7 +52,7 @@ use Rattle.assise_machine_state.proofs.ReadObserved.{read_at_home}
 use Rattle.assise_machine_state.proofs.ItemSeen.{client_is}
 use Rattle.assise_machine_state.proofs.ShapedClients.{areas_stay, leases_held}
 use Rattle.assise_machine_calls.specs.Asked.{AsksThem, CutsAreAnswers}
-use Rattle.assise_machine_calls.specs.Leasing.{HasAllLeases, IsReady, IsVisited, NeverSyncs, next_call, next_step}
+use Rattle.assise_machine_calls.specs.Leasing.{GotLeases, HasAllLeases, IsReady, IsVisited, NeverSyncs, next_call, next_step}
 use Rattle.assise_machine_calls.proofs.AnsweredCuts.{KeepsRevoked, revoked_later}
 use Rattle.assise_machine_calls.proofs.CallCommits.{call_client, call_number}
 use Rattle.assise_machine_calls.proofs.Granted.{granted_first}
@@ -236,12 +236,6 @@ module _ (s : StateValue) (c : ℕ) (op : Op) (shape : ShapeInvariant s) (holds 
       ∙ (λ k. visited_plan_of (λ i mode. serves (lease_of (held k i) (client k)) mode) (step (values (read k)) op fresh))
       ∙ ap (visited_plan_of (served s c)) (step_is fresh is)
 
-  -- what the code finds missing of what is changed
-  pub lacked_now : (o : Option (ℕ × Mode)) (d : ℕ) (ls : ℕ → List Lease) (es fs : List Effect) → first_missing (λ i mode. serves (lease_of (ls i) d) mode) (for_writing (touched es)) ≡ o →
-      d ≡ c → ls ≡ s.levels.clients → es ≡ fs → first_missing (served s c) (for_writing (touched fs)) ≡ o
-  unfolding leases_of
-  lacked_now o d ls es fs found client held same = sym (λ k. first_missing (λ i mode. serves (lease_of (held k i) (client k)) mode) (for_writing (touched (same k)))) ∙ found
-
   -- a plan that is ready
   pub visited_now : (u : Step) → visited_plan_of (served s c) next ≡ ready u → IsVisited (observed s) c op u
   unfolding observed
@@ -336,34 +330,22 @@ module _ (s : StateValue) (c : ℕ) (op : Op) (shape : ShapeInvariant s) (holds 
       visited = λ j found. still_serves s.levels levels c (client_in s.clients c).home i mode granted j Read (visited.visited j (subst (λ t. contains t.visits j ≡ true) same_step found));
     }
 
+    -- the client has the lease, and goes on
+    pub got_then : NeverSyncs op → (u : Step) → IsVisited (observed s) c op u → GotLeases (observed s) c op u (observed s')
+    unfolding observed world_of leases_of own_seen
+    got_then other u visited = record {
+      fine = fine_then;
+      holds = holds_then other;
+      visited = visited_then u visited;
+      kept = λ j may. still_serves s.levels levels c (client_in s.clients c).home i mode granted j Write may;
+      unrevoked = unrevoked_then;
+      logs = λ d. refl;
+      onward = goes_on;
+    }
+
     pub fewer_then : unserved (served s' c) (wants (next_step (world_of s') c op)) < unserved (served s c) (wants next)
     unfolding leases_of
     fewer_then = subst (λ u. unserved (served s' c) (wants u) < unserved (served s c) (wants next)) (sym same_step) (fewer (served s c) (served s' c) (wants next) (i, mode) (still_serves s.levels levels c (client_in s.clients c).home i mode granted) first granted.held)
-
--- ---- the leases that are left
-
--- what comes of a call after a lease comes of it before
-module _ (old m m' : Machine) (c : ℕ) (op : Op) (r : Result Bool Refusal) (onward : (a : Answer) (last : Machine) → Calling m c op a last → Calling old c op a last) where
-  pub all_onward : (s : Step) → KeepsRevoked old.leases m.leases → IfOk r (λ all. all ≡ true → HasAllLeases m c op s m') → IfOk r (λ all. all ≡ true → HasAllLeases old c op s m')
-  all_onward s same had = go r had
-    where
-      go : (r : Result Bool Refusal) → IfOk r (λ all. all ≡ true → HasAllLeases m c op s m') → IfOk r (λ all. all ≡ true → HasAllLeases old c op s m')
-      go (Ok all) had = λ is. record { fine = (had is).fine; holds = (had is).holds; ready = (had is).ready; unrevoked = λ d i. (had is).unrevoked d i ∙ same d i; onward = λ a last e. onward a last ((had is).onward a last e) }
-      go (Err e) had = tt
-
-  pub waits_onward : IfOk r (λ all. all ≡ false → Calling m c op not_yet m') → IfOk r (λ all. all ≡ false → Calling old c op not_yet m')
-  waits_onward waits = go r waits
-    where
-      go : (r : Result Bool Refusal) → IfOk r (λ all. all ≡ false → Calling m c op not_yet m') → IfOk r (λ all. all ≡ false → Calling old c op not_yet m')
-      go (Ok all) waits = λ is. onward not_yet m' (waits is)
-      go (Err e) waits = tt
-
-  pub refused_onward : IfErr r (λ e. Calling m c op (refused e) m') → IfErr r (λ e. Calling old c op (refused e) m')
-  refused_onward told = go r told
-    where
-      go : (r : Result Bool Refusal) → IfErr r (λ e. Calling m c op (refused e) m') → IfErr r (λ e. Calling old c op (refused e) m')
-      go (Ok all) told = tt
-      go (Err e) told = onward (refused e) m' told
 
 -- ---- any call but a sync
 

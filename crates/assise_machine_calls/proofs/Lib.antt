@@ -10,6 +10,7 @@ pub mod FewerLacked
 pub mod LeaseFacts
 pub mod AnsweredCuts
 pub mod RevokerAnswers
+pub mod LeasedChanges
 pub mod CallTries
 pub mod RipeReleases
 pub mod NodeFreed

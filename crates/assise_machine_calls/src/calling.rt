@@ -9,7 +9,7 @@ ghost use Rattle.assise_machine_state.specs.Invariant.{CutsInvariant, ShapeInvar
 ghost use Rattle.assise_machine_state.specs.Whole.{StateInvariant, machine_of, value_of};
 ghost use Rattle.assise_machine_calls.specs.Answers.{turn_answer};
 ghost use Rattle.assise_machine_calls.specs.Asked.{CutsAreAnswers};
-ghost use Rattle.assise_machine_calls.specs.Leasing.{HasAllLeases, IsVisited, NeverSyncs, step_in};
+ghost use Rattle.assise_machine_calls.specs.Leasing.{GotLeases, HasAllLeases, IsVisited, LacksChange, MayChange, NeverSyncs, step_in};
 
 use crate::asking::ask;
 use crate::commit::commit;
@@ -18,7 +18,6 @@ use crate::outcome::Outcome;
 use crate::sync::{try_dsync, try_fsync};
 use crate::turn::Turn;
 use assise_inode_plan::plan::{Planned, plan_by_visits};
-use assise_inode_plan::view::first_unleased;
 use assise_inode_table::numbers::inode_number;
 use assise_lease_table::revoker::Revokes;
 use assise_lease_tree::request::Request;
@@ -143,10 +142,46 @@ fn lease_changes<C: Revokes + Drop>(
     ensures noted { CutsInvariant (value_of state.new) }
     ensures revokers { KeepsRevokers state.old.leases state.new.leases }
 {
-    let view = state.view(client);
-    let Some(inode) = first_unleased(&view, &outcome.effects) else {
-        return Ok(true);
-    };
+    for effect in &outcome.effects {
+        let inode = effect.touches();
+        if !state.leases.holds(client, inode, Mode::Write)
+            && !lease_change(state, client, op, outcome, inode)?
+        {
+            return Ok(false);
+        }
+    }
+    Ok(true)
+}
+
+/// Gets the lease that a call whose visits are leased lacks first for what it changes: whether it has it. Where others stand in its
+/// way, they are asked. The one refusal is [`Refusal::OutOfMemory`].
+fn lease_change<C: Revokes + Drop>(
+    state: &mut StateOf<C>,
+    client: u32,
+    op: &Op,
+    outcome: &Outcome,
+    inode: u64,
+) -> Result<bool, Refusal>
+    requires fine { call_fault (machine_of state.old) client op.now ≡ None }
+    requires call { NeverSyncs op.now }
+    requires invariant { StateInvariant state.old }
+    requires visited { IsVisited (machine_of state.old) client op.now (step_in outcome.now) }
+    requires lacked { LacksChange (machine_of state.old) client (step_in outcome.now) inode }
+    ensures got { IfOk result (λ got. got ≡ true →
+        GotLeases (machine_of state.old) client op.now (step_in outcome.now)
+        (machine_of state.new)) }
+    ensures leased { IfOk result (λ got. got ≡ true →
+        MayChange (machine_of state.new) client inode) }
+    ensures waits { IfOk result (λ got. got ≡ false →
+        Calling (machine_of state.old) client op.now not_yet (machine_of state.new)) }
+    ensures refused { IfErr result (λ r. Calling (machine_of state.old) client op.now (refused r)
+        (machine_of state.new)) }
+    ensures cuts { CutsAreAnswers C.answers (stored_by state.old.leases)
+        (machine_of state.old) (machine_of state.new) }
+    ensures shape { ShapeInvariant (value_of state.new) }
+    ensures noted { CutsInvariant (value_of state.new) }
+    ensures revokers { KeepsRevokers state.old.leases state.new.leases }
+{
     let request = Request {
         client,
         node: state.clients.get(client).home(),
@@ -158,5 +193,5 @@ fn lease_changes<C: Revokes + Drop>(
         return Ok(false);
     }
     state.leases.grant(request)?;
-    lease_changes(state, client, op, outcome)
+    Ok(true)
 }
