@@ -19,9 +19,10 @@ pub const MOST_NAMES: usize = 32;
 /// neither a removal nor a link under a name that stands here takes memory. A contract sees the list of both.
 #[derive(Debug, Drop)]
 pub(crate) struct Piece {
-    names: Arc<Vec<Name>>,
+    // With the names between the other two a copy's links go straight into their place.
     /// What each name links to, if its entry isn't gone.
     links: [u64; MOST_NAMES],
+    names: Arc<Vec<Name>>,
     /// Whether the entry of each name is gone.
     gone: [bool; MOST_NAMES],
 }
@@ -167,8 +168,8 @@ pub(crate) fn shared(alloc: Global, pieces: &[Piece]) -> Result<Vec<Piece>, Allo
     for piece in pieces {
         let names = Arc::try_clone(&piece.names)?;
         shared.push_reserved(Piece {
-            names,
             links: piece.links,
+            names,
             gone: piece.gone,
         });
     }
