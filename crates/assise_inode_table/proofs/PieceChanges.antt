@@ -3,7 +3,7 @@ use Rattle.std.proofs.Common.{◌≡◌, ℕ, zero, suc, ◌+◌, ◌<◌, ◌�
 use Rattle.std.specs.List.Sorted.{IsStrictlySortedBy}
 use Rattle.std.specs.Map.{keys_of}
 use Rattle.std.specs.Cmp.Lexicographic.{slice_cmp}
-use Rattle.std.proofs.lemmas.List.{length-set, length-drop, take_all}
+use Rattle.std.proofs.lemmas.List.{length-append, length-set, length-drop, take_all}
 use Rattle.std.proofs.lemmas.List.Edits.{length-insert}
 use Rattle.std.proofs.lemmas.List.Elements.{All-append, All-take, All-drop, All-set}
 use Rattle.assise_inode_table.specs.Pieces.{Slot, live, slots_in, piece_at, Ascend, AreFilled}
@@ -25,6 +25,28 @@ split_filled ps w n lower upper a b filled = All-set (λ q. 0 < length q) (inser
 
 pub split_length : (ps : List (List Slot)) (w n : ℕ) (lower upper : List Slot) → n ≤ length ps → length (set (insert ps n upper) w lower) ≡ length ps + 1
 split_length ps w n lower upper h = length-set (insert ps n upper) w lower ∙ length-insert ps n upper h
+
+-- ---- a lower half that joins the piece in front
+join_slots_at : (ps : List (List Slot)) (v : ℕ) (lower upper : List Slot) → suc v < length ps → piece_at ps (suc v) ≡ lower ++ upper
+    → slots_in (set (set ps v (piece_at ps v ++ lower)) (suc v) upper) ≡ slots_in ps
+join_slots_at [] v lower upper h e = absurd (omega arith)
+join_slots_at (p ∷ []) v lower upper h e = absurd (omega arith)
+join_slots_at (p ∷ q ∷ ps) zero lower upper h e =
+    append_assoc p lower (upper ++ slots_in ps) ∙ ap (λ xs. p ++ xs) (sym (append_assoc lower upper (slots_in ps)) ∙ ap (λ r. r ++ slots_in ps) (sym e))
+join_slots_at (p ∷ q ∷ ps) (suc v) lower upper h e = ap (λ xs. p ++ xs) (join_slots_at (q ∷ ps) v lower upper (omega arith) e)
+
+module _ (ps : List (List Slot)) (v w : ℕ) (lower upper : List Slot) where
+  pub join_slots : w < length ps → w ≡ v + 1 → piece_at ps w ≡ lower ++ upper → slots_in (set (set ps v (piece_at ps v ++ lower)) w upper) ≡ slots_in ps
+  join_slots h e halves =
+      let next : suc v ≡ w = omega arith in
+      subst (λ n. slots_in (set (set ps v (piece_at ps v ++ lower)) n upper) ≡ slots_in ps) next
+      (join_slots_at ps v lower upper (omega arith) (ap (piece_at ps) next ∙ halves))
+
+  pub join_filled : 0 < length lower → 0 < length upper → AreFilled ps → AreFilled (set (set ps v (piece_at ps v ++ lower)) w upper)
+  join_filled a b filled =
+      let front = piece_at ps v ++ lower in
+      let some : 0 < length front = omega (arith, a, length-append (piece_at ps v) lower) in
+      All-set (λ q. 0 < length q) (set ps v front) w upper b (All-set (λ q. 0 < length q) ps v front some filled)
 
 -- ---- a piece whose entries are gone
 removed_slots : (ps : List (List Slot)) (w : ℕ) → slots_in (remove ps w) ≡ slots_in (take w ps) ++ slots_in (drop (suc w) ps)
@@ -94,6 +116,12 @@ module _ {K X : Type 0} where
   drop-side (suc k) [] ls = refl
   drop-side (suc k) (n ∷ ns) [] = side-nil (drop k ns)
   drop-side (suc k) (n ∷ ns) (l ∷ ls) = drop-side k ns ls
+
+  pub sides-append : (ns ms : List K) (ls ks : List X) → length ls ≡ length ns → zip (ns ++ ms) (ls ++ ks) ≡ zip ns ls ++ zip ms ks
+  sides-append [] ms [] ks h = refl
+  sides-append [] ms (l ∷ ls) ks h = absurd (omega arith)
+  sides-append (n ∷ ns) ms [] ks h = absurd (omega arith)
+  sides-append (n ∷ ns) ms (l ∷ ls) ks h = ap (λ zs. (n, l) ∷ zs) (sides-append ns ms ls ks (omega arith))
 
   -- links behind the last name don't count
   pub side-append : (ns : List K) (ls ms : List X) → length ns ≤ length ls → zip ns (ls ++ ms) ≡ zip ns ls

@@ -6,7 +6,7 @@ use borrow.Rule.Slice.PartMut.{put_mid, mid_of, post_of}
 use Rattle.std.proofs.lemmas.List.{length-append, length-take, length-drop}
 use Rattle.std.proofs.lemmas.List.Edits.{length-insert}
 use Rattle.assise_inode_table.specs.Pieces.{IsPiece, Slot, link_or_none, links_or_none, live, slot_link}
-use Rattle.assise_inode_table.proofs.PieceChanges.{length-side, link-side, side-append, side-take, take-side, drop-side, insert-side}
+use Rattle.assise_inode_table.proofs.PieceChanges.{length-side, link-side, side-append, sides-append, side-take, take-side, drop-side, insert-side}
 
 pub links-length : (ls : List ℕ) (gs : List Bool) → length gs ≡ length ls → length (links_or_none ls gs) ≡ length ls
 unfolding links_or_none
@@ -146,6 +146,26 @@ part_links s k ns ls ms gs hs room few =
     (omega (arith, long, few, length-take k (drop s m), length-take k (drop s ns), length-drop s m, length-drop s ns))
     ∙ side-take part (drop s m) k (omega (arith, length-take k (drop s ns)))
     ∙ take-side k (drop s ns) (drop s m) ∙ ap (take k) (drop-side s ns m)
+
+-- ---- the names of another piece behind those of one
+pub append_links : {K : Type 0} (at w : ℕ) (ns ms : List K) (ls ks : List ℕ) (gs hs : List Bool) → length gs ≡ length ls → length hs ≡ length ks
+    → length ns ≤ length ls → length ms ≤ length ks → at ≡ length ns → w ≡ length ms
+    → zip (ns ++ ms) (links_or_none (put_mid at w ls (take w ks)) (put_mid at w gs (take w hs))) ≡ zip ns (links_or_none ls gs) ++ zip ms (links_or_none ks hs)
+append_links at w ns ms ls ks gs hs room more few some own count =
+    let m = links_or_none ls gs in
+    let n = links_or_none ks hs in
+    let behind = links_or_none (post_of at w ls) (post_of at w gs) in
+    let long = links-length ls gs room in
+    let wide = links-length ks hs more in
+    ap (zip (ns ++ ms))
+    (links-append (take at ls) (take w ks ++ post_of at w ls) (take at gs) (take w hs ++ post_of at w gs)
+    (omega (arith, room, length-take at ls, length-take at gs))
+    ∙ ap₂ (λ u v. u ++ v) (links-take at ls gs)
+    (links-append (take w ks) (post_of at w ls) (take w hs) (post_of at w gs) (omega (arith, more, length-take w ks, length-take w hs))
+    ∙ ap (λ ys. ys ++ behind) (links-take w ks hs)))
+    ∙ sides-append ns ms (take at m) (take w n ++ behind) (omega (arith, long, own, few, length-take at m))
+    ∙ ap₂ (λ u v. u ++ v) (side-take ns m at (omega (arith, own)))
+    (side-append ms (take w n) behind (omega (arith, wide, count, some, length-take w n)) ∙ side-take ms n w (omega (arith, count)))
 
 -- ---- a piece whose entries are gone
 pub all_gone : (ns : List (List ℕ)) (ls : List ℕ) (gs : List Bool) → list_all (λ g. g) (take (length ns) gs) ≡ true → live (zip ns (links_or_none ls gs)) ≡ []

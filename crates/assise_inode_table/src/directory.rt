@@ -1,5 +1,5 @@
 //! The links of a directory.
-ghost use Rattle.std.specs.Prelude.{◌≡◌, ◌+◌, ◌<◌, ◌≤◌, ◌==◌, IfErr, IfNone, IfOk, IfSome, IsOkUnless, None, OnErr, OnOk, Some, length, suc};
+ghost use Rattle.std.specs.Prelude.{◌≡◌, ◌+◌, ◌<◌, ◌≤◌, ◌==◌, ◌++◌, IfErr, IfNone, IfOk, IfSome, IsOkUnless, None, OnErr, OnOk, Some, length, suc};
 ghost use Rattle.std.specs.FinMap as map;
 ghost use Rattle.assise_names.specs.declared.refusal.Refusal.TheVariants.{OutOfMemory};
 ghost use Rattle.assise_inode_table.specs.Calls.{room_among};
@@ -120,7 +120,7 @@ impl Directory {
         self.split(&name)?;
         match self.put(name, inode)? {
             None => Ok(()),
-            // It isn't reached: each half has room.
+            // It isn't reached: the half that the name belongs in has room.
             Some(_) => Err(Refusal::OutOfMemory),
         }
     }
@@ -174,7 +174,7 @@ impl Directory {
             return Ok(());
         }
         let piece = piece_of(&self.pieces, name);
-        halve(self.alloc, &mut self.pieces, piece)?;
+        halve(self.alloc, &mut self.pieces, piece, name)?;
         Ok(())
     }
 
@@ -301,8 +301,13 @@ fn add(
     Ok(None)
 }
 
-/// Splits a full piece in two, and lets each go whose entries are all gone.
-fn halve(alloc: Global, pieces: &mut Vec<Piece>, piece: usize) -> Result<(), AllocError>
+/// Splits the full piece that a name belongs in, and lets each half go whose entries are all gone.
+fn halve(
+    alloc: Global,
+    pieces: &mut Vec<Piece>,
+    piece: usize,
+    name: &Name,
+) -> Result<(), AllocError>
     requires piece { piece < length pieces.old.items }
     requires ascend { Ascend (slots_in pieces.old.items) }
     requires filled { AreFilled pieces.old.items }
@@ -315,11 +320,56 @@ fn halve(alloc: Global, pieces: &mut Vec<Piece>, piece: usize) -> Result<(), All
     }
     let upper = pieces[piece].part(alloc, MOST_NAMES / 2, MOST_NAMES)?;
     let lower = pieces[piece].part(alloc, 0, MOST_NAMES / 2)?;
+    let place = join_lower(alloc, pieces, piece, lower, upper, name)?;
+    let_go(pieces, place);
+    let_go(pieces, place - 1);
+    Ok(())
+}
+
+/// Puts two halves of a piece in its place. The place of the upper is returned.
+fn put_halves(
+    pieces: &mut Vec<Piece>,
+    piece: usize,
+    lower: Piece,
+    upper: Piece,
+) -> Result<usize, AllocError>
+    requires piece { piece < length pieces.old.items }
+    requires halves { piece_at pieces.old.items piece ≡ lower ++ upper }
+    requires some { (0 < length lower) × (0 < length upper) }
+    requires filled { AreFilled pieces.old.items }
+    ensures same { slots_in pieces.new.items ≡ slots_in pieces.old.items }
+    ensures filled { AreFilled pieces.new.items }
+    ensures place { IfOk result (λ place. (0 < place) × (place < length pieces.new.items)) }
+{
     pieces.insert(piece + 1, upper)?;
     pieces[piece] = lower;
-    let_go(pieces, piece + 1);
-    let_go(pieces, piece);
-    Ok(())
+    Ok(piece + 1)
+}
+
+/// As [`put_halves`], but where a name belongs in the upper half and the piece in front has room, the lower goes behind its
+/// names.
+fn join_lower(
+    alloc: Global,
+    pieces: &mut Vec<Piece>,
+    piece: usize,
+    lower: Piece,
+    upper: Piece,
+    name: &Name,
+) -> Result<usize, AllocError>
+    requires piece { piece < length pieces.old.items }
+    requires halves { piece_at pieces.old.items piece ≡ lower ++ upper }
+    requires some { (0 < length lower) × (0 < length upper) }
+    requires filled { AreFilled pieces.old.items }
+    ensures same { slots_in pieces.new.items ≡ slots_in pieces.old.items }
+    ensures filled { AreFilled pieces.new.items }
+    ensures place { IfOk result (λ place. (0 < place) × (place < length pieces.new.items)) }
+{
+    if piece == 0 || upper.first().cmp(name).is_gt() || !pieces[piece - 1].has_room_for(&lower) {
+        return put_halves(pieces, piece, lower, upper);
+    }
+    pieces[piece - 1].append(alloc, &lower)?;
+    pieces[piece] = upper;
+    Ok(piece)
 }
 
 /// Lets a piece go whose entries are all gone.

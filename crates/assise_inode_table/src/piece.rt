@@ -1,5 +1,5 @@
 //! A part of a directory.
-ghost use Rattle.std.specs.Prelude.{◌≡◌, ◌-◌, ◌<◌, ◌≤◌, ◌++◌, ◌∷◌, ◌==◌, [], IfErr, IfOk, IsOkUnless, OnErr, OnOk, Some, drop, false, length, set, take, true};
+ghost use Rattle.std.specs.Prelude.{◌≡◌, ◌+◌, ◌-◌, ◌<◌, ◌≤◌, ◌++◌, ◌∷◌, ◌==◌, [], IfErr, IfOk, IsOkUnless, OnErr, OnOk, Some, drop, false, length, set, take, true};
 ghost use Rattle.std.specs.Arc.{arc_value};
 ghost use Rattle.std.specs.List.{insert};
 ghost use Rattle.std.specs.Map.{keys_of};
@@ -139,6 +139,28 @@ impl Piece {
         })
     }
 
+    /// Whether there is room for the slots of another piece.
+    pub fn has_room_for(&self, other: &Piece) -> bool
+        ensures { result ≡ true → length self.now + length other.now ≤ 32 }
+    {
+        self.names.len() + other.names.len() <= MOST_NAMES
+    }
+
+    /// Puts the slots of another piece behind these.
+    pub fn append(&mut self, alloc: Global, other: &Piece) -> Result<(), AllocError>
+        requires { length self.old + length other.now ≤ 32 }
+        ensures ok { OnOk result (self.new ≡ self.old ++ other.now) }
+        ensures err { OnErr result (self.new ≡ self.old) }
+    {
+        let len = self.names.len();
+        let count = other.names.len();
+        let names = joined(alloc, self.names.as_slice(), other.names.as_slice())?;
+        self.names = Arc::new(alloc, names)?;
+        self.links[len..len + count].copy_from_slice(&other.links[..count]);
+        self.gone[len..len + count].copy_from_slice(&other.gone[..count]);
+        Ok(())
+    }
+
     /// Whether all entries are gone.
     pub fn is_gone(&self) -> bool
         ensures { result ≡ true → live self.now ≡ [] }
@@ -185,6 +207,17 @@ fn copied(alloc: Global, names: &[Name], more: usize) -> Result<Vec<Name>, Alloc
         copied.push_reserved(name.clone()?);
     }
     Ok(copied)
+}
+
+/// The names of two lists, one behind the other.
+fn joined(alloc: Global, front: &[Name], back: &[Name]) -> Result<Vec<Name>, AllocError>
+    ensures { IfOk result (λ joined. joined.items ≡ front.now ++ back.now) }
+{
+    let mut joined = copied(alloc, front, back.len())?;
+    for name in back {
+        joined.push(name.clone()?)?;
+    }
+    Ok(joined)
 }
 
 /// Puts a name in at its place, into names of its own.
