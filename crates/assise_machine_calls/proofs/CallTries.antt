@@ -1,5 +1,5 @@
 -- A call that is tried: what it finds, what it lacks, and what it comes to.
-use Rattle.std.proofs.Common.{◌≡◌, ℕ, ◌<◌, true, false, not, ◌&&◌, ◌||◌, ◌==◌, List, [], ◌∷◌, ◌++◌, Option, Some, None, Bool, Result, Ok, Err, IfOk, IfErr, inl, inr, refl, ap, sym, subst, ◌∙◌, append-nil, eq-eqb}
+use Rattle.std.proofs.Common.{◌≡◌, ℕ, ◌<◌, true, false, not, ◌&&◌, ◌||◌, ◌==◌, List, [], ◌∷◌, ◌++◌, Option, Some, None, inl, inr, refl, ap, sym, subst, ◌∙◌, append-nil, eq-eqb}
 use Rattle.std.proofs.Math.Logic.{∥∥₁_elim, ∥∥₁_map}
 use Rattle.std.proofs.lemmas.Bool.{cases_Bool, cases_eq, and_parts, ne_eqb, not-true, or_right}
 use Rattle.std.specs.Coded.{Coded-set, coded_option}
@@ -14,7 +14,6 @@ use Rattle.assise_names.specs.declared.refusal.Refusal.{Refusal}
 use Rattle.assise_names.specs.declared.refusal.Refusal.TheVariants.{OutOfMemory}
 use Rattle.assise_names.specs.declared.reply.Reply.TheVariants.{Done}
 use Rattle.assise_history.specs.Legal.{durability_of}
-use Rattle.assise_record.specs.declared.effect.Effect.{Effect}
 use Rattle.assise_inode_plan.specs.Leased.{AreLeased, LeaseView as Leased, first_missing, for_reading, for_writing, wants}
 use Rattle.assise_inode_plan.specs.Planning.{Plan, missing, plan_lacking, ready, visited_plan_of}
 use Rattle.assise_inode_plan.proofs.LackedLeases.{ready_has_all}
@@ -52,7 +51,7 @@ use Rattle.assise_machine_state.proofs.ReadObserved.{read_at_home}
 use Rattle.assise_machine_state.proofs.ItemSeen.{client_is}
 use Rattle.assise_machine_state.proofs.ShapedClients.{areas_stay, leases_held}
 use Rattle.assise_machine_calls.specs.Asked.{AsksThem, CutsAreAnswers}
-use Rattle.assise_machine_calls.specs.Leasing.{GotLeases, HasAllLeases, IsReady, IsVisited, NeverSyncs, next_call, next_step}
+use Rattle.assise_machine_calls.specs.Leasing.{GotLeases, IsReady, IsVisited, NeverSyncs, next_call, next_step}
 use Rattle.assise_machine_calls.proofs.AnsweredCuts.{KeepsRevoked, revoked_later}
 use Rattle.assise_machine_calls.proofs.CallCommits.{call_client, call_number}
 use Rattle.assise_machine_calls.proofs.Granted.{granted_first}

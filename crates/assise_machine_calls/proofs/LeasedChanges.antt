@@ -28,26 +28,31 @@ looks_at leased [] (suc k) all = refl
 looks_at leased (e ∷ es) (suc k) all = rw all.0 (looks_at leased es k all.1)
 
 -- the next is what is lacked first, if it is lacked
-pub lacked_first : (leased : LeaseView) (es : List Effect) (k : ℕ) (e : Effect) → LeasedBefore leased es k → k < length es → e ≡ slice_index_or es k e → leased (touched_by e) Write ≡ false →
+pub lacked_first : (leased : LeaseView) (es : List Effect) (k : ℕ) (e : Effect) →
+    LeasedBefore leased es k → k < length es → e ≡ slice_index_or es k e → leased (touched_by e) Write ≡ false →
     first_missing leased (for_writing (touched es)) ≡ Some (touched_by e, Write)
 lacked_first leased es k e all few is bare = effect_lacks leased es k e (looks_at leased es k all) few is bare
 
-pub none_lacked : (leased : LeaseView) (es : List Effect) (k : ℕ) → LeasedBefore leased es k → length es ≤ k → first_missing leased (for_writing (touched es)) ≡ None
+pub none_lacked : (leased : LeaseView) (es : List Effect) (k : ℕ) → LeasedBefore leased es k → length es ≤ k →
+    first_missing leased (for_writing (touched es)) ≡ None
 none_lacked leased es k all whole = all_leased leased es k (looks_at leased es k all) whole
 
-push : (leased : LeaseView) (es : List Effect) (e : Effect) → AreLeased leased (for_writing (touched es)) → leased (touched_by e) Write ≡ true → AreLeased leased (for_writing (touched (es ++ e ∷ [])))
+push : (leased : LeaseView) (es : List Effect) (e : Effect) → AreLeased leased (for_writing (touched es)) → leased (touched_by e) Write ≡ true →
+    AreLeased leased (for_writing (touched (es ++ e ∷ [])))
 push leased [] e all got = (got, tt)
 push leased (f ∷ fs) e all got = (all.0, push leased fs e all.1 got)
 
 -- one is leased more
-pub leased_more : (leased : LeaseView) (es : List Effect) (k : ℕ) (e : Effect) → LeasedBefore leased es k → k < length es → e ≡ slice_index_or es k e → leased (touched_by e) Write ≡ true →
+pub leased_more : (leased : LeaseView) (es : List Effect) (k : ℕ) (e : Effect) →
+    LeasedBefore leased es k → k < length es → e ≡ slice_index_or es k e → leased (touched_by e) Write ≡ true →
     LeasedBefore leased es (k + 1)
 leased_more leased es k e all few is got =
     subst (λ fs. AreLeased leased (for_writing (touched fs))) (sym (take_more es k e few ∙ ap (λ f. take k es ++ f ∷ []) (sym is)))
     (push leased (take k es) e all got)
 
 -- what was leased before is still
-pub still_leased : (old new : LeaseView) (es : List Effect) → ((i : ℕ) → old i Write ≡ true → new i Write ≡ true) → AreLeased old (for_writing (touched es)) → AreLeased new (for_writing (touched es))
+pub still_leased : (old new : LeaseView) (es : List Effect) → ((i : ℕ) → old i Write ≡ true → new i Write ≡ true) →
+    AreLeased old (for_writing (touched es)) → AreLeased new (for_writing (touched es))
 still_leased old new [] kept all = tt
 still_leased old new (e ∷ es) kept all = (kept (touched_by e) all.0, still_leased old new es kept all.1)
 

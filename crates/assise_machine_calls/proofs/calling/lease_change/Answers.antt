@@ -9,13 +9,13 @@ use Rattle.assise_model_events.specs.Events.{refused}
 use Rattle.assise_machine_state.specs.Changes.{after_leases}
 use Rattle.assise_machine_state.specs.Invariant.{CutsInvariant, ShapeInvariant}
 use Rattle.assise_machine_state.specs.Observed.{observed, world_of}
-use Rattle.assise_machine_state.specs.StateValues.{leases_of}
+use Rattle.assise_machine_state.specs.StateValues.{StateValue, leases_of}
 use Rattle.assise_machine_state.specs.Whole.{machine_of, value_of}
 use Rattle.assise_machine_calls.specs.Leasing.{GotLeases, step_in}
 use Rattle.assise_machine_calls.proofs.AnsweredCuts.{nothing_revoked}
 use Rattle.assise_machine_calls.proofs.CallCommits.{call_number}
 use Rattle.assise_machine_calls.proofs.LeaseFacts.{home_known}
-use Rattle.assise_machine_calls.proofs.CallTries.{awaited, got_then, lacking_as, lacks_change, noted_then, same_levels, same_levels_revoked, shape_then, unrevoked_then}
+use Rattle.assise_machine_calls.proofs.CallTries.{awaited, got_then, lacking_as, lacks_change, noted_then, same_levels, same_levels_revoked, shape_then}
 use Rattle.assise_machine_calls.proofs.calling.lease_change.Given.{Over}
 use Rattle.assise_machine_calls.proofs.calling.lease_change.Goals.{In_ok-grant}
 use Rattle.assise_machine_calls.proofs.calling.lease_change.Goals as goal
@@ -29,7 +29,8 @@ returns-in_err-ask-clause-refused g c =
     let m = machine_of c.args.state.now in
     let P : Refusal → Type 0 = λ e. Calling m c.args.client c.args.op.now (refused e) (machine_of c.ask.new.state) in
     subst (λ o. IfErr o P) (sym error.1)
-    (lacking_as m (machine_of c.ask.new.state) c.args.client c.args.op.now (refused error.0) error.0 c.requires.fine refl (error.2 ∙ c.in_err-ask.ensures.only_memory) c.in_err-ask.ensures.err)
+    (lacking_as m (machine_of c.ask.new.state) c.args.client c.args.op.now (refused error.0) error.0 c.requires.fine refl
+    (error.2 ∙ c.in_err-ask.ensures.only_memory) c.in_err-ask.ensures.err)
 
 pub returns-then-not-is_free-clause-waits : goal.returns-then-not-is_free-clause-waits
 unfolding observed world_of
@@ -43,7 +44,8 @@ returns-then-not-is_free-clause-waits g c = λ is.
 
 pub grant-requires-clause-at_home : goal.grant-requires-clause-at_home
 grant-requires-clause-at_home g c =
-    home_known (value_of c.args.state.now) c.requires.invariant.holds c.args.client (call_number (value_of c.args.state.now) c.args.client c.args.op.now c.requires.fine)
+    home_known (value_of c.args.state.now) c.requires.invariant.holds c.args.client
+    (call_number (value_of c.args.state.now) c.args.client c.args.op.now c.requires.fine)
     ∙ ap Some (sym (c.home.ensures ∙ ap (λ x. x.home) c.get.ensures))
 
 pub returns-in_err-grant-clause-refused : goal.returns-in_err-grant-clause-refused
@@ -54,7 +56,8 @@ returns-in_err-grant-clause-refused g c =
     let after = observed (after_leases s (levels_of c.grant.new.self)) in
     let P : Refusal → Type 0 = λ e. Calling (observed s) c.args.client c.args.op.now (refused e) after in
     subst (λ o. IfErr o P) (sym error.1)
-    (lacking_as (observed s) after c.args.client c.args.op.now (refused error.0) error.0 c.requires.fine refl (error.2 ∙ c.in_err-grant.ensures.only_memory) (ap (λ l. observed (after_leases s l)) same))
+    (lacking_as (observed s) after c.args.client c.args.op.now (refused error.0) error.0 c.requires.fine refl
+    (error.2 ∙ c.in_err-grant.ensures.only_memory) (ap (λ l. observed (after_leases s l)) same))
 
 pub returns-in_err-grant-clause-cuts : goal.returns-in_err-grant-clause-cuts
 returns-in_err-grant-clause-cuts g c =
@@ -63,10 +66,14 @@ returns-in_err-grant-clause-cuts g c =
     nothing_revoked g.C.Revokes.answers (stored_by c.args.state.now.leases) (observed s) (observed (after_leases s (levels_of c.grant.new.self)))
     (same_levels_revoked s (levels_of c.grant.new.self) same)
 
+-- the state once the lease is granted
+abbrev granted_state : (g : Over) → In_ok-grant g → StateValue
+granted_state g c = after_leases (value_of c.args.state.now) (levels_of c.grant.new.self)
+
 -- the client has the lease
 granted_now : (g : Over) (c : In_ok-grant g) →
-    GotLeases (machine_of c.args.state.now) c.args.client c.args.op.now (step_in c.args.outcome.now) (observed (after_leases (value_of c.args.state.now) (levels_of c.grant.new.self)))
-    × ShapeInvariant (after_leases (value_of c.args.state.now) (levels_of c.grant.new.self)) × CutsInvariant (after_leases (value_of c.args.state.now) (levels_of c.grant.new.self))
+    GotLeases (machine_of c.args.state.now) c.args.client c.args.op.now (step_in c.args.outcome.now) (observed (granted_state g c))
+    × ShapeInvariant (granted_state g c) × CutsInvariant (granted_state g c)
 unfolding observed world_of
 granted_now g c =
     let s = value_of c.args.state.now in

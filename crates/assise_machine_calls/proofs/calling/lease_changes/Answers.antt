@@ -1,4 +1,4 @@
-use Rattle.std.proofs.Common.{◌≡◌, ◌+◌, true, false, Some, IfErr, refl, ap, arith, sym, subst, ◌∙◌, length, take}
+use Rattle.std.proofs.Common.{◌≡◌, ◌+◌, false, Some, IfErr, ap, arith, sym, subst, ◌∙◌, take}
 use Rattle.std.proofs.lemmas.Result.{err_from_is_err_and}
 use Rattle.assise_names.specs.declared.mode.Mode.TheVariants.{Write}
 use Rattle.assise_names.specs.declared.refusal.Refusal.{Refusal}
@@ -6,7 +6,7 @@ use Rattle.assise_record.specs.Touched.{touched_by}
 use Rattle.assise_inode_table.specs.Effects.{touched}
 use Rattle.assise_inode_plan.specs.Leased.{LeaseView, first_missing, for_writing}
 use Rattle.assise_lease_table.specs.Leases.{lease_of, serves}
-use Rattle.assise_lease_tree.specs.Trees.{levels_of, stored_by}
+use Rattle.assise_lease_tree.specs.Trees.{levels_of}
 use Rattle.assise_model_events.specs.ClientEvents.{Calling}
 use Rattle.assise_model_events.specs.Events.{not_yet, refused}
 use Rattle.assise_machine_state.specs.Observed.{observed}
@@ -84,11 +84,13 @@ returns-clause-all g c = λ is.
     let leased : LeaseView = λ i mode. serves (lease_of ((levels_of c.loop-effect.state.leases).clients i) c.args.client) mode in
     let none =
     ap (λ fs. first_missing leased (for_writing (touched fs))) (sym c.deref-effect-items.ensures.value)
-    ∙ none_lacked leased c.deref-effect-items.result.now c.loop-effect.effect-index so_far.leased (omega (arith, c.loop-effect-test.false, c.loop-effect.auto.effect-index-end)) in
+    ∙ none_lacked leased c.deref-effect-items.result.now c.loop-effect.effect-index so_far.leased
+    (omega (arith, c.loop-effect-test.false, c.loop-effect.auto.effect-index-end)) in
     record {
       fine = so_far.got.fine;
       holds = so_far.got.holds;
-      ready = ready_now (value_of c.loop-effect.state) c.args.client c.args.op.now so_far.shape so_far.got.holds so_far.got.fine (step_in c.args.outcome.now) so_far.got.visited none;
+      ready =
+          ready_now (value_of c.loop-effect.state) c.args.client c.args.op.now so_far.shape so_far.got.holds so_far.got.fine (step_in c.args.outcome.now) so_far.got.visited none;
       unrevoked = so_far.got.unrevoked;
       onward = so_far.got.onward;
     }
