@@ -1,5 +1,5 @@
 //! Runs a script's commands and prints their answers.
-ghost use Rattle.std.specs.Prelude.{◌≡◌, IfErr, IfOk, IsOkUnless, OnOk};
+ghost use Rattle.std.specs.Prelude.{◌≡◌, IfErr, IfOk, IsOk, IsOkUnless, OnOk};
 ghost use Rattle.std.specs.Io.KnownBytes.{Appends, Keeps};
 ghost use Rattle.assise_console.specs.Consoles.{console_seen, stocks};
 ghost use Rattle.assise_console.specs.Engines.{FaultFrom, FaultOf, ClusterIsBegun, IsInput, IsReadFault, IsRunFault, Printed, PrintedFrom, Ran, RunsFrom, read_fault};
@@ -12,12 +12,19 @@ use crate::options::CommandLine;
 use crate::response::Response;
 use crate::stock::Stock;
 use crate::text::{AnswerLine, AnswerText};
+use arrayvec::ArrayString;
 use assise_fault_script::command::Command;
 use assise_fault_script::parse::{NumberedCommand, parse};
 use assise_history::history::History;
 use assise_lease_table::revoker::Revokes;
+use assise_names::reply::Reply;
 use std::alloc::Global;
+use std::fmt::Write as _;
+use std::io;
 use std::io::{ErrorKind, Read, Write};
+
+/// Bytes of a line that is short.
+const SHORT_LINE: usize = 64;
 
 /// Reads a script, runs it on a cluster, and writes its answers and nothing else. Clients are opened with revokers of the stock. It
 /// waits for nobody.
@@ -220,6 +227,7 @@ pub fn print<W: Write>(
     }
 }
 
+// A short line is made beside, and handed to the writer at once.
 fn print_line<W: Write>(
     writer: &mut W,
     number: u64,
@@ -232,10 +240,30 @@ fn print_line<W: Write>(
 {
     let text = AnswerText { history, answer };
     let line = AnswerLine { number, text };
-    match write!(writer, "{line}") {
+    let mut short = ArrayString::<SHORT_LINE>::new();
+    if is_short(answer) && write!(short, "{line}").is_ok() {
+        return written(writer.write_all(short.as_str().as_bytes()));
+    }
+    written(write!(writer, "{line}"))
+}
+
+/// What a write came to.
+fn written(end: io::Result<()>) -> Result<(), EngineFault>
+    ensures done { OnOk result (IsOk end) }
+    ensures only_write { IsOkUnless result EngineFault.Write }
+{
+    match end {
         Ok(()) => Ok(()),
         Err(_) => Err(EngineFault::Write),
     }
+}
+
+/// Whether an answer takes few bytes: it has nothing that was read, and isn't of the whole cluster.
+fn is_short(answer: &Response) -> bool {
+    !matches!(
+        answer,
+        Response::Replied(Reply::Bytes(_) | Reply::Names(_)) | Response::Tree(_) | Response::History
+    )
 }
 
 /// Hands on what the writer keeps back. The one fault is [`EngineFault::Write`].
@@ -243,8 +271,5 @@ pub fn flush<W: Write>(writer: &mut W) -> Result<(), EngineFault>
     ensures done { OnOk result (Keeps (W.contents writer.old) (W.contents writer.new)) }
     ensures only_write { IsOkUnless result EngineFault.Write }
 {
-    match writer.flush() {
-        Ok(()) => Ok(()),
-        Err(_) => Err(EngineFault::Write),
-    }
+    written(writer.flush())
 }

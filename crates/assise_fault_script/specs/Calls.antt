@@ -18,17 +18,17 @@ use Rattle.assise_fault_script.specs.Number.{number_of}
 abbrev pub call_word : List ℕ → Result CallWord ScriptFault
 call_word word =
     if pointwise nat_eq word (codes "create") then Ok for_create
-    else (if pointwise nat_eq word (codes "mkdir") then Ok for_mkdir
-    else (if pointwise nat_eq word (codes "read") then Ok for_read
     else (if pointwise nat_eq word (codes "write") then Ok for_write
-    else (if pointwise nat_eq word (codes "truncate") then Ok for_truncate
+    else (if pointwise nat_eq word (codes "read") then Ok for_read
     else (if pointwise nat_eq word (codes "rename") then Ok for_rename
-    else (if pointwise nat_eq word (codes "unlink") then Ok for_unlink
-    else (if pointwise nat_eq word (codes "rmdir") then Ok for_rmdir
-    else (if pointwise nat_eq word (codes "list") then Ok for_list
     else (if pointwise nat_eq word (codes "stat") then Ok for_stat
     else (if pointwise nat_eq word (codes "fsync") then Ok for_fsync
+    else (if pointwise nat_eq word (codes "unlink") then Ok for_unlink
+    else (if pointwise nat_eq word (codes "truncate") then Ok for_truncate
+    else (if pointwise nat_eq word (codes "list") then Ok for_list
+    else (if pointwise nat_eq word (codes "mkdir") then Ok for_mkdir
     else (if pointwise nat_eq word (codes "dsync") then Ok for_dsync
+    else (if pointwise nat_eq word (codes "rmdir") then Ok for_rmdir
     else Err UnknownCommand)))))))))))
 
 abbrev pub of_path : Result (List (List ℕ)) PathFault → Result (List (List ℕ)) ScriptFault

@@ -9,4 +9,5 @@ mod keywords;
 mod line;
 mod number;
 pub mod parse;
+mod recent_paths;
 mod words;

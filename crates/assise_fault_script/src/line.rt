@@ -8,15 +8,17 @@ use crate::command::{Command, Keyword};
 use crate::fault::ScriptFault;
 use crate::keywords::{keyword, keyword_command};
 use crate::number::number;
+use crate::recent_paths::RecentPaths;
 use crate::words::words;
 use std::alloc::Global;
 
 /// What a line says: a command, nothing, or its first fault. `built` says whether a command stands before it.
 /// [`ScriptFault::Memory`] comes only where the line is a command without a fault.
-pub fn line_command(
+pub fn line_command<'a>(
     alloc: Global,
+    recent: &mut RecentPaths<'a>,
     built: bool,
-    bytes: &[u8],
+    bytes: &'a [u8],
 ) -> Result<Option<Command>, ScriptFault>
     ensures { AnswersLine result (line_says built bytes.now) }
 {
@@ -24,7 +26,7 @@ pub fn line_command(
         return Ok(None);
     }
     match str::from_utf8(bytes) {
-        Ok(text) => text_line(alloc, built, text),
+        Ok(text) => text_line(alloc, recent, built, text),
         Err(_) => Err(ScriptFault::NotUtf8),
     }
 }
@@ -38,33 +40,44 @@ fn is_comment(bytes: &[u8]) -> bool
     }
 }
 
-fn text_line(alloc: Global, built: bool, text: &str) -> Result<Option<Command>, ScriptFault>
+fn text_line<'a>(
+    alloc: Global,
+    recent: &mut RecentPaths<'a>,
+    built: bool,
+    text: &'a str,
+) -> Result<Option<Command>, ScriptFault>
     ensures { AnswersLine result (command_of built (words_of text.now)) }
 {
     let words = words(text);
-    command(alloc, built, words.as_slice())
+    command(alloc, recent, built, words.as_slice())
 }
 
 /// The command that words make.
-fn command(alloc: Global, built: bool, words: &[&str]) -> Result<Option<Command>, ScriptFault>
+fn command<'a>(
+    alloc: Global,
+    recent: &mut RecentPaths<'a>,
+    built: bool,
+    words: &[&'a str],
+) -> Result<Option<Command>, ScriptFault>
     ensures { AnswersLine result (command_of built (map (λ w. w.now) words.now)) }
 {
     match words {
         [] => Ok(None),
-        [first, rest @ ..] => some_command(alloc, built, first, rest),
+        [first, rest @ ..] => some_command(alloc, recent, built, first, rest),
     }
 }
 
-fn some_command(
+fn some_command<'a>(
     alloc: Global,
+    recent: &mut RecentPaths<'a>,
     built: bool,
     first: &str,
-    rest: &[&str],
+    rest: &[&'a str],
 ) -> Result<Option<Command>, ScriptFault>
     ensures { AnswersLine result (command_of built (first.now ∷ map (λ w. w.now) rest.now)) }
 {
     if begins_with_digit(first) {
-        client_command(alloc, built, first, rest)
+        client_command(alloc, recent, built, first, rest)
     } else {
         other_command(built, first, rest)
     }
@@ -80,17 +93,18 @@ fn begins_with_digit(word: &str) -> bool
 }
 
 /// The call that a client's line makes.
-fn client_command(
+fn client_command<'a>(
     alloc: Global,
+    recent: &mut RecentPaths<'a>,
     built: bool,
     client: &str,
-    rest: &[&str],
+    rest: &[&'a str],
 ) -> Result<Option<Command>, ScriptFault>
     ensures { AnswersLine result (client_command built client.now (map (λ w. w.now) rest.now)) }
 {
     match rest {
         [] => nameless_call(client),
-        [name, rest @ ..] => named_call(alloc, built, client, name, rest),
+        [name, rest @ ..] => named_call(alloc, recent, built, client, name, rest),
     }
 }
 
@@ -101,12 +115,13 @@ fn nameless_call(client: &str) -> Result<Option<Command>, ScriptFault>
     Err(ScriptFault::UnknownCommand)
 }
 
-fn named_call(
+fn named_call<'a>(
     alloc: Global,
+    recent: &mut RecentPaths<'a>,
     built: bool,
     client: &str,
     name: &str,
-    rest: &[&str],
+    rest: &[&'a str],
 ) -> Result<Option<Command>, ScriptFault>
     ensures { AnswersLine result (client_command built client.now
         (name.now ∷ map (λ w. w.now) rest.now)) }
@@ -114,7 +129,7 @@ fn named_call(
     let client = number(client)?;
     let word = call_word(name)?;
     cluster_there(built)?;
-    let op = call(alloc, word, rest)?;
+    let op = call(alloc, recent, word, rest)?;
     Ok(Some(Command::Call { client, op }))
 }
 

@@ -6,6 +6,7 @@ ghost use Rattle.assise_fault_script.specs.Script.{ClusterFirst, GivesNext, IsCo
 use crate::command::Command;
 use crate::fault::{LineFault, ScriptFault};
 use crate::line::line_command;
+use crate::recent_paths::RecentPaths;
 use crate::words::split_line;
 use std::alloc::Global;
 use std::marker::Model;
@@ -53,14 +54,19 @@ impl Progress {
     }
 
     /// Takes the next line in.
-    fn take(&mut self, alloc: Global, bytes: &[u8]) -> Result<(), LineFault>
+    fn take<'a>(
+        &mut self,
+        alloc: Global,
+        recent: &mut RecentPaths<'a>,
+        bytes: &'a [u8],
+    ) -> Result<(), LineFault>
         requires { self.old.number + 1 < 2 ^ 64 }
         ensures gives { GivesNext self.old bytes.now result self.new }
         ensures counts { OnOk result (self.new.number ≡ self.old.number + 1) }
         ensures faulty { IfErr result (λ faulty. faulty.line ≡ self.old.number) }
     {
         let line = self.number;
-        match line_command(alloc, self.built, bytes) {
+        match line_command(alloc, recent, self.built, bytes) {
             Ok(Some(command)) => {
                 if self
                     .commands
@@ -96,11 +102,12 @@ pub fn parse(alloc: Global, bytes: &[u8]) -> Result<Vec<NumberedCommand>, LineFa
     ensures reached { IfErr result (λ faulty. IsLineReached bytes.now faulty.line) }
 {
     let mut progress = Progress::new(alloc);
+    let mut recent = RecentPaths::new();
     let mut rest = bytes;
     while let Some((line, more)) = split_line(rest) {
-        progress.take(alloc, line)?;
+        progress.take(alloc, &mut recent, line)?;
         rest = more;
     }
-    progress.take(alloc, rest)?;
+    progress.take(alloc, &mut recent, rest)?;
     Ok(progress.into_commands())
 }

@@ -1,15 +1,13 @@
-use Rattle.std.proofs.Common.{refl, arith}
+use Rattle.std.proofs.Common.{refl}
 use Rattle.assise_model_events.specs.Events.{crash}
 use Rattle.assise_machine.specs.Clusters.{machine}
-use Rattle.assise_machine.proofs.Few.{few_clients}
+use Rattle.assise_console.proofs.SmallNumbers.{no_client_so_large}
 use Rattle.assise_console.proofs.OneCommand.{crashes_none, does_at}
 use Rattle.assise_console.proofs.commands.crash.Goals as goal
 
 pub returns-in_default : goal.returns-in_default
 returns-in_default g c =
-    let few = few_clients c.args.cluster.now in
-    let large = c.number_of.ensures.none c.in_default.is in
-    crashes_none (machine c.args.cluster.now) c.args.client (omega (arith, few, large))
+    crashes_none (machine c.args.cluster.now) c.args.client (no_client_so_large c.args.cluster.now (c.number_of.ensures.none c.in_default.is))
 
 pub returns-in-Ok : goal.returns-in-Ok
 returns-in-Ok g c = does_at crash (machine c.args.cluster.now) c.args.client c.in-Some.client _ _ (machine c.crash.new.self) c.in-Some.ensures.some (refl, refl) c.in-Ok.ensures.happens

@@ -1,17 +1,16 @@
-use Rattle.std.proofs.Common.{rules, ◌≡◌, refl, subst, arith}
+use Rattle.std.proofs.Common.{rules, ◌≡◌, refl, subst}
 use Rattle.assise_model_events.specs.Events.{hot_set, refused}
 use Rattle.assise_model_events.specs.NodeEvents.{SettingHot}
 use Rattle.assise_machine.specs.Clusters.{machine}
-use Rattle.assise_machine.proofs.Few.{few_nodes}
+use Rattle.assise_console.proofs.SmallNumbers.{no_node_so_large}
 use Rattle.assise_console.proofs.OneCommand.{hot_nowhere, sets_hot}
 use Rattle.assise_console.proofs.commands.set_hot.Goals as goal
 
 pub returns-in_default-number_of : goal.returns-in_default-number_of
 returns-in_default-number_of g c =
-    let few = few_nodes c.args.cluster.now in
-    let large = c.number_of.ensures.none c.in_default-number_of.is in
     let within = c.in-Some.ensures.within.0 refl in
-    hot_nowhere (machine c.args.cluster.now) c.args.node c.args.capacity within.0 within.1 (omega (arith, few, large))
+    hot_nowhere (machine c.args.cluster.now) c.args.node c.args.capacity within.0 within.1
+    (no_node_so_large c.args.cluster.now (c.number_of.ensures.none c.in_default-number_of.is))
 
 pub returns-in-Ok : goal.returns-in-Ok
 returns-in-Ok g c =

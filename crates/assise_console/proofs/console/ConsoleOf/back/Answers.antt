@@ -1,7 +1,6 @@
-use Rattle.std.proofs.Common.{arith}
 use Rattle.assise_machine.specs.Clusters.{machine}
-use Rattle.assise_machine.proofs.Few.{few_nodes}
 use Rattle.assise_console.specs.Consoles.{console_seen}
+use Rattle.assise_console.proofs.SmallNumbers.{no_node_so_large}
 use Rattle.assise_console.proofs.OneCommand.{begins_return, returns_none, returns_whole}
 use Rattle.assise_console.proofs.console.ConsoleOf.back.Goals as goal
 
@@ -10,9 +9,7 @@ returns-then-self g c = begins_return (console_seen c.args.self.now) c.args.node
 
 pub returns-in_default : goal.returns-in_default
 returns-in_default g c =
-    let few = few_nodes c.args.self.now.cluster in
-    let large = c.number_of.ensures.none c.in_default.is in
-    returns_none (console_seen c.args.self.now) c.args.node c.if-self.false (omega (arith, few, large))
+    returns_none (console_seen c.args.self.now) c.args.node c.if-self.false (no_node_so_large c.args.self.now.cluster (c.number_of.ensures.none c.in_default.is))
 
 pub returns : goal.returns
 returns g c =

@@ -1,16 +1,13 @@
-use Rattle.std.proofs.Common.{arith}
 use Rattle.assise_machine_calls.specs.Answers.{turn_answer}
 use Rattle.assise_machine.specs.Clusters.{machine}
-use Rattle.assise_machine.proofs.Few.{few_clients}
 use Rattle.assise_console.specs.Consoles.{console_seen}
+use Rattle.assise_console.proofs.SmallNumbers.{no_client_so_large}
 use Rattle.assise_console.proofs.OneCommand.{calls_none, calls_often, calls_once}
 use Rattle.assise_console.proofs.console.ConsoleOf.call.Goals as goal
 
 pub returns-in_default : goal.returns-in_default
 returns-in_default g c =
-    let few = few_clients c.args.self.now.cluster in
-    let large = c.number_of.ensures.none c.in_default.is in
-    calls_none (console_seen c.args.self.now) c.args.client c.args.op.now (omega (arith, few, large))
+    calls_none (console_seen c.args.self.now) c.args.client c.args.op.now (no_client_so_large c.args.self.now.cluster (c.number_of.ensures.none c.in_default.is))
 
 pub returns-then-self : goal.returns-then-self
 returns-then-self g c =

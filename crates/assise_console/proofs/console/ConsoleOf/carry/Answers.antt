@@ -1,21 +1,19 @@
-use Rattle.std.proofs.Common.{rules, ◌≡◌, ◌-◌, ◌<◌, Some, length, subst, sym, arith}
+use Rattle.std.proofs.Common.{rules, ◌≡◌, ◌-◌, ◌<◌, Some, length, subst, sym}
 use Rattle.assise_names.specs.declared.refusal.Refusal.TheVariants.{BadNode}
 use Rattle.assise_names.specs.declared.limits.TheConstants.{MOST_NODES}
 use Rattle.assise_link.specs.TestLinks.{kind_of_link}
 use Rattle.assise_model_events.specs.Faults.{node_fault}
 use Rattle.assise_machine.specs.Clusters.{machine}
-use Rattle.assise_machine.proofs.Few.{few_nodes}
 use Rattle.assise_rounds.proofs.NodeLinks.{at_node, set_same}
 use Rattle.assise_console.specs.Consoles.{console_seen}
+use Rattle.assise_console.proofs.SmallNumbers.{no_node_so_large}
 use Rattle.assise_console.proofs.Links.{below_most}
 use Rattle.assise_console.proofs.OneCommand.{carries_none, carries_nowhere, carries_refused, carries_some}
 use Rattle.assise_console.proofs.console.ConsoleOf.carry.Goals as goal
 
 pub returns-in_default : goal.returns-in_default
 returns-in_default g c =
-    let few = few_nodes c.args.self.now.cluster in
-    let large = c.number_of.ensures.none c.in_default.is in
-    carries_none (console_seen c.args.self.now) c.args.node (omega (arith, few, large))
+    carries_none (console_seen c.args.self.now) c.args.node (no_node_so_large c.args.self.now.cluster (c.number_of.ensures.none c.in_default.is))
 
 pub returns-then-not-has_node : goal.returns-then-not-has_node
 returns-then-not-has_node g c =

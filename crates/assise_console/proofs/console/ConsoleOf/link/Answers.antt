@@ -1,15 +1,13 @@
-use Rattle.std.proofs.Common.{rules, ◌≡◌, ◌-◌, ◌<◌, length, refl, subst, sym, arith}
+use Rattle.std.proofs.Common.{rules, ◌≡◌, ◌-◌, ◌<◌, length, refl, subst, sym}
 use Rattle.assise_names.specs.declared.limits.TheConstants.{MOST_NODES}
-use Rattle.assise_machine.proofs.Few.{few_nodes}
 use Rattle.assise_console.specs.Consoles.{console_seen}
+use Rattle.assise_console.proofs.SmallNumbers.{no_node_so_large}
 use Rattle.assise_console.proofs.Links.{below_most, links_nowhere, sets_link}
 use Rattle.assise_console.proofs.console.ConsoleOf.link.Goals as goal
 
 pub returns-in_default : goal.returns-in_default
 returns-in_default g c =
-    let few = few_nodes c.args.self.now.cluster in
-    let large = c.number_of.ensures.none c.in_default.is in
-    links_nowhere (console_seen c.args.self.now) c.args.node c.args.kind (omega (arith, few, large))
+    links_nowhere (console_seen c.args.self.now) c.args.node c.args.kind (no_node_so_large c.args.self.now.cluster (c.number_of.ensures.none c.in_default.is))
 
 pub listed : goal.listed
 listed g c =

@@ -1,18 +1,16 @@
-use Rattle.std.proofs.Common.{length, arith}
+use Rattle.std.proofs.Common.{length}
 use Rattle.assise_machine.specs.Clusters.{machine, revokers}
-use Rattle.assise_machine.proofs.Few.{few_nodes}
 use Rattle.assise_console.specs.Consoles.{console_seen}
 use Rattle.assise_fault_script.specs.declared.command.RevokerKind.TheVariants.{Least, Whole, Eights}
 use Rattle.assise_machine.specs.Running.{opened_answer}
+use Rattle.assise_console.proofs.SmallNumbers.{no_node_so_large}
 use Rattle.assise_console.proofs.OneCommand.{opens_by, opens_none}
 use Rattle.assise_console.proofs.Stored.{kept, other_kinds_eights, other_kinds_least, other_kinds_whole, others_stay, takes}
 use Rattle.assise_console.proofs.console.ConsoleOf.open.Goals as goal
 
 pub returns-in_default-clause-opens : goal.returns-in_default-clause-opens
 returns-in_default-clause-opens g c =
-    let few = few_nodes c.args.self.now.cluster in
-    let large = c.number_of.ensures.none c.in_default.is in
-    opens_none (console_seen c.args.self.now) c.args.node c.args.kind c.args.durability (omega (arith, few, large))
+    opens_none (console_seen c.args.self.now) c.args.node c.args.kind c.args.durability (no_node_so_large c.args.self.now.cluster (c.number_of.ensures.none c.in_default.is))
 
 pub returns-in-Least-clause-opens : goal.returns-in-Least-clause-opens
 returns-in-Least-clause-opens g c =
