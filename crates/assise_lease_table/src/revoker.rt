@@ -20,19 +20,20 @@ pub trait Revokes {
         ensures covers { Covers view.now inode result };
 }
 
-type Cut = Box<dyn Fn(&LogView, u64) -> u64 + Send>;
+/// A closure that answers cuts, for a [`Revoker`] to store.
+pub type CutFn = Box<dyn Fn(&LogView, u64) -> u64 + Send>;
 
 /// A stored closure that answers cuts. It may be called on every log and inode, and every answer of it is a cut.
 #[derive(Drop)]
 pub struct Revoker {
-    cut: Cut,
-    ghost callable: { Cut.IsAlwaysCallable cut },
-    ghost covers: { (view : _) (inode cut_at : ℕ) → inode < 2 ^ 64 → Cut.post cut view inode cut_at → Covers view.now inode cut_at },
+    cut: CutFn,
+    ghost callable: { CutFn.IsAlwaysCallable cut },
+    ghost covers: { (view : _) (inode cut_at : ℕ) → inode < 2 ^ 64 → CutFn.post cut view inode cut_at → Covers view.now inode cut_at },
 }
 
 impl Revoker {
     /// A revoker of a closure. That each of its answers is a cut is the maker's to show.
-    pub fn new(cut: Box<dyn Fn(&LogView, u64) -> u64 + Send>) -> Revoker
+    pub fn new(cut: CutFn) -> Revoker
         requires callable { IsAlwaysCallable cut }
         requires covers { (view : _) (inode cut_at : ℕ) → inode < 2 ^ 64 →
             post cut view inode cut_at → Covers view.now inode cut_at }
@@ -46,7 +47,7 @@ impl Revokes for Revoker {
     ghost use Rattle.std.specs.Borrow.{Bor};
     ghost use Rattle.assise_private_log.specs.NumberedLog.{NumberedLog};
 
-    ghost answers = { λ r v i k. (view : Bor NumberedLog) × (view.now ≡ v) × Cut.post r.cut view i k };
+    ghost answers = { λ r v i k. (view : Bor NumberedLog) × (view.now ≡ v) × CutFn.post r.cut view i k };
 
     fn cut(&self, view: &LogView, inode: u64) -> u64 {
         (self.cut)(view, inode)

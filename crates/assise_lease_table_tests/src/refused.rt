@@ -1,21 +1,18 @@
 //! Allocations that are refused: `checks/allocations leases` refuses each in turn.
 use crate::logs::OneLog;
 use assise_lease_table::client_table::{ClientTable, ClientTableOf};
-use assise_lease_table::revoker::Revoker;
+use assise_lease_table::revoker::{CutFn, Revoker};
 use assise_names::mode::Mode;
 use assise_private_log::log::Log;
-use assise_private_log::log_view::LogView;
 use assise_revokers::kinds::least;
 use std::alloc::Global;
-
-type Cut = Box<dyn Fn(&LogView, u64) -> u64 + Send>;
 
 /// Takes a client in that isn't there.
 fn enrol(alloc: Global, table: &mut ClientTable, client: u32) -> Option<()> {
     if table.is_enrolled(client) {
         return None;
     }
-    let cut: Cut = Box::new(alloc, least).ok()?;
+    let cut: CutFn = Box::new(alloc, least).ok()?;
     table.enrol(client, Revoker::new(cut)).ok()
 }
 

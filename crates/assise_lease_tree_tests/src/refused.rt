@@ -1,14 +1,11 @@
 //! Allocations that are refused: `checks/allocations leases` refuses each in turn.
 use crate::logs::OneLog;
-use assise_lease_table::revoker::Revoker;
+use assise_lease_table::revoker::{CutFn, Revoker};
 use assise_lease_tree::lease_tree::{LeaseTree, LeaseTreeOf};
 use assise_names::mode::Mode;
 use assise_private_log::log::Log;
-use assise_private_log::log_view::LogView;
 use assise_revokers::kinds::least;
 use std::alloc::Global;
-
-type Cut = Box<dyn Fn(&LogView, u64) -> u64 + Send>;
 
 /// What each client wants, one after another: leases are given, raised, asked for, and asked for again.
 const WANTED: &[(u32, u64, Mode)] = &[
@@ -26,7 +23,7 @@ fn enrol(alloc: Global, tree: &mut LeaseTree, client: u32, node: u32) -> Option<
     if tree.node_of(client).is_some() {
         return None;
     }
-    let cut: Cut = Box::new(alloc, least).ok()?;
+    let cut: CutFn = Box::new(alloc, least).ok()?;
     tree.enrol(client, node, Revoker::new(cut)).ok()
 }
 

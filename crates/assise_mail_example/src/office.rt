@@ -12,12 +12,11 @@ use crate::tally::Tally;
 use crate::writers::deliver_all;
 use assise_keeper::keeper::Keeper;
 use assise_keeper::pass::Pass;
-use assise_lease_table::revoker::Revoker;
+use assise_lease_table::revoker::{CutFn, Revoker};
 use assise_libfs::served::Served;
 use assise_machine::cluster::Cluster;
 use assise_mail::fault::MailFault;
 use assise_names::refusal::Refusal;
-use assise_private_log::log_view::LogView;
 use assise_revokers::kinds::whole;
 use assise_workers::nodes::{NodeWorkers, tend};
 use assise_workers::replicated::Replicated;
@@ -29,8 +28,6 @@ use std::thread::{Threads, join};
 const REVOKERS: usize = 14;
 
 /// What a client's revoker answers.
-type Cut = Box<dyn Fn(&LogView, u64) -> u64 + Send>;
-
 /// Leaves with what a thread came to.
 fn left<T: Drop>(tally: &Tally, ended: T) -> T {
     tally.leave();
@@ -237,7 +234,7 @@ where
 pub fn run_office<R: Threads + Wait + Sync>(rt: &R, alloc: Global) -> Result<Report, MailFault> {
     let mut revokers = Vec::with_capacity(alloc, REVOKERS)?;
     for _ in 0..REVOKERS {
-        let cut: Cut = Box::new(alloc, whole).map_err(AllocError::from)?;
+        let cut: CutFn = Box::new(alloc, whole).map_err(AllocError::from)?;
         revokers.push(Revoker::new(cut))?;
     }
     let cluster = Cluster::new(alloc, SURVIVOR, 64, 16)?;

@@ -1,11 +1,10 @@
 //! Clusters on which a client made calls before anything runs.
 use assise_fault_script::command::Command;
 use assise_fault_script::parse::parse;
-use assise_lease_table::revoker::Revoker;
+use assise_lease_table::revoker::{CutFn, Revoker};
 use assise_machine::cluster::Cluster;
 use assise_names::call::Op;
 use assise_names::durability::Durability;
-use assise_private_log::log_view::LogView;
 use assise_revokers::kinds::least;
 use std::alloc::Global;
 
@@ -33,7 +32,7 @@ pub(crate) fn lent<'a>(alloc: Global, calls: &'a [Op]) -> Option<Vec<&'a Op>> {
 
 /// A revoker of the least cut.
 pub(crate) fn revoker(alloc: Global) -> Option<Revoker> {
-    let cut: Box<dyn Fn(&LogView, u64) -> u64 + Send> = Box::new(alloc, least).ok()?;
+    let cut: CutFn = Box::new(alloc, least).ok()?;
     Some(Revoker::new(cut))
 }
 
