@@ -233,6 +233,14 @@ no_pieces = record { ascend = tt; filled = λ k d h. absurd (omega arith); count
 pub read_piece : (ps : List (List Slot)) (w : ℕ) (p : List Slot) → w < length ps → p ≡ get_or ps w p → p ≡ piece_at ps w
 read_piece ps w p h e = get_or_read ps w p h e []
 
+-- the link that is read at a name, and the pieces with another link there
+module _ (name : List ℕ) (ps : List (List Slot)) (w at : ℕ) (is : StandsAt name ps w at) (p : List Slot) (e : p ≡ get_or ps w p) where
+  pub link_read : (link : Option ℕ) → link ≡ slot_link p at → link ≡ slot_link (piece_at ps w) at
+  link_read link h = h ∙ ap (λ q. slot_link q at) (read_piece ps w p is.within e)
+
+  pub link_set : (q : List Slot) (link : Option ℕ) → q ≡ set p at (slot_name p at, link) → set ps w q ≡ set ps w (set (piece_at ps w) at (slot_name (piece_at ps w) at, link))
+  link_set q link h = ap (set ps w) (h ∙ ap (λ r. set r at (slot_name r at, link)) (read_piece ps w p is.within e))
+
 pub listed_pieces : (ps : List (List Slot)) (i : ℕ) (p : List Slot) → i < length ps → p ≡ get_or ps i p
     → keys_of (live (slots_in (take (i + 1) ps))) ≡ keys_of (live (slots_in (take i ps))) ++ keys_of (live p)
 listed_pieces ps i p h e =
