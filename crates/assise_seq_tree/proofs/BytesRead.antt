@@ -45,18 +45,20 @@ read_before bytes offset new from n h k =
 pub read_again : (from most : ℕ) (bytes : List ℕ) → bytes_from from (length (bytes_from from most bytes)) bytes ≡ bytes_from from most bytes
 read_again from most bytes = ap (λ n. take n (drop from bytes)) (length-take most (drop from bytes)) ∙ take_min most (drop from bytes)
 
-none_read : (n from : ℕ) (xs ys : List ℕ) → n ≡ 0 → bytes_from from n xs ≡ bytes_from from n ys
-none_read n from xs ys e = rw e refl
+-- bytes that agree with others up to an end agree in what was read up to it
+pub read_alike : (bytes others : List ℕ) (from most end : ℕ)
+    → ((n : ℕ) → from + n ≤ end → from + n ≤ length bytes → bytes_from from n others ≡ bytes_from from n bytes)
+    → from + length (bytes_from from most bytes) ≤ end → bytes_from from (length (bytes_from from most bytes)) others ≡ bytes_from from most bytes
+read_alike bytes others from most end alike h = go (length (bytes_from from most bytes)) refl ∙ read_again from most bytes
+  where
+    go : (n : ℕ) → n ≡ length (bytes_from from most bytes)
+        → bytes_from from (length (bytes_from from most bytes)) others ≡ bytes_from from (length (bytes_from from most bytes)) bytes
+    go zero e = rw (← e) refl
+    go (suc n) e = alike _ h (omega (arith, length-take most (drop from bytes), length-drop from bytes, e))
 
 pub read_kept : (bytes : List ℕ) (offset : ℕ) (new : List ℕ) (from most : ℕ) → from + length (bytes_from from most bytes) ≤ offset
     → bytes_from from (length (bytes_from from most bytes)) (overwritten bytes offset new) ≡ bytes_from from most bytes
-read_kept bytes offset new from most h = go (length (bytes_from from most bytes)) refl ∙ read_again from most bytes
-  where
-    go : (n : ℕ) → n ≡ length (bytes_from from most bytes) → bytes_from from (length (bytes_from from most bytes)) (overwritten bytes offset new) ≡ bytes_from from (length (bytes_from from most bytes)) bytes
-    go zero e = none_read _ from (overwritten bytes offset new) bytes (sym e)
-    go (suc n) e =
-        let within : from + length (bytes_from from most bytes) ≤ length bytes = omega (arith, length-take most (drop from bytes), length-drop from bytes, e) in
-        read_before bytes offset new from (length (bytes_from from most bytes)) h within
+read_kept bytes offset new from most = read_alike bytes (overwritten bytes offset new) from most offset (read_before bytes offset new from)
 
 -- the old bytes behind them
 pub read_behind : (bytes : List ℕ) (offset : ℕ) (new : List ℕ) (from most : ℕ) → offset + length new ≤ from → bytes_from from most (overwritten bytes offset new) ≡ bytes_from from most bytes

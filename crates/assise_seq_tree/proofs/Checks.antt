@@ -2,7 +2,7 @@
 use Rattle.std.proofs.Common.{◌≡◌, ◌≢◌, ℕ, ◌<◌, Bool, true, false, not, cond, List, [], ◌∷◌, ◌++◌, length, take, Some, Result, Ok, Err, ◌==◌, refl, ap, sym, ◌∙◌, ◌⊎◌, inl, inr, arith}
 use Rattle.std.specs.Prelude.{nat_lt, ◌||◌, if◌then◌else◌}
 use Rattle.std.specs.Bool.{Decides}
-use Rattle.std.proofs.lemmas.Bool.{cases_Bool}
+use Rattle.std.proofs.lemmas.Bool.{cases_Bool, or_parts}
 use Rattle.std.proofs.lemmas.Bool.Decides.{nat_tests}
 use Rattle.std.proofs.lemmas.Slice.Eq.{slice_eq-Decides, bytes_eq-Decides, starts_is}
 use Rattle.std.proofs.lemmas.List.{append-nil}
@@ -76,7 +76,7 @@ no_place (dir ms) stays es fs some h =
       | inr more ↦ let no = rw more at h in cc
     ]
 
-then_ok : {A B : Type 0} (r : Result A TreeError) (f : A → Result B TreeError) (y : B) → (r >>= f) ≡ Ok y → (x : A) × (r ≡ Ok x) × (f x ≡ Ok y)
+pub then_ok : {A B : Type 0} (r : Result A TreeError) (f : A → Result B TreeError) (y : B) → (r >>= f) ≡ Ok y → (x : A) × (r ≡ Ok x) × (f x ≡ Ok y)
 then_ok (Ok x) f y h = (x, refl, h)
 then_ok (Err e) f y h = cc
 
@@ -91,17 +91,13 @@ pub record Passed (p q : Path) (t : Tree) : Type 0 where
   pub from_name : 0 < length p
   pub to_name : 0 < length q
 
-is_directory : (t : Tree) (es : Entries) → as_directory t ≡ Ok es → t ≡ dir es
+pub is_directory : (t : Tree) (es : Entries) → as_directory t ≡ Ok es → t ≡ dir es
 is_directory (file bytes) es h = cc
 is_directory (dir fs) es h = cc
 
 no_error : {A : Type 0} (b : Bool) (e : TreeError) (r : Result A TreeError) (y : A) → cond b (Err e) r ≡ Ok y → (b ≡ false) × (r ≡ Ok y)
 no_error true e r y h = cc
 no_error false e r y h = (refl, h)
-
-neither : (a b : Bool) → (a || b) ≡ false → (a ≡ false) × (b ≡ false)
-neither true b h = cc
-neither false b h = (refl, h)
 
 is_some_name : (n : ℕ) → (n == 0) ≡ false → 0 < n
 is_some_name n h = grind (arith, nat_tests)
@@ -122,7 +118,7 @@ pub passed : (p q : Path) (t : Tree) → may_rename t p q ≡ Ok tt → same_pat
 passed p q t h other =
     let below = no_error (length p == 0 || length q == 0) Invalid (if is_proper_prefix p q then Err Invalid else (at t p >>= λ moved. entries_at t (parent_of q) >>= λ es. entered p q moved es)) tt h in
     let checked = no_error (is_proper_prefix p q) Invalid (at t p >>= λ moved. entries_at t (parent_of q) >>= λ es. entered p q moved es) tt below.1 in
-    let roots = neither (length p == 0) (length q == 0) below.0 in
+    let roots = or_parts (length p == 0) (length q == 0) below.0 in
     let source = then_ok (at t p) (λ moved. entries_at t (parent_of q) >>= λ es. entered p q moved es) tt checked.1 in
     walked (is_some_name (length p) roots.0) (is_some_name (length q) roots.1) checked.0 source.0 source.1 source.2
   where

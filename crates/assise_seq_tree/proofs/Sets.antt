@@ -9,7 +9,7 @@ use Rattle.assise_seq_tree.specs.Tree.{Tree, Entries, no_entries, entry, same_na
 use Rattle.assise_seq_tree.proofs.Order.{cases_ordering, below_trans, ordered-replace, ordered-insert}
 
 -- ---- names
-tied : (o : Ordering) → is_eq o ≡ true → o ≡ Equal
+pub tied : (o : Ordering) → is_eq o ≡ true → o ≡ Equal
 tied Less e = cc
 tied Equal e = refl
 tied Greater e = cc
@@ -68,6 +68,14 @@ pub find_below : (q : List ℕ) (es : Entries) → IsBelow q es → find q es �
 find_below q no_entries below = refl
 find_below q (entry k t es) below = ap (λ o. cond (is_eq o) (Some t) (find q es)) below.0 ∙ find_below q es below.1
 
+-- a name that is found past the first entry is another one than that
+pub found_later : (q name : List ℕ) (t u : Tree) (es : Entries) → IsBelow name es → find q es ≡ Some u → find q (entry name t es) ≡ Some u
+found_later q name t u es below there =
+    elim (cases_Bool (same_name q name)) [
+      | inl same ↦ let none = find_below name es below in let some = ap (λ n. find n es) (sym (one_name q name same)) ∙ there in cc
+      | inr differs ↦ ap (λ b. cond b (Some t) (find q es)) differs ∙ there
+    ]
+
 pub find-remove : (q n : List ℕ) (es : Entries) → AreOrdered es → find q (remove n es) ≡ cond (same_name q n) None (find q es)
 find-remove q n no_entries s = go (same_name q n)
   where
@@ -109,7 +117,7 @@ ordered-set n x es s o = go (is_some (find n es))
     go false = ordered-insert n x es s o
 
 -- ---- ordered entries are what is found in them
-find_first : (n : List ℕ) (t : Tree) (es : Entries) → find n (entry n t es) ≡ Some t
+pub find_first : (n : List ℕ) (t : Tree) (es : Entries) → find n (entry n t es) ≡ Some t
 find_first n t es = ap (λ b. cond b (Some t) (find n es)) (same_itself n)
 
 missed : (n m : List ℕ) (t u : Tree) (es fs : Entries) {P : Type 0} → slice_cmp nat_cmp n m ≡ Less → IsBelow m fs → find n (entry n t es) ≡ find n (entry m u fs) → P

@@ -93,6 +93,8 @@ at-put (name ∷ p) (dir es) x u h =
           ∙ at-put p some.0 x u below
     ]
 
--- what stands at the path is taken out for another, and something is put back
-pub exchanged : (p : List (List ℕ)) (t u x y t' t'' : Tree) → at t p ≡ Ok u → t' ≡ put t p x → t'' ≡ put t' p y → t'' ≡ put t p y
-exchanged p t u x y t' t'' h e f = f ∙ ap (λ s. put s p y) e ∙ put-put p t x y u h
+-- what stands at the path is swapped for another, and what was made of it is swapped back
+pub swapped_back : (p : List (List ℕ)) (t u other made t' t'' : Tree) → at t p ≡ Ok u → t' ≡ put t p other
+    → ((v : Tree) → at t' p ≡ Ok v → t'' ≡ put t' p made) → t'' ≡ put t p made
+swapped_back p t u other made t' t'' h e back =
+    back other (ap (λ s. at s p) e ∙ at-put p t other u h) ∙ ap (λ s. put s p made) e ∙ put-put p t other made u h
