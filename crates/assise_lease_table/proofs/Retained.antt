@@ -1,13 +1,12 @@
 -- What `retain` leaves of a map whose entries have leases, where it changes the leases of each alike.
-use Rattle.std.proofs.Common.{◌≡◌, ℕ, Bool, true, false, true≢false, ◌||◌, inl, inr, eq-eqb, cond, List, [], ◌∷◌, Option, None, Some, nat_eq, sym, refl, ap, subst, ◌∙◌}
+use Rattle.std.proofs.Common.{◌≡◌, ℕ, Bool, true, false, true≢false, inl, inr, eq-eqb, cond, List, [], ◌∷◌, Option, None, Some, nat_eq, sym, refl, ap, subst, ◌∙◌}
 use Rattle.std.specs.List.{IsDistinct, AllByRecursion, list_any}
 use Rattle.std.specs.Map.{lookup, keys_of, values_of}
 use Rattle.std.specs.Map.Calls.{RetainsPairs}
+use Rattle.std.proofs.lemmas.Bool.{or_cases, or_parts, eqb-true}
 use Rattle.assise_lease_table.specs.declared.lease.Lease.{Lease}
 use Rattle.assise_lease_table.specs.Leases.{revoke}
 use Rattle.assise_lease_table.specs.Lists.{leases_in, is_none_or, is_any}
-use Rattle.assise_lease_table.proofs.Compatibles.{same_number}
-use Rattle.assise_lease_table.proofs.Elements.{neither, or_cases}
 
 pub revoke_any : (choice : Lease → Bool) (ls : List Lease) → is_any (revoke choice ls) ≡ is_any ls
 revoke_any choice [] = refl
@@ -54,7 +53,7 @@ module _ {V F : Type 0} (any : V → Bool) (T : F → ℕ → V → Bool → V �
 
 -- no entry behind a key has it too
 absent_at : {V : Type 0} (m : Bool) (i k j : ℕ) (v : V) (rest : Option V) → nat_eq i k ≡ true → nat_eq k j ≡ false → rest ≡ None → cond (nat_eq i j) (Some v) rest ≡ None
-absent_at m i k j v rest same other none = ap (λ z. cond (nat_eq z j) (Some v) rest) (same_number i k same) ∙ ap (λ b. cond b (Some v) rest) other ∙ none
+absent_at m i k j v rest same other none = ap (λ z. cond (nat_eq z j) (Some v) rest) (eqb-true i k same) ∙ ap (λ b. cond b (Some v) rest) other ∙ none
 
 pub absent : {V : Type 0} (i k : ℕ) (es : List (ℕ × V)) → nat_eq i k ≡ true → AllByRecursion (λ y. nat_eq k y ≡ false) (keys_of es) → lookup (nat_eq i) es ≡ None
 absent i k [] same all = refl
@@ -104,7 +103,7 @@ module _ {V : Type 0} (leases : V → List Lease) (choice : Lease → Bool) wher
 
   pub none_at : (es : List (ℕ × V)) → AnyIn es ≡ false → (i : ℕ) → list_any choice (leases_in leases (lookup (nat_eq i) es)) ≡ false
   none_at [] e i = refl
-  none_at (x ∷ xs) e i = let parts = neither (list_any choice (leases x.1)) (AnyIn xs) e in
+  none_at (x ∷ xs) e i = let parts = or_parts (list_any choice (leases x.1)) (AnyIn xs) e in
       none_head (nat_eq i x.0) x.1 (lookup (nat_eq i) xs) parts.0 (none_at xs parts.1 i)
 
   -- a key with a chosen lease behind another key isn't that key

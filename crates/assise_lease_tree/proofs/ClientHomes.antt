@@ -1,17 +1,18 @@
 -- Clients, their nodes and modes.
 use Rattle.std.proofs.Common.{◌≡◌, ℕ, ◌==◌, Bool, true, false, cond, List, [], ◌∷◌, Option, Some, None, ◌⊎◌, inl, inr, sym, refl, ap, ◌∙◌, eq-eqb}
+use Rattle.std.proofs.lemmas.Bool.{eqb-true}
 use Rattle.assise_names.specs.declared.mode.Mode.{Mode}
 use Rattle.assise_names.specs.declared.mode.Mode.TheVariants.{Read, Write}
 use Rattle.assise_lease_table.specs.declared.lease.Lease.{Lease}
 use Rattle.assise_lease_table.specs.Modes.{against, strong, stronger}
 use Rattle.assise_lease_table.specs.Leases.{Among, lease_of, compatible}
 use Rattle.assise_lease_table.proofs.Elements.{not_both, any_among, among_any}
-use Rattle.assise_lease_table.proofs.Compatibles.{same_number, one_lease}
+use Rattle.assise_lease_table.proofs.Compatibles.{one_lease}
 use Rattle.assise_lease_tree.specs.Levels.{Homes, is_node, lives, raised_mode, is_busy}
 
 node_of : (o : Option ℕ) (n : ℕ) → is_node o n ≡ true → o ≡ Some n
 node_of None n e = cc
-node_of (Some m) n e = ap (λ z. Some z) (same_number m n e)
+node_of (Some m) n e = ap (λ z. Some z) (eqb-true m n e)
 
 pub home_of : (home : Homes) (c n : ℕ) → lives home c n ≡ true → home c ≡ Some n
 home_of home c n e = node_of (home c) n e
@@ -65,7 +66,7 @@ found_in false k l o e = inr e
 pub lease_among : (ls : List Lease) (h : ℕ) (l : Lease) → lease_of ls h ≡ Some l → Among ls l × (l.holder ≡ h)
 lease_among [] h l e = cc
 lease_among (k ∷ ks) h l e = elim (found_in (k.holder == h) k l (lease_of ks h) e) [
-  | inl here ↦ (inl (sym here.1), ap (λ (z : Lease). z.holder) (sym here.1) ∙ same_number k.holder h here.0)
+  | inl here ↦ (inl (sym here.1), ap (λ (z : Lease). z.holder) (sym here.1) ∙ eqb-true k.holder h here.0)
   | inr rest ↦ let found = lease_among ks h l rest in (inr found.0, found.1)
 ]
 

@@ -1,6 +1,6 @@
 -- What the changes keep: each leaves a lawful membership lawful.
-use Rattle.std.proofs.Common.{◌≡◌, ℕ, zero, suc, ◌+◌, ◌-◌, ◌<◌, ◌≤◌, Bool, true, false, cond, ◌&&◌, not, inl, inr, Option, Some, None}
-use Rattle.std.proofs.Common.{List, [], ◌∷◌, ◌++◌, drop, length, refl, sym, ap, ◌∙◌, subst, arith, true≢false}
+use Rattle.std.proofs.Common.{[], ◌≡◌, ℕ, zero, suc, ◌+◌, ◌-◌, ◌<◌, ◌≤◌, Bool, true, false, cond, ◌&&◌, not, inl, inr, Option, Some, None}
+use Rattle.std.proofs.Common.{List, ◌∷◌, ◌++◌, drop, length, refl, sym, ap, ◌∙◌, subst, arith, true≢false}
 use Rattle.std.specs.Prelude.{◌==◌, nat_le}
 use Rattle.std.specs.List.{list_all, list_any, slice_get}
 use Rattle.std.specs.Ordering.{nat_cmp, eq_by_cmp}
@@ -107,13 +107,13 @@ noted_there (suc k) (l ∷ next ∷ ls) inodes few q inside = noted_there k (nex
 
 -- ---- places
 
-back_one : (place : ℕ) → suc place - 1 ≡ place
-back_one place = omega arith
+pub one_fewer : (n : ℕ) → suc n - 1 ≡ n
+one_fewer n = omega arith
 
 -- a node's place in the list
 place_of : (nodes : List Standing) (node : ℕ) (s : Standing) → standing_of nodes node ≡ Some s → slice_get nodes (node - 1) ≡ Some s
 place_of nodes zero s at = absurd (none-some s at)
-place_of nodes (suc place) s at = ap (slice_get nodes) (back_one place) ∙ at
+place_of nodes (suc place) s at = ap (slice_get nodes) (one_fewer place) ∙ at
 
 numbered : (nodes : List Standing) (node : ℕ) (s : Standing) → standing_of nodes node ≡ Some s → 0 < node
 numbered nodes zero s at = absurd (none-some s at)
@@ -125,7 +125,7 @@ away_some (Some s) away = (s, refl)
 
 away_place : (nodes : List Standing) (node : ℕ) → is_away (standing_of nodes node) ≡ true → is_away (slice_get nodes (node - 1)) ≡ true
 away_place nodes zero away = never away
-away_place nodes (suc place) away = ap (λ i. is_away (slice_get nodes i)) (back_one place) ∙ away
+away_place nodes (suc place) away = ap (λ i. is_away (slice_get nodes i)) (one_fewer place) ∙ away
 
 -- what is known of each is known of this one
 pub known_of : (m : Membership) (node : ℕ) (s : Standing) → IsMembership m → standing_of m.nodes node ≡ Some s → is_known m s ≡ true
@@ -494,7 +494,8 @@ joined_lawful m node lawful fine = joined_as_lawful m node lawful (joined_levels
 
 -- ---- digests
 
-stale_full : (node : ℕ) (inodes : Numbers) (s : Standing) → is_full (stale_again node inodes s) ≡ is_full s
+-- a digest makes no node full and leaves each full one so
+pub stale_full : (node : ℕ) (inodes : Numbers) (s : Standing) → is_full (stale_again node inodes s) ≡ is_full s
 stale_full node inodes full = refl
 stale_full node inodes (down since) = refl
 stale_full node inodes (returning since donor stale) = refl
