@@ -1,5 +1,5 @@
 -- What the changes keep: each leaves a lawful membership lawful.
-use Rattle.std.proofs.Common.{[], ◌≡◌, ℕ, zero, suc, ◌+◌, ◌-◌, ◌<◌, ◌≤◌, Bool, true, false, cond, ◌&&◌, not, inl, inr, Option, Some, None}
+use Rattle.std.proofs.Common.{[], ◌≡◌, ℕ, zero, suc, ◌+◌, ◌-◌, ◌<◌, ◌≤◌, Bool, true, false, cond, ◌&&◌, not, inl, inr, Option, Some, None, is_some}
 use Rattle.std.proofs.Common.{List, ◌∷◌, ◌++◌, drop, length, refl, sym, ap, ◌∙◌, subst, arith, true≢false}
 use Rattle.std.specs.Prelude.{◌==◌, nat_le}
 use Rattle.std.specs.List.{list_all, list_any, slice_get}
@@ -27,7 +27,7 @@ use Rattle.assise_manager.specs.MemberCalls.{MemberCall, MemberCallDoes, AllMemb
 use Rattle.assise_manager.specs.MemberCalls.MemberCall.{fail, come_back, note_copied, join, note_written, raise}
 use Rattle.assise_manager.proofs.Sets.{Numbers, all_push}
 use Rattle.assise_manager.proofs.Nodes.{never, full_from_set_away, full_from_map, all_full_map, full_there, list_all_set, list_all_map}
-use Rattle.assise_manager.proofs.Nodes.{list_all_more, list_all_place, slice_get_set, others_stay, one_full_less, all_stay, no_fewer_full}
+use Rattle.assise_manager.proofs.Nodes.{list_all_more, list_all_place, set_place, others_stay, one_full_less, all_stay, no_fewer_full}
 use Rattle.assise_manager.proofs.Nodes.{first_there, away_not_full}
 
 -- ---- sets within sets
@@ -58,6 +58,9 @@ union_within s t u left right q inside =
       | inr r ↦ right q r
     ]
 
+union_both : (s t u v : Numbers) → Within s u → Within t v → Within (set.union s t) (set.union u v)
+union_both s t u v left right = union_within s t (set.union u v) (λ q i. union_left u v q (left q i)) (λ q i. union_right u v q (right q i))
+
 pub nothing_within : (s : Numbers) → Within set.empty s
 nothing_within s q inside = never (sym (contains-empty nat_cmp q) ∙ inside)
 
@@ -83,15 +86,9 @@ length_with_written (l ∷ next ∷ ls) inodes = ap suc (length_with_written (ne
 pub noted_keeps : (k : ℕ) (ls : List Numbers) (inodes : Numbers)
     → Within (all_inodes (drop k ls)) (all_inodes (drop k (with_written ls inodes)))
 noted_keeps k [] inodes q inside = inside
-noted_keeps zero (l ∷ []) inodes q inside =
-    union_within l set.empty (set.union (set.union l inodes) set.empty)
-    (λ r there. union_left (set.union l inodes) set.empty r (union_left l inodes r there))
-    (nothing_within (set.union (set.union l inodes) set.empty)) q inside
+noted_keeps zero (l ∷ []) inodes q inside = union_both l set.empty (set.union l inodes) set.empty (union_left l inodes) (λ r there. there) q inside
 noted_keeps zero (l ∷ next ∷ ls) inodes q inside =
-    let rest = all_inodes (with_written (next ∷ ls) inodes) in
-    union_within l (all_inodes (next ∷ ls)) (set.union l rest)
-    (union_left l rest)
-    (λ r there. union_right l rest r (noted_keeps zero (next ∷ ls) inodes r there)) q inside
+    union_both l (all_inodes (next ∷ ls)) l (all_inodes (with_written (next ∷ ls) inodes)) (λ r there. there) (noted_keeps zero (next ∷ ls) inodes) q inside
 noted_keeps (suc k) (l ∷ []) inodes q inside = inside
 noted_keeps (suc k) (l ∷ next ∷ ls) inodes q inside = noted_keeps k (next ∷ ls) inodes q inside
 
@@ -136,12 +133,12 @@ not_all_full : (nodes : List Standing) (node : ℕ) (old s : Standing) → stand
     → list_all is_full (with_standing nodes node s) ≡ true → ⊥
 not_all_full nodes node old s at new all =
     let there : slice_get (with_standing nodes node s) (node - 1) ≡ Some s =
-    slice_get_set nodes (node - 1) old s (place_of nodes node old at) in
+    set_place nodes (node - 1) s (ap is_some (place_of nodes node old at)) in
     true≢false (sym (list_all_place is_full (with_standing nodes node s) (node - 1) s all there) ∙ new)
 
 -- ---- what is known
 
-listed_both : (m : Membership) (since : ℕ) → is_listed m since ≡ true → (first_listed m ≤ since) × (since ≤ m.epoch)
+pub listed_both : (m : Membership) (since : ℕ) → is_listed m since ≡ true → (first_listed m ≤ since) × (since ≤ m.epoch)
 listed_both m since listed =
     let both = and_parts (nat_le (first_listed m) since) (nat_le since m.epoch) listed in
     (leb-true (first_listed m) since both.0, leb-true since m.epoch both.1)
@@ -154,9 +151,7 @@ listed_more : (m n : Membership) → first_listed n ≡ first_listed m → m.epo
     → is_listed n since ≡ true
 listed_more m n first later since listed =
     let both = listed_both m since listed in
-    let low : first_listed m ≤ since = both.0 in
-    let high : since ≤ m.epoch = both.1 in
-    listed_from n since (subst (λ k. k ≤ since) (sym first) low) (omega arith)
+    listed_from n since (subst (λ k. k ≤ since) (sym first) both.0) (omega (arith, both.1))
 
 -- a node is full
 abbrev pub IsFullNode : Membership → ℕ → Type 0
@@ -288,21 +283,15 @@ one_more m nodes l = record { epoch = m.epoch + 1; nodes = nodes; written = m.wr
 one_list_more : (m : Membership) (l : Numbers) → length (m.written ++ l ∷ []) ≡ length m.written + 1
 one_list_more m l = length-append m.written (l ∷ [])
 
-less_by : (epoch few more : ℕ) → more ≡ few + 1 → (epoch + 1 + 1) - more ≡ (epoch + 1) - few
-less_by epoch few more e = omega arith
-
 -- the first list is that of the same epoch
-same_first : (m : Membership) (nodes : List Standing) (l : Numbers) → first_listed (one_more m nodes l) ≡ first_listed m
-same_first m nodes l = less_by m.epoch (length m.written) (length (m.written ++ l ∷ [])) (one_list_more m l)
+pub same_first : (m : Membership) (nodes : List Standing) (l : Numbers) → first_listed (one_more m nodes l) ≡ first_listed m
+same_first m nodes l = omega (arith, one_list_more m l)
 
 since_within : (m : Membership) (nodes : List Standing) (l : Numbers) (since : ℕ)
     → Within (written_since m since) (written_since (one_more m nodes l) since)
 since_within m nodes l since q inside =
     subst (λ k. set.contains (all_inodes (drop (since - k) (m.written ++ l ∷ []))) q ≡ true) (sym (same_first m nodes l))
     (later_within (since - first_listed m) m.written l q inside)
-
-more_lists : (few more epoch : ℕ) → few ≤ epoch → more ≡ few + 1 → more ≤ epoch + 1
-more_lists few more epoch h e = omega arith
 
 -- the epoch that begins has a list
 now_listed : (m : Membership) (nodes : List Standing) (l : Numbers) → is_listed (one_more m nodes l) (m.epoch + 1) ≡ true
@@ -311,15 +300,11 @@ now_listed m nodes l =
 
 -- ---- failures
 
-returning_refilled : (b : Bool) (since donor from : ℕ) (s t : Numbers)
-    → is_full (cond b (returning since donor s) (returning since from t)) ≡ false
-returning_refilled true since donor from s t = refl
-returning_refilled false since donor from s t = refl
-
 refilled_full : (written : ℕ → Numbers) (donor failed : ℕ) (s : Standing) → is_full (refilled_from written donor failed s) ≡ is_full s
 refilled_full written donor failed full = refl
 refilled_full written donor failed (down since) = refl
-refilled_full written donor failed (returning since from stale) = returning_refilled (from == failed) since donor from (written since) stale
+refilled_full written donor failed (returning since from stale) =
+    cond_both (from == failed) (returning since donor (written since)) (returning since from stale) (λ s. is_full s ≡ false) (λ _. refl) (λ _. refl)
 
 module _
     (m : Membership) (node : ℕ) (inodes : Numbers) (lawful : IsMembership m) (at : standing_of m.nodes node ≡ Some full)
@@ -373,7 +358,7 @@ module _
   full_failed_lawful : IsMembership after
   full_failed_lawful = record {
     began = omega arith;
-    lists = more_lists (length m.written) (length (m.written ++ inodes ∷ [])) m.epoch lawful.lists (one_list_more m inodes);
+    lists = omega (arith, lawful.lists, one_list_more m inodes);
     some_full = subst (λ l. 0 < length l) (sym same_full) still_full;
     known = list_all_map (λ s. is_known after (refill s)) (is_known after) refill begun.nodes
         (list_all_set (λ s. is_known after (refill s)) m.nodes (node - 1) (down (m.epoch + 1))
@@ -460,12 +445,10 @@ joined_as_lawful : (m : Membership) (node : ℕ) → IsMembership m → (levels 
 joined_as_lawful m node lawful levels same true all =
     let nodes = with_standing m.nodes node full in
     let n : Membership = record { epoch = m.epoch + 1; nodes = nodes; written = []; levels = levels } in
-    let some : 0 < length (full_nodes m.nodes) = lawful.some_full in
-    let no_fewer : length (full_nodes m.nodes) ≤ length (full_nodes nodes) = no_fewer_full 1 m.nodes (node - 1) in
     record {
       began = omega arith;
       lists = omega arith;
-      some_full = omega arith;
+      some_full = omega (arith, lawful.some_full, no_fewer_full 1 m.nodes (node - 1));
       known = list_all_more is_full (is_known n) nodes all (full_known n);
       levelled = same ∙ lawful.levelled ∙ sym (length-set m.nodes (node - 1) full);
       none_listed = λ _. refl;
@@ -473,12 +456,10 @@ joined_as_lawful m node lawful levels same true all =
 joined_as_lawful m node lawful levels same false some_away =
     let nodes = with_standing m.nodes node full in
     let n : Membership = record { epoch = m.epoch + 1; nodes = nodes; written = m.written ++ set.empty ∷ []; levels = levels } in
-    let some : 0 < length (full_nodes m.nodes) = lawful.some_full in
-    let no_fewer : length (full_nodes m.nodes) ≤ length (full_nodes nodes) = no_fewer_full 1 m.nodes (node - 1) in
     record {
       began = omega arith;
-      lists = more_lists (length m.written) (length (m.written ++ set.empty ∷ [])) m.epoch lawful.lists (one_list_more m set.empty);
-      some_full = omega arith;
+      lists = omega (arith, lawful.lists, one_list_more m set.empty);
+      some_full = omega (arith, lawful.some_full, no_fewer_full 1 m.nodes (node - 1));
       known = list_all_set (is_known n) m.nodes (node - 1) full
           (list_all_more (is_known m) (is_known n) m.nodes lawful.known
           (known_more m n (same_first m nodes set.empty) (omega arith) (λ d. all_stay 1 d m.nodes (node - 1))
@@ -544,8 +525,8 @@ module _ (m : Membership) (node : ℕ) (inodes : Numbers) (lawful : IsMembership
       })
 
   -- inodes were written at a node
-  pub noted_lawful_at : IsMembership noted_now
-  noted_lawful_at = record {
+  pub noted_lawful : IsMembership noted_now
+  noted_lawful = record {
     began = lawful.began;
     lists = subst (λ k. k ≤ m.epoch) (sym (length_with_written m.written inodes)) lawful.lists;
     some_full = subst (λ l. 0 < length l) (sym noted_full) lawful.some_full;
@@ -554,10 +535,6 @@ module _ (m : Membership) (node : ℕ) (inodes : Numbers) (lawful : IsMembership
     none_listed = λ all. length_with_written m.written inodes
         ∙ lawful.none_listed (sym (all_full_map (stale_again node inodes) (stale_full node inodes) m.nodes) ∙ all);
   }
-
--- inodes were written at a node
-pub noted_lawful : (m : Membership) (node : ℕ) (inodes : Numbers) → IsMembership m → IsMembership (noted m node inodes)
-noted_lawful m node inodes lawful = noted_lawful_at m node inodes lawful
 
 -- ---- levels
 

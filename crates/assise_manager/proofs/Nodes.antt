@@ -1,5 +1,5 @@
 -- Lists of standings: what a change of one node, or of each, leaves of the list of full nodes.
-use Rattle.std.proofs.Common.{◌≡◌, ◌≢◌, ℕ, zero, suc, ◌+◌, ◌<◌, ◌≤◌, Bool, true, false, cond, ◌&&◌, inl, inr, Some, List, [], ◌∷◌, map}
+use Rattle.std.proofs.Common.{◌≡◌, ◌≢◌, ℕ, zero, suc, ◌+◌, ◌<◌, ◌≤◌, Bool, true, false, cond, ◌&&◌, inl, inr, IsSome, Some, List, [], ◌∷◌, map}
 use Rattle.std.proofs.Common.{length, refl, sym, ap, ◌∙◌, subst, arith, true≢false, eq-eqb, eqb-true}
 use Rattle.std.specs.Prelude.{◌==◌}
 use Rattle.std.specs.List.{list_all, list_any, slice_get, slice_set, slice_index_or}
@@ -76,10 +76,10 @@ list_all_place p (x ∷ xs) zero s all at = subst (λ t. p t ≡ true) (same_Som
 list_all_place p (x ∷ xs) (suc i) s all at = list_all_place p xs i s (and_parts (p x) (list_all p xs) all).1 at
 
 -- what is put in at a place that there is stands there
-pub slice_get_set : (xs : List Standing) (i : ℕ) (old s : Standing) → slice_get xs i ≡ Some old → slice_get (slice_set xs i s) i ≡ Some s
-slice_get_set [] i old s at = absurd (none-some old at)
-slice_get_set (x ∷ xs) zero old s at = refl
-slice_get_set (x ∷ xs) (suc i) old s at = slice_get_set xs i old s at
+pub set_place : (xs : List Standing) (i : ℕ) (s : Standing) → IsSome (slice_get xs i) → slice_get (slice_set xs i s) i ≡ Some s
+set_place [] i s there = never there
+set_place (x ∷ xs) zero s there = refl
+set_place (x ∷ xs) (suc i) s there = set_place xs i s there
 
 -- a number of the list that isn't its first, which it may lack
 tail_has : (b : Bool) (k d : ℕ) (l : List ℕ) → list_any (λ n. n == d) (cond b (k ∷ l) l) ≡ true → (k ≡ d → ⊥)
@@ -184,23 +184,23 @@ count_all_full k (x ∷ xs) count =
     first_counted (is_full x) (list_all is_full xs) k (length xs) (full_from (suc k) xs) (few_full (suc k) xs) count
     (count_all_full (suc k) xs)
 
+-- the number of a full node
+abbrev IsFullFrom : ℕ → ℕ → List Standing → Type 0
+IsFullFrom k d xs = (i : ℕ) × (d ≡ k + i) × (slice_get xs i ≡ Some full)
+
+one_further : (k d : ℕ) (x : Standing) (xs : List Standing) → IsFullFrom (suc k) d xs → IsFullFrom k d (x ∷ xs)
+one_further k d x xs rest = let at : d ≡ suc k + rest.0 = rest.1 in (suc rest.0, omega arith, rest.2)
+
 -- each number in the list is that of a full node
-pub full_there : (k d : ℕ) (xs : List Standing) → list_any (λ n. n == d) (full_from k xs) ≡ true
-    → (i : ℕ) × (d ≡ k + i) × (slice_get xs i ≡ Some full)
+pub full_there : (k d : ℕ) (xs : List Standing) → list_any (λ n. n == d) (full_from k xs) ≡ true → IsFullFrom k d xs
 full_there k d [] there = never there
 full_there k d (full ∷ xs) there =
     elim (or_cases (k == d) (list_any (λ n. n == d) (full_from (suc k) xs)) there) [
       | inl first ↦ (let same : k ≡ d = eqb-true k d first in (zero, omega arith, refl))
-      | inr later ↦ (let rest = full_there (suc k) d xs later in let at : d ≡ suc k + rest.0 = rest.1 in (suc rest.0, omega arith, rest.2))
+      | inr later ↦ one_further k d full xs (full_there (suc k) d xs later)
     ]
-full_there k d (down since ∷ xs) there =
-    let rest = full_there (suc k) d xs there in
-    let at : d ≡ suc k + rest.0 = rest.1 in
-    (suc rest.0, omega arith, rest.2)
-full_there k d (returning since donor stale ∷ xs) there =
-    let rest = full_there (suc k) d xs there in
-    let at : d ≡ suc k + rest.0 = rest.1 in
-    (suc rest.0, omega arith, rest.2)
+full_there k d (down since ∷ xs) there = one_further k d (down since) xs (full_there (suc k) d xs there)
+full_there k d (returning since donor stale ∷ xs) there = one_further k d (returning since donor stale) xs (full_there (suc k) d xs there)
 
 -- the first of a list is one of it
 pub first_there : (xs : List ℕ) → 0 < length xs → list_any (λ n. n == slice_index_or xs 0 0) xs ≡ true

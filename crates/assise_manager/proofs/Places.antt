@@ -1,14 +1,12 @@
 -- Nodes as they stand in a list, seen by their standings.
 use Rattle.std.proofs.Common.{◌≡◌, ℕ, Bool, zero, suc, ◌+◌, ◌-◌, ◌<◌, ◌≤◌, true, false, List, [], ◌∷◌, ◌++◌, map, take, drop, length, Option, Some, None, inl, inr, IsSome, IfSome, is_some, option_copied, Bor, ltb, eqb, cond, refl, sym, ap, ◌∙◌, subst, rules, arith, true≢false, add-one, one-add}
 use Rattle.std.specs.List.{list_all, slice_get, slice_set, slice_index_or}
-use Rattle.std.specs.Prelude.{nat_le}
 use Rattle.std.specs.Option.{option_map}
 use Rattle.std.specs.FinSet as set
 use Rattle.std.specs.Ordering.{nat_cmp}
 use Rattle.std.proofs.lemmas.Option.{slice_get-map}
-use Rattle.std.proofs.lemmas.Bool.{false_from_ne_true, ltb-true, lt-ltb, eq-eqb, ne_eqb, leb-true, and_parts}
+use Rattle.std.proofs.lemmas.Bool.{false_from_ne_true, ltb-true, lt-ltb, eq-eqb, ne_eqb}
 use Rattle.std.proofs.lemmas.List.{map-set, map-append, drop-map}
-use Rattle.std.proofs.Common.{length-append}
 use Rattle.std.proofs.Math.Seq.{take-append_seam}
 use Rattle.assise_manager.specs.declared.node.Node.{Node}
 use Rattle.assise_manager.specs.declared.node.Node.TheVariants.{Full}
@@ -20,9 +18,9 @@ use Rattle.assise_manager.specs.Changes.{donor_of, joined, with_epoch, failed, f
 use Rattle.assise_manager.specs.Seen.{standing, stale_inodes, listed_inodes, listed_since, lowest_besides}
 use Rattle.assise_names.specs.declared.refusal.Refusal.TheVariants.{LastNode}
 use Rattle.assise_manager.specs.declared.written_list.WrittenList.{WrittenList}
-use Rattle.assise_manager.specs.Membership.{Membership, IsMembership, is_known, is_listed, first_listed, all_inodes, written_since, lowest_full}
-use Rattle.assise_manager.proofs.Nodes.{full_from_set_away, count_all_full, all_full_count}
-use Rattle.assise_manager.proofs.Lawful.{known_of, copied_lawful, one_fewer}
+use Rattle.assise_manager.specs.Membership.{Membership, IsMembership, is_known, first_listed, all_inodes, written_since, lowest_full}
+use Rattle.assise_manager.proofs.Nodes.{full_from_set_away, count_all_full, all_full_count, set_place}
+use Rattle.assise_manager.proofs.Lawful.{known_of, copied_lawful, listed_both, one_fewer, same_first}
 use Rattle.assise_manager.proofs.AscendingSets.{lowest_or_none}
 use Rattle.assise_manager.specs.Standings.{Standing, full, down, returning, standing_of, with_standing, full_from, full_nodes, is_full}
 
@@ -52,11 +50,6 @@ some_of (Some s) back = refl
 -- a node that comes back stands in its place
 pub back_at : (xs : List Node) (node : ℕ) (d : Node) → is_returning (standing_of (map standing xs) node) ≡ true → standing_of (map standing xs) node ≡ Some (standing (slice_index_or xs (node - 1) d))
 back_at xs node d back = stands_at xs node d (some_of _ back)
-
-set_place : (xs : List Standing) (place : ℕ) (s : Standing) → IsSome (slice_get xs place) → slice_get (slice_set xs place s) place ≡ Some s
-set_place [] place s there = absurd (true≢false (sym there))
-set_place (x ∷ xs) zero s there = refl
-set_place (x ∷ xs) (suc place) s there = set_place xs place s there
 
 -- a node that was let stand otherwise does
 pub stands_now : (nodes : List Standing) (node : ℕ) (s : Standing) → IsSome (standing_of nodes node) → standing_of (with_standing nodes node s) node ≡ Some s
@@ -137,16 +130,9 @@ lowest_after k (full ∷ xs) (suc i) e at more = sym (ap (λ b. cond b (slice_in
 lowest_after k (down since ∷ xs) (suc i) e at more = lowest_after (suc k) xs i e at more ∙ ap (λ n. cond (eqb (slice_index_or (full_from (suc k) xs) 0 0) n) (slice_index_or (full_from (suc k) xs) 1 0) (slice_index_or (full_from (suc k) xs) 0 0)) (further k i)
 lowest_after k (returning since donor stale ∷ xs) (suc i) e at more = lowest_after (suc k) xs i e at more ∙ ap (λ n. cond (eqb (slice_index_or (full_from (suc k) xs) 0 0) n) (slice_index_or (full_from (suc k) xs) 1 0) (slice_index_or (full_from (suc k) xs) 0 0)) (further k i)
 
-some_listed : (m : Membership) (since : ℕ) → is_listed m since ≡ true → 0 < length m.written
-some_listed m since listed =
-    let parts : (nat_le (first_listed m) since ≡ true) × (nat_le since m.epoch ≡ true) = and_parts _ _ listed in
-    let low : first_listed m ≤ since = leb-true _ _ parts.0 in
-    let high : since ≤ m.epoch = leb-true _ _ parts.1 in
-    omega arith
-
 -- where a node is down there is a list
 pub down_listed : (m : Membership) (node since : ℕ) → IsMembership m → standing_of m.nodes node ≡ Some (down since) → 0 < length m.written
-down_listed m node since lawful at = some_listed m since (known_of m node (down since) lawful at)
+down_listed m node since lawful at = let both = listed_both m since (known_of m node (down since) lawful at) in omega (arith, both.0, both.1)
 
 -- the inodes of the lists from an epoch on, as they are read
 pub since_is : (written seen lists : List WrittenList) (since f first : ℕ) → lists ≡ drop (since - f) seen → f ≡ first → seen ≡ written → all_inodes (map listed_inodes lists) ≡ all_inodes (drop (since - first) (map listed_inodes written))
@@ -181,12 +167,9 @@ copied_either epoch written node r old new levels lawful at copies none =
 pub listed_is : (m : Membership) (node : ℕ) (inodes : set.FinSet nat_cmp) (lists : List WrittenList) (first : ℕ) → map listed_inodes lists ≡ m.written ++ inodes ∷ [] → first ≡ first_listed (with_epoch m node inodes) → listed_since lists first ≡ written_since (with_epoch m node inodes)
 listed_is m node inodes lists first same begins i since = all_inodes (drop (since - begins i) (same i))
 
-first_stays : (epoch old new : ℕ) → old ≤ epoch → new ≡ old + 1 → epoch + 1 - old ≡ (epoch + 1 + 1) - new
-first_stays epoch old new within e = omega arith
-
 -- the first epoch that has a list, once one was added
 pub first_is : (m : Membership) (node : ℕ) (inodes : set.FinSet nat_cmp) (len : ℕ) → IsMembership m → len ≡ length m.written → m.epoch + 1 - len ≡ first_listed (with_epoch m node inodes)
-first_is m node inodes len lawful e = ap (λ n. m.epoch + 1 - n) e ∙ first_stays m.epoch (length m.written) (length (m.written ++ inodes ∷ [])) lawful.lists (length-append m.written (inodes ∷ []))
+first_is m node inodes len lawful e = ap (λ n. m.epoch + 1 - n) e ∙ sym (same_first m (with_standing m.nodes node (down (m.epoch + 1))) inodes)
 
 -- what stands once a full node failed
 pub failed_is : (m : Membership) (node : ℕ) (inodes : set.FinSet nat_cmp) (written : ℕ → set.FinSet nat_cmp) (donor : ℕ) (lists : List (set.FinSet nat_cmp)) (new : List Standing) →
@@ -216,23 +199,11 @@ new_donor_is nodes (suc place) e at more =
 pub joined_is : (m : Membership) (node : ℕ) (new : List Standing) (lists : List (set.FinSet nat_cmp)) (levels : List Level) (all : Bool)
     → new ≡ with_standing m.nodes node full
     → lists ≡ cond all [] (m.written ++ set.empty ∷ []) → list_all is_full (with_standing m.nodes node full) ≡ all
-    → levels ≡ joined_levels m.levels node (donor_of (standing_of m.nodes node)) → record {
-      epoch =
-          m.epoch + 1;
-      nodes = new;
-      written = lists;
-      levels = levels;
-    } ≡ joined m node
+    → levels ≡ joined_levels m.levels node (donor_of (standing_of m.nodes node))
+    → record { epoch = m.epoch + 1; nodes = new; written = lists; levels = levels } ≡ joined m node
 joined_is m node new lists levels all is left whether raised =
-    (λ i. record { epoch = m.epoch + 1; nodes = is i; written = left i; levels = raised i })
-    ∙ sym (ap (λ b. record {
-      epoch =
-          m.epoch + 1;
-      nodes = with_standing m.nodes node full;
-      written = cond b [] (m.written ++ set.empty ∷ []);
-      levels = joined_levels m.levels node
-          (donor_of (standing_of m.nodes node));
-    }) whether)
+    let written = left ∙ ap (λ b. cond b [] (m.written ++ set.empty ∷ [])) (sym whether) in
+    λ i. record { epoch = m.epoch + 1; nodes = is i; written = written i; levels = raised i }
 
 -- as many full nodes as nodes
 pub all_counted : (xs : List Standing) (full_count count : ℕ) → full_count ≡ length (full_nodes xs) → count ≡ length xs → full_count ≡ count → list_all is_full xs ≡ true
