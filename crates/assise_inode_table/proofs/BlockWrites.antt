@@ -1,6 +1,7 @@
 -- Writes, reads and cuts of bytes in blocks.
 use Rattle.std.proofs.Common.{◌≡◌, ℕ, zero, suc, ◌+◌, ◌-◌, ◌*◌, ◌/◌, ◌%◌, ◌<◌, ◌≤◌, ◌≢◌, List, [], ◌∷◌, ◌++◌, length, take, drop, replicate, refl, ap, sym, ◌∙◌, subst, get_or, set, arith, min, max, append_assoc, append-nil, length-append, take-append-drop}
-use Rattle.std.proofs.lemmas.List.{length-take, length-drop, length-replicate, take_all, drop_all, take-take, drop-take, drop-drop, drop_more, set_split, take-append-le, take_more_set}
+use Rattle.bytes.proofs.Chunks.{concat_push}
+use Rattle.std.proofs.lemmas.List.{length-take, length-drop, take_all, drop_all, take-take, drop-take, drop-drop, drop_more, set_split, take-append-le, take_more_set, take_min, drop_min}
 use Rattle.std.proofs.lemmas.List.Folds.{concat-append}
 use Rattle.std.proofs.Math.Seq.{take-add}
 use Rattle.std.specs.Int.{div_ceil}
@@ -12,28 +13,13 @@ use Rattle.assise_inode_table.proofs.BlockBytes.{cut_take, cut_drop, cut_append,
 
 -- ---- plain lists
 same_take : (n m : ℕ) (xs : List ℕ) → min n (length xs) ≡ min m (length xs) → take n xs ≡ take m xs
-same_take zero zero xs e = refl
-same_take zero (suc m) [] e = refl
-same_take zero (suc m) (x ∷ xs) e = absurd (omega arith)
-same_take (suc n) zero [] e = refl
-same_take (suc n) zero (x ∷ xs) e = absurd (omega arith)
-same_take (suc n) (suc m) [] e = refl
-same_take (suc n) (suc m) (x ∷ xs) e = ap (λ zs. x ∷ zs) (same_take n m xs (omega arith))
+same_take n m xs e = sym (take_min n xs) ∙ ap (λ k. take k xs) e ∙ take_min m xs
 
 same_drop : (n m : ℕ) (xs : List ℕ) → min n (length xs) ≡ min m (length xs) → drop n xs ≡ drop m xs
-same_drop zero zero xs e = refl
-same_drop zero (suc m) [] e = refl
-same_drop zero (suc m) (x ∷ xs) e = absurd (omega arith)
-same_drop (suc n) zero [] e = refl
-same_drop (suc n) zero (x ∷ xs) e = absurd (omega arith)
-same_drop (suc n) (suc m) [] e = refl
-same_drop (suc n) (suc m) (x ∷ xs) e = same_drop n m xs (omega arith)
+same_drop n m xs e = sym (drop_min n xs) ∙ ap (λ k. drop k xs) e ∙ drop_min m xs
 
 abbrev zeros : ℕ → List ℕ
 zeros n = replicate n 0
-
-length-zeros : (n : ℕ) → length (zeros n) ≡ n
-length-zeros n = let none : ℕ = 0 in length-replicate n none
 
 -- a write into a part that it lies in
 pub written_within : (xs : List ℕ) (f p o : ℕ) (new : List ℕ) → f ≤ length xs → f ≤ o → o + length new ≤ p
@@ -55,13 +41,6 @@ written_within xs f p o new held before behind =
   where
     joined : (a b z y n d t u v : List ℕ) → a ++ b ≡ u → z ≡ y → d ++ t ≡ v → a ++ ((((b ++ z) ++ n) ++ d) ++ t) ≡ ((u ++ y) ++ n) ++ v
     joined a b z y n d t u v p q r = rw (← p, ← q, ← r) (simp append_assoc)
-
-pub written_nothing : (xs : List ℕ) (o : ℕ) (new : List ℕ) → min (length xs) o ≡ o + length new → xs ≡ overwritten xs o new
-written_nothing xs o [] h =
-    let none : o - length xs ≡ 0 = omega arith in
-    let same : o + 0 ≡ o = omega arith in
-    rw (none, same) (simp append-nil (sym (take-append-drop o xs)))
-written_nothing xs o (x ∷ new) h = absurd (omega arith)
 
 -- ---- a part of what is written over
 nothing_over : (xs : List ℕ) → overwritten xs 0 [] ≡ xs
@@ -321,9 +300,6 @@ block_taken bs k rest d cut held within small =
     ap (take rest) (sym (concat_drop bs k cut (omega arith)) ∙ rests) ∙ take-append-le rest (get_or bs k d) (concat (drop (k + 1) bs)) long in
     ap (λ zs. zs ++ take rest (get_or bs k d)) prefix ∙ ap (λ zs. take (4096 * k) (concat bs) ++ zs) (sym back) ∙ sym (take-add (4096 * k) rest (concat bs))
 
-one_more : (xs : List (List ℕ)) (y : List ℕ) → concat (xs ++ y ∷ []) ≡ concat xs ++ y
-one_more xs y = concat-append xs (y ∷ []) ∙ ap (λ zs. concat xs ++ zs) (append-nil y)
-
 pub last_held : (bs : List (List ℕ)) (size : ℕ) → IsCut bs → size ≤ length (concat bs) → size % 4096 ≢ 0 → size / 4096 < length bs
 last_held bs size cut within some = omega (arith, most bs cut)
 
@@ -342,5 +318,5 @@ pub bytes_within : (bs : List (List ℕ)) (size : ℕ) (b d : List ℕ) → IsCu
 bytes_within bs size b d cut within some part =
     let k = size / 4096 in
     let held = last_held bs size cut within some in
-    ap concat (take_more_set bs k b held) ∙ one_more (take k bs) b ∙ ap (λ zs. concat (take k bs) ++ zs) part
+    ap concat (take_more_set bs k b held) ∙ concat_push (take k bs) b ∙ ap (λ zs. concat (take k bs) ++ zs) part
     ∙ block_taken bs k (size % 4096) d cut held (omega arith) (omega arith) ∙ ap (λ n. take n (concat bs)) (omega arith)

@@ -1,7 +1,7 @@
 -- Calls that no other client saw are taken out of a run.
 use Rattle.std.proofs.Common.{◌≡◌, ℕ, ◌<◌, ◌≤◌, arith, Bool, true, false, List, [], ◌∷◌, ◌++◌, filter, if◌then◌else◌, None, refl, ap, sym, ◌∙◌, subst, ◌||◌, ◌==◌, inl, inr, MatchBool}
 use Rattle.std.specs.List.{list_any}
-use Rattle.std.proofs.lemmas.Bool.{cases_Bool, cases_eq, ltb-true, ltb-false, eqb-true, or_cases}
+use Rattle.std.proofs.lemmas.Bool.{cases_Bool, cases_eq, ltb-true, ltb-false, eqb-true, or_cases, or_right as or_true_right}
 use Rattle.assise_record.specs.declared.effect.Effect.{Effect}
 use Rattle.assise_record.specs.declared.effect.Effect.TheVariants.{NewFile, NewDir, Write, SetLen, Link, Unlink, Free}
 use Rattle.assise_record.specs.Touched.{touched_by}
@@ -99,12 +99,8 @@ all_touched i [] h = cc
 all_touched i (e ∷ es) h =
     elim (or_cases (makes i e) (list_any (makes i) es) h) [
       | inl here ↦ rw (made_touched i e here) refl
-      | inr later ↦ rw (all_touched i es later) (or_true (touched_by e == i))
+      | inr later ↦ rw (all_touched i es later) (or_true_right (touched_by e == i) true refl)
     ]
-  where
-    or_true : (b : Bool) → (b || true) ≡ true
-    or_true true = refl
-    or_true false = refl
 
 clear_there : (dirty is : List ℕ) (i : ℕ) → Clear dirty is → contains is i ≡ true → contains dirty i ≡ false
 clear_there dirty [] i h t = cc

@@ -1,12 +1,11 @@
 -- What effects make of the value of an inode.
 use Rattle.std.proofs.Common.{◌≡◌, ℕ, Bool, true, false, cond, if◌then◌else◌, List, [], ◌∷◌, ◌++◌, ◌||◌, ◌==◌, Option, Some, None, refl, ap, sym, ◌∙◌, inl, inr}
+use Rattle.assise_seq_tree.proofs.Sets.{tied}
 use Rattle.std.proofs.lemmas.Bool.{eq-eqb, ne_eqb, cases_eq}
 use Rattle.std.proofs.lemmas.List.{map-append}
 use Rattle.std.specs.Ordering.{nat_cmp, eq_by_cmp, is_eq}
 use Rattle.std.specs.Cmp.{nat_cmp_total, tied_itself}
 use Rattle.std.proofs.lemmas.Map.Lookups.{exact_unsigned}
-use Rattle.std.specs.declared.cmp.Ordering.{Ordering}
-use Rattle.std.specs.declared.cmp.Ordering.TheVariants.{Less, Equal, Greater}
 use Rattle.std.specs.FinMap as fin
 use Rattle.assise_record.specs.declared.effect.Effect.{Effect}
 use Rattle.assise_record.specs.Touched.{touched_by}
@@ -45,11 +44,6 @@ untouched i old [] h = refl
 untouched i old (e ∷ es) h = rw (or_left (touched_by e == i) _ h) (untouched i old es (or_right (touched_by e == i) _ h))
 
 -- ---- finite maps
-
-tied : (o : Ordering) → is_eq o ≡ true → o ≡ Equal
-tied Less e = cc
-tied Equal e = refl
-tied Greater e = cc
 
 -- one number by its order
 other_number : (i j : ℕ) → (j ≡ i → ⊥) → (b : Bool) → eq_by_cmp nat_cmp i j ≡ b → b ≡ false

@@ -1,11 +1,10 @@
 -- A map of inodes, of which an effect changes one.
 use Rattle.std.proofs.Common.{◌≡◌, ℕ, List, Option, Some, None, IsSome, Result, Ok, Err, OnErr, option_map, cond, true, false, Bool, nat_eq, refl, sym, ap, subst, ◌∙◌}
-use Rattle.std.specs.Ordering.{nat_cmp, is_eq}
+use Rattle.assise_seq_tree.proofs.Sets.{tied}
+use Rattle.std.specs.Ordering.{nat_cmp}
 use Rattle.std.specs.Cmp.{nat_cmp_total}
 use Rattle.std.specs.Map.{lookup}
 use Rattle.std.specs.BTreeMap.{is_at}
-use Rattle.std.specs.declared.cmp.Ordering.{Ordering}
-use Rattle.std.specs.declared.cmp.Ordering.TheVariants.{Less, Equal, Greater}
 use Rattle.std.proofs.lemmas.Map.Lookups.{exact_unsigned}
 use Rattle.std.specs.FinMap as map
 use Rattle.assise_record.specs.declared.effect.Effect.{Effect}
@@ -14,11 +13,6 @@ use Rattle.assise_record.specs.Touched.{touched_by}
 use Rattle.assise_inode_table.specs.Contents.{Content, InodeMap}
 use Rattle.assise_inode_table.specs.Effects.{changed, with_value, applied}
 use Rattle.assise_inode_table.proofs.MapView.{get-numbers, insert-numbers}
-
-tied : (o : Ordering) → is_eq o ≡ true → o ≡ Equal
-tied Less e = cc
-tied Equal e = refl
-tied Greater e = cc
 
 -- what a look-up in the table found is what the map has
 pub value_at : (m : InodeMap) (es : List (ℕ × Content)) (i k : ℕ) (found : Option Content)
