@@ -6,6 +6,7 @@ use Rattle.std.specs.List.{AllByRecursion, IsDistinct, slice_get}
 use Rattle.std.specs.Map.{lookup_entry, keys_of, remove_entry}
 use Rattle.lru.specs.LruCache.{LruCache, IsValid}
 use Rattle.assise_inode_table.specs.Contents.{Content}
+use Rattle.assise_inode_table.proofs.LiveSlots.{or_none}
 use Rattle.assise_area.specs.Parts.{Entries, AreDisjoint, HoldSame, IsPushed, IsWarmed, value_in, hot_at, cold_at}
 use Rattle.assise_area.proofs.Seen.{turned, some≢none}
 use Rattle.assise_area.proofs.HotUse.{found}
@@ -59,10 +60,6 @@ moved None c true x = refl
 moved None c false x = refl
 moved (Some y) c b x = refl
 
-or_none : {X : Type 0} (a : Option X) → option_or a None ≡ a
-or_none None = refl
-or_none (Some x) = refl
-
 pub keys_take : (n : ℕ) (es : Entries) → take n (keys_of es) ≡ keys_of (take n es)
 keys_take zero es = refl
 keys_take (suc n) [] = refl
@@ -77,7 +74,9 @@ module _ (i : ℕ) (hot hot' : LruCache ℕ Content) (cold cold' : Entries) (val
     (room : slice_get hot.entries (hot.cap - 1) ≡ None) (pushed : IsPushed i hot hot' cold)
     (taken : (q : ℕ) → cold_at cold' q ≡ cond (nat_eq i q) None (cold_at cold q)) where
   room_prefix : (q : ℕ) → hot_at hot.entries q ≡ hot_at (take (hot.cap - 1) hot.entries) q
-  room_prefix q = hot_split hot.entries hot.cap q valid.1 valid.2 ∙ ap (λ o. option_or (hot_at (take (hot.cap - 1) hot.entries) q) (hot_at (option_to_list o) q)) room ∙ or_none (hot_at (take (hot.cap - 1) hot.entries) q)
+  room_prefix q =
+      hot_split hot.entries hot.cap q valid.1 valid.2 ∙ ap (λ o. option_or (hot_at (take (hot.cap - 1) hot.entries) q) (hot_at (option_to_list o) q)) room
+      ∙ or_none (hot_at (take (hot.cap - 1) hot.entries) q)
 
   room_hot : (q : ℕ) → hot_at hot'.entries q ≡ cond (eqb q i) (Some pushed.content) (hot_at hot.entries q)
   room_hot q = ap (λ es. hot_at es q) pushed.entries ∙ ap (cond (eqb q i) (Some pushed.content)) (sym (room_prefix q))
@@ -218,7 +217,3 @@ put_new hot i cap v none = go (lookup_entry (nat_eq i) hot) refl
     go : (o : Option (ℕ × Content)) → lookup_entry (nat_eq i) hot ≡ o → option_map_or (λ d. (d.0, v) ∷ remove_entry (nat_eq i) hot) o ((i, v) ∷ take (cap - 1) hot) ≡ (i, v) ∷ take (cap - 1) hot
     go None h = refl
     go (Some f) h = absurd (some≢none f.1 (sym (found i hot f h).1 ∙ none))
-
--- what has to leave for a number that isn't hot
-pub left_new : (hot : Entries) (i cap : ℕ) (v : Content) → hot_at hot i ≡ None → option_map_or (λ old. Some (i, old)) (hot_at hot i) (slice_get hot (cap - 1)) ≡ slice_get hot (cap - 1)
-left_new hot i cap v none = ap (λ o. option_map_or (λ old. Some (i, old)) o (slice_get hot (cap - 1))) none
