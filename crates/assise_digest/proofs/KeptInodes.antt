@@ -1,6 +1,6 @@
 -- What is kept of inodes beside the area, inode by inode.
 use Rattle.std.proofs.Common.{◌≡◌, ◌≢◌, ◌⊎◌, ◌||◌, ◌==◌, ◌+◌, ◌<◌, ℕ, zero, suc, length, drop, slice_index_or, arith, Bool, true, false, cond, if◌then◌else◌, List, [], ◌∷◌, Option, Some, None, IsSome, refl, sym, ap, subst, ◌∙◌, inl, inr, is_some, true≢false}
-use Rattle.std.proofs.lemmas.Bool.{eq-eqb, ne_eqb, cases_eq}
+use Rattle.std.proofs.lemmas.Bool.{eq-eqb, ne_eqb, cases_eq, or_right}
 use Rattle.std.proofs.lemmas.List.{at_drop_more}
 use Rattle.std.specs.Cmp.{nat_cmp_total}
 use Rattle.std.specs.Ordering.{nat_cmp}
@@ -213,11 +213,8 @@ left_after F es k e h is = ap (λ x. F (x ∷ drop (k + 1) es)) is ∙ sym (at_d
 pub touched_item : (es : List Effect) (k : ℕ) (e : Effect) → k < length es → e ≡ slice_index_or es k e → contains (touched es) (touched_by e) ≡ true
 touched_item [] k e h is = absurd (omega (arith, h))
 touched_item (x ∷ es) zero e h is = ap (λ b. b || contains (touched es) (touched_by e)) (eq-eqb (touched_by x) (touched_by e) (ap touched_by (sym is)))
-touched_item (x ∷ es) (suc k) e h is = ap (λ b. (touched_by x == touched_by e) || b) (touched_item es k e (omega (arith, h)) is) ∙ or_true (touched_by x == touched_by e)
-  where
-    or_true : (a : Bool) → (a || true) ≡ true
-    or_true true = refl
-    or_true false = refl
+touched_item (x ∷ es) (suc k) e h is =
+    ap (λ b. (touched_by x == touched_by e) || b) (touched_item es k e (omega (arith, h)) is) ∙ or_right (touched_by x == touched_by e) true refl
 
 -- an inode that was put in and is taken out again leaves what there was
 pub put_and_removed : (m : InodeMap) (i : ℕ) (v : Option Content) → map.get m i ≡ None → map.remove (with_value m i v) i ≡ m
@@ -235,7 +232,3 @@ nothing_removed m i none = sym (map.same_map nat_cmp_total map.nat_cmp-IsAntisym
     go : (q : ℕ) → (i ≡ q) ⊎ (i ≢ q) → (if i == q then None else map.get m q) ≡ map.get m q
     go q (inl same) = ap (λ b. if b then None else map.get m q) (eq-eqb i q same) ∙ sym none ∙ ap (map.get m) same
     go q (inr other) = ap (λ b. if b then None else map.get m q) (ne_eqb i q other)
-
-pub none_of : {X : Type 0} (o : Option X) → is_some o ≡ false → o ≡ None
-none_of None e = refl
-none_of (Some x) e = absurd (true≢false e)

@@ -12,7 +12,7 @@ use Rattle.assise_inode_table.specs.Effects.{all_applied, contains, touched, val
 use Rattle.assise_inode_table.proofs.EffectValues.{contains-both, untouched, value_after-append}
 use Rattle.assise_inode_table.proofs.EffectLists.{get-all_applied}
 use Rattle.assise_digest.specs.Ahead.{last_touch}
-use Rattle.assise_digest.specs.Pending.{IsNew, KeepsNoMore, StandsFor, all_held, forgotten, pending_seen, taken_in}
+use Rattle.assise_digest.specs.Pending.{IsNew, StandsFor, all_held, forgotten, pending_seen, taken_in}
 use Rattle.assise_digest.specs.declared.pending.Pending.{Pending}
 use Rattle.assise_digest.proofs.KeptInodes.{all_held_point, forgotten_point, get-noted, kept_at, left_at, point}
 
@@ -91,9 +91,6 @@ stands_for_none p m n inodes last = record {
 -- an inode that no record touches
 quiet : (m : InodeMap) (n : ℕ) (rs : List LogRecord) (i : ℕ) → last_touch n rs i ≡ None → value_after i (map.get m i) (all_effects rs) ≡ map.get m i
 quiet m n rs i none = untouched i (map.get m i) (all_effects rs) (sym (is_touched n rs i) ∙ ap is_some none)
-
-pub keeps_no_more : (p : Pending) (m : InodeMap) (n : ℕ) (rs : List LogRecord) → StandsFor p m n rs → KeepsNoMore p
-keeps_no_more p m n rs s i none = s.values i ∙ ap (λ o. if is_some o then value_after i (map.get m i) (all_effects rs) else None) (sym (s.last i) ∙ none)
 
 -- no record has the next number
 pub next_is_new : (p : Pending) (m : InodeMap) (n : ℕ) (rs : List LogRecord) → StandsFor p m n rs → IsNew p (n + length rs)

@@ -1,7 +1,8 @@
 -- The log that a node received of a client, while records come and go.
-use Rattle.std.proofs.Common.{◌≡◌, ◌≤◌, ◌<◌, ◌+◌, ◌-◌, ℕ, Bool, zero, suc, nat_lt, if◌then◌else◌, drop-drop, false, List, [], ◌∷◌, ◌++◌, length, take, drop, Option, Some, None, option_map, refl, sym, ap, subst, ◌∙◌, is_some, true≢false, arith}
+use Rattle.std.proofs.Common.{◌≡◌, ◌≤◌, ◌<◌, ◌+◌, ◌-◌, ℕ, Bool, zero, suc, if◌then◌else◌, drop-drop, false, List, [], ◌∷◌, ◌++◌, length, take, drop, Option, Some, None, option_map, refl, sym, ap, subst, ◌∙◌, is_some, true≢false, arith}
 use Rattle.std.proofs.lemmas.List.{drop-append-le, length-append, length-drop, length-take}
 use Rattle.std.specs.List.{slice_get}
+use Rattle.std.proofs.lemmas.Bool.{le-ltb}
 use Rattle.assise_record.specs.LogRecord.{LogRecord}
 use Rattle.assise_inode_table.specs.Contents.{InodeMap}
 use Rattle.assise_inode_table.specs.Effects.{all_applied}
@@ -57,11 +58,8 @@ count_ahead l b =
 pub ahead_more : (l : ReceivedLog) (r : LogRecord) → IsBegun l → ahead (with_more l r) ≡ ahead l ++ r ∷ []
 ahead_more l r b = drop-append-le (l.digested - l.log.first) l.log.records (r ∷ []) (omega (arith, b.from_first, b.to_end))
 
-not_below : (n k : ℕ) → k ≤ n → nat_lt n k ≡ false
-not_below n k h = grind (arith, h)
-
 placed : (l : ReceivedLog) → IsBegun l → record_at l.log l.digested ≡ slice_get l.log.records (l.digested - l.log.first)
-placed l b = ap (λ x. if x then None else slice_get l.log.records (l.digested - l.log.first)) (not_below l.digested l.log.first b.from_first)
+placed l b = ap (λ x. if x then None else slice_get l.log.records (l.digested - l.log.first)) (le-ltb l.digested l.log.first b.from_first)
 
 -- the next one, and those behind it
 pub ahead_next : (l : ReceivedLog) (r : LogRecord) → IsBegun l → Some r ≡ record_at l.log l.digested → ahead l ≡ r ∷ ahead (digested_further l 1)

@@ -5,6 +5,7 @@ use Rattle.std.specs.Option.{IfSome}
 use Rattle.std.specs.Ordering.{nat_cmp}
 use Rattle.std.proofs.Math.Seq.{drop-append-add}
 use Rattle.std.proofs.lemmas.List.{drop-append-le, get_or-set_same, length-append, length-drop, length-take}
+use Rattle.std.proofs.lemmas.Bool.{or_right}
 use Rattle.assise_record.specs.declared.effect.Effect.{Effect}
 use Rattle.assise_record.specs.LogRecord.{LogRecord}
 use Rattle.assise_record.specs.Groups.{all_marks, all_records, begun_by, coalesced_group, groups_of, left_in, left_of}
@@ -35,17 +36,14 @@ use Rattle.assise_digest.proofs.KeptStands.{is_touched}
 pub has_prefix : (l : map.FinMap nat_cmp ℕ) (es fs : List Effect) → HasAllNumbers l (es ++ fs) → HasAllNumbers l es
 has_prefix l es fs h i among = h i (contains-both es fs i ∙ ap (λ b. b || contains (touched fs) i) among)
 
-or_true : (b : Bool) → (b || true) ≡ true
-or_true true = refl
-or_true false = refl
-
 some_either : (b : Bool) (n : ℕ) (o : Option ℕ) → IsSome o → IsSome (if b then Some n else o)
 some_either true n o h = refl
 some_either false n o h = h
 
 pub has_others : (l : map.FinMap nat_cmp ℕ) (n : ℕ) (es fs : List Effect) → HasAllNumbers l (es ++ fs) → HasAllNumbers (last_noted l n es) fs
 has_others l n es fs h i among =
-    let had : IsSome (map.get l i) = h i (contains-both es fs i ∙ ap (λ b. contains (touched es) i || b) among ∙ or_true (contains (touched es) i)) in
+    let had : IsSome (map.get l i) = h i
+    (contains-both es fs i ∙ ap (λ b. contains (touched es) i || b) among ∙ or_right (contains (touched es) i) true refl) in
     subst IsSome (sym (get-noted l n es i)) (some_either (contains (touched es) i) n (map.get l i) had)
 
 -- ---- records that can be made whole
@@ -153,7 +151,7 @@ module _ (x : Received) (from : ℕ) (begun : IsBegun (seen_log x)) (low : x.dig
       let old : contains (touched (all_effects (records_from x.log from))) i ≡ true = sym (come.touch i) ∙ sym (ap (λ rs. contains (touched (all_effects rs)) i) tail) ∙ among in
       let all : contains (touched (all_effects (passed ++ records_from x.log from))) i ≡ true
       = ap (λ es. contains (touched es) i) (all_effects-append passed (records_from x.log from)) ∙ contains-both (all_effects passed) (all_effects (records_from x.log from)) i
-      ∙ ap (λ b. contains (touched (all_effects passed)) i || b) old ∙ or_true (contains (touched (all_effects passed)) i) in
+      ∙ ap (λ b. contains (touched (all_effects passed)) i || b) old ∙ or_right (contains (touched (all_effects passed)) i) true refl in
       ap is_some (stands.last i) ∙ is_touched x.digested (passed ++ records_from x.log from) i ∙ all
 
   pub all_there : (m : InodeMap) (log : NumberedLog) (o : Option Pending) → log ≡ regrouped x.log from → StandsHere m (seen_log x) o → IfSome o (λ p. HasAllNumbers p.last (all_effects (records_from log from)))
