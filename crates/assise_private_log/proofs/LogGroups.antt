@@ -14,7 +14,7 @@ use Rattle.assise_record.proofs.GroupMarks.{all-coalesced, groups-are, groups-st
 use Rattle.assise_record.proofs.WholeGroups.{whole_none}
 use Rattle.assise_private_log.specs.Groups.{groups_from, regrouped, with_group, with_groups, with_left}
 use Rattle.assise_private_log.specs.NumberedLog.{HasOpenGroup, IsNumberedLog, NumberedLog, end, is_border, records_from, with_grouped, without_tail}
-use Rattle.assise_private_log.proofs.Borders.{border_first, border_marked}
+use Rattle.assise_private_log.proofs.Borders.{border_first, border_marked, by_place}
 
 -- ---- effects
 
@@ -85,12 +85,8 @@ group_more l rs r begins is = λ i. record {
 
 begun_border : (l : NumberedLog) (r : LogRecord) (rs : List LogRecord) → length l.begins ≡ length l.records → is_border (with_group l (r ∷ rs)) (end l) ≡ true
 begun_border l r rs marks =
-    elim (cases_lt l.first (end l)) [
-      | inl later ↦
-          let place : length l.begins ≡ end l - l.first = omega arith in
-          border_marked (with_group l (r ∷ rs)) (end l) later ∙ get_or_at l.begins true (map (λ (x : LogRecord). false) rs) true (end l - l.first) place
-      | inr low ↦ border_first (with_group l (r ∷ rs)) (end l) low
-    ]
+    by_place (with_group l (r ∷ rs)) (end l) (λ b. b ≡ true) (λ _. refl)
+    (λ later. get_or_at l.begins true (map (λ (x : LogRecord). false) rs) true (end l - l.first) (omega arith))
 
 -- and may grow while it has fewer than 64
 -- a record is the first of its group where the log ends as before the group
@@ -214,14 +210,9 @@ regrouped_before l from number law last before =
     let prefix : List Bool = take (from - l.first) l.begins in
     let kept : length prefix ≡ from - l.first = omega (arith, law.marks, length-take (from - l.first) l.begins) in
     ap (λ m. is_border m number) (regrouped_all l from)
-    ∙ elim (cases_lt l.first number) [
-      | inl high ↦
-          border_marked (with_all (without_tail l from) (groups_from l from)) number high
-          ∙ get_or_append_left prefix (all_marks (groups_from l from)) true (number - l.first) (omega arith)
-          ∙ get_or-take (from - l.first) l.begins (number - l.first) true (omega arith)
-          ∙ sym (border_marked l number high)
-      | inr low ↦ border_first (with_all (without_tail l from) (groups_from l from)) number low ∙ sym (border_first l number low)
-    ]
+    ∙ by_place (with_all (without_tail l from) (groups_from l from)) number (λ b. b ≡ is_border l number) (λ low. sym (border_first l number low)) (λ high.
+    get_or_append_left prefix (all_marks (groups_from l from)) true (number - l.first) (omega arith)
+    ∙ get_or-take (from - l.first) l.begins (number - l.first) true (omega arith) ∙ sym (border_marked l number high))
 
 -- a border among them is where one begins
 border_among : (l : NumberedLog) (from k : ℕ) → IsNumberedLog l → l.first < from + k → l.first ≤ from → from ≤ end l → is_border (regrouped l from) (from + k) ≡ get_or (all_marks (groups_from l from)) k true
