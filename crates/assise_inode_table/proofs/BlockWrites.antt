@@ -1,7 +1,9 @@
 -- Writes, reads and cuts of bytes in blocks.
-use Rattle.std.proofs.Common.{◌≡◌, ℕ, zero, suc, ◌+◌, ◌-◌, ◌*◌, ◌/◌, ◌%◌, ◌<◌, ◌≤◌, ◌≢◌, List, [], ◌∷◌, ◌++◌, length, take, drop, replicate, refl, ap, sym, ◌∙◌, subst, get_or, set, arith, min, max, append_assoc, append-nil, length-append, take-append-drop}
+use Rattle.std.proofs.Common.{◌≡◌, ℕ, zero, suc, ◌+◌, ◌-◌, ◌*◌, ◌/◌, ◌%◌, ◌<◌, ◌≤◌, ◌≢◌, List, [], ◌∷◌, ◌++◌, length, take, drop, replicate, refl, ap, sym, ◌∙◌, subst, get_or, set, arith, min, max, inl, inr, append_assoc, append-nil, length-append, take-append-drop}
 use Rattle.bytes.proofs.Chunks.{concat_push}
-use Rattle.std.proofs.lemmas.List.{length-take, length-drop, take_all, drop_all, take-take, drop-take, drop-drop, drop_more, set_split, take-append-le, take_more_set, take_min, drop_min}
+use Rattle.std.proofs.lemmas.Bool.{cases_lt}
+use Rattle.std.proofs.lemmas.Grind.{same_number_lists}
+use Rattle.std.proofs.lemmas.List.{get_or_append_left, get_or-append_right, get_or-take, get_or-drop, get_or-replicate, get_or_past, length-replicate, length-take, length-drop, take-take, drop-take, drop-drop, drop_more, set_split, take-append-le, take_more_set, take_min, drop_min}
 use Rattle.std.proofs.lemmas.List.Folds.{concat-append}
 use Rattle.std.proofs.Math.Seq.{take-add}
 use Rattle.std.specs.Int.{div_ceil}
@@ -43,96 +45,69 @@ written_within xs f p o new held before behind =
     joined a b z y n d t u v p q r = rw (← p, ← q, ← r) (simp append_assoc)
 
 -- ---- a part of what is written over
-nothing_over : (xs : List ℕ) → overwritten xs 0 [] ≡ xs
-nothing_over xs = let none : 0 - length xs ≡ 0 = omega arith in rw none refl
+-- what stands at a place then
+module _ (xs : List ℕ) (o : ℕ) (new : List ℕ) (i : ℕ) where
+  abbrev front : List ℕ
+  front = take o xs ++ zeros (o - length xs)
 
-over_first : (x : ℕ) (new xs : List ℕ) → overwritten xs 0 (x ∷ new) ≡ x ∷ overwritten (drop 1 xs) 0 new
-over_first x new xs =
-    let none : 0 - length xs ≡ 0 = omega arith in
-    let still : 0 - length (drop 1 xs) ≡ 0 = omega arith in
-    let rest : drop (0 + length (x ∷ new)) xs ≡ drop (0 + length new) (drop 1 xs) = sym (drop-drop (0 + length new) 1 xs ∙ ap (λ n. drop n xs) (omega arith)) in
-    rw (none, still, rest) refl
+  front_long : length front ≡ o
+  front_long = omega (arith, length-append (take o xs) (zeros (o - length xs)), length-take o xs, length-replicate {A = ℕ} (o - length xs) 0)
 
-over_later : (x o : ℕ) (xs new : List ℕ) → overwritten (x ∷ xs) (suc o) new ≡ x ∷ overwritten xs o new
-over_later x o xs new =
-    let gap : suc o - length (x ∷ xs) ≡ o - length xs = omega arith in
-    let more : suc o + length new ≡ suc (o + length new) = omega arith in
-    let rest : drop (suc o + length new) (x ∷ xs) ≡ drop (o + length new) xs = ap (λ n. drop n (x ∷ xs)) more in
-    rw (gap, rest) refl
+  over_before : i < o → get_or (overwritten xs o new) i 0 ≡ get_or xs i 0
+  over_before before =
+      let still : get_or front i 0 ≡ get_or xs i 0 = elim (cases_lt i (length xs)) [
+        | inl held ↦ get_or_append_left (take o xs) (zeros (o - length xs)) 0 i (omega (arith, length-take o xs)) ∙ get_or-take o xs i 0 before
+        | inr past ↦ get_or-append_right (take o xs) (zeros (o - length xs)) (length xs) i 0 (omega (arith, length-take o xs)) past
+            ∙ get_or-replicate {A = ℕ} (o - length xs) (i - length xs) 0 0 (omega arith) ∙ sym (get_or_past xs i 0 past)
+      ] in
+      get_or_append_left (front ++ new) (drop (o + length new) xs) 0 i (omega (arith, front_long, length-append front new))
+      ∙ get_or_append_left front new 0 i (omega (arith, front_long)) ∙ still
 
-over_none : (o : ℕ) (new : List ℕ) → overwritten [] (suc o) new ≡ 0 ∷ overwritten [] o new
-over_none o new =
-    let gap : suc o - 0 ≡ suc (o - 0) = omega arith in
-    let prefix : take {A = ℕ} o [] ≡ [] = take_all o [] (omega arith) in
-    let rest : drop {A = ℕ} (suc o + length new) [] ≡ [] = drop_all (suc o + length new) [] (omega arith) in
-    let still : drop {A = ℕ} (o + length new) [] ≡ [] = drop_all (o + length new) [] (omega arith) in
-    rw (gap, prefix, rest, still) refl
+  over_within : o ≤ i → i < o + length new → get_or (overwritten xs o new) i 0 ≡ get_or new (i - o) 0
+  over_within low high =
+      get_or_append_left (front ++ new) (drop (o + length new) xs) 0 i (omega (arith, front_long, length-append front new))
+      ∙ get_or-append_right front new o i 0 front_long low
 
-dropped : (s : ℕ) (xs : List ℕ) (o : ℕ) (new : List ℕ) → drop s (overwritten xs o new) ≡ overwritten (drop s xs) (o - s) (drop (s - o) new)
-dropped zero xs o new =
-    let same : o - 0 ≡ o = omega arith in
-    let all : 0 - o ≡ 0 = omega arith in
-    rw (same, all) refl
-dropped (suc s) xs zero [] =
-    let same : 0 - suc s ≡ 0 = omega arith in
-    let none : drop {A = ℕ} (suc s - 0) [] ≡ [] = drop_all (suc s - 0) [] (omega arith) in
-    rw (same, none) (ap (drop (suc s)) (nothing_over xs) ∙ sym (nothing_over (drop (suc s) xs)))
-dropped (suc s) xs zero (x ∷ new) =
-    let still : 0 - suc s ≡ 0 - s = omega arith in
-    let more : suc s - 0 ≡ suc (s - 0) = omega arith in
-    let rest : drop (suc s - 0) (x ∷ new) ≡ drop (s - 0) new = ap (λ n. drop n (x ∷ new)) more in
-    let one : 1 + s ≡ suc s = omega arith in
-    let back : drop (suc s) xs ≡ drop s (drop 1 xs) = sym (drop-drop s 1 xs ∙ ap (λ n. drop n xs) one) in
-    rw (still, rest, back) (ap (drop (suc s)) (over_first x new xs) ∙ dropped s (drop 1 xs) zero new)
-dropped (suc s) [] (suc o) new =
-    let at : suc o - suc s ≡ o - s = omega arith in
-    let rest : suc s - suc o ≡ s - o = omega arith in
-    let none : drop {A = ℕ} s [] ≡ [] = drop_all s [] (omega arith) in
-    rw (at, rest) (ap (drop (suc s)) (over_none o new) ∙ dropped s [] o new ∙ ap (λ ys. overwritten ys (o - s) (drop (s - o) new)) none)
-dropped (suc s) (x ∷ xs) (suc o) new =
-    let at : suc o - suc s ≡ o - s = omega arith in
-    let rest : suc s - suc o ≡ s - o = omega arith in
-    rw (at, rest) (ap (drop (suc s)) (over_later x o xs new) ∙ dropped s xs o new)
+  over_behind : o + length new ≤ i → get_or (overwritten xs o new) i 0 ≡ get_or xs i 0
+  over_behind low =
+      get_or-append_right (front ++ new) (drop (o + length new) xs) (o + length new) i 0 (omega (arith, front_long, length-append front new)) low
+      ∙ get_or-drop (o + length new) xs (i - (o + length new)) 0 ∙ ap (λ n. get_or xs n 0) (omega arith)
 
-behind_one : (n : ℕ) (xs : List ℕ) → drop 1 (take (suc n) xs) ≡ take n (drop 1 xs)
-behind_one n [] = sym (take_all n [] (omega arith))
-behind_one n (x ∷ xs) = refl
-
-taken : (n : ℕ) (xs : List ℕ) (o : ℕ) (new : List ℕ) → take n (overwritten xs o new) ≡ overwritten (take n xs) (min o n) (take (n - min o n) new)
-taken zero xs o new =
-    let at : min o 0 ≡ 0 = omega arith in
-    rw at refl
-taken (suc n) xs zero [] =
-    let at : min 0 (suc n) ≡ 0 = omega arith in
-    let none : take {A = ℕ} (suc n - 0) [] ≡ [] = take_all (suc n - 0) [] (omega arith) in
-    rw (at, none) (ap (take (suc n)) (nothing_over xs) ∙ sym (nothing_over (take (suc n) xs)))
-taken (suc n) xs zero (x ∷ new) =
-    let at : min 0 (suc n) ≡ 0 = omega arith in
-    let still : min 0 n ≡ 0 = omega arith in
-    let more : suc n - 0 ≡ suc (n - 0) = omega arith in
-    let part : take (suc n - 0) (x ∷ new) ≡ x ∷ take (n - 0) new = ap (λ k. take k (x ∷ new)) more in
-    let later : take n (overwritten (drop 1 xs) 0 new) ≡ overwritten (take n (drop 1 xs)) 0 (take (n - 0) new) = taken n (drop 1 xs) zero new ∙ rw still refl in
-    rw (at, part)
-    (ap (take (suc n)) (over_first x new xs) ∙ ap (λ ys. x ∷ ys) later
-    ∙ ap (λ ys. x ∷ overwritten ys 0 (take (n - 0) new)) (sym (behind_one n xs)) ∙ sym (over_first x (take (n - 0) new) (take (suc n) xs)))
-taken (suc n) [] (suc o) new =
-    let at : min (suc o) (suc n) ≡ suc (min o n) = omega arith in
-    let rest : suc n - suc (min o n) ≡ n - min o n = omega arith in
-    let none : take {A = ℕ} n [] ≡ [] = take_all n [] (omega arith) in
-    rw (at, rest)
-    (ap (take (suc n)) (over_none o new) ∙ ap (λ ys. 0 ∷ ys) (taken n [] o new)
-    ∙ ap (λ ys. 0 ∷ overwritten ys (min o n) (take (n - min o n) new)) none ∙ sym (over_none (min o n) (take (n - min o n) new)))
-taken (suc n) (x ∷ xs) (suc o) new =
-    let at : min (suc o) (suc n) ≡ suc (min o n) = omega arith in
-    let rest : suc n - suc (min o n) ≡ n - min o n = omega arith in
-    rw (at, rest)
-    (ap (take (suc n)) (over_later x o xs new) ∙ ap (λ ys. x ∷ ys) (taken n xs o new)
-    ∙ sym (over_later x (min o n) (take n xs) (take (n - min o n) new)))
+from_at : (k n i : ℕ) (xs : List ℕ) → i < n → get_or (bytes_from k n xs) i 0 ≡ get_or xs (k + i) 0
+from_at k n i xs within = get_or-take n (drop k xs) i 0 within ∙ get_or-drop k xs i 0
 
 -- a part of what is written over is a part that is written over
 pub part_over : (k n : ℕ) (xs : List ℕ) (o : ℕ) (new : List ℕ)
     → bytes_from k n (overwritten xs o new) ≡ overwritten (bytes_from k n xs) (min (o - k) n) (bytes_from (k - o) (n - min (o - k) n) new)
-part_over k n xs o new = ap (take n) (dropped k xs o new) ∙ taken n (drop k xs) (o - k) (drop (k - o) new)
+part_over k n xs o new =
+    let part = bytes_from k n xs in
+    let at = min (o - k) n in
+    let rest = bytes_from (k - o) (n - min (o - k) n) new in
+    let long : length rest ≡ min (n - min (o - k) n) (length new - (k - o)) = omega
+    (arith, length-take (n - min (o - k) n) (drop (k - o) new), length-drop (k - o) new) in
+    same_number_lists (bytes_from k n (overwritten xs o new)) (overwritten part at rest)
+    (omega (
+      arith,
+      long,
+      length-overwritten xs o new,
+      length-overwritten part at rest,
+      length-take n (drop k xs),
+      length-drop k xs,
+      length-take n (drop k (overwritten xs o new)),
+      length-drop k (overwritten xs o new),
+    ))
+    (λ i inside.
+    let within : i < n = omega (arith, inside, length-take n (drop k (overwritten xs o new))) in
+    from_at k n i (overwritten xs o new) within
+    ∙ elim (cases_lt (k + i) o) [
+      | inl before ↦ over_before xs o new (k + i) before ∙ sym (over_before part at rest i (omega arith) ∙ from_at k n i xs within)
+      | inr low ↦ elim (cases_lt (k + i) (o + length new)) [
+        | inl high ↦ over_within xs o new (k + i) low high
+            ∙ sym (over_within part at rest i (omega arith) (omega (arith, long)) ∙ from_at (k - o) (n - min (o - k) n) (i - at) new (omega arith)
+            ∙ ap (λ j. get_or new j 0) (omega arith))
+        | inr past ↦ over_behind xs o new (k + i) past ∙ sym (over_behind part at rest i (omega (arith, long)) ∙ from_at k n i xs within)
+      ]
+    ])
 
 -- `count` blocks hold it, and no fewer
 pub over_more : (bs : List (List ℕ)) (o : ℕ) (new : List ℕ) (count k : ℕ) → IsCut bs → count ≡ max (length bs) (div_ceil (o + length new) 4096) → k < count → 4096 * k < length (overwritten (concat bs) o new)

@@ -1,12 +1,10 @@
 -- The slots of pieces about a place, and what an edit of a piece makes of them.
 use Rattle.std.proofs.Common.{◌≡◌, ℕ, zero, suc, ◌+◌, ◌^◌, ◌<◌, ◌≤◌, List, [], ◌∷◌, ◌++◌, length, Option, Some, None, take, drop, set, insert, get_or, refl, sym, ap, subst, ◌∙◌, arith, true, false, is_gt, append_assoc, append-nil, nat_cmp, Less, take-append-drop, add-zero, true≢false, is_none, cond, Bool, not, is_some, inl, inr}
-use Rattle.assise_seq_tree.proofs.Sets.{tied}
 use Rattle.std.specs.List.{AllByRecursion}
 use Rattle.std.specs.List.Sorted.{IsStrictlySortedBy}
 use Rattle.std.specs.Map.{keys_of}
 use Rattle.std.specs.Int.{from_bool}
 use Rattle.std.proofs.lemmas.Bool.{cases_lt}
-use Rattle.std.specs.BTreeMap.{is_at}
 use Rattle.assise_inode_table.specs.Contents.{Links}
 use Rattle.std.specs.Cmp.Lexicographic.{slice_cmp, nat_list_cmp_total}
 use Rattle.std.specs.FinMap as map
@@ -15,6 +13,7 @@ use Rattle.std.proofs.lemmas.List.{set-get_or, set_split, take_all, drop_all, ge
 use Rattle.std.proofs.lemmas.List.Concat.{flat_map-append}
 use Rattle.std.proofs.lemmas.List.Elements.{All-drop, All-set}
 use Rattle.assise_inode_table.specs.Pieces.{Slot, live, slots_in, links_in, piece_at, slot_name, slot_link, slots_before, slots_behind, Ascend, AreFilled, IsDirectory, IsGapFor, IsPieceFor, StandsAt}
+use Rattle.assise_inode_table.proofs.MapView.{remove-absent}
 use Rattle.assise_inode_table.proofs.KeyOrder.{all_both, all_weaker, below_next, above_head, sorted_left, sorted_right, below_through, turned_back, is_greater}
 use Rattle.assise_inode_table.proofs.LiveSlots.{Parts, live-append, keys-append, parts_of_slot, slot_got, gap_got, slot_linked, gap_linked, slot_unlinked, slot_sorted, gap_sorted, count_linked, count_gone, count_relinked, live_keys, live_count, live_sorted}
 
@@ -266,11 +265,7 @@ piece_ascend ps w h s =
 
 -- a name without an entry
 pub remove_none : (m : Links) (name : List ℕ) → map.get m name ≡ None → m ≡ map.remove m name
-remove_none m name none = map.same_map nat_list_cmp_total exact_bytes _ _ (λ q. sym (map.get-remove nat_list_cmp_total m name q ∙ go q (is_at (slice_cmp nat_cmp q) name) refl))
-  where
-    go : (q : List ℕ) (b : Bool) → is_at (slice_cmp nat_cmp q) name ≡ b → cond b None (map.get m q) ≡ map.get m q
-    go q true e = sym none ∙ ap (map.get m) (sym (exact_bytes q name (tied (slice_cmp nat_cmp q name) e)))
-    go q false e = refl
+remove_none m name none = remove-absent nat_list_cmp_total exact_bytes m name none
 
 pub is_gone : (o : Option ℕ) → is_none o ≡ true → o ≡ None
 is_gone None e = refl
