@@ -1,7 +1,7 @@
 -- Which changes keep leases compatible.
-use Rattle.std.proofs.Common.{◌≡◌, ◌≢◌, ℕ, ◌==◌, Bool, true, false, cond, not, ◌&&◌, List, [], ◌∷◌, ◌++◌, inl, inr, filter, map, sym, refl, ap, ◌∙◌, ne_eqb}
+use Rattle.std.proofs.Common.{◌≡◌, ◌≢◌, ℕ, ◌==◌, Bool, true, false, not, ◌&&◌, List, [], ◌∷◌, ◌++◌, inl, inr, filter, map, sym, refl, ap, ◌∙◌, ne_eqb}
 use Rattle.std.specs.List.{list_all, list_any}
-use Rattle.std.proofs.lemmas.Bool.{cases_Bool, and_parts, and_from, and_left, not-true, not_from_false, eqb-true, eqb-false}
+use Rattle.std.proofs.lemmas.Bool.{cond_both, false_from_ne_true, and_parts, and_from, and_left, not-true, not_from_false, eqb-true, eqb-false}
 use Rattle.assise_names.specs.declared.mode.Mode.{Mode}
 use Rattle.assise_names.specs.declared.mode.Mode.TheVariants.{Read, Write}
 use Rattle.assise_lease_table.specs.declared.lease.Lease.{Lease}
@@ -58,15 +58,14 @@ not_against (l ∷ ls) c a b in_a in_b other =
       ]
     ]
 
-filtered_head : (b : Bool) (l : Lease) (ls : List Lease) → list_all (stand_together l) ls ≡ true → compatible ls ≡ true → compatible (cond b (l ∷ ls) ls) ≡ true
-filtered_head true l ls h c = and_from (list_all (stand_together l) ls) (compatible ls) h c
-filtered_head false l ls h c = c
-
 pub filter_compatible : (p : Lease → Bool) (ls : List Lease) → compatible ls ≡ true → compatible (filter p ls) ≡ true
 filter_compatible p [] c = refl
 filter_compatible p (l ∷ ls) c =
     let parts = and_parts (list_all (stand_together l) ls) (compatible ls) c in
-    filtered_head (p l) l (filter p ls) (among_all (stand_together l) (filter p ls) (λ x a. all_among (stand_together l) ls parts.0 x (among_filter p ls x a).0)) (filter_compatible p ls parts.1)
+    let rest = filter_compatible p ls parts.1 in
+    let head = among_all (stand_together l) (filter p ls) (λ x a. all_among (stand_together l) ls parts.0 x (among_filter p ls x a).0) in
+    cond_both (p l) (l ∷ filter p ls) (filter p ls) (λ ks. compatible ks ≡ true) (λ _. and_from (list_all (stand_together l) (filter p ls)) _ head rest)
+    (λ _. rest)
 
 -- a change that keeps holders and modes
 module _ (f : Lease → Lease) (keeps : (l : Lease) → ((f l).holder ≡ l.holder) × ((f l).mode ≡ l.mode)) where
@@ -102,11 +101,9 @@ with_compatible ls x c free =
 
 -- a holder without rivals is free to hold
 pub no_rivals : (ls : List Lease) (h : ℕ) (mode : Mode) → list_any (is_rival h mode) ls ≡ false → IsFree ls h mode
-no_rivals ls h mode none l a other = elim (cases_Bool (against mode l.mode)) [
-  | inl is ↦ not_both (is_rival h mode l) (and_from (not (l.holder == h)) (against mode l.mode) (not_from_false (l.holder == h) (ne_eqb l.holder h other)) is)
-      (none_among (is_rival h mode) ls none l a)
-  | inr not_so ↦ not_so
-]
+no_rivals ls h mode none l a other = false_from_ne_true (against mode l.mode) (λ is.
+    not_both (is_rival h mode l) (and_from (not (l.holder == h)) (against mode l.mode) (not_from_false (l.holder == h) (ne_eqb l.holder h other)) is)
+    (none_among (is_rival h mode) ls none l a))
 
 -- ---- a lease that is raised
 
@@ -156,9 +153,7 @@ module _ (h : ℕ) (mode : Mode) where
       ap (stand_together (raised_now l)) was.2 ∙ raised_together l was.0 (λ other. free l (inl refl) other) (λ other. free was.0 (inr was.1) other) (all_among (stand_together l) ls parts.0 was.0 was.1)))
       (raise_compatible ls parts.1 (λ k a other. free k (inr a) other))
 
-  raise_unless : (b : Bool) (ls : List Lease) → list_any (is_rival h mode) ls ≡ b → compatible ls ≡ true → compatible (cond b ls (raise h mode ls)) ≡ true
-  raise_unless true ls is c = c
-  raise_unless false ls is c = raise_compatible ls c (no_rivals ls h mode is)
-
   pub raise_unopposed_compatible : (ls : List Lease) → compatible ls ≡ true → compatible (raise_unopposed h mode ls) ≡ true
-  raise_unopposed_compatible ls c = raise_unless (list_any (is_rival h mode) ls) ls refl c
+  raise_unopposed_compatible ls c =
+      cond_both (list_any (is_rival h mode) ls) ls (raise h mode ls) (λ ks. compatible ks ≡ true) (λ _. c)
+      (λ is. raise_compatible ls c (no_rivals ls h mode is))

@@ -3,7 +3,7 @@ use Rattle.std.proofs.Common.{◌≡◌, ℕ, ◌==◌, Bool, true, false, cond,
 use Rattle.std.proofs.lemmas.List.Folds.{list_all-append, list_any-append}
 use Rattle.std.specs.List.{IsDistinct, list_any, list_all}
 use Rattle.std.specs.Map.{lookup, keys_of}
-use Rattle.std.proofs.lemmas.Bool.{and_parts, and_from, not-true, not_from_false, eqb-true, and_right, ne_eqb, eqb-false}
+use Rattle.std.proofs.lemmas.Bool.{and_parts, and_from, cond_both, not-true, not_from_false, eqb-true, and_right, ne_eqb, eqb-false}
 use Rattle.assise_lease_table.specs.Cuts.{is_of, is_asked, are_once, are_uncut, asked_at}
 use Rattle.assise_lease_table.specs.Leases.{stand_together, compatible, is_own, is_to_ask}
 use Rattle.assise_lease_table.specs.Lists.{leases_in}
@@ -88,16 +88,14 @@ module _ {V : Type 0} (leases : V → List Lease) (choice : Lease → Bool) wher
   none_of l (k ∷ ks) e = let parts = and_parts (stand_together l k) (list_all (stand_together l) ks) e in
       not_wanted (is_own l.holder k) (is_to_ask choice k) (list_any (wanted l.holder) ks) (others l k parts.0) (none_of l ks parts.1)
 
-  once_step : (t : Bool) (a : Asked) (more_of : List Asked) → is_asked more_of a.client a.inode ≡ false → are_once more_of ≡ true → are_once (cond t (a ∷ more_of) more_of) ≡ true
-  once_step true a more_of new once =
-      and_from (not (is_asked more_of a.client a.inode)) (are_once more_of)
-      (not_from_false (is_asked more_of a.client a.inode) new) once
-  once_step false a more_of new once = once
-
   once_at : (j : ℕ) (ls : List Lease) → compatible ls ≡ true → are_once (asked_at choice j ls) ≡ true
   once_at j [] fits = refl
-  once_at j (l ∷ ls) fits = let parts = and_parts (list_all (stand_together l) ls) (compatible ls) fits in
-      once_step (is_to_ask choice l) (answer_at j l) (asked_at choice j ls) (asked_here j j l.holder (eq-eqb j j refl) ls ∙ none_of l ls parts.0) (once_at j ls parts.1)
+  once_at j (l ∷ ls) fits =
+      let parts = and_parts (list_all (stand_together l) ls) (compatible ls) fits in
+      let behind = asked_at choice j ls in
+      let new = not_from_false (is_asked behind l.holder j) (asked_here j j l.holder (eq-eqb j j refl) ls ∙ none_of l ls parts.0) in
+      cond_both (is_to_ask choice l) (answer_at j l ∷ behind) behind (λ xs. are_once xs ≡ true)
+      (λ _. and_from (not (is_asked behind l.holder j)) (are_once behind) new (once_at j ls parts.1)) (λ _. once_at j ls parts.1)
 
   both_step : (t : Bool) (a : Asked) (more_of bs : List Asked) → is_asked bs a.client a.inode ≡ false → (are_once more_of ≡ true → are_once (more_of ++ bs) ≡ true) → are_once (cond t (a ∷ more_of) more_of) ≡ true → are_once (cond t (a ∷ more_of) more_of ++ bs) ≡ true
   both_step true a more_of bs new more once =
@@ -131,13 +129,11 @@ module _ {V : Type 0} (leases : V → List Lease) (choice : Lease → Bool) wher
 
   -- ---- nobody answered
 
-  uncut_step : (t : Bool) (j : ℕ) (l : Lease) (more_of : List Asked) → are_uncut more_of ≡ true → are_uncut (cond t (answer_at j l ∷ more_of) more_of) ≡ true
-  uncut_step true j l more_of more = more
-  uncut_step false j l more_of more = more
-
   uncut_at : (j : ℕ) (ls : List Lease) → are_uncut (asked_at choice j ls) ≡ true
   uncut_at j [] = refl
-  uncut_at j (l ∷ ls) = uncut_step (is_to_ask choice l) j l (asked_at choice j ls) (uncut_at j ls)
+  uncut_at j (l ∷ ls) =
+      cond_both (is_to_ask choice l) (answer_at j l ∷ asked_at choice j ls) (asked_at choice j ls) (λ xs. are_uncut xs ≡ true) (λ _. uncut_at j ls)
+      (λ _. uncut_at j ls)
 
   pub uncut_in : (es : List (ℕ × V)) → are_uncut (unasked_in es) ≡ true
   uncut_in [] = refl
