@@ -1,7 +1,7 @@
 -- What each call does keeps the two levels lawful, and lists of calls do.
-use Rattle.std.proofs.Common.{◌≡◌, ℕ, ◌&&◌, Bool, true, false, cond, not, List, [], ◌∷◌, Some, None, inl, inr, refl}
+use Rattle.std.proofs.Common.{◌≡◌, ℕ, ◌&&◌, Bool, true, false, not, List, [], ◌∷◌, Some, None, inl, inr, refl}
 use Rattle.std.specs.List.{list_any}
-use Rattle.std.proofs.lemmas.Bool.{and_parts, not-true}
+use Rattle.std.proofs.lemmas.Bool.{and_parts, cond_both, not-true}
 use Rattle.assise_names.specs.declared.mode.Mode.{Mode}
 use Rattle.assise_lease_table.specs.declared.lease.Lease.{Lease}
 use Rattle.assise_lease_table.specs.LeaseMaps.{SameLeases}
@@ -48,10 +48,6 @@ module _ (old : TwoLevels) (lawful : LevelsInvariant old) where
         asked = asked_asked old.home cs ns c n mode at_home l.under l.asked;
       }) lawful
 
-  released_fits : (gone : Bool) (n : ℕ) (ns : List Lease) → compatible ns ≡ true → compatible (cond gone (without_holder n ns) ns) ≡ true
-  released_fits true n ns fits = leave_out_fits (is_own n) ns fits
-  released_fits false n ns fits = fits
-
   pub released_lawful : (new : TwoLevels) (c n inode : ℕ) → old.home c ≡ Some n → ReleasesLease old new c n inode → LevelsInvariant new
   released_lawful new c n inode at_home r =
       let l = lawful_at lawful inode in
@@ -59,7 +55,8 @@ module _ (old : TwoLevels) (lawful : LevelsInvariant old) where
       let ns = old.nodes inode in
       becomes_lawful old new r.home r.clients r.nodes (record {
         fits_c = leave_out_fits (is_own c) cs l.fits_c;
-        fits_n = released_fits (is_revoked (lease_of ns n) && not (is_busy old.home (without_holder c cs) n)) n ns l.fits_n;
+        fits_n = cond_both (is_revoked (lease_of ns n) && not (is_busy old.home (without_holder c cs) n)) (without_holder n ns) ns
+            (λ ls. compatible ls ≡ true) (λ _. leave_out_fits (is_own n) ns l.fits_n) (λ _. l.fits_n);
         under = released_under old.home cs ns l.fits_n l.under l.asked c n at_home;
         asked = released_asked old.home cs ns l.fits_n l.under l.asked c n at_home;
       }) lawful
