@@ -1,6 +1,6 @@
 -- One entry is set or taken out: what is found then. Ordered entries are what is found in them.
 use Rattle.std.proofs.Common.{◌≡◌, ◌≢◌, ℕ, Bool, true, false, cond, List, Option, Some, None, is_some, Ordering, Less, Equal, Greater, nat_cmp, refl, ap, sym, ◌∙◌, inl, inr, subst}
-use Rattle.std.proofs.lemmas.Bool.{false≢true, cases_Bool}
+use Rattle.std.proofs.lemmas.Bool.{false≢true, cases_Bool, cond_both}
 use Rattle.std.specs.Ordering.{is_eq, match_ordering, ordering_reverse}
 use Rattle.std.specs.Cmp.{tied_itself}
 use Rattle.std.specs.Cmp.Lexicographic.{slice_cmp, nat_list_cmp_total}
@@ -58,11 +58,9 @@ find-insert q n x (entry k t es) = go (find-insert q n x es) (slice_cmp nat_cmp 
     go ih Greater e = ap (cond (same_name q k) (Some t)) ih ∙ swapped (same_name q k) (same_name q n) (Some t) (Some x) (find q es) (not_both q n k (ap is_eq e))
 
 pub find-set : (q n : List ℕ) (x : Tree) (es : Entries) → find q (set n x es) ≡ cond (same_name q n) (Some x) (find q es)
-find-set q n x es = go (is_some (find n es)) refl
-  where
-    go : (b : Bool) → is_some (find n es) ≡ b → find q (cond b (replace n x es) (insert n x es)) ≡ cond (same_name q n) (Some x) (find q es)
-    go true e = find-replace_any q n x es e
-    go false e = find-insert q n x es
+find-set q n x es =
+    cond_both (is_some (find n es)) (replace n x es) (insert n x es) (λ fs. find q fs ≡ cond (same_name q n) (Some x) (find q es))
+    (find-replace_any q n x es) (λ _. find-insert q n x es)
 
 pub find_below : (q : List ℕ) (es : Entries) → IsBelow q es → find q es ≡ None
 find_below q no_entries below = refl
@@ -110,11 +108,8 @@ ordered-remove n (entry k t es) s =
     ]
 
 pub ordered-set : (n : List ℕ) (x : Tree) (es : Entries) → AreOrdered es → IsOrdered x → AreOrdered (set n x es)
-ordered-set n x es s o = go (is_some (find n es))
-  where
-    go : (b : Bool) → AreOrdered (cond b (replace n x es) (insert n x es))
-    go true = ordered-replace n x es s o
-    go false = ordered-insert n x es s o
+ordered-set n x es s o =
+    cond_both (is_some (find n es)) (replace n x es) (insert n x es) AreOrdered (λ _. ordered-replace n x es s o) (λ _. ordered-insert n x es s o)
 
 -- ---- ordered entries are what is found in them
 pub find_first : (n : List ℕ) (t : Tree) (es : Entries) → find n (entry n t es) ≡ Some t
