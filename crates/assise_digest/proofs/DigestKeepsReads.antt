@@ -1,6 +1,6 @@
 -- Records of one client are digested, and what is read stays.
 use Rattle.std.proofs.Common.{◌≡◌, ◌≢◌, ◌≤◌, ◌<◌, ◌+◌, ◌-◌, ◌||◌, ◌⊎◌, Option, ℕ, zero, suc, Bool, true, false, List, [], ◌∷◌, ◌++◌, length, take, drop, slice_index_or, slice_set, refl, sym, ap, subst, ◌∙◌, inl, inr, drop-drop, take-add, arith}
-use Rattle.std.proofs.lemmas.Bool.{cases_eq, or_right as or_true_right}
+use Rattle.std.proofs.lemmas.Bool.{cases_eq, or_parts, or_right as or_true_right}
 use Rattle.std.proofs.lemmas.List.{get_or-set_same, get_or-set_other, length-set, set-get_or, take-append-drop}
 use Rattle.std.specs.FinMap as map
 use Rattle.assise_record.specs.LogRecord.{LogRecord}
@@ -9,7 +9,7 @@ use Rattle.assise_record.proofs.Records.{all_effects-append}
 use Rattle.assise_inode_table.specs.Contents.{Content}
 use Rattle.assise_inode_table.specs.Effects.{all_applied, contains, touched, value_after}
 use Rattle.assise_inode_table.proofs.EffectLists.{append_applied, get-all_applied}
-use Rattle.assise_inode_table.proofs.EffectValues.{or_left, or_right, untouched, value_after-append, contains-both}
+use Rattle.assise_inode_table.proofs.EffectValues.{untouched, value_after-append, contains-both}
 use Rattle.assise_digest.specs.Region.{AreNotBelow, HasClient, IsBegun, ReceivedLog, RegionValue, TouchDisjoint, ahead, ahead_below, all_ahead, alone, digested_by, digested_further, log_at, log_of, no_log, read_by}
 use Rattle.assise_digest.proofs.ReceivedLogs.{count_ahead}
 
@@ -37,10 +37,10 @@ touched_parts n rs i =
     ∙ contains-both (all_effects (take n rs)) (all_effects (drop n rs)) i
 
 pub quiet_prefix : (n : ℕ) (rs : List LogRecord) (i : ℕ) → contains (touched (all_effects rs)) i ≡ false → contains (touched (all_effects (take n rs))) i ≡ false
-quiet_prefix n rs i h = or_left (contains (touched (all_effects (take n rs))) i) _ (sym (touched_parts n rs i) ∙ h)
+quiet_prefix n rs i h = (or_parts (contains (touched (all_effects (take n rs))) i) _ (sym (touched_parts n rs i) ∙ h)).0
 
 quiet_rest : (n : ℕ) (rs : List LogRecord) (i : ℕ) → contains (touched (all_effects rs)) i ≡ false → contains (touched (all_effects (drop n rs))) i ≡ false
-quiet_rest n rs i h = or_right (contains (touched (all_effects (take n rs))) i) _ (sym (touched_parts n rs i) ∙ h)
+quiet_rest n rs i h = (or_parts (contains (touched (all_effects (take n rs))) i) _ (sym (touched_parts n rs i) ∙ h)).1
 
 some_of_prefix : (n : ℕ) (rs : List LogRecord) (i : ℕ) → contains (touched (all_effects (take n rs))) i ≡ true → contains (touched (all_effects rs)) i ≡ true
 some_of_prefix n rs i h = touched_parts n rs i ∙ ap (λ b. b || contains (touched (all_effects (drop n rs))) i) h

@@ -3,7 +3,7 @@ use Rattle.std.proofs.Common.{◌≡◌, ℕ, zero, suc, ◌+◌, ◌-◌, ◌*�
 use Rattle.bytes.proofs.Chunks.{concat_push}
 use Rattle.std.proofs.lemmas.Bool.{cases_lt}
 use Rattle.std.proofs.lemmas.Grind.{same_number_lists}
-use Rattle.std.proofs.lemmas.List.{get_or_append_left, get_or-append_right, get_or-take, get_or-drop, get_or-replicate, get_or_past, length-replicate, length-take, length-drop, take-take, drop-take, drop-drop, drop_more, set_split, take-append-le, take_more_set, take_min, drop_min}
+use Rattle.std.proofs.lemmas.List.{get_or-take, get_or-drop, length-take, length-drop, take-take, drop-take, drop-drop, drop_more, set_split, take-append-le, take_more_set, take_min, drop_min}
 use Rattle.std.proofs.lemmas.List.Folds.{concat-append}
 use Rattle.std.proofs.Math.Seq.{take-add}
 use Rattle.std.specs.Int.{div_ceil}
@@ -11,6 +11,7 @@ use Rattle.std.specs.List.{concat}
 use Rattle.assise_seq_tree.specs.Contents.{bytes_from, overwritten}
 use Rattle.assise_seq_tree.proofs.BytesRead.{length-overwritten}
 use Rattle.assise_inode_table.specs.Blocks.{IsCut}
+use Rattle.assise_inode_table.proofs.Bytes.{written_before, written_here, written_behind}
 use Rattle.assise_inode_table.proofs.BlockBytes.{cut_take, cut_drop, cut_append, cut_one, concat_take, concat_drop, least, most, full, as_many}
 
 -- ---- plain lists
@@ -45,34 +46,6 @@ written_within xs f p o new held before behind =
     joined a b z y n d t u v p q r = rw (← p, ← q, ← r) (simp append_assoc)
 
 -- ---- a part of what is written over
--- what stands at a place then
-module _ (xs : List ℕ) (o : ℕ) (new : List ℕ) (i : ℕ) where
-  abbrev front : List ℕ
-  front = take o xs ++ zeros (o - length xs)
-
-  front_long : length front ≡ o
-  front_long = omega (arith, length-append (take o xs) (zeros (o - length xs)), length-take o xs, length-replicate {A = ℕ} (o - length xs) 0)
-
-  over_before : i < o → get_or (overwritten xs o new) i 0 ≡ get_or xs i 0
-  over_before before =
-      let still : get_or front i 0 ≡ get_or xs i 0 = elim (cases_lt i (length xs)) [
-        | inl held ↦ get_or_append_left (take o xs) (zeros (o - length xs)) 0 i (omega (arith, length-take o xs)) ∙ get_or-take o xs i 0 before
-        | inr past ↦ get_or-append_right (take o xs) (zeros (o - length xs)) (length xs) i 0 (omega (arith, length-take o xs)) past
-            ∙ get_or-replicate {A = ℕ} (o - length xs) (i - length xs) 0 0 (omega arith) ∙ sym (get_or_past xs i 0 past)
-      ] in
-      get_or_append_left (front ++ new) (drop (o + length new) xs) 0 i (omega (arith, front_long, length-append front new))
-      ∙ get_or_append_left front new 0 i (omega (arith, front_long)) ∙ still
-
-  over_within : o ≤ i → i < o + length new → get_or (overwritten xs o new) i 0 ≡ get_or new (i - o) 0
-  over_within low high =
-      get_or_append_left (front ++ new) (drop (o + length new) xs) 0 i (omega (arith, front_long, length-append front new))
-      ∙ get_or-append_right front new o i 0 front_long low
-
-  over_behind : o + length new ≤ i → get_or (overwritten xs o new) i 0 ≡ get_or xs i 0
-  over_behind low =
-      get_or-append_right (front ++ new) (drop (o + length new) xs) (o + length new) i 0 (omega (arith, front_long, length-append front new)) low
-      ∙ get_or-drop (o + length new) xs (i - (o + length new)) 0 ∙ ap (λ n. get_or xs n 0) (omega arith)
-
 from_at : (k n i : ℕ) (xs : List ℕ) → i < n → get_or (bytes_from k n xs) i 0 ≡ get_or xs (k + i) 0
 from_at k n i xs within = get_or-take n (drop k xs) i 0 within ∙ get_or-drop k xs i 0
 
@@ -100,12 +73,12 @@ part_over k n xs o new =
     let within : i < n = omega (arith, inside, length-take n (drop k (overwritten xs o new))) in
     from_at k n i (overwritten xs o new) within
     ∙ elim (cases_lt (k + i) o) [
-      | inl before ↦ over_before xs o new (k + i) before ∙ sym (over_before part at rest i (omega arith) ∙ from_at k n i xs within)
+      | inl before ↦ written_before xs o new (k + i) before ∙ sym (written_before part at rest i (omega arith) ∙ from_at k n i xs within)
       | inr low ↦ elim (cases_lt (k + i) (o + length new)) [
-        | inl high ↦ over_within xs o new (k + i) low high
-            ∙ sym (over_within part at rest i (omega arith) (omega (arith, long)) ∙ from_at (k - o) (n - min (o - k) n) (i - at) new (omega arith)
+        | inl high ↦ written_here xs o new (k + i) low high
+            ∙ sym (written_here part at rest i (omega arith) (omega (arith, long)) ∙ from_at (k - o) (n - min (o - k) n) (i - at) new (omega arith)
             ∙ ap (λ j. get_or new j 0) (omega arith))
-        | inr past ↦ over_behind xs o new (k + i) past ∙ sym (over_behind part at rest i (omega (arith, long)) ∙ from_at k n i xs within)
+        | inr past ↦ written_behind xs o new (k + i) past ∙ sym (written_behind part at rest i (omega (arith, long)) ∙ from_at k n i xs within)
       ]
     ])
 

@@ -1,9 +1,9 @@
 -- A link that is made before effects that only take away.
-use Rattle.std.proofs.Common.{◌≡◌, ℕ, ◌==◌, ◌&&◌, not, Bool, true, false, if◌then◌else◌, cond, List, [], ◌∷◌, ◌++◌, ◌+◌, ◌<◌, ◌≤◌, ◌-◌, arith, length, take, slice_index_or, Option, Some, None, refl, ap, sym, subst, ◌∙◌, inl, inr}
+use Rattle.std.proofs.Common.{◌≡◌, ℕ, ◌==◌, ◌&&◌, Bool, true, false, if◌then◌else◌, cond, List, [], ◌∷◌, ◌++◌, ◌+◌, ◌<◌, ◌≤◌, ◌-◌, arith, length, take, slice_index_or, Option, Some, None, refl, ap, sym, subst, ◌∙◌, inl, inr}
 use Rattle.std.specs.List.{filter, list_all}
 use Rattle.std.proofs.lemmas.List.{take_all, take_more, same_from_push}
 use Rattle.std.proofs.lemmas.List.Elements.{filter-append}
-use Rattle.std.proofs.lemmas.Bool.{eq-eqb, eqb-true, and_parts}
+use Rattle.std.proofs.lemmas.Bool.{eq-eqb, eqb-true, and_parts, not-false, not-true}
 use Rattle.std.specs.Cmp.Lexicographic.{nat_list_cmp_total}
 use Rattle.std.specs.FinMap as map
 use Rattle.assise_record.specs.declared.effect.Effect.{Effect}
@@ -63,20 +63,6 @@ last_alone : (b : Bool) (o : Option Content) (e f : Effect) → effect_on (effec
 last_alone true o e f same = same
 last_alone false o e f same = refl
 
-another_name : (here there : Bool) → not (here && there) ≡ true → here ≡ true → there ≡ false
-another_name true true leaves is = cc
-another_name true false leaves is = refl
-another_name false there leaves is = cc
-
-this_directory : (here there : Bool) → not (here && there) ≡ false → here ≡ true
-this_directory true there gone = refl
-this_directory false there gone = cc
-
-this_name : (here there : Bool) → not (here && there) ≡ false → there ≡ true
-this_name true true gone = refl
-this_name true false gone = cc
-this_name false there gone = cc
-
 -- only an entry and an inode are taken away
 away_cases : (P : Effect → Type 0) → ((c : ℕ) (other : List ℕ) → P (Unlink c other)) → ((c : ℕ) → P (Free c)) → (e : Effect) → TakesAway e → P e
 away_cases P entry inode (Unlink c other) t = entry c other
@@ -92,15 +78,18 @@ module _ (d : ℕ) (name : List ℕ) (i : ℕ) where
   link_before q o =
       away_cases (λ e. leaves_entry d name e ≡ true → value_after q o (e ∷ Link d name i ∷ []) ≡ value_after q o (Link d name i ∷ e ∷ []))
       (λ c other leaves. both_orders (c == q) (d == q) o (Unlink c other) (Link d name i) (λ at_c at_d.
-      other_entry_after o c d name other i (another_name (c == d) (same_name other name) leaves (eq-eqb c d (eqb-true c q at_c ∙ sym (eqb-true d q at_d))))))
+      other_entry_after o c d name other i
+      (ap (λ b. b && same_name other name) (sym (eq-eqb c d (eqb-true c q at_c ∙ sym (eqb-true d q at_d))))
+      ∙ not-true ((c == d) && same_name other name) leaves)))
       (λ c leaves. both_orders (c == q) (d == q) o (Free c) (Link d name i) (λ at_c at_d. refl))
 
   link_instead : (q : ℕ) (o : Option Content) (e : Effect) → TakesAway e → leaves_entry d name e ≡ false → value_after q o (e ∷ Link d name i ∷ []) ≡ value_after q o (Link d name i ∷ [])
   link_instead q o =
       away_cases (λ e. leaves_entry d name e ≡ false → value_after q o (e ∷ Link d name i ∷ []) ≡ value_after q o (Link d name i ∷ []))
       (λ c other gone.
-      ap (λ k. value_after q o (Unlink k other ∷ Link d name i ∷ [])) (eqb-true c d (this_directory (c == d) (same_name other name) gone))
-      ∙ last_alone (d == q) o (Unlink d other) (Link d name i) (same_entry_after o d d name other i (this_name (c == d) (same_name other name) gone)))
+      let both = and_parts (c == d) (same_name other name) (not-false ((c == d) && same_name other name) gone) in
+      ap (λ k. value_after q o (Unlink k other ∷ Link d name i ∷ [])) (eqb-true c d both.0)
+      ∙ last_alone (d == q) o (Unlink d other) (Link d name i) (same_entry_after o d d name other i both.1))
       (λ c gone. cc)
 
   -- ---- all inodes

@@ -33,13 +33,13 @@ live_sorted R ((name, None) ∷ slots) s = live_sorted R slots s.1
 live_sorted R ((name, Some inode) ∷ slots) s = (live_all (λ y. R name y ≡ Less) slots s.0, live_sorted R slots s.1)
 
 -- ---- look-ups
-lookup-append : {K X : Type 0} (t : K → Bool) (es fs : List (K × X)) → lookup t (es ++ fs) ≡ option_or (lookup t es) (lookup t fs)
+pub or_cond : {X : Type 0} (b : Bool) (x : X) (o c : Option X) → option_or (cond b (Some x) o) c ≡ cond b (Some x) (option_or o c)
+or_cond true x o c = refl
+or_cond false x o c = refl
+
+pub lookup-append : {K X : Type 0} (t : K → Bool) (es fs : List (K × X)) → lookup t (es ++ fs) ≡ option_or (lookup t es) (lookup t fs)
 lookup-append t [] fs = refl
-lookup-append t (e ∷ es) fs = go (t e.0) (lookup-append t es fs)
-  where
-    go : (b : Bool) → lookup t (es ++ fs) ≡ option_or (lookup t es) (lookup t fs) → cond b (Some e.1) (lookup t (es ++ fs)) ≡ option_or (cond b (Some e.1) (lookup t es)) (lookup t fs)
-    go true rest = refl
-    go false rest = rest
+lookup-append t (e ∷ es) fs = ap (cond (t e.0) (Some e.1)) (lookup-append t es fs) ∙ sym (or_cond (t e.0) e.1 (lookup t es) (lookup t fs))
 
 pub or_none : {X : Type 0} (x : Option X) → option_or x None ≡ x
 or_none None = refl
