@@ -12,6 +12,7 @@ use Rattle.assise_inode_table.specs.Contents.{Content}
 use Rattle.assise_inode_table.specs.Effects.{with_value}
 use Rattle.assise_inode_table.proofs.EffectValues.{get-with_value}
 use Rattle.assise_inode_table.proofs.MapView.{alike}
+use Rattle.assise_inode_table.proofs.LiveSlots.{or_cond}
 use Rattle.assise_area.specs.Hot.{AreaValue, is_hot}
 use Rattle.assise_area.specs.Parts.{Entries, HoldSame, both_parts, value_in, hot_at, cold_at, area_seen}
 
@@ -33,16 +34,16 @@ pub nothing : {X : Type 0} (o : Option X) → false ≡ is_some o → o ≡ None
 nothing None e = refl
 nothing (Some x) e = absurd (true≢false (sym e))
 
+pub some_or : {X : Type 0} (o c : Option X) → IsSome c → IsSome (option_or o c)
+some_or None c s = s
+some_or (Some x) c s = refl
+
 -- ---- the map
 
 find-joined : (hot cold : Entries) (q : ℕ) → map.find nat_cmp q (hot ++ cold) ≡ value_in hot cold q
 find-joined [] [] q = refl
 find-joined [] (e ∷ cold) q = λ i. cond (alike q e.0 i) (Some e.1) (find-joined [] cold q i)
-find-joined (e ∷ hot) cold q = ap (λ b. cond b (Some e.1) (map.find nat_cmp q (hot ++ cold))) (alike q e.0) ∙ go (eqb q e.0) (find-joined hot cold q)
-  where
-    go : (b : Bool) → map.find nat_cmp q (hot ++ cold) ≡ value_in hot cold q → cond b (Some e.1) (map.find nat_cmp q (hot ++ cold)) ≡ option_or (cond b (Some e.1) (hot_at hot q)) (cold_at cold q)
-    go true ih = refl
-    go false ih = ih
+find-joined (e ∷ hot) cold q = (λ i. cond (alike q e.0 i) (Some e.1) (find-joined hot cold q i)) ∙ sym (or_cond (eqb q e.0) e.1 (hot_at hot q) (cold_at cold q))
 
 pub get-joined : (hot cold : Entries) (q : ℕ) → map.get (both_parts hot cold) q ≡ value_in hot cold q
 get-joined hot cold q = map.get-from_entries nat_cmp_total (hot ++ cold) q ∙ find-joined hot cold q
