@@ -2,6 +2,7 @@
 use Rattle.std.proofs.Common.{◌≡◌, ◌≤◌, ◌+◌, ◌-◌, ◌||◌, ◌==◌, ℕ, zero, suc, min, length, take, drop, drop-drop, take-add, append_assoc, append-nil, true≢false, arith, Bool, true, false, cond, if◌then◌else◌, List, [], ◌∷◌, ◌++◌, Option, Some, None, refl, sym, ap, subst, ◌∙◌, is_some}
 use Rattle.std.proofs.lemmas.Bool.{eqb-true, or_right, le-ltb}
 use Rattle.std.proofs.lemmas.List.{take_min}
+use Rattle.std.proofs.lemmas.Option.{same_Some}
 use Rattle.std.specs.List.{slice_get}
 use Rattle.std.specs.Ordering.{nat_cmp}
 use Rattle.std.specs.FinMap as map
@@ -120,12 +121,8 @@ laid_no_more p q m n fs no_more inodes last i none =
 -- ---- the records of a log, one after another
 
 pub whole_at : (rs : List LogRecord) (k : ℕ) (r : LogRecord) → AreWhole rs → Some r ≡ slice_get rs k → CanBeMadeWhole r.effects
-whole_at [] zero r w e = absurd (true≢false (ap is_some e))
-whole_at [] (suc k) r w e = absurd (true≢false (ap is_some e))
-whole_at (s ∷ rs) zero r w e = subst (λ x. CanBeMadeWhole x.effects) (the_same s r (sym e)) w.0
-  where
-    the_same : (a b : LogRecord) → Some a ≡ Some b → a ≡ b
-    the_same a b e = cc
+whole_at [] k r w e = absurd (true≢false (ap is_some e))
+whole_at (s ∷ rs) zero r w e = subst (λ x. CanBeMadeWhole x.effects) (same_Some s r (sym e)) w.0
 whole_at (s ∷ rs) (suc k) r w e = whole_at rs k r w.1 e
 
 pub record_here : (l : ReceivedLog) (number : ℕ) (r : LogRecord) → IsBegun l → l.digested ≤ number → Some r ≡ record_at l.log number → Some r ≡ slice_get l.log.records (number - l.log.first)
