@@ -7,7 +7,7 @@ use Rattle.std.specs.Ordering.{nat_cmp, eq_by_cmp}
 use Rattle.std.specs.FinSet as set
 use Rattle.std.specs.FinSet.{contains-union, contains-empty, contains-remove}
 use Rattle.std.specs.Cmp.{nat_cmp_total}
-use Rattle.std.proofs.lemmas.Bool.{and_parts, and_from, or_cases, or_left, or_right, cases_order, cond_both, eqb-false, leb-true, le-leb}
+use Rattle.std.proofs.lemmas.Bool.{and_parts, and_from, or_cases, or_left, or_right, cond_both, eqb-false, leb-true, le-leb}
 use Rattle.std.proofs.lemmas.Option.{none-some}
 use Rattle.std.proofs.lemmas.List.{length-append, length-map, length-set}
 use Rattle.assise_names.specs.declared.refusal.Refusal.{Refusal}
@@ -370,20 +370,16 @@ module _
         (sym (all_full_map refill (refilled_full (written_since begun) (lowest_full begun.nodes) node) begun.nodes) ∙ all));
   }
 
-not_last : (b : Bool) → ◌≡◌ {A = Option Refusal} (cond b (Some LastNode) None) None → b ≡ false
-not_last true none = absurd (none-some LastNode (sym none))
-not_last false none = refl
-
-more_than_one : (n : ℕ) → 0 < n → (n ≡ 1 → ⊥) → 1 < n
-more_than_one n some other =
-    elim (cases_order n 1) [ inl one ↦ absurd (other one) | inr (inl none) ↦ absurd (omega arith) | inr (inr more) ↦ more ]
+more_than_one : (n : ℕ) → 0 < n → ◌≡◌ {A = Option Refusal} (cond (n == 1) (Some LastNode) None) None → 1 < n
+more_than_one zero some fine = absurd (omega arith)
+more_than_one (suc zero) some fine = absurd (none-some LastNode (sym fine))
+more_than_one (suc (suc n)) some fine = omega arith
 
 failed_as_lawful : (m : Membership) (node : ℕ) (inodes : Numbers) → IsMembership m → (o : Option Standing) → standing_of m.nodes node ≡ o
     → failure_fault_of m o ≡ None → IsMembership (failed_as m node inodes o)
 failed_as_lawful m node inodes lawful None at fine = lawful
 failed_as_lawful m node inodes lawful (Some full) at fine =
-    let count = length (full_nodes m.nodes) in
-    full_failed_lawful m node inodes lawful at (more_than_one count lawful.some_full (eqb-false count 1 (not_last (count == 1) fine)))
+    full_failed_lawful m node inodes lawful at (more_than_one (length (full_nodes m.nodes)) lawful.some_full fine)
 failed_as_lawful m node inodes lawful (Some (down since)) at fine = lawful
 failed_as_lawful m node inodes lawful (Some (returning since donor stale)) at fine =
     with_node_lawful m node (down since) lawful (ap is_away at) refl (down_known m node since donor stale lawful at)

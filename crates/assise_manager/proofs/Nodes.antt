@@ -3,7 +3,7 @@ use Rattle.std.proofs.Common.{◌≡◌, ◌≢◌, ℕ, zero, suc, ◌+◌, ◌
 use Rattle.std.proofs.Common.{length, refl, sym, ap, ◌∙◌, subst, arith, true≢false, eq-eqb, eqb-true}
 use Rattle.std.specs.Prelude.{◌==◌}
 use Rattle.std.specs.List.{list_all, list_any, slice_get, slice_set, slice_index_or}
-use Rattle.std.proofs.lemmas.Bool.{and_parts, and_from, or_cases, or_left, or_right}
+use Rattle.std.proofs.lemmas.Bool.{and_parts, and_from, cond_both, or_cases, or_left, or_right}
 use Rattle.std.proofs.lemmas.Option.{none-some, same_Some}
 use Rattle.assise_manager.specs.Standings.{Standing, full_from, is_full}
 use Rattle.assise_manager.specs.Standings.Standing.{full, down, returning}
@@ -126,21 +126,16 @@ one_full_less k (x ∷ xs) zero s new at = one_less (is_full x) (is_full s) k (f
 one_full_less k (x ∷ xs) (suc i) s new at =
     rest_less (is_full x) k (full_from (suc k) xs) (full_from (suc k) (slice_set xs i s)) (one_full_less (suc k) xs i s new at)
 
-first_kept : (b : Bool) (k d : ℕ) (l : List ℕ) → list_any (λ n. n == d) (cond b (k ∷ l) l) ≡ true → list_any (λ n. n == d) (k ∷ l) ≡ true
-first_kept true k d l there = there
-first_kept false k d l there = or_right (k == d) (list_any (λ n. n == d) l) there
-
 -- a node is set to full: each that was full stays
 pub all_stay : (k d : ℕ) (xs : List Standing) (i : ℕ) → list_any (λ n. n == d) (full_from k xs) ≡ true
     → list_any (λ n. n == d) (full_from k (slice_set xs i full)) ≡ true
 all_stay k d [] i there = there
-all_stay k d (x ∷ xs) zero there = first_kept (is_full x) k d (full_from (suc k) xs) there
+all_stay k d (x ∷ xs) zero there =
+    let l = full_from (suc k) xs in
+    cond_both (is_full x) (k ∷ l) l (λ m. list_any (λ n. n == d) m ≡ true → list_any (λ n. n == d) (k ∷ l) ≡ true)
+    (λ _ h. h) (λ _ h. or_right (k == d) (list_any (λ n. n == d) l) h) there
 all_stay k d (x ∷ xs) (suc i) there =
     rest_has (is_full x) k d (full_from (suc k) xs) (full_from (suc k) (slice_set xs i full)) (λ rest. all_stay (suc k) d xs i rest) there
-
-first_counts : (b : Bool) (k : ℕ) (l : List ℕ) → length (cond b (k ∷ l) l) ≤ suc (length l)
-first_counts true k l = omega arith
-first_counts false k l = omega arith
 
 rest_counts : (b : Bool) (k : ℕ) (l m : List ℕ) → length l ≤ length m → length (cond b (k ∷ l) l) ≤ length (cond b (k ∷ m) m)
 rest_counts true k l m more = omega arith
@@ -149,18 +144,18 @@ rest_counts false k l m more = more
 -- a node is set to full: there are no fewer full nodes
 pub no_fewer_full : (k : ℕ) (xs : List Standing) (i : ℕ) → length (full_from k xs) ≤ length (full_from k (slice_set xs i full))
 no_fewer_full k [] i = omega arith
-no_fewer_full k (x ∷ xs) zero = first_counts (is_full x) k (full_from (suc k) xs)
+no_fewer_full k (x ∷ xs) zero =
+    let l = full_from (suc k) xs in cond_both (is_full x) (k ∷ l) l (λ m. length m ≤ suc (length l)) (λ _. omega arith) (λ _. omega arith)
 no_fewer_full k (x ∷ xs) (suc i) =
     rest_counts (is_full x) k (full_from (suc k) xs) (full_from (suc k) (slice_set xs i full)) (no_fewer_full (suc k) xs i)
-
-few_more : (b : Bool) (k n : ℕ) (l : List ℕ) → length l ≤ n → length (cond b (k ∷ l) l) ≤ suc n
-few_more true k n l few = omega arith
-few_more false k n l few = omega arith
 
 -- no more are full than there are
 pub few_full : (k : ℕ) (xs : List Standing) → length (full_from k xs) ≤ length xs
 few_full k [] = omega arith
-few_full k (x ∷ xs) = few_more (is_full x) k (length xs) (full_from (suc k) xs) (few_full (suc k) xs)
+few_full k (x ∷ xs) =
+    let rest = few_full (suc k) xs in
+    cond_both (is_full x) (k ∷ full_from (suc k) xs) (full_from (suc k) xs) (λ l. length l ≤ suc (length xs)) (λ _. omega (arith, rest))
+    (λ _. omega (arith, rest))
 
 first_full : (b c : Bool) (k n : ℕ) (l : List ℕ) → (b && c) ≡ true → (c ≡ true → length l ≡ n) → length (cond b (k ∷ l) l) ≡ suc n
 first_full true c k n l all rest = ap suc (rest all)
