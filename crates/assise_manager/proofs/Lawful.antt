@@ -1,5 +1,5 @@
 -- What the changes keep: each leaves a lawful membership lawful.
-use Rattle.std.proofs.Common.{[], ◌≡◌, ℕ, zero, suc, ◌+◌, ◌-◌, ◌<◌, ◌≤◌, Bool, true, false, cond, ◌&&◌, not, inl, inr, Option, Some, None, is_some}
+use Rattle.std.proofs.Common.{[], ◌≡◌, ℕ, zero, suc, ◌+◌, ◌-◌, ◌<◌, ◌≤◌, Bool, true, false, cond, ◌&&◌, not, inl, inr, Option, Some, None}
 use Rattle.std.proofs.Common.{List, ◌∷◌, ◌++◌, drop, length, refl, sym, ap, ◌∙◌, subst, arith, true≢false}
 use Rattle.std.specs.Prelude.{◌==◌, nat_le}
 use Rattle.std.specs.List.{list_all, list_any, slice_get}
@@ -27,7 +27,7 @@ use Rattle.assise_manager.specs.MemberCalls.{MemberCall, MemberCallDoes, AllMemb
 use Rattle.assise_manager.specs.MemberCalls.MemberCall.{fail, come_back, note_copied, join, note_written, raise}
 use Rattle.assise_manager.proofs.Sets.{Numbers, all_push}
 use Rattle.assise_manager.proofs.Nodes.{never, full_from_set_away, full_from_map, all_full_map, full_there, list_all_set, list_all_map}
-use Rattle.assise_manager.proofs.Nodes.{list_all_more, list_all_place, set_place, others_stay, one_full_less, all_stay, no_fewer_full}
+use Rattle.assise_manager.proofs.Nodes.{list_all_more, list_all_place, slice_get_set, others_stay, one_full_less, all_stay, no_fewer_full}
 use Rattle.assise_manager.proofs.Nodes.{first_there, away_not_full}
 
 -- ---- sets within sets
@@ -133,7 +133,7 @@ not_all_full : (nodes : List Standing) (node : ℕ) (old s : Standing) → stand
     → list_all is_full (with_standing nodes node s) ≡ true → ⊥
 not_all_full nodes node old s at new all =
     let there : slice_get (with_standing nodes node s) (node - 1) ≡ Some s =
-    set_place nodes (node - 1) s (ap is_some (place_of nodes node old at)) in
+    slice_get_set nodes (node - 1) old s (place_of nodes node old at) in
     true≢false (sym (list_all_place is_full (with_standing nodes node s) (node - 1) s all there) ∙ new)
 
 -- ---- what is known

@@ -1,5 +1,5 @@
 -- Lists of standings: what a change of one node, or of each, leaves of the list of full nodes.
-use Rattle.std.proofs.Common.{◌≡◌, ◌≢◌, ℕ, zero, suc, ◌+◌, ◌<◌, ◌≤◌, Bool, true, false, cond, ◌&&◌, inl, inr, IsSome, Some, List, [], ◌∷◌, map}
+use Rattle.std.proofs.Common.{◌≡◌, ◌≢◌, ℕ, zero, suc, ◌+◌, ◌<◌, ◌≤◌, Bool, true, false, cond, ◌&&◌, inl, inr, IsSome, is_some, Some, List, [], ◌∷◌, map}
 use Rattle.std.proofs.Common.{length, refl, sym, ap, ◌∙◌, subst, arith, true≢false, eq-eqb, eqb-true}
 use Rattle.std.specs.Prelude.{◌==◌}
 use Rattle.std.specs.List.{list_all, list_any, slice_get, slice_set, slice_index_or}
@@ -80,6 +80,9 @@ pub set_place : (xs : List Standing) (i : ℕ) (s : Standing) → IsSome (slice_
 set_place [] i s there = never there
 set_place (x ∷ xs) zero s there = refl
 set_place (x ∷ xs) (suc i) s there = set_place xs i s there
+
+pub slice_get_set : (xs : List Standing) (i : ℕ) (old s : Standing) → slice_get xs i ≡ Some old → slice_get (slice_set xs i s) i ≡ Some s
+slice_get_set xs i old s at = set_place xs i s (ap is_some at)
 
 -- a number of the list that isn't its first, which it may lack
 tail_has : (b : Bool) (k d : ℕ) (l : List ℕ) → list_any (λ n. n == d) (cond b (k ∷ l) l) ≡ true → (k ≡ d → ⊥)
