@@ -521,7 +521,7 @@ module _ (m : Membership) (node : ℕ) (inodes : Numbers) (lawful : IsMembership
       })
 
   -- inodes were written at a node
-  pub noted_lawful : IsMembership noted_now
+  pub noted_lawful : IsMembership (noted m node inodes)
   noted_lawful = record {
     began = lawful.began;
     lists = subst (λ k. k ≤ m.epoch) (sym (length_with_written m.written inodes)) lawful.lists;

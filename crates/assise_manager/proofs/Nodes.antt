@@ -190,7 +190,8 @@ one_further : (k d : ℕ) (x : Standing) (xs : List Standing) → IsFullFrom (su
 one_further k d x xs rest = let at : d ≡ suc k + rest.0 = rest.1 in (suc rest.0, omega arith, rest.2)
 
 -- each number in the list is that of a full node
-pub full_there : (k d : ℕ) (xs : List Standing) → list_any (λ n. n == d) (full_from k xs) ≡ true → IsFullFrom k d xs
+pub full_there : (k d : ℕ) (xs : List Standing) → list_any (λ n. n == d) (full_from k xs) ≡ true
+    → (i : ℕ) × (d ≡ k + i) × (slice_get xs i ≡ Some full)
 full_there k d [] there = never there
 full_there k d (full ∷ xs) there =
     elim (or_cases (k == d) (list_any (λ n. n == d) (full_from (suc k) xs)) there) [
