@@ -1,11 +1,12 @@
 -- A cold inode that becomes the first of the hot ones, and the last of them that becomes cold.
 use Rattle.std.proofs.Common.{◌≡◌, ◌≤◌, ◌<◌, ◌-◌, ℕ, zero, suc, Bool, true, false, cond, [], ◌∷◌, ◌++◌, length, take, Option, Some, None, IsSome, refl, sym, ap, subst, ◌∙◌, eqb, nat_eq, is_some, arith, option_to_list, option_map}
-use Rattle.std.proofs.lemmas.Bool.{eqb-true, eq-eqb}
+use Rattle.std.proofs.lemmas.Bool.{cond_both, eqb-true, eq-eqb, false_from_ne_true}
 use Rattle.std.specs.Option.{option_or, option_map_or}
 use Rattle.std.specs.List.{AllByRecursion, IsDistinct, slice_get}
 use Rattle.std.specs.Map.{lookup_entry, keys_of, remove_entry}
 use Rattle.lru.specs.LruCache.{LruCache, IsValid}
 use Rattle.assise_inode_table.specs.Contents.{Content}
+use Rattle.assise_inode_table.proofs.LiveSlots.{lookup-append, or_none}
 use Rattle.assise_area.specs.Parts.{Entries, AreDisjoint, HoldSame, IsPushed, IsWarmed, value_in, hot_at, cold_at}
 use Rattle.assise_area.proofs.Seen.{turned, some≢none}
 use Rattle.assise_area.proofs.HotUse.{found}
@@ -25,12 +26,7 @@ split zero (e ∷ es) h = ap (λ l. e ∷ l) (no_entries es (omega (arith, h)))
 split (suc n) (e ∷ es) h = ap (λ l. e ∷ l) (split n es (omega (arith, h)))
 
 pub hot-append : (es fs : Entries) (q : ℕ) → hot_at (es ++ fs) q ≡ option_or (hot_at es q) (hot_at fs q)
-hot-append [] fs q = refl
-hot-append (e ∷ es) fs q = go (hot-append es fs q) (eqb q e.0)
-  where
-    go : hot_at (es ++ fs) q ≡ option_or (hot_at es q) (hot_at fs q) → (b : Bool) → cond b (Some e.1) (hot_at (es ++ fs) q) ≡ option_or (cond b (Some e.1) (hot_at es q)) (hot_at fs q)
-    go ih true = refl
-    go ih false = ih
+hot-append es fs q = lookup-append (nat_eq q) es fs
 
 other_key : (k n : ℕ) (es : Entries) (e : ℕ × Content) → AllByRecursion (λ y. nat_eq k y ≡ false) (keys_of es) → slice_get es n ≡ Some e → eqb k e.0 ≡ false
 other_key k n [] e all is = absurd (some≢none e (sym is))
@@ -59,10 +55,6 @@ moved None c true x = refl
 moved None c false x = refl
 moved (Some y) c b x = refl
 
-or_none : {X : Type 0} (a : Option X) → option_or a None ≡ a
-or_none None = refl
-or_none (Some x) = refl
-
 pub keys_take : (n : ℕ) (es : Entries) → take n (keys_of es) ≡ keys_of (take n es)
 keys_take zero es = refl
 keys_take (suc n) [] = refl
@@ -77,7 +69,9 @@ module _ (i : ℕ) (hot hot' : LruCache ℕ Content) (cold cold' : Entries) (val
     (room : slice_get hot.entries (hot.cap - 1) ≡ None) (pushed : IsPushed i hot hot' cold)
     (taken : (q : ℕ) → cold_at cold' q ≡ cond (nat_eq i q) None (cold_at cold q)) where
   room_prefix : (q : ℕ) → hot_at hot.entries q ≡ hot_at (take (hot.cap - 1) hot.entries) q
-  room_prefix q = hot_split hot.entries hot.cap q valid.1 valid.2 ∙ ap (λ o. option_or (hot_at (take (hot.cap - 1) hot.entries) q) (hot_at (option_to_list o) q)) room ∙ or_none (hot_at (take (hot.cap - 1) hot.entries) q)
+  room_prefix q =
+      hot_split hot.entries hot.cap q valid.1 valid.2 ∙ ap (λ o. option_or (hot_at (take (hot.cap - 1) hot.entries) q) (hot_at (option_to_list o) q)) room
+      ∙ or_none (hot_at (take (hot.cap - 1) hot.entries) q)
 
   room_hot : (q : ℕ) → hot_at hot'.entries q ≡ cond (eqb q i) (Some pushed.content) (hot_at hot.entries q)
   room_hot q = ap (λ es. hot_at es q) pushed.entries ∙ ap (cond (eqb q i) (Some pushed.content)) (sym (room_prefix q))
@@ -116,11 +110,7 @@ module _ (hot : LruCache ℕ Content) (e : ℕ × Content) (valid : IsValid nat_
   last_is_hot = at_prefix e.0 ∙ ap (λ o. option_or o (cond (eqb e.0 e.0) (Some e.1) None)) lacks ∙ ap (λ b. cond b (Some e.1) None) (eq-eqb e.0 e.0 refl)
 
   pub not_last : (i : ℕ) → hot_at hot.entries i ≡ None → eqb e.0 i ≡ false
-  not_last i absent = go (eqb e.0 i) refl
-    where
-      go : (b : Bool) → eqb e.0 i ≡ b → b ≡ false
-      go true h = absurd (some≢none e.1 (sym last_is_hot ∙ ap (hot_at hot.entries) (eqb-true e.0 i h) ∙ absent))
-      go false h = refl
+  not_last i absent = false_from_ne_true (eqb e.0 i) (λ h. some≢none e.1 (sym last_is_hot ∙ ap (hot_at hot.entries) (eqb-true e.0 i h) ∙ absent))
 
 -- the place that was made for it is there
 pub place_there : (hot : LruCache ℕ Content) (cold c1 c2 : Entries) (i last : ℕ) (e : ℕ × Content) (w : Content) → IsValid nat_eq hot → hot_at hot.entries i ≡ None
@@ -200,13 +190,11 @@ module _ (i last : ℕ) (e : ℕ × Content) (w : Content) (hot hot' : LruCache 
   unfolding AreDisjoint
   trade_disjoint q v is = go (eqb q i) refl (sym (new_hot q) ∙ is)
     where
-      or_last : (b : Bool) → eqb q e.0 ≡ b → hot_at (take (hot.cap - 1) hot.entries) q ≡ Some v → cond b (Some e.1) (cold_at cold q) ≡ None
-      or_last true h s = absurd (some≢none v (sym s ∙ ap (hot_at (take (hot.cap - 1) hot.entries)) (eqb-true q e.0 h) ∙ lacks hot e valid is_last))
-      or_last false h s = disjoint_at hot.entries cold disjoint q v (at_prefix hot e valid is_last q ∙ ap (λ o. option_or o (cond (eqb q e.0) (Some e.1) None)) s)
-
       go : (b : Bool) → eqb q i ≡ b → cond b (Some pushed.content) (hot_at (take (hot.cap - 1) hot.entries) q) ≡ Some v → cold_at c3 q ≡ None
       go true h s = ap (cold_at c3) (eqb-true q i h) ∙ gone
-      go false h s = not_used q h ∙ or_last (eqb q e.0) refl s
+      go false h s = not_used q h ∙ cond_both (eqb q e.0) (Some e.1) (cold_at cold q) (λ o. o ≡ None)
+          (λ l. absurd (some≢none v (sym s ∙ ap (hot_at (take (hot.cap - 1) hot.entries)) (eqb-true q e.0 l) ∙ lacks hot e valid is_last)))
+          (λ _. disjoint_at hot.entries cold disjoint q v (at_prefix hot e valid is_last q ∙ ap (λ o. option_or o (cond (eqb q e.0) (Some e.1) None)) s))
 
   pub warmed_in_place : IsWarmed i hot hot' cold c3
   warmed_in_place = record { keys = keys_pushed hot hot' c1 i pushed; cap = pushed.cap; same = trade_same; disjoint = trade_disjoint }
@@ -218,7 +206,3 @@ put_new hot i cap v none = go (lookup_entry (nat_eq i) hot) refl
     go : (o : Option (ℕ × Content)) → lookup_entry (nat_eq i) hot ≡ o → option_map_or (λ d. (d.0, v) ∷ remove_entry (nat_eq i) hot) o ((i, v) ∷ take (cap - 1) hot) ≡ (i, v) ∷ take (cap - 1) hot
     go None h = refl
     go (Some f) h = absurd (some≢none f.1 (sym (found i hot f h).1 ∙ none))
-
--- what has to leave for a number that isn't hot
-pub left_new : (hot : Entries) (i cap : ℕ) (v : Content) → hot_at hot i ≡ None → option_map_or (λ old. Some (i, old)) (hot_at hot i) (slice_get hot (cap - 1)) ≡ slice_get hot (cap - 1)
-left_new hot i cap v none = ap (λ o. option_map_or (λ old. Some (i, old)) o (slice_get hot (cap - 1))) none

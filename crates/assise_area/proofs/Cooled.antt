@@ -1,6 +1,6 @@
 -- Hot inodes that become cold, in places that were made for them.
 use Rattle.std.proofs.Common.{◌≡◌, ◌≤◌, ◌<◌, ◌+◌, ◌-◌, ℕ, zero, suc, Bool, true, false, cond, List, [], ◌∷◌, ◌||◌, length, take, drop, Option, Some, None, IsSome, refl, sym, ap, ◌∙◌, eqb, nat_eq, is_some, arith, get_or}
-use Rattle.std.proofs.lemmas.Bool.{eqb-true, eq-eqb}
+use Rattle.std.proofs.lemmas.Bool.{cond_both, eqb-true, eq-eqb, or_parts, or_from}
 use Rattle.std.proofs.lemmas.List.{length-take-le, take-append-drop, take_more}
 use Rattle.std.proofs.lemmas.List.Folds.{list_any-append}
 use Rattle.std.specs.Option.{option_or}
@@ -8,9 +8,10 @@ use Rattle.std.specs.List.{AllByRecursion, IsDistinct, list_any, slice_get}
 use Rattle.std.specs.Map.{keys_of}
 use Rattle.lru.specs.LruCache.{LruCache, lru_cache}
 use Rattle.assise_inode_table.specs.Contents.{Content}
+use Rattle.assise_inode_table.proofs.LiveSlots.{or_cond}
 use Rattle.assise_area.specs.Hot.{AreaValue, with_capacity}
 use Rattle.assise_area.specs.Parts.{Entries, AreDisjoint, AreWritten, HoldSame, IsCooled, both_parts, value_in, hot_at, cold_at, area_seen}
-use Rattle.assise_area.proofs.Seen.{turned, some≢none, from_some, same_joined, is_some-lookup}
+use Rattle.assise_area.proofs.Seen.{some_or, turned, some≢none, from_some, same_joined, is_some-lookup}
 use Rattle.assise_area.proofs.WrittenValues.{disjoint_at}
 use Rattle.assise_area.proofs.ColdToHot.{hot-append, keys_take}
 
@@ -34,11 +35,8 @@ written_next numbers k d value cold c1 c2 within so_far step q =
 none_in_prefix : (p : ℕ → Bool) (k : ℕ) (ns : List ℕ) → list_any p ns ≡ false → list_any p (take k ns) ≡ false
 none_in_prefix p zero ns h = refl
 none_in_prefix p (suc k) [] h = refl
-none_in_prefix p (suc k) (n ∷ ns) h = go (none_in_prefix p k ns) (p n) h
-  where
-    go : (list_any p ns ≡ false → list_any p (take k ns) ≡ false) → (b : Bool) → (b || list_any p ns) ≡ false → (b || list_any p (take k ns)) ≡ false
-    go ih true e = e
-    go ih false e = ih e
+none_in_prefix p (suc k) (n ∷ ns) h =
+    let parts = or_parts (p n) (list_any p ns) h in or_from (p n) (list_any p (take k ns)) parts.0 (none_in_prefix p k ns parts.1)
 
 -- a number that is not among those that may be written
 pub not_written : (numbers : List ℕ) (k : ℕ) (value : Option Content) (cold c1 : Entries) → AreWritten (take k numbers) value cold c1
@@ -52,11 +50,7 @@ module _ (k : ℕ) (es : Entries) (q : ℕ) where
   hot_parts = ap (λ l. hot_at l q) (sym (take-append-drop k es)) ∙ hot-append (take k es) (drop k es) q
 
   hot_beyond : (v : Content) → hot_at (drop k es) q ≡ Some v → IsSome (hot_at es q)
-  hot_beyond v is = ap is_some (hot_parts ∙ ap (option_or (hot_at (take k es) q)) is) ∙ go (hot_at (take k es) q)
-    where
-      go : (o : Option Content) → is_some (option_or o (Some v)) ≡ true
-      go None = refl
-      go (Some w) = refl
+  hot_beyond v is = ap is_some (hot_parts ∙ ap (option_or (hot_at (take k es) q)) is) ∙ some_or (hot_at (take k es) q) (Some v) refl
 
   -- a number behind the first ones isn't cold
   pub beyond_absent : (cold : Entries) (numbers : List ℕ) → AreDisjoint es cold → numbers ≡ keys_of (drop k es) → list_any (nat_eq q) numbers ≡ true → cold_at cold q ≡ None
@@ -86,11 +80,7 @@ next_last (suc m) (d ∷ es) e is = next_last m es e is
 there_at : (m : ℕ) (es : Entries) (e : ℕ × Content) → slice_get es m ≡ Some e → IsSome (hot_at es e.0)
 there_at m [] e is = absurd (some≢none e (sym is))
 there_at zero (d ∷ es) e is = let same : d ≡ e = cc in ap (λ b. is_some (cond b (Some d.1) (hot_at es e.0))) (eq-eqb e.0 d.0 (ap (λ p. p.0) (sym same)))
-there_at (suc m) (d ∷ es) e is = go (there_at m es e is) (eqb e.0 d.0)
-  where
-    go : IsSome (hot_at es e.0) → (b : Bool) → is_some (cond b (Some d.1) (hot_at es e.0)) ≡ true
-    go ih true = refl
-    go ih false = ih
+there_at (suc m) (d ∷ es) e is = cond_both (eqb e.0 d.0) (Some d.1) (hot_at es e.0) IsSome (λ _. refl) (λ _. there_at m es e is)
 
 there_beyond : (k m : ℕ) (es : Entries) (e : ℕ × Content) → k ≤ m → slice_get es m ≡ Some e → IsSome (hot_at (drop k es) e.0)
 there_beyond k m [] e h is = absurd (some≢none e (sym is))
@@ -121,22 +111,16 @@ module _ (n : ℕ) (old hot : Entries) (e : ℕ × Content) (some : 0 < n) (pref
   -- its place is there
   pub last_placed : (first : ℕ) (cold c1 : Entries) → first < n → ((q : ℕ) → IsSome (hot_at (drop first old) q) → IsSome (cold_at cold q))
       → ((q : ℕ) → cold_at c1 q ≡ option_or (hot_at (drop n old) q) (cold_at cold q)) → IsSome (cold_at c1 e.0)
-  last_placed first cold c1 more places moved = ap is_some (moved e.0) ∙ go (hot_at (drop n old) e.0) (cold_at cold e.0) (places e.0 (there_beyond first (n - 1) old e (omega (arith, more)) last_of_all))
-    where
-      go : (a b : Option Content) → IsSome b → is_some (option_or a b) ≡ true
-      go None b s = s
-      go (Some v) b s = refl
+  last_placed first cold c1 more places moved =
+      ap is_some (moved e.0)
+      ∙ some_or (hot_at (drop n old) e.0) (cold_at cold e.0) (places e.0 (there_beyond first (n - 1) old e (omega (arith, more)) last_of_all))
 
   -- it is written there
   pub last_moved : (cold c1 c2 : Entries) → ((q : ℕ) → cold_at c1 q ≡ option_or (hot_at (drop n old) q) (cold_at cold q))
       → ((q : ℕ) → cold_at c2 q ≡ cond (nat_eq e.0 q) (Some e.1) (cold_at c1 q)) → (q : ℕ) → cold_at c2 q ≡ option_or (hot_at (drop (n - 1) old) q) (cold_at cold q)
   last_moved cold c1 c2 moved step q =
       step q ∙ ap (cond (eqb e.0 q) (Some e.1)) (moved q) ∙ ap (λ b. cond b (Some e.1) (option_or (hot_at (drop n old) q) (cold_at cold q))) (turned e.0 q)
-      ∙ go (eqb q e.0) ∙ ap (λ l. option_or (hot_at l q) (cold_at cold q)) (sym behind_last)
-    where
-      go : (b : Bool) → cond b (Some e.1) (option_or (hot_at (drop n old) q) (cold_at cold q)) ≡ option_or (cond b (Some e.1) (hot_at (drop n old) q)) (cold_at cold q)
-      go true = refl
-      go false = refl
+      ∙ sym (or_cond (eqb q e.0) e.1 (hot_at (drop n old) q) (cold_at cold q)) ∙ ap (λ l. option_or (hot_at l q) (cold_at cold q)) (sym behind_last)
 
 -- ---- what both parts hold then
 

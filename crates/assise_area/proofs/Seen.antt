@@ -1,39 +1,22 @@
 -- What two parts are as one map.
-use Rattle.std.proofs.Common.{◌≡◌, ℕ, Bool, true, false, cond, [], ◌∷◌, ◌++◌, Option, Some, None, IsSome, Result, Ok, Err, OnOk, OnErr, refl, sym, ap, subst, ◌∙◌, eqb, ◌||◌, is_some, true≢false}
-use Rattle.std.proofs.lemmas.Bool.{eqb-true, eqb-false}
+use Rattle.std.proofs.Common.{◌≡◌, ℕ, Bool, true, false, cond, [], ◌∷◌, ◌++◌, Option, Some, None, IsSome, Result, Ok, Err, OnOk, OnErr, refl, sym, ap, ◌∙◌, eqb, ◌||◌, is_some, true≢false}
 use Rattle.std.specs.Option.{option_or}
-use Rattle.std.specs.declared.cmp.Ordering.{Ordering}
-use Rattle.std.specs.declared.cmp.Ordering.TheVariants.{Less, Equal, Greater}
-use Rattle.std.specs.Ordering.{nat_cmp, is_eq}
-use Rattle.std.specs.Cmp.{nat_cmp_total, tied_itself, nat_eq_equiv}
+use Rattle.std.specs.Ordering.{nat_cmp}
+use Rattle.std.specs.Cmp.{nat_cmp_total, nat_eq_equiv}
 use Rattle.std.specs.List.{list_any}
 use Rattle.std.specs.Map.{keys_of}
-use Rattle.std.specs.BTreeMap.{is_at}
 use Rattle.std.proofs.lemmas.Map.Lookups.{exact_unsigned}
 use Rattle.std.specs.FinMap as map
 use Rattle.lru.specs.LruCache.{LruCache}
 use Rattle.assise_inode_table.specs.Contents.{Content}
 use Rattle.assise_inode_table.specs.Effects.{with_value}
 use Rattle.assise_inode_table.proofs.EffectValues.{get-with_value}
+use Rattle.assise_inode_table.proofs.MapView.{alike}
+use Rattle.assise_inode_table.proofs.LiveSlots.{or_cond}
 use Rattle.assise_area.specs.Hot.{AreaValue, is_hot}
 use Rattle.assise_area.specs.Parts.{Entries, HoldSame, both_parts, value_in, hot_at, cold_at, area_seen}
 
 -- ---- numbers
-
-tied : (o : Ordering) → is_eq o ≡ true → o ≡ Equal
-tied Less e = cc
-tied Equal e = refl
-tied Greater e = cc
-
--- both ways to compare numbers are alike
-alike : (k q : ℕ) → is_at (nat_cmp k) q ≡ eqb k q
-alike k q = go (is_at (nat_cmp k) q) (eqb k q) refl refl
-  where
-    go : (a b : Bool) → is_at (nat_cmp k) q ≡ a → eqb k q ≡ b → a ≡ b
-    go true true e f = refl
-    go false false e f = refl
-    go true false e f = absurd (eqb-false k q f (exact_unsigned k q (tied (nat_cmp k q) e)))
-    go false true e f = absurd (true≢false (sym (ap is_eq (tied_itself nat_cmp_total k)) ∙ ap (λ j. is_at (nat_cmp k) j) (eqb-true k q f) ∙ e))
 
 pub turned : (k q : ℕ) → eqb k q ≡ eqb q k
 turned k q = nat_eq_equiv.symm k q
@@ -43,9 +26,6 @@ turned k q = nat_eq_equiv.symm k q
 pub some≢none : {X : Type 0} (x : X) → Some x ≡ None → ⊥
 some≢none x e = true≢false (ap is_some e)
 
-pub is_there : {X : Type 0} (x : X) (o : Option X) → Some x ≡ o → IsSome o
-is_there x o e = subst IsSome e refl
-
 pub from_some : {X A : Type 0} (o : Option X) → IsSome o → ((x : X) → o ≡ Some x → A) → A
 from_some None s f = absurd (true≢false (sym s))
 from_some (Some x) s f = f x refl
@@ -54,16 +34,16 @@ pub nothing : {X : Type 0} (o : Option X) → false ≡ is_some o → o ≡ None
 nothing None e = refl
 nothing (Some x) e = absurd (true≢false (sym e))
 
+pub some_or : {X : Type 0} (o c : Option X) → IsSome c → IsSome (option_or o c)
+some_or None c s = s
+some_or (Some x) c s = refl
+
 -- ---- the map
 
 find-joined : (hot cold : Entries) (q : ℕ) → map.find nat_cmp q (hot ++ cold) ≡ value_in hot cold q
 find-joined [] [] q = refl
 find-joined [] (e ∷ cold) q = λ i. cond (alike q e.0 i) (Some e.1) (find-joined [] cold q i)
-find-joined (e ∷ hot) cold q = ap (λ b. cond b (Some e.1) (map.find nat_cmp q (hot ++ cold))) (alike q e.0) ∙ go (eqb q e.0) (find-joined hot cold q)
-  where
-    go : (b : Bool) → map.find nat_cmp q (hot ++ cold) ≡ value_in hot cold q → cond b (Some e.1) (map.find nat_cmp q (hot ++ cold)) ≡ option_or (cond b (Some e.1) (hot_at hot q)) (cold_at cold q)
-    go true ih = refl
-    go false ih = ih
+find-joined (e ∷ hot) cold q = (λ i. cond (alike q e.0 i) (Some e.1) (find-joined hot cold q i)) ∙ sym (or_cond (eqb q e.0) e.1 (hot_at hot q) (cold_at cold q))
 
 pub get-joined : (hot cold : Entries) (q : ℕ) → map.get (both_parts hot cold) q ≡ value_in hot cold q
 get-joined hot cold q = map.get-from_entries nat_cmp_total (hot ++ cold) q ∙ find-joined hot cold q

@@ -1,6 +1,6 @@
 -- A value that is written or taken out.
 use Rattle.std.proofs.Common.{◌≡◌, ◌≤◌, ℕ, Bool, true, false, cond, [], ◌∷◌, Option, Some, None, IsSome, refl, sym, ap, subst, ◌∙◌, eqb, nat_eq}
-use Rattle.std.proofs.lemmas.Bool.{eqb-true}
+use Rattle.std.proofs.lemmas.Bool.{cond_both, eqb-true}
 use Rattle.std.proofs.lemmas.Map.{lookup-set_value, lookup-remove_entry, keys-set_value}
 use Rattle.std.specs.Option.{option_or}
 use Rattle.std.specs.Cmp.{nat_eq_equiv}
@@ -10,6 +10,7 @@ use Rattle.std.specs.FinMap as map
 use Rattle.lru.specs.LruCache.{LruCache, lru_cache}
 use Rattle.assise_inode_table.specs.Contents.{Content}
 use Rattle.assise_inode_table.specs.Effects.{with_value}
+use Rattle.assise_inode_table.proofs.LiveSlots.{or_cond}
 use Rattle.assise_area.specs.Hot.{AreaValue, with_inodes, without_number, removed}
 use Rattle.assise_area.specs.Parts.{Entries, AreDisjoint, AreaInvariant, value_in, hot_at, cold_at, area_seen}
 use Rattle.assise_area.proofs.Seen.{some≢none, from_some, with_value-joined}
@@ -31,11 +32,7 @@ disjoint_at hot cold disjoint = disjoint
 
 -- a hot inode gets another value
 pub set_hot : (hot cold : Entries) (k : ℕ) (w : Content) → IsSome (hot_at hot k) → (q : ℕ) → value_in (set_value (nat_eq k) hot w) cold q ≡ cond (eqb k q) (Some w) (value_in hot cold q)
-set_hot hot cold k w there q = ap (λ o. option_or o (cold_at cold q)) (hot-set hot k w q there) ∙ go (eqb k q)
-  where
-    go : (b : Bool) → option_or (cond b (Some w) (hot_at hot q)) (cold_at cold q) ≡ cond b (Some w) (value_in hot cold q)
-    go true = refl
-    go false = refl
+set_hot hot cold k w there q = ap (λ o. option_or o (cold_at cold q)) (hot-set hot k w q there) ∙ or_cond (eqb k q) w (hot_at hot q) (cold_at cold q)
 
 -- a number that isn't hot gets another value, or none
 pub write_cold : (hot cold cold' : Entries) (k : ℕ) (w : Option Content) → hot_at hot k ≡ None
@@ -68,11 +65,8 @@ disjoint_set hot cold k w there disjoint q v is = go (eqb k q) refl
 pub disjoint_write : (hot cold cold' : Entries) (k : ℕ) (w : Option Content) → hot_at hot k ≡ None
     → ((q : ℕ) → cold_at cold' q ≡ cond (nat_eq k q) w (cold_at cold q)) → AreDisjoint hot cold → AreDisjoint hot cold'
 unfolding AreDisjoint
-disjoint_write hot cold cold' k w none updates disjoint q v is = updates q ∙ go (eqb k q) refl
-  where
-    go : (b : Bool) → eqb k q ≡ b → cond b w (cold_at cold q) ≡ None
-    go true e = absurd (some≢none v (sym is ∙ ap (hot_at hot) (sym (eqb-true k q e)) ∙ none))
-    go false e = disjoint_at hot cold disjoint q v is
+disjoint_write hot cold cold' k w none updates disjoint q v is = updates q ∙ cond_both (eqb k q) w (cold_at cold q) (λ o. o ≡ None)
+    (λ e. absurd (some≢none v (sym is ∙ ap (hot_at hot) (sym (eqb-true k q e)) ∙ none))) (λ _. disjoint_at hot cold disjoint q v is)
 
 pub disjoint_remove : (hot cold : Entries) (k : ℕ) → IsDistinct nat_eq (keys_of hot) → AreDisjoint hot cold → AreDisjoint (remove_entry (nat_eq k) hot) cold
 unfolding AreDisjoint

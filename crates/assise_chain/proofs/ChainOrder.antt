@@ -1,25 +1,20 @@
 -- Who stands behind whom in a chain whose nodes differ.
 use Rattle.std.proofs.Common.{◌≡◌, ℕ, ◌<◌, ◌==◌, Bool, true, false, if◌then◌else◌, List, [], ◌∷◌, ◌++◌, Some, None, ap, sym, refl, subst, arith, inl, inr, filter, nat_lt, nat_le}
+use Rattle.std.proofs.lemmas.Bool.{ne_eqb}
 use Rattle.assise_chain.specs.Chains.{IsAscending, behind, chain, first_of_all}
 use Rattle.assise_chain.specs.Lists.{AllDiffer, IsOneOf}
 use Rattle.assise_chain.proofs.Rows.{above_all, in_right}
 
-same_number : (n : ℕ) → (n == n) ≡ true
-same_number n = search arith
-
-other_number : (m n : ℕ) → (m ≡ n → ⊥) → (m == n) ≡ false
-other_number m n differ = search arith
-
 -- whoever isn't there has nobody behind
 pub nobody_behind : (ns : List ℕ) (n : ℕ) → (IsOneOf ns n → ⊥) → behind n ns ≡ None
 nobody_behind [] n out = refl
-nobody_behind (m ∷ ns) n out = let isnt : (m == n) ≡ false = other_number m n (λ e. out (inl e)) in rw isnt (nobody_behind ns n (λ a. out (inr a)))
+nobody_behind (m ∷ ns) n out = let isnt : (m == n) ≡ false = ne_eqb m n (λ e. out (inl e)) in rw isnt (nobody_behind ns n (λ a. out (inr a)))
 
 -- behind a place stands the first of what is behind it
 pub behind_place : (prefix rest : List ℕ) (n : ℕ) → AllDiffer (prefix ++ n ∷ rest) → behind n (prefix ++ n ∷ rest) ≡ first_of_all rest
-behind_place [] rest n d = let is : (n == n) ≡ true = same_number n in rw is refl
+behind_place [] rest n d = let is : (n == n) ≡ true = search arith in rw is refl
 behind_place (m ∷ prefix) rest n d =
-    let isnt : (m == n) ≡ false = other_number m n (λ e. d.0 (in_right prefix (n ∷ rest) m (inl (sym e)))) in
+    let isnt : (m == n) ≡ false = ne_eqb m n (λ e. d.0 (in_right prefix (n ∷ rest) m (inl (sym e)))) in
     rw isnt (behind_place prefix rest n d.1)
 
 first_is_one : (ns : List ℕ) (n : ℕ) → first_of_all ns ≡ Some n → IsOneOf ns n

@@ -1,5 +1,5 @@
 -- Records that agree, number by number, with a log: each of them that the log hasn't let go is the log's record of its number.
-use Rattle.std.proofs.Common.{◌≡◌, ℕ, zero, suc, ◌+◌, ◌-◌, ◌<◌, ◌≤◌, nat_lt, false, Some, None, List, [], ◌∷◌, length, take, drop, ap, sym, ◌∙◌, refl, arith, inl, inr}
+use Rattle.std.proofs.Common.{◌≡◌, ℕ, zero, suc, ◌+◌, ◌-◌, ◌<◌, ◌≤◌, Some, None, List, [], ◌∷◌, length, take, drop, ap, sym, ◌∙◌, refl, arith, inl, inr}
 use Rattle.std.specs.List.{slice_get}
 use Rattle.std.proofs.lemmas.List.{length-take}
 use Rattle.std.proofs.lemmas.Option.{slice_get_within}
@@ -7,7 +7,7 @@ use Rattle.std.proofs.lemmas.Bool.{cases_lt}
 use Rattle.circular_buffer.proofs.Places.{slice_get-append_left, slice_get-append_right, slice_get-drop, slice_get-take}
 use Rattle.assise_record.specs.LogRecord.{LogRecord}
 use Rattle.assise_record.specs.LogFrame.{LogFrame}
-use Rattle.assise_private_log.specs.NumberedLog.{NumberedLog, end, record_at, records_from, with_record, without_prefix}
+use Rattle.assise_private_log.specs.NumberedLog.{NumberedLog, end, records_from, with_record, without_prefix}
 use Rattle.assise_chain.specs.Acceptance.{accepted, records_past}
 use Rattle.assise_chain.specs.Messages.{count_sent, first_sent, sent}
 use Rattle.assise_chain.specs.Passing.{IsPrefixOf}
@@ -33,10 +33,6 @@ prefix_of (x ∷ xs) (y ∷ ys) same =
     ap (λ z. z ∷ xs) is ∙ ap (λ l. y ∷ l) (prefix_of xs ys (λ k z s. same (suc k) z s))
 
 -- ---- numbers
-
--- a number that isn't below the first is that of a place
-at_place : (l : NumberedLog) (number : ℕ) → l.first ≤ number → record_at l number ≡ slice_get l.records (number - l.first)
-at_place l number high = let is_high : nat_lt number l.first ≡ false = search arith in rw is_high refl
 
 -- records from a number on agree with a log
 pub record IsPart (first : ℕ) (rs : List LogRecord) (whole : NumberedLog) : Type 0 where

@@ -1,7 +1,7 @@
 -- Records of one client are digested, and what is read stays.
 use Rattle.std.proofs.Common.{◌≡◌, ◌≢◌, ◌≤◌, ◌<◌, ◌+◌, ◌-◌, ◌||◌, ◌⊎◌, Option, ℕ, zero, suc, Bool, true, false, List, [], ◌∷◌, ◌++◌, length, take, drop, slice_index_or, slice_set, refl, sym, ap, subst, ◌∙◌, inl, inr, drop-drop, take-add, arith}
-use Rattle.std.proofs.lemmas.Bool.{cases_eq}
-use Rattle.std.proofs.lemmas.List.{get_or-set_same, get_or-set_other, length-drop, length-set, length-take, set-get_or, take-append-drop}
+use Rattle.std.proofs.lemmas.Bool.{cases_eq, or_parts, or_right as or_true_right}
+use Rattle.std.proofs.lemmas.List.{get_or-set_same, get_or-set_other, length-set, set-get_or, take-append-drop}
 use Rattle.std.specs.FinMap as map
 use Rattle.assise_record.specs.LogRecord.{LogRecord}
 use Rattle.assise_record.specs.Records.{all_effects}
@@ -9,8 +9,7 @@ use Rattle.assise_record.proofs.Records.{all_effects-append}
 use Rattle.assise_inode_table.specs.Contents.{Content}
 use Rattle.assise_inode_table.specs.Effects.{all_applied, contains, touched, value_after}
 use Rattle.assise_inode_table.proofs.EffectLists.{append_applied, get-all_applied}
-use Rattle.assise_inode_table.proofs.EffectValues.{or_left, or_right, untouched, value_after-append, contains-both}
-use Rattle.assise_private_log.specs.NumberedLog.{end}
+use Rattle.assise_inode_table.proofs.EffectValues.{untouched, value_after-append, contains-both}
 use Rattle.assise_digest.specs.Region.{AreNotBelow, HasClient, IsBegun, ReceivedLog, RegionValue, TouchDisjoint, ahead, ahead_below, all_ahead, alone, digested_by, digested_further, log_at, log_of, no_log, read_by}
 use Rattle.assise_digest.proofs.ReceivedLogs.{count_ahead}
 
@@ -38,20 +37,18 @@ touched_parts n rs i =
     ∙ contains-both (all_effects (take n rs)) (all_effects (drop n rs)) i
 
 pub quiet_prefix : (n : ℕ) (rs : List LogRecord) (i : ℕ) → contains (touched (all_effects rs)) i ≡ false → contains (touched (all_effects (take n rs))) i ≡ false
-quiet_prefix n rs i h = or_left (contains (touched (all_effects (take n rs))) i) _ (sym (touched_parts n rs i) ∙ h)
+quiet_prefix n rs i h = (or_parts (contains (touched (all_effects (take n rs))) i) _ (sym (touched_parts n rs i) ∙ h)).0
 
 quiet_rest : (n : ℕ) (rs : List LogRecord) (i : ℕ) → contains (touched (all_effects rs)) i ≡ false → contains (touched (all_effects (drop n rs))) i ≡ false
-quiet_rest n rs i h = or_right (contains (touched (all_effects (take n rs))) i) _ (sym (touched_parts n rs i) ∙ h)
+quiet_rest n rs i h = (or_parts (contains (touched (all_effects (take n rs))) i) _ (sym (touched_parts n rs i) ∙ h)).1
 
 some_of_prefix : (n : ℕ) (rs : List LogRecord) (i : ℕ) → contains (touched (all_effects (take n rs))) i ≡ true → contains (touched (all_effects rs)) i ≡ true
 some_of_prefix n rs i h = touched_parts n rs i ∙ ap (λ b. b || contains (touched (all_effects (drop n rs))) i) h
 
 some_of_rest : (n : ℕ) (rs : List LogRecord) (i : ℕ) → contains (touched (all_effects (drop n rs))) i ≡ true → contains (touched (all_effects rs)) i ≡ true
-some_of_rest n rs i h = touched_parts n rs i ∙ ap (λ b. contains (touched (all_effects (take n rs))) i || b) h ∙ or_true (contains (touched (all_effects (take n rs))) i)
-  where
-    or_true : (a : Bool) → (a || true) ≡ true
-    or_true true = refl
-    or_true false = refl
+some_of_rest n rs i h =
+    touched_parts n rs i ∙ ap (λ b. contains (touched (all_effects (take n rs))) i || b) h
+    ∙ or_true_right (contains (touched (all_effects (take n rs))) i) true refl
 
 -- ---- the region
 
@@ -199,19 +196,6 @@ alone_kept r c n has b disjoint numbers reached i =
         ∙ same_without (log_of r c) n i b e r.logs (c - 1) numbers (map.get r.inodes i) within refl low
 
 -- ---- counts
-
-pub more_ahead : (l : ReceivedLog) (a : ℕ) → IsBegun l → 0 < length (ahead_below l a) → l.digested < end l.log
-more_ahead l a b h =
-    let counted = length-take (a - l.digested) (ahead l) in
-    let all = count_ahead l b in
-    omega (arith, h, counted, all)
-
-pub one_more_below : (l : ReceivedLog) (a n : ℕ) → IsBegun l → 0 < length (ahead_below (digested_further l n) a) → n + 1 ≤ length (ahead_below l a)
-one_more_below l a n b h =
-    let counted = length-take (a - l.digested) (ahead l) in
-    let rest = length-take (a - (l.digested + n)) (ahead (digested_further l n)) in
-    let dropped = ap length (ahead_further l n b) ∙ length-drop n (ahead l) in
-    omega (arith, h, counted, rest, dropped)
 
 pub begun_further : (l : ReceivedLog) (n : ℕ) → IsBegun l → n ≤ length (ahead l) → IsBegun (digested_further l n)
 begun_further l n b h =

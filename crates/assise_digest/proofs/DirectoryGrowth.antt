@@ -1,11 +1,12 @@
 -- A directory grows by its last entry: the names ascend, so a new first entry stands before the others.
-use Rattle.std.proofs.Common.{◌≡◌, ◌≤◌, ◌<◌, ℕ, List, [], ◌∷◌, ◌++◌, length, None, Some, is_some, cond, Less, nat_cmp, refl, sym, ap, subst, ◌∙◌, length-append, arith}
+use Rattle.std.proofs.Common.{◌≡◌, ◌≤◌, ◌<◌, ℕ, List, [], ◌∷◌, ◌++◌, length, is_some, cond, Less, nat_cmp, refl, sym, ap, subst, ◌∙◌, length-append, arith}
 use Rattle.std.specs.List.{AllByRecursion}
 use Rattle.std.specs.List.Sorted.{IsStrictlySortedBy}
-use Rattle.std.specs.Ordering.{is_eq, match_ordering}
+use Rattle.std.specs.Ordering.{match_ordering}
 use Rattle.std.specs.Cmp.Lexicographic.{slice_cmp}
 use Rattle.std.proofs.lemmas.Map.Keys.{sorted_head, sorted_tail}
-use Rattle.assise_seq_tree.specs.Tree.{Tree, dir, Entries, no_entries, entry, find, insert, replace, put, names_of, IsBelow}
+use Rattle.assise_seq_tree.specs.Tree.{Tree, dir, Entries, no_entries, entry, insert, replace, put, names_of, IsBelow}
+use Rattle.assise_seq_tree.proofs.Sets.{find_below}
 use Rattle.assise_digest.specs.Postorder.{subtrees_of}
 use Rattle.assise_digest.proofs.Forests.{degree-subtrees_of}
 
@@ -17,17 +18,14 @@ below_names : (name : List ℕ) (es : Entries) → AllByRecursion (λ other. sli
 below_names name no_entries h = tt
 below_names name (entry other t es) h = (h.0, below_names name es h.1)
 
-pub none_below : (name : List ℕ) (es : Entries) → IsBelow name es → find name es ≡ None
-none_below name no_entries below = refl
-none_below name (entry other t es) below = ap (λ o. cond (is_eq o) (Some t) (find name es)) below.0 ∙ none_below name es below.1
-
 insert_first : (name : List ℕ) (x : Tree) (es : Entries) → IsBelow name es → insert name x es ≡ entry name x es
 insert_first name x no_entries below = refl
 insert_first name x (entry other t es) below = ap (λ o. match_ordering o (entry name x (entry other t es)) (entry other x es) (entry other t (insert name x es))) below.0
 
 put_first : (name : List ℕ) (x : Tree) (es : Entries) → IsBelow name es → put (dir es) (name ∷ []) x ≡ dir (entry name x es)
 unfolding put
-put_first name x es below = ap (λ found. dir (cond (is_some found) (replace name x es) (insert name x es))) (none_below name es below) ∙ ap dir (insert_first name x es below)
+put_first name x es below =
+    ap (λ found. dir (cond (is_some found) (replace name x es) (insert name x es))) (find_below name es below) ∙ ap dir (insert_first name x es below)
 
 pub grows : (names before : List (List ℕ)) (name : List ℕ) (es : Entries) (x : Tree) → IsStrictlySortedBy (slice_cmp nat_cmp) names → before ++ name ∷ names_of es ≡ names
     → put (dir es) (name ∷ []) x ≡ dir (entry name x es)

@@ -1,6 +1,6 @@
 -- Trees one after another, and their places in postorder: the list of the places tells the trees.
 use Rattle.std.proofs.Common.{◌≡◌, ◌≤◌, suc, List, [], ◌∷◌, ◌++◌, length, reverse, refl, sym, ap, ◌∙◌, ◌⊎◌, inl, inr, append_assoc, append-nil, length-append, arith}
-use Rattle.std.proofs.lemmas.List.{reverse-reverse, reverse-append}
+use Rattle.std.proofs.lemmas.List.{reverse-reverse, reverse-append, same_from_push}
 use Rattle.std.specs.List.{flat_map}
 use Rattle.std.proofs.lemmas.Grind.{flat_map-append}
 use Rattle.assise_seq_tree.specs.Tree.{Tree, file, dir, Entries, no_entries, entry, names_of}
@@ -24,15 +24,6 @@ last_or_none (x ∷ xs) = inr (ends x xs)
 not_none : {X : Type 0} (xs : List X) (x : X) {P : Type 0} → [] ≡ xs ++ x ∷ [] → P
 not_none [] x e = cc
 not_none (y ∷ xs) x e = cc
-
-pub same_end : {X : Type 0} (xs ys : List X) (x y : X) → xs ++ x ∷ [] ≡ ys ++ y ∷ [] → (xs ≡ ys) × (x ≡ y)
-same_end [] [] x y e = (refl, cc)
-same_end [] (z ∷ ys) x y e = let none : [] ≡ ys ++ y ∷ [] = cc in not_none ys y none
-same_end (w ∷ xs) [] x y e = let none : [] ≡ xs ++ x ∷ [] = cc in not_none xs x none
-same_end (w ∷ xs) (z ∷ ys) x y e =
-    let first : w ≡ z = cc in
-    let rest = same_end xs ys x y (cc) in
-    (cc (first, rest.0), rest.1)
 
 -- parts of equal length are equal
 pub same_parts : {X : Type 0} (prefix other xs ys : List X) → length xs ≡ length ys → prefix ++ xs ≡ other ++ ys → (prefix ≡ other) × (xs ≡ ys)
@@ -98,7 +89,8 @@ pub cut : (ts : List Tree) (places : List Shape) (s : Shape) → forest ts ≡ p
 cut ts places s e = elim (last_or_none ts) [
   | inl none ↦ not_none places s (sym (ap forest none) ∙ e)
   | inr some ↦
-      let same = same_end (forest (some.prefix ++ subtrees some.last)) places (shape_of_tree some.last) s (sym (forest_ends some.prefix some.last) ∙ sym (ap forest some.is) ∙ e) in
+      let same = same_from_push (forest (some.prefix ++ subtrees some.last)) places (shape_of_tree some.last) s
+      (sym (forest_ends some.prefix some.last) ∙ sym (ap forest some.is) ∙ e) in
       record { prefix = some.prefix; last = some.last; are = some.is; shape = same.1; rest = same.0 }
 ]
 

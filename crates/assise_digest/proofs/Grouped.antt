@@ -22,7 +22,7 @@ use Rattle.assise_digest.proofs.ReceivedLogs.{count_ahead}
 
 -- ---- one after another
 
-first_alone : (rs : List LogRecord) → all_effects (take 1 rs) ≡ first_effects rs
+pub first_alone : (rs : List LogRecord) → all_effects (take 1 rs) ≡ first_effects rs
 first_alone [] = refl
 first_alone (r ∷ rs) = append-nil r.effects
 

@@ -1,7 +1,8 @@
 -- Inodes with what records make of them.
-use Rattle.std.proofs.Common.{◌≡◌, ◌≤◌, ◌+◌, ◌-◌, ◌||◌, ◌==◌, ℕ, zero, suc, nat_lt, min, length, take, drop, drop-drop, take-add, append_assoc, append-nil, true≢false, arith, Bool, true, false, cond, if◌then◌else◌, List, [], ◌∷◌, ◌++◌, Option, Some, None, refl, sym, ap, subst, ◌∙◌, is_some}
-use Rattle.std.proofs.lemmas.Bool.{eqb-true}
+use Rattle.std.proofs.Common.{◌≡◌, ◌≤◌, ◌+◌, ◌-◌, ◌||◌, ◌==◌, ℕ, zero, suc, min, length, take, drop, drop-drop, take-add, append_assoc, append-nil, true≢false, arith, Bool, true, false, cond, if◌then◌else◌, List, [], ◌∷◌, ◌++◌, Option, Some, None, refl, sym, ap, subst, ◌∙◌, is_some}
+use Rattle.std.proofs.lemmas.Bool.{eqb-true, or_right, le-ltb}
 use Rattle.std.proofs.lemmas.List.{take_min}
+use Rattle.std.proofs.lemmas.Option.{same_Some}
 use Rattle.std.specs.List.{slice_get}
 use Rattle.std.specs.Ordering.{nat_cmp}
 use Rattle.std.specs.FinMap as map
@@ -18,10 +19,6 @@ use Rattle.assise_inode_table.proofs.EffectValues.{get-with_value, same_number, 
 use Rattle.assise_digest.specs.Pending.{KeepsNoMore, Lays, all_held, overlaid, overlaid_with, pending_seen}
 use Rattle.assise_digest.specs.declared.pending.Pending.{Pending}
 use Rattle.assise_digest.proofs.KeptInodes.{all_held_point, kept_at, point}
-
-or_true : (a : Bool) → (a || true) ≡ true
-or_true true = refl
-or_true false = refl
 
 -- ---- one map of both
 
@@ -97,7 +94,7 @@ lays_more p q m n es fs l inodes last = record { kept = kept; values = values }
             ≡ (if (contains (touched es) i || b) then value_after i (map.get m i) (es ++ fs) else None)
         go true e a f =
             ap (λ v. value_after i v fs) (stood i (map.get p.last i) (l.kept i)) ∙ sym (value_after-append i (map.get m i) es fs)
-            ∙ ap (λ c. if c then value_after i (map.get m i) (es ++ fs) else None) (sym (or_true (contains (touched es) i)))
+            ∙ ap (λ c. if c then value_after i (map.get m i) (es ++ fs) else None) (sym (or_right (contains (touched es) i) true refl))
         go false e true f =
             untouched i _ fs e ∙ ap (λ c. if c then value_after i (map.get m i) es else None) f
             ∙ sym (untouched i (value_after i (map.get m i) es) fs e) ∙ sym (value_after-append i (map.get m i) es fs)
@@ -124,19 +121,13 @@ laid_no_more p q m n fs no_more inodes last i none =
 -- ---- the records of a log, one after another
 
 pub whole_at : (rs : List LogRecord) (k : ℕ) (r : LogRecord) → AreWhole rs → Some r ≡ slice_get rs k → CanBeMadeWhole r.effects
-whole_at [] zero r w e = absurd (true≢false (ap is_some e))
-whole_at [] (suc k) r w e = absurd (true≢false (ap is_some e))
-whole_at (s ∷ rs) zero r w e = subst (λ x. CanBeMadeWhole x.effects) (the_same s r (sym e)) w.0
-  where
-    the_same : (a b : LogRecord) → Some a ≡ Some b → a ≡ b
-    the_same a b e = cc
+whole_at [] k r w e = absurd (true≢false (ap is_some e))
+whole_at (s ∷ rs) zero r w e = subst (λ x. CanBeMadeWhole x.effects) (same_Some s r (sym e)) w.0
 whole_at (s ∷ rs) (suc k) r w e = whole_at rs k r w.1 e
 
-not_below : (n k : ℕ) → k ≤ n → nat_lt n k ≡ false
-not_below n k h = grind (arith, h)
-
 pub record_here : (l : ReceivedLog) (number : ℕ) (r : LogRecord) → IsBegun l → l.digested ≤ number → Some r ≡ record_at l.log number → Some r ≡ slice_get l.log.records (number - l.log.first)
-record_here l number r b h is = is ∙ ap (λ x. if x then None else slice_get l.log.records (number - l.log.first)) (not_below number l.log.first (omega (arith, b.from_first, h)))
+record_here l number r b h is =
+    is ∙ ap (λ x. if x then None else slice_get l.log.records (number - l.log.first)) (le-ltb number l.log.first (omega (arith, b.from_first, h)))
 
 pub one_more_ahead : (l : ReceivedLog) (number : ℕ) (r : LogRecord) → IsBegun l → l.digested ≤ number → Some r ≡ record_at l.log number
     → take (number + 1 - l.digested) (ahead l) ≡ take (number - l.digested) (ahead l) ++ r ∷ []

@@ -1,6 +1,6 @@
 -- What is kept of inodes beside the area, inode by inode.
 use Rattle.std.proofs.Common.{◌≡◌, ◌≢◌, ◌⊎◌, ◌||◌, ◌==◌, ◌+◌, ◌<◌, ℕ, zero, suc, length, drop, slice_index_or, arith, Bool, true, false, cond, if◌then◌else◌, List, [], ◌∷◌, Option, Some, None, IsSome, refl, sym, ap, subst, ◌∙◌, inl, inr, is_some, true≢false}
-use Rattle.std.proofs.lemmas.Bool.{eq-eqb, ne_eqb, cases_eq}
+use Rattle.std.proofs.lemmas.Bool.{cond_both, eq-eqb, ne_eqb, cases_eq, or_right}
 use Rattle.std.proofs.lemmas.List.{at_drop_more}
 use Rattle.std.specs.Cmp.{nat_cmp_total}
 use Rattle.std.specs.Ordering.{nat_cmp}
@@ -11,6 +11,7 @@ use Rattle.assise_record.specs.Touched.{touched_by}
 use Rattle.assise_inode_table.specs.Contents.{Content, InodeMap}
 use Rattle.assise_inode_table.specs.Effects.{contains, touched, with_value}
 use Rattle.assise_inode_table.proofs.EffectValues.{get-with_value, same_number}
+use Rattle.assise_inode_table.proofs.MapView.{remove-absent}
 use Rattle.assise_digest.specs.Pending.{HasAllNumbers, IsNew, KeepsNoMore, all_held, forgotten, held, loaded_in_turn, is_last, let_go, last_noted}
 use Rattle.assise_digest.specs.declared.pending.Pending.{Pending}
 
@@ -59,7 +60,8 @@ pub held_point : (m : InodeMap) (n : ℕ) (p : Pending) (i q : ℕ) → point (h
 held_point m n p i q =
     elim (cases_eq i q) [
       | inl same ↦ at_same q same ∙ sym (ap (λ b. if b then kept_at m n q (point p q) else point p q) (eq-eqb i q same))
-      | inr other ↦ at_other q other (is_some (map.get p.last i)) ∙ sym (ap (λ b. if b then kept_at m n q (point p q) else point p q) (ne_eqb i q other))
+      | inr other ↦ cond_both (is_some (map.get p.last i)) p put (λ r. point r q ≡ point p q) (λ _. refl) (λ _. at_put q false (ne_eqb i q other))
+          ∙ sym (ap (λ b. if b then kept_at m n q (point p q) else point p q) (ne_eqb i q other))
     ]
   where
     put : Pending
@@ -79,10 +81,6 @@ held_point m n p i q =
 
     at_same : (q : ℕ) → i ≡ q → point (held p m n i) q ≡ kept_at m n q (point p q)
     at_same q same = subst (λ r. point (held p m n i) r ≡ kept_at m n r (point p r)) same (at_itself (is_some (map.get p.last i)))
-
-    at_other : (q : ℕ) → i ≢ q → (b : Bool) → point (if b then p else put) q ≡ point p q
-    at_other q other true = refl
-    at_other q other false = at_put q false (ne_eqb i q other)
 
 pub all_held_point : (m : InodeMap) (n : ℕ) (p : Pending) (es : List Effect) (q : ℕ) → point (all_held p m n es) q ≡ (if contains (touched es) q then kept_at m n q (point p q) else point p q)
 all_held_point m n p es q = points (λ r i. held r m n i) (kept_at m n) (held_point m n) (kept_once m n) p (touched es) q
@@ -104,7 +102,8 @@ pub let_go_point : (n : ℕ) (p : Pending) (i q : ℕ) → point (let_go p n i) 
 let_go_point n p i q =
     elim (cases_eq i q) [
       | inl same ↦ at_same q same ∙ sym (ap (λ b. if b then left_at n (point p q) else point p q) (eq-eqb i q same))
-      | inr other ↦ at_other q other (is_last p n i) ∙ sym (ap (λ b. if b then left_at n (point p q) else point p q) (ne_eqb i q other))
+      | inr other ↦ cond_both (is_last p n i) cut p (λ r. point r q ≡ point p q) (λ _. at_cut q false (ne_eqb i q other)) (λ _. refl)
+          ∙ sym (ap (λ b. if b then left_at n (point p q) else point p q) (ne_eqb i q other))
     ]
   where
     cut : Pending
@@ -125,10 +124,6 @@ let_go_point n p i q =
     at_same : (q : ℕ) → i ≡ q → point (let_go p n i) q ≡ left_at n (point p q)
     at_same q same = subst (λ r. point (let_go p n i) r ≡ left_at n (point p r)) same (at_itself (is_last p n i))
 
-    at_other : (q : ℕ) → i ≢ q → (b : Bool) → point (if b then cut else p) q ≡ point p q
-    at_other q other true = at_cut q false (ne_eqb i q other)
-    at_other q other false = refl
-
 pub forgotten_point : (n : ℕ) (p : Pending) (es : List Effect) (q : ℕ) → point (forgotten p n es) q ≡ (if contains (touched es) q then left_at n (point p q) else point p q)
 forgotten_point n p es q = points (λ r i. let_go r n i) (λ q. left_at n) (let_go_point n) (left_once n) p (touched es) q
 
@@ -136,11 +131,9 @@ forgotten_point n p es q = points (λ r i. let_go r n i) (λ q. left_at n) (let_
 
 -- nothing goes where no inode has the number
 pub nothing_forgotten : (p : Pending) (n : ℕ) (es : List Effect) → IsNew p n → forgotten p n es ≡ p
-nothing_forgotten p n es new = same_pending _ _ (λ q. forgotten_point n p es q ∙ go q (contains (touched es) q))
-  where
-    go : (q : ℕ) (b : Bool) → (if b then left_at n (point p q) else point p q) ≡ point p q
-    go q true = ap (λ b. if b then (None, None) else point p q) (new q)
-    go q false = refl
+nothing_forgotten p n es new = same_pending _ _ (λ q. forgotten_point n p es q
+    ∙ cond_both (contains (touched es) q) (left_at n (point p q)) (point p q) (λ x. x ≡ point p q)
+    (λ _. ap (λ b. if b then (None, None) else point p q) (new q)) (λ _. refl))
 
 -- an inode that is kept for an effect goes with the others
 pub forgotten_again : (p : Pending) (m : InodeMap) (n i : ℕ) (es : List Effect) → KeepsNoMore p → contains (touched es) i ≡ true → forgotten (held p m n i) n es ≡ forgotten p n es
@@ -197,11 +190,7 @@ all_held_has p m n es q among =
     some (Some k) = refl
 
 pub set_has : (l : map.FinMap nat_cmp ℕ) (i n : ℕ) (es : List Effect) → HasAllNumbers l es → HasAllNumbers (map.insert l i n) es
-set_has l i n es has q among = subst IsSome (sym (get-set l i n q)) (go (i == q))
-  where
-    go : (b : Bool) → IsSome (if b then Some n else map.get l q)
-    go true = refl
-    go false = has q among
+set_has l i n es has q among = subst IsSome (sym (get-set l i n q)) (cond_both (i == q) (Some n) (map.get l q) IsSome (λ _. refl) (λ _. has q among))
 
 -- ---- an effect of a list
 
@@ -213,11 +202,8 @@ left_after F es k e h is = ap (λ x. F (x ∷ drop (k + 1) es)) is ∙ sym (at_d
 pub touched_item : (es : List Effect) (k : ℕ) (e : Effect) → k < length es → e ≡ slice_index_or es k e → contains (touched es) (touched_by e) ≡ true
 touched_item [] k e h is = absurd (omega (arith, h))
 touched_item (x ∷ es) zero e h is = ap (λ b. b || contains (touched es) (touched_by e)) (eq-eqb (touched_by x) (touched_by e) (ap touched_by (sym is)))
-touched_item (x ∷ es) (suc k) e h is = ap (λ b. (touched_by x == touched_by e) || b) (touched_item es k e (omega (arith, h)) is) ∙ or_true (touched_by x == touched_by e)
-  where
-    or_true : (a : Bool) → (a || true) ≡ true
-    or_true true = refl
-    or_true false = refl
+touched_item (x ∷ es) (suc k) e h is =
+    ap (λ b. (touched_by x == touched_by e) || b) (touched_item es k e (omega (arith, h)) is) ∙ or_right (touched_by x == touched_by e) true refl
 
 -- an inode that was put in and is taken out again leaves what there was
 pub put_and_removed : (m : InodeMap) (i : ℕ) (v : Option Content) → map.get m i ≡ None → map.remove (with_value m i v) i ≡ m
@@ -230,12 +216,4 @@ put_and_removed m i v none = map.same_map nat_cmp_total map.nat_cmp-IsAntisymmet
 
 -- where a number has no inode, taking it out changes nothing
 pub nothing_removed : (m : InodeMap) (i : ℕ) → map.get m i ≡ None → m ≡ with_value m i None
-nothing_removed m i none = sym (map.same_map nat_cmp_total map.nat_cmp-IsAntisymmetric _ _ (λ q. get-with_value m i None q ∙ go q (cases_eq i q)))
-  where
-    go : (q : ℕ) → (i ≡ q) ⊎ (i ≢ q) → (if i == q then None else map.get m q) ≡ map.get m q
-    go q (inl same) = ap (λ b. if b then None else map.get m q) (eq-eqb i q same) ∙ sym none ∙ ap (map.get m) same
-    go q (inr other) = ap (λ b. if b then None else map.get m q) (ne_eqb i q other)
-
-pub none_of : {X : Type 0} (o : Option X) → is_some o ≡ false → o ≡ None
-none_of None e = refl
-none_of (Some x) e = absurd (true≢false e)
+nothing_removed m i none = remove-absent nat_cmp_total map.nat_cmp-IsAntisymmetric m i none

@@ -1,6 +1,7 @@
 -- What is kept beside the area stands for the records that aren't digested.
 use Rattle.std.proofs.Common.{◌≡◌, ◌≤◌, ◌<◌, ◌+◌, ◌||◌, ◌==◌, ℕ, suc, Bool, true, false, if◌then◌else◌, List, [], ◌∷◌, ◌++◌, length, Option, Some, None, refl, sym, ap, ◌∙◌, is_some, true≢false, arith}
 use Rattle.std.proofs.lemmas.Bool.{eq-eqb, ne_eqb}
+use Rattle.std.proofs.lemmas.Option.{same_Some}
 use Rattle.std.specs.Option.{option_or, option_map_or}
 use Rattle.std.specs.FinMap as map
 use Rattle.assise_record.specs.declared.effect.Effect.{Effect}
@@ -12,7 +13,7 @@ use Rattle.assise_inode_table.specs.Effects.{all_applied, contains, touched, val
 use Rattle.assise_inode_table.proofs.EffectValues.{contains-both, untouched, value_after-append}
 use Rattle.assise_inode_table.proofs.EffectLists.{get-all_applied}
 use Rattle.assise_digest.specs.Ahead.{last_touch}
-use Rattle.assise_digest.specs.Pending.{IsNew, KeepsNoMore, StandsFor, all_held, forgotten, pending_seen, taken_in}
+use Rattle.assise_digest.specs.Pending.{IsNew, StandsFor, all_held, forgotten, pending_seen, taken_in}
 use Rattle.assise_digest.specs.declared.pending.Pending.{Pending}
 use Rattle.assise_digest.proofs.KeptInodes.{all_held_point, forgotten_point, get-noted, kept_at, left_at, point}
 
@@ -43,17 +44,12 @@ pub within : (n : ℕ) (rs : List LogRecord) (i k : ℕ) → last_touch n rs i �
 within n [] i k e = absurd (true≢false (sym (ap is_some e)))
 within n (r ∷ rs) i k e = go (within (n + 1) rs i) (last_touch (n + 1) rs i) refl (contains (touched r.effects) i) e
   where
-    the_same : (a b : ℕ) → Some a ≡ Some b → a ≡ b
-    the_same a b e = cc
-
     go : ((j : ℕ) → last_touch (n + 1) rs i ≡ Some j → (n + 1 ≤ j) × (j < (n + 1) + length rs)) → (o : Option ℕ) → last_touch (n + 1) rs i ≡ o → (b : Bool)
         → option_or o (if b then Some n else None) ≡ Some k → (n ≤ k) × (k < n + suc (length rs))
     go ih (Some j) is b e =
-        let same = the_same j k e in
-        (omega (arith, (ih j is).0, same), omega (arith, (ih j is).1, same))
+        let same = same_Some j k e in (omega (arith, (ih j is).0, same), omega (arith, (ih j is).1, same))
     go ih None is true e =
-        let same = the_same n k e in
-        (omega (arith, same), omega (arith, same))
+        let same = same_Some n k e in (omega (arith, same), omega (arith, same))
     go ih None is false e = absurd (true≢false (sym (ap is_some e)))
 
 pub last_touch-append : (n : ℕ) (rs : List LogRecord) (r : LogRecord) (i : ℕ) → last_touch n (rs ++ r ∷ []) i ≡ (if contains (touched r.effects) i then Some (n + length rs) else last_touch n rs i)
@@ -91,9 +87,6 @@ stands_for_none p m n inodes last = record {
 -- an inode that no record touches
 quiet : (m : InodeMap) (n : ℕ) (rs : List LogRecord) (i : ℕ) → last_touch n rs i ≡ None → value_after i (map.get m i) (all_effects rs) ≡ map.get m i
 quiet m n rs i none = untouched i (map.get m i) (all_effects rs) (sym (is_touched n rs i) ∙ ap is_some none)
-
-pub keeps_no_more : (p : Pending) (m : InodeMap) (n : ℕ) (rs : List LogRecord) → StandsFor p m n rs → KeepsNoMore p
-keeps_no_more p m n rs s i none = s.values i ∙ ap (λ o. if is_some o then value_after i (map.get m i) (all_effects rs) else None) (sym (s.last i) ∙ none)
 
 -- no record has the next number
 pub next_is_new : (p : Pending) (m : InodeMap) (n : ℕ) (rs : List LogRecord) → StandsFor p m n rs → IsNew p (n + length rs)

@@ -1,13 +1,12 @@
 -- What is listed of a tree so far, and what is pending.
-use Rattle.std.proofs.Common.{◌≡◌, ℕ, ◌≤◌, List, [], ◌∷◌, ◌++◌, length, reverse, Option, Some, None, IsSome, is_some, Ok, cond, refl, sym, ap, subst, ◌∙◌, inl, inr, append_assoc, append-nil, length-append, arith}
+use Rattle.std.proofs.Common.{◌≡◌, ℕ, ◌≤◌, List, [], ◌∷◌, ◌++◌, length, reverse, Option, Some, None, IsSome, is_some, Ok, refl, sym, ap, subst, ◌∙◌, append_assoc, append-nil, length-append, arith}
 use Rattle.std.specs.Prelude.{ok_or}
 use Rattle.std.specs.List.{cons_option}
 use Rattle.std.specs.FinMap as map
-use Rattle.std.proofs.lemmas.Bool.{cases_Bool}
 use Rattle.std.proofs.lemmas.List.{reverse-append, length-reverse}
 use Rattle.assise_names.specs.declared.reply.TreeError.TheVariants.{NoEnt}
-use Rattle.assise_seq_tree.specs.Tree.{Tree, file, dir, Entries, no_entries, entry, find, same_name, names_of, IsBelow, AreOrdered}
-use Rattle.assise_seq_tree.proofs.Sets.{same_itself, one_name}
+use Rattle.assise_seq_tree.specs.Tree.{Tree, file, dir, Entries, no_entries, entry, find, names_of, AreOrdered}
+use Rattle.assise_seq_tree.proofs.Sets.{find_first, found_later}
 use Rattle.assise_inode_table.specs.Contents.{Content, regular, directory, Links, Values}
 use Rattle.assise_inode_table.specs.Reach.{Shape, link_of, shape_of, shape_of_tree}
 use Rattle.assise_inode_table.specs.Spelled.{SpellsFrom}
@@ -17,7 +16,6 @@ use Rattle.assise_inode_table.proofs.SpellingUnique.{spelled_is_ordered}
 use Rattle.assise_digest.specs.Postorder.{postorder, subtrees, subtrees_of}
 use Rattle.assise_digest.specs.Targets.{linked, targets}
 use Rattle.assise_digest.proofs.Forests.{forest, forest_ends}
-use Rattle.assise_digest.proofs.DirectoryGrowth.{none_below}
 
 -- ---- inodes, each with the tree that it spells
 abbrev pub SpellEach : Values → List ℕ → List Tree → Type 0
@@ -49,17 +47,6 @@ each_ends v (j ∷ is) i (t ∷ ts) s =
     record { prefix = t ∷ rest.prefix; last = rest.last; are = ap (λ us. t ∷ us) rest.are; before = (s.0, rest.before); spelled = rest.spelled }
 
 -- ---- what an inode links to spells the subtrees
-found_first : (name : List ℕ) (t : Tree) (es : Entries) → find name (entry name t es) ≡ Some t
-found_first name t es = ap (λ b. cond b (Some t) (find name es)) (same_itself name)
-
--- a name that is found past the first entry is another one than that
-found_later : (q name : List ℕ) (t u : Tree) (es : Entries) → IsBelow name es → find q es ≡ Some u → find q (entry name t es) ≡ Some u
-found_later q name t u es below there =
-    elim (cases_Bool (same_name q name)) [
-      | inl same ↦ let none = none_below name es below in let some = ap (λ n. find n es) (sym (one_name q name same)) ∙ there in cc
-      | inr differs ↦ ap (λ b. cond b (Some t) (find q es)) differs ∙ there
-    ]
-
 some_too : {A B : Type 0} (o : Option A) (p : Option B) (x : A) → o ≡ Some x → is_some o ≡ is_some p → (y : B) × (p ≡ Some y)
 some_too o None x is same = let no = sym (ap is_some is) ∙ same in cc
 some_too o (Some y) x is same = (y, refl)
@@ -77,7 +64,7 @@ module _ (v : Values) (i : ℕ) (es : Entries) (links : Links) (spelled : Spells
   entries_spell : (fs : Entries) → AreOrdered fs → ((q : List ℕ) (t : Tree) → find q fs ≡ Some t → find q es ≡ Some t) → SpellEach v (linked links (names_of fs)) (subtrees_of fs)
   entries_spell no_entries s within = tt
   entries_spell (entry name t fs) s within =
-      let here = entry_spells name t (within name t (found_first name t fs)) in
+      let here = entry_spells name t (within name t (find_first name t fs)) in
       let rest = entries_spell fs s.2 (λ q u there. within q u (found_later q name t u fs s.0 there)) in
       subst (λ o. SpellEach v (cons_option o (linked links (names_of fs))) (t ∷ subtrees_of fs)) (sym here.1) (here.2, rest)
 

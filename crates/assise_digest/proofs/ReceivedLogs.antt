@@ -1,7 +1,9 @@
 -- The log that a node received of a client, while records come and go.
-use Rattle.std.proofs.Common.{◌≡◌, ◌≤◌, ◌<◌, ◌+◌, ◌-◌, ℕ, Bool, zero, suc, nat_lt, if◌then◌else◌, drop-drop, false, List, [], ◌∷◌, ◌++◌, length, take, drop, Option, Some, None, option_map, refl, sym, ap, subst, ◌∙◌, is_some, true≢false, arith}
+use Rattle.std.proofs.Common.{◌≡◌, ◌≤◌, ◌<◌, ◌+◌, ◌-◌, ℕ, Bool, zero, suc, if◌then◌else◌, drop-drop, false, List, [], ◌∷◌, ◌++◌, length, take, drop, Option, Some, None, option_map, refl, sym, ap, subst, ◌∙◌, is_some, true≢false, arith}
+use Rattle.std.proofs.lemmas.Option.{same_Some}
 use Rattle.std.proofs.lemmas.List.{drop-append-le, length-append, length-drop, length-take}
 use Rattle.std.specs.List.{slice_get}
+use Rattle.std.proofs.lemmas.Bool.{le-ltb}
 use Rattle.assise_record.specs.LogRecord.{LogRecord}
 use Rattle.assise_inode_table.specs.Contents.{InodeMap}
 use Rattle.assise_inode_table.specs.Effects.{all_applied}
@@ -18,22 +20,15 @@ use Rattle.assise_digest.proofs.KeptStands.{next_is_new, stands_for_one_more, st
 
 -- an item and those behind it
 pub drop_item : {X : Type 0} (xs : List X) (k : ℕ) (x : X) → Some x ≡ slice_get xs k → drop k xs ≡ x ∷ drop (k + 1) xs
-drop_item [] zero x e = absurd (true≢false (ap is_some e))
-drop_item [] (suc k) x e = absurd (true≢false (ap is_some e))
-drop_item (y ∷ xs) zero x e = ap (λ z. z ∷ xs) (the_same y x (sym e))
-  where
-    the_same : {X : Type 0} (a b : X) → Some a ≡ Some b → a ≡ b
-    the_same a b e = cc
-drop_item (y ∷ xs) (suc k) x e = drop_item xs k x e ∙ ap (λ n. x ∷ drop n (y ∷ xs)) next
-  where
-    next : suc (k + 1) ≡ suc k + 1
-    next = omega arith
+drop_item [] k x e = absurd (true≢false (ap is_some e))
+drop_item (y ∷ xs) zero x e = ap (λ z. z ∷ xs) (same_Some y x (sym e))
+drop_item (y ∷ xs) (suc k) x e = let next : suc (k + 1) ≡ suc k + 1 = omega arith in drop_item xs k x e ∙ ap (λ n. x ∷ drop n (y ∷ xs)) next
 
 -- ---- records that can be made whole
 
-pub whole_more : (rs : List LogRecord) (r : LogRecord) → AreWhole rs → CanBeMadeWhole r.effects → AreWhole (rs ++ r ∷ [])
-whole_more [] r w h = (h, tt)
-whole_more (s ∷ rs) r w h = (w.0, whole_more rs r w.1 h)
+pub whole_both : (rs qs : List LogRecord) → AreWhole rs → AreWhole qs → AreWhole (rs ++ qs)
+whole_both [] qs w v = v
+whole_both (r ∷ rs) qs w v = (w.0, whole_both rs qs w.1 v)
 
 pub whole_drop : (k : ℕ) (rs : List LogRecord) → AreWhole rs → AreWhole (drop k rs)
 whole_drop zero rs w = w
@@ -57,11 +52,8 @@ count_ahead l b =
 pub ahead_more : (l : ReceivedLog) (r : LogRecord) → IsBegun l → ahead (with_more l r) ≡ ahead l ++ r ∷ []
 ahead_more l r b = drop-append-le (l.digested - l.log.first) l.log.records (r ∷ []) (omega (arith, b.from_first, b.to_end))
 
-not_below : (n k : ℕ) → k ≤ n → nat_lt n k ≡ false
-not_below n k h = grind (arith, h)
-
 placed : (l : ReceivedLog) → IsBegun l → record_at l.log l.digested ≡ slice_get l.log.records (l.digested - l.log.first)
-placed l b = ap (λ x. if x then None else slice_get l.log.records (l.digested - l.log.first)) (not_below l.digested l.log.first b.from_first)
+placed l b = ap (λ x. if x then None else slice_get l.log.records (l.digested - l.log.first)) (le-ltb l.digested l.log.first b.from_first)
 
 -- the next one, and those behind it
 pub ahead_next : (l : ReceivedLog) (r : LogRecord) → IsBegun l → Some r ≡ record_at l.log l.digested → ahead l ≡ r ∷ ahead (digested_further l 1)
@@ -98,7 +90,7 @@ sound_more m x r begins o s h kept = record {
     from_first = s.begun.from_first;
     to_end = let counted = length-append x.log.records (r ∷ []) in omega (arith, s.begun.to_end, counted);
   };
-  whole = whole_more x.log.records r s.whole h;
+  whole = whole_both x.log.records (r ∷ []) s.whole (h, tt);
   stands = stands_like o kept;
 }
   where

@@ -1,18 +1,17 @@
 -- The logs of a region, of which one changes.
-use Rattle.std.proofs.Common.{◌≡◌, ◌≢◌, ◌<◌, ◌-◌, ℕ, zero, suc, false, List, [], ◌∷◌, length, take, drop, is_some, if◌then◌else◌, true≢false, slice_index_or, slice_set, Option, Some, None, refl, sym, ap, subst, ◌∙◌, inl, inr, true, arith}
+use Rattle.std.proofs.Common.{◌≡◌, ◌≢◌, ◌<◌, ◌-◌, ℕ, zero, suc, List, [], ◌∷◌, length, drop, is_some, if◌then◌else◌, true≢false, slice_index_or, slice_set, Option, Some, None, refl, sym, ap, subst, ◌∙◌, inl, inr, true, arith}
 use Rattle.std.proofs.lemmas.Bool.{cases_eq, ne_eqb}
 use Rattle.std.proofs.lemmas.List.{get_or-map, get_or-set_same, get_or-set_other, length-map, length-set, map-set}
 use Rattle.std.specs.FinMap as map
 use Rattle.assise_record.specs.Records.{all_effects}
 use Rattle.assise_inode_table.specs.Contents.{Content, InodeMap}
 use Rattle.assise_record.specs.LogRecord.{LogRecord}
-use Rattle.assise_inode_table.specs.Effects.{all_applied, contains, touched, value_after, with_value}
+use Rattle.assise_inode_table.specs.Effects.{contains, touched, value_after, with_value}
 use Rattle.assise_inode_table.specs.Whole.{CanBeMadeWhole}
-use Rattle.assise_inode_table.proofs.EffectLists.{append_applied, get-all_applied}
-use Rattle.assise_inode_table.proofs.EffectValues.{get-with_value, or_left, untouched, contains-both}
+use Rattle.assise_inode_table.proofs.EffectValues.{get-with_value}
 use Rattle.assise_private_log.specs.NumberedLog.{NumberedLog, record_at}
 use Rattle.assise_digest.specs.Pending.{StandsFor, pending_seen}
-use Rattle.assise_digest.specs.Region.{AreWhole, HasClient, IsBegun, IsQuiet, ReceivedLog, RegionValue, TouchDisjoint, ahead, digested_by, digested_further, log_at, log_of, no_log, read_by, with_log}
+use Rattle.assise_digest.specs.Region.{AreWhole, HasClient, IsBegun, IsQuiet, ReceivedLog, RegionValue, ahead, log_at, log_of, no_log, read_by, with_log}
 use Rattle.assise_digest.specs.Invariant.{LogsInvariant, LogInvariant, StandsHere, seen_log, seen_logs}
 use Rattle.assise_digest.specs.declared.pending.Pending.{Pending}
 use Rattle.assise_digest.specs.declared.received.Received.{Received}
@@ -36,6 +35,11 @@ log_there m xs r c x view has is =
 pub sound_there : (m : InodeMap) (xs : List Received) (k : ℕ) (x : Received) → LogsInvariant m xs → k < length xs → x ≡ slice_index_or xs k x → LogInvariant m x
 sound_there m xs k x sound h is = subst (LogInvariant m) (sym is) (sound k x h)
 
+pub here_sound : {hot : ℕ} (m : InodeMap) (xs : List Received) (r : RegionValue) (c : ℕ) (x : Received) → LogsInvariant m xs → region m hot xs ≡ r
+    → HasClient r c
+    → x ≡ slice_index_or xs (c - 1) x → LogInvariant m x
+here_sound m xs r c x sound view has = sound_there m xs (c - 1) x sound (in_place m xs r c view has)
+
 -- another log stands in a place, and the others are as sound as before
 pub sound_others : (m w : InodeMap) (xs : List Received) (k : ℕ) (y : Received) → ((j : ℕ) (none : Received) → j ≢ k → j < length xs → LogInvariant w (slice_index_or xs j none)) → LogInvariant w y → LogsInvariant w (slice_set xs k y)
 sound_others m w xs k y others here j none h =
@@ -49,6 +53,12 @@ sound_others m w xs k y others here j none h =
 
 pub sound_set : (m : InodeMap) (xs : List Received) (k : ℕ) (y : Received) → LogsInvariant m xs → LogInvariant m y → LogsInvariant m (slice_set xs k y)
 sound_set m xs k y sound here = sound_others m m xs k y (λ j none other h. sound j none h) here
+
+-- a sound log changed in its place
+pub changed_sound : {hot : ℕ} (m : InodeMap) (xs : List Received) (r : RegionValue) (c : ℕ) (x y : Received) → LogsInvariant m xs → region m hot xs ≡ r
+    → HasClient r c
+    → x ≡ slice_index_or xs (c - 1) x → (LogInvariant m x → LogInvariant m y) → LogsInvariant m (slice_set xs (c - 1) y)
+changed_sound m xs r c x y sound view has is keeps = sound_set m xs (c - 1) y sound (keeps (here_sound m xs r c x sound view has is))
 
 -- the region with another log
 pub with_one : {hot : ℕ} (m w : InodeMap) (xs : List Received) (r : RegionValue) (c : ℕ) (y : Received) → region m hot xs ≡ r
@@ -78,17 +88,6 @@ pub next_whole : (x : Received) (next : LogRecord) → IsBegun (seen_log x) → 
 next_whole x next b w is =
     (subst AreWhole (ahead_next (seen_log x) next b is) (whole_drop (x.digested - x.log.first) x.log.records w)).0
 
-pub digested_view : {hot : ℕ} (m w : InodeMap) (kept : ℕ) (xs : List Received) (r : RegionValue) (c : ℕ) (x y : Received) (next : LogRecord) → region m hot xs ≡ r → HasClient r c → x ≡ slice_index_or xs (c - 1) x
-    → IsBegun (seen_log x) → Some next ≡ record_at x.log x.digested → w ≡ all_applied m next.effects → kept ≡ hot → seen_log y ≡ digested_further (seen_log x) 1
-    → region w kept (slice_set xs (c - 1) y) ≡ digested_by r c 1
-digested_view m w kept xs r c x y next view has at b is applied same step =
-    let here = log_there m xs r c x view has at in
-    let prefix : take 1 (ahead (log_of r c)) ≡ next ∷ [] = ap (λ l. take 1 (ahead l)) here ∙ ap (take 1) (ahead_next (seen_log x) next b is) in
-    ap (λ n. region w n (slice_set xs (c - 1) y)) same ∙ with_one m w xs r c y view
-    ∙ ap (λ n. record r { inodes = n; logs = slice_set r.logs (c - 1) (seen_log y) })
-    (applied ∙ sym (append_applied m next.effects []) ∙ ap (λ n. all_applied n (all_effects (next ∷ []))) (ap (λ s. s.inodes) view) ∙ ap (λ rs. all_applied r.inodes (all_effects rs)) (sym prefix))
-    ∙ ap (λ l. record r { inodes = all_applied r.inodes (all_effects (take 1 (ahead (log_of r c)))); logs = slice_set r.logs (c - 1) l }) (step ∙ ap (λ l. digested_further l 1) (sym here))
-
 -- what is kept for other clients is untouched
 pub sound_beside : (m w : InodeMap) (x : Received) → LogInvariant m x → ((i : ℕ) → contains (touched (all_effects (ahead (seen_log x)))) i ≡ true → map.get w i ≡ map.get m i) → LogInvariant w x
 sound_beside m w x s same = record { begun = s.begun; whole = s.whole; stands = go x.pending s.stands }
@@ -96,29 +95,6 @@ sound_beside m w x s same = record { begun = s.begun; whole = s.whole; stands = 
     go : (o : Option Pending) → StandsHere m (seen_log x) o → StandsHere w (seen_log x) o
     go None h = tt
     go (Some p) h = stands_beside p m w x.digested (ahead (seen_log x)) h same
-
-pub digested_sound : {hot : ℕ} (m w : InodeMap) (xs : List Received) (r : RegionValue) (c : ℕ) (x y : Received) (next : LogRecord) → region m hot xs ≡ r → HasClient r c → TouchDisjoint r → LogsInvariant m xs
-    → x ≡ slice_index_or xs (c - 1) x → Some next ≡ record_at x.log x.digested → w ≡ all_applied m next.effects → LogInvariant w y → LogsInvariant w (slice_set xs (c - 1) y)
-digested_sound m w xs r c x y next view has disjoint sound at is applied here =
-    sound_others m w xs (c - 1) y
-    (λ j none other h.
-    sound_beside m w (slice_index_or xs j none) (sound j none h)
-    (λ i among. ap (λ n. map.get n i) applied ∙ get-all_applied m next.effects i ∙ untouched i (map.get m i) next.effects (quiet j none other h i among)))
-    here
-  where
-    b : IsBegun (seen_log x)
-    b = (sound_there m xs (c - 1) x sound (in_place m xs r c view has) at).begun
-
-    seen_other : (j : ℕ) (none : Received) → j < length xs → log_at r j ≡ seen_log (slice_index_or xs j none)
-    seen_other j none h = sym (ap (λ s. log_at s j) view) ∙ get_or-map seen_log xs j none no_log h
-
-    quiet : (j : ℕ) (none : Received) → j ≢ c - 1 → j < length xs → (i : ℕ) → contains (touched (all_effects (ahead (seen_log (slice_index_or xs j none))))) i ≡ true → contains (touched next.effects) i ≡ false
-    quiet j none other h i among =
-        let theirs : contains (touched (all_effects (ahead (log_at r j)))) i ≡ true = ap (λ l. contains (touched (all_effects (ahead l))) i) (seen_other j none h) ∙ among in
-        let ours = disjoint j (c - 1) other i theirs in
-        let first : ahead (log_of r c) ≡ next ∷ ahead (digested_further (seen_log x) 1) = ap ahead (log_there m xs r c x view has at) ∙ ahead_next (seen_log x) next b is in
-        or_left (contains (touched next.effects) i) _
-        (sym (contains-both next.effects (all_effects (ahead (digested_further (seen_log x) 1))) i) ∙ sym (ap (λ rs. contains (touched (all_effects rs)) i) first) ∙ ours)
 
 pub same_item : {X : Type 0} (xs : List X) (k : ℕ) (x y : X) → k < length xs → x ≡ slice_index_or xs k x → y ≡ slice_index_or xs k y → x ≡ y
 same_item [] k x y h a b = absurd (omega (arith, h))

@@ -1,10 +1,11 @@
 -- What holds of a log goes on when its last records give way to groups.
-use Rattle.std.proofs.Common.{◌≡◌, ℕ, zero, suc, ◌+◌, ◌-◌, ◌≤◌, ◌||◌, Bool, true, false, if◌then◌else◌, is_some, IsSome, Option, Some, None, option_map, List, [], ◌∷◌, ◌++◌, length, take, drop, map, refl, ap, sym, ◌∙◌, subst, arith, take-append-drop}
+use Rattle.std.proofs.Common.{◌≡◌, ℕ, zero, suc, ◌+◌, ◌-◌, ◌≤◌, ◌||◌, true, is_some, IsSome, Option, Some, None, option_map, List, [], ◌∷◌, ◌++◌, length, take, drop, map, refl, ap, sym, ◌∙◌, subst, arith, take-append-drop}
 use Rattle.std.specs.FinMap as map
 use Rattle.std.specs.Option.{IfSome}
 use Rattle.std.specs.Ordering.{nat_cmp}
 use Rattle.std.proofs.Math.Seq.{drop-append-add}
 use Rattle.std.proofs.lemmas.List.{drop-append-le, get_or-set_same, length-append, length-drop, length-take}
+use Rattle.std.proofs.lemmas.Bool.{cond_both, or_right}
 use Rattle.assise_record.specs.declared.effect.Effect.{Effect}
 use Rattle.assise_record.specs.LogRecord.{LogRecord}
 use Rattle.assise_record.specs.Groups.{all_marks, all_records, begun_by, coalesced_group, groups_of, left_in, left_of}
@@ -26,7 +27,7 @@ use Rattle.assise_digest.specs.declared.pending.Pending.{Pending}
 use Rattle.assise_digest.specs.declared.received.Received.{Received}
 use Rattle.assise_digest.proofs.CoalescedLogs.{groups_come}
 use Rattle.assise_digest.proofs.KeptInodes.{get-noted}
-use Rattle.assise_digest.proofs.ReceivedLogs.{whole_drop, whole_take}
+use Rattle.assise_digest.proofs.ReceivedLogs.{whole_both, whole_drop, whole_take}
 use Rattle.assise_digest.proofs.RegroupedKept.{renoted}
 use Rattle.assise_digest.proofs.KeptStands.{is_touched}
 
@@ -35,24 +36,13 @@ use Rattle.assise_digest.proofs.KeptStands.{is_touched}
 pub has_prefix : (l : map.FinMap nat_cmp ℕ) (es fs : List Effect) → HasAllNumbers l (es ++ fs) → HasAllNumbers l es
 has_prefix l es fs h i among = h i (contains-both es fs i ∙ ap (λ b. b || contains (touched fs) i) among)
 
-or_true : (b : Bool) → (b || true) ≡ true
-or_true true = refl
-or_true false = refl
-
-some_either : (b : Bool) (n : ℕ) (o : Option ℕ) → IsSome o → IsSome (if b then Some n else o)
-some_either true n o h = refl
-some_either false n o h = h
-
 pub has_others : (l : map.FinMap nat_cmp ℕ) (n : ℕ) (es fs : List Effect) → HasAllNumbers l (es ++ fs) → HasAllNumbers (last_noted l n es) fs
 has_others l n es fs h i among =
-    let had : IsSome (map.get l i) = h i (contains-both es fs i ∙ ap (λ b. contains (touched es) i || b) among ∙ or_true (contains (touched es) i)) in
-    subst IsSome (sym (get-noted l n es i)) (some_either (contains (touched es) i) n (map.get l i) had)
+    let had : IsSome (map.get l i) = h i
+    (contains-both es fs i ∙ ap (λ b. contains (touched es) i || b) among ∙ or_right (contains (touched es) i) true refl) in
+    subst IsSome (sym (get-noted l n es i)) (cond_both (contains (touched es) i) (Some n) (map.get l i) IsSome (λ _. refl) (λ _. had))
 
 -- ---- records that can be made whole
-
-whole_both : (rs qs : List LogRecord) → AreWhole rs → AreWhole qs → AreWhole (rs ++ qs)
-whole_both [] qs w v = v
-whole_both (r ∷ rs) qs w v = (w.0, whole_both rs qs w.1 v)
 
 whole_one : (call : ℕ) (es : List Effect) → CanBeMadeWhole es → AreWhole (record_of call es)
 whole_one call [] w = tt
@@ -153,7 +143,7 @@ module _ (x : Received) (from : ℕ) (begun : IsBegun (seen_log x)) (low : x.dig
       let old : contains (touched (all_effects (records_from x.log from))) i ≡ true = sym (come.touch i) ∙ sym (ap (λ rs. contains (touched (all_effects rs)) i) tail) ∙ among in
       let all : contains (touched (all_effects (passed ++ records_from x.log from))) i ≡ true
       = ap (λ es. contains (touched es) i) (all_effects-append passed (records_from x.log from)) ∙ contains-both (all_effects passed) (all_effects (records_from x.log from)) i
-      ∙ ap (λ b. contains (touched (all_effects passed)) i || b) old ∙ or_true (contains (touched (all_effects passed)) i) in
+      ∙ ap (λ b. contains (touched (all_effects passed)) i || b) old ∙ or_right (contains (touched (all_effects passed)) i) true refl in
       ap is_some (stands.last i) ∙ is_touched x.digested (passed ++ records_from x.log from) i ∙ all
 
   pub all_there : (m : InodeMap) (log : NumberedLog) (o : Option Pending) → log ≡ regrouped x.log from → StandsHere m (seen_log x) o → IfSome o (λ p. HasAllNumbers p.last (all_effects (records_from log from)))

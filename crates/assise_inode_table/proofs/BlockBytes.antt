@@ -6,6 +6,7 @@ use Rattle.std.proofs.Math.Seq.{take-add}
 use Rattle.std.specs.List.{concat}
 use Rattle.assise_inode_table.specs.Blocks.{IsCut}
 use Rattle.assise_seq_tree.specs.Contents.{bytes_from}
+use Rattle.assise_seq_tree.proofs.BytesOverwritten.{take-append}
 
 -- ---- the shape
 pub cut_take : (bs : List (List ℕ)) (k : ℕ) → IsCut bs → IsCut (take k bs)
@@ -134,11 +135,6 @@ cut_more blocks count bytes block so_far some is =
     }
 
 -- ---- joining
-take-over : (n : ℕ) (xs ys : List ℕ) → take n (xs ++ ys) ≡ take n xs ++ take (n - length xs) ys
-take-over zero xs ys = let none : 0 - length xs ≡ 0 = omega arith in rw none
-take-over (suc n) [] ys = let all : suc n - 0 ≡ suc n = omega arith in rw all
-take-over (suc n) (x ∷ xs) ys = let less : suc n - length (x ∷ xs) ≡ n - length xs = omega arith in rw less (ap (λ zs. x ∷ zs) (take-over n xs ys))
-
 drop-over : (n : ℕ) (xs ys : List ℕ) → drop n (xs ++ ys) ≡ drop n xs ++ drop (n - length xs) ys
 drop-over zero xs ys = let none : 0 - length xs ≡ 0 = omega arith in rw none
 drop-over (suc n) [] ys = let all : suc n - 0 ≡ suc n = omega arith in rw all
@@ -149,9 +145,6 @@ pub record JoinedSoFar (blocks : List (List ℕ)) (offset most : ℕ) (joined : 
   pub bytes : joined ≡ bytes_from offset most (concat blocks)
   pub left : skipped ≡ offset - length (concat blocks)
 
-pub not_over : (blocks : List (List ℕ)) (offset n : ℕ) (joined : List ℕ) (skipped : ℕ) → JoinedSoFar blocks offset n joined skipped → length joined ≤ n
-not_over blocks offset n joined skipped so_far = omega (arith, ap length so_far.bytes, length-take n (drop offset (concat blocks)))
-
 pub joined_more : (blocks : List (List ℕ)) (block : List ℕ) (offset n : ℕ) (joined : List ℕ) (skipped : ℕ) → JoinedSoFar blocks offset n joined skipped
     → JoinedSoFar (blocks ++ block ∷ []) offset n (joined ++ bytes_from skipped (n - length joined) block) (skipped - length block)
 joined_more blocks block offset n joined skipped so_far =
@@ -159,7 +152,8 @@ joined_more blocks block offset n joined skipped so_far =
     let all : concat (blocks ++ block ∷ []) ≡ concat blocks ++ block = concat-append blocks (block ∷ []) ∙ ap (λ zs. concat blocks ++ zs) (append-nil block) in
     let left : n - length joined ≡ n - length (drop offset (concat blocks)) = omega (arith, ap length so_far.bytes, length-take n (drop offset (concat blocks))) in
     record {
-      bytes = sym (ap (bytes_from offset n) all ∙ ap (take n) (drop-over offset (concat blocks) block) ∙ take-over n (drop offset (concat blocks)) (drop (offset - length (concat blocks)) block) ∙ rw (left, so_far.left, so_far.bytes) refl);
+      bytes = sym (ap (bytes_from offset n) all ∙ ap (take n) (drop-over offset (concat blocks) block)
+          ∙ take-append n (drop offset (concat blocks)) (drop (offset - length (concat blocks)) block) ∙ rw (left, so_far.left, so_far.bytes) refl);
       left = rw all (omega (arith, so_far.left, length-append (concat blocks) block));
     }
 

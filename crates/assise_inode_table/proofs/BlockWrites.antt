@@ -1,6 +1,9 @@
 -- Writes, reads and cuts of bytes in blocks.
-use Rattle.std.proofs.Common.{◌≡◌, ℕ, zero, suc, ◌+◌, ◌-◌, ◌*◌, ◌/◌, ◌%◌, ◌<◌, ◌≤◌, ◌≢◌, List, [], ◌∷◌, ◌++◌, length, take, drop, replicate, refl, ap, sym, ◌∙◌, subst, get_or, set, arith, min, max, append_assoc, append-nil, length-append, take-append-drop}
-use Rattle.std.proofs.lemmas.List.{length-take, length-drop, length-replicate, take_all, drop_all, take-take, drop-take, drop-drop, drop_more, set_split, take-append-le, take_more_set}
+use Rattle.std.proofs.Common.{◌≡◌, ℕ, zero, suc, ◌+◌, ◌-◌, ◌*◌, ◌/◌, ◌%◌, ◌<◌, ◌≤◌, ◌≢◌, List, [], ◌∷◌, ◌++◌, length, take, drop, replicate, refl, ap, sym, ◌∙◌, subst, get_or, set, arith, min, max, inl, inr, append_assoc, append-nil, length-append, take-append-drop}
+use Rattle.bytes.proofs.Chunks.{concat_push}
+use Rattle.std.proofs.lemmas.Bool.{cases_lt}
+use Rattle.std.proofs.lemmas.Grind.{same_number_lists}
+use Rattle.std.proofs.lemmas.List.{get_or-take, get_or-drop, length-take, length-drop, take-take, drop-take, drop-drop, drop_more, set_split, take-append-le, take_more_set, take_min, drop_min}
 use Rattle.std.proofs.lemmas.List.Folds.{concat-append}
 use Rattle.std.proofs.Math.Seq.{take-add}
 use Rattle.std.specs.Int.{div_ceil}
@@ -8,32 +11,18 @@ use Rattle.std.specs.List.{concat}
 use Rattle.assise_seq_tree.specs.Contents.{bytes_from, overwritten}
 use Rattle.assise_seq_tree.proofs.BytesRead.{length-overwritten}
 use Rattle.assise_inode_table.specs.Blocks.{IsCut}
+use Rattle.assise_inode_table.proofs.Bytes.{written_before, written_here, written_behind}
 use Rattle.assise_inode_table.proofs.BlockBytes.{cut_take, cut_drop, cut_append, cut_one, concat_take, concat_drop, least, most, full, as_many}
 
 -- ---- plain lists
 same_take : (n m : ℕ) (xs : List ℕ) → min n (length xs) ≡ min m (length xs) → take n xs ≡ take m xs
-same_take zero zero xs e = refl
-same_take zero (suc m) [] e = refl
-same_take zero (suc m) (x ∷ xs) e = absurd (omega arith)
-same_take (suc n) zero [] e = refl
-same_take (suc n) zero (x ∷ xs) e = absurd (omega arith)
-same_take (suc n) (suc m) [] e = refl
-same_take (suc n) (suc m) (x ∷ xs) e = ap (λ zs. x ∷ zs) (same_take n m xs (omega arith))
+same_take n m xs e = sym (take_min n xs) ∙ ap (λ k. take k xs) e ∙ take_min m xs
 
 same_drop : (n m : ℕ) (xs : List ℕ) → min n (length xs) ≡ min m (length xs) → drop n xs ≡ drop m xs
-same_drop zero zero xs e = refl
-same_drop zero (suc m) [] e = refl
-same_drop zero (suc m) (x ∷ xs) e = absurd (omega arith)
-same_drop (suc n) zero [] e = refl
-same_drop (suc n) zero (x ∷ xs) e = absurd (omega arith)
-same_drop (suc n) (suc m) [] e = refl
-same_drop (suc n) (suc m) (x ∷ xs) e = same_drop n m xs (omega arith)
+same_drop n m xs e = sym (drop_min n xs) ∙ ap (λ k. drop k xs) e ∙ drop_min m xs
 
 abbrev zeros : ℕ → List ℕ
 zeros n = replicate n 0
-
-length-zeros : (n : ℕ) → length (zeros n) ≡ n
-length-zeros n = let none : ℕ = 0 in length-replicate n none
 
 -- a write into a part that it lies in
 pub written_within : (xs : List ℕ) (f p o : ℕ) (new : List ℕ) → f ≤ length xs → f ≤ o → o + length new ≤ p
@@ -56,104 +45,42 @@ written_within xs f p o new held before behind =
     joined : (a b z y n d t u v : List ℕ) → a ++ b ≡ u → z ≡ y → d ++ t ≡ v → a ++ ((((b ++ z) ++ n) ++ d) ++ t) ≡ ((u ++ y) ++ n) ++ v
     joined a b z y n d t u v p q r = rw (← p, ← q, ← r) (simp append_assoc)
 
-pub written_nothing : (xs : List ℕ) (o : ℕ) (new : List ℕ) → min (length xs) o ≡ o + length new → xs ≡ overwritten xs o new
-written_nothing xs o [] h =
-    let none : o - length xs ≡ 0 = omega arith in
-    let same : o + 0 ≡ o = omega arith in
-    rw (none, same) (simp append-nil (sym (take-append-drop o xs)))
-written_nothing xs o (x ∷ new) h = absurd (omega arith)
-
 -- ---- a part of what is written over
-nothing_over : (xs : List ℕ) → overwritten xs 0 [] ≡ xs
-nothing_over xs = let none : 0 - length xs ≡ 0 = omega arith in rw none refl
-
-over_first : (x : ℕ) (new xs : List ℕ) → overwritten xs 0 (x ∷ new) ≡ x ∷ overwritten (drop 1 xs) 0 new
-over_first x new xs =
-    let none : 0 - length xs ≡ 0 = omega arith in
-    let still : 0 - length (drop 1 xs) ≡ 0 = omega arith in
-    let rest : drop (0 + length (x ∷ new)) xs ≡ drop (0 + length new) (drop 1 xs) = sym (drop-drop (0 + length new) 1 xs ∙ ap (λ n. drop n xs) (omega arith)) in
-    rw (none, still, rest) refl
-
-over_later : (x o : ℕ) (xs new : List ℕ) → overwritten (x ∷ xs) (suc o) new ≡ x ∷ overwritten xs o new
-over_later x o xs new =
-    let gap : suc o - length (x ∷ xs) ≡ o - length xs = omega arith in
-    let more : suc o + length new ≡ suc (o + length new) = omega arith in
-    let rest : drop (suc o + length new) (x ∷ xs) ≡ drop (o + length new) xs = ap (λ n. drop n (x ∷ xs)) more in
-    rw (gap, rest) refl
-
-over_none : (o : ℕ) (new : List ℕ) → overwritten [] (suc o) new ≡ 0 ∷ overwritten [] o new
-over_none o new =
-    let gap : suc o - 0 ≡ suc (o - 0) = omega arith in
-    let prefix : take {A = ℕ} o [] ≡ [] = take_all o [] (omega arith) in
-    let rest : drop {A = ℕ} (suc o + length new) [] ≡ [] = drop_all (suc o + length new) [] (omega arith) in
-    let still : drop {A = ℕ} (o + length new) [] ≡ [] = drop_all (o + length new) [] (omega arith) in
-    rw (gap, prefix, rest, still) refl
-
-dropped : (s : ℕ) (xs : List ℕ) (o : ℕ) (new : List ℕ) → drop s (overwritten xs o new) ≡ overwritten (drop s xs) (o - s) (drop (s - o) new)
-dropped zero xs o new =
-    let same : o - 0 ≡ o = omega arith in
-    let all : 0 - o ≡ 0 = omega arith in
-    rw (same, all) refl
-dropped (suc s) xs zero [] =
-    let same : 0 - suc s ≡ 0 = omega arith in
-    let none : drop {A = ℕ} (suc s - 0) [] ≡ [] = drop_all (suc s - 0) [] (omega arith) in
-    rw (same, none) (ap (drop (suc s)) (nothing_over xs) ∙ sym (nothing_over (drop (suc s) xs)))
-dropped (suc s) xs zero (x ∷ new) =
-    let still : 0 - suc s ≡ 0 - s = omega arith in
-    let more : suc s - 0 ≡ suc (s - 0) = omega arith in
-    let rest : drop (suc s - 0) (x ∷ new) ≡ drop (s - 0) new = ap (λ n. drop n (x ∷ new)) more in
-    let one : 1 + s ≡ suc s = omega arith in
-    let back : drop (suc s) xs ≡ drop s (drop 1 xs) = sym (drop-drop s 1 xs ∙ ap (λ n. drop n xs) one) in
-    rw (still, rest, back) (ap (drop (suc s)) (over_first x new xs) ∙ dropped s (drop 1 xs) zero new)
-dropped (suc s) [] (suc o) new =
-    let at : suc o - suc s ≡ o - s = omega arith in
-    let rest : suc s - suc o ≡ s - o = omega arith in
-    let none : drop {A = ℕ} s [] ≡ [] = drop_all s [] (omega arith) in
-    rw (at, rest) (ap (drop (suc s)) (over_none o new) ∙ dropped s [] o new ∙ ap (λ ys. overwritten ys (o - s) (drop (s - o) new)) none)
-dropped (suc s) (x ∷ xs) (suc o) new =
-    let at : suc o - suc s ≡ o - s = omega arith in
-    let rest : suc s - suc o ≡ s - o = omega arith in
-    rw (at, rest) (ap (drop (suc s)) (over_later x o xs new) ∙ dropped s xs o new)
-
-behind_one : (n : ℕ) (xs : List ℕ) → drop 1 (take (suc n) xs) ≡ take n (drop 1 xs)
-behind_one n [] = sym (take_all n [] (omega arith))
-behind_one n (x ∷ xs) = refl
-
-taken : (n : ℕ) (xs : List ℕ) (o : ℕ) (new : List ℕ) → take n (overwritten xs o new) ≡ overwritten (take n xs) (min o n) (take (n - min o n) new)
-taken zero xs o new =
-    let at : min o 0 ≡ 0 = omega arith in
-    rw at refl
-taken (suc n) xs zero [] =
-    let at : min 0 (suc n) ≡ 0 = omega arith in
-    let none : take {A = ℕ} (suc n - 0) [] ≡ [] = take_all (suc n - 0) [] (omega arith) in
-    rw (at, none) (ap (take (suc n)) (nothing_over xs) ∙ sym (nothing_over (take (suc n) xs)))
-taken (suc n) xs zero (x ∷ new) =
-    let at : min 0 (suc n) ≡ 0 = omega arith in
-    let still : min 0 n ≡ 0 = omega arith in
-    let more : suc n - 0 ≡ suc (n - 0) = omega arith in
-    let part : take (suc n - 0) (x ∷ new) ≡ x ∷ take (n - 0) new = ap (λ k. take k (x ∷ new)) more in
-    let later : take n (overwritten (drop 1 xs) 0 new) ≡ overwritten (take n (drop 1 xs)) 0 (take (n - 0) new) = taken n (drop 1 xs) zero new ∙ rw still refl in
-    rw (at, part)
-    (ap (take (suc n)) (over_first x new xs) ∙ ap (λ ys. x ∷ ys) later
-    ∙ ap (λ ys. x ∷ overwritten ys 0 (take (n - 0) new)) (sym (behind_one n xs)) ∙ sym (over_first x (take (n - 0) new) (take (suc n) xs)))
-taken (suc n) [] (suc o) new =
-    let at : min (suc o) (suc n) ≡ suc (min o n) = omega arith in
-    let rest : suc n - suc (min o n) ≡ n - min o n = omega arith in
-    let none : take {A = ℕ} n [] ≡ [] = take_all n [] (omega arith) in
-    rw (at, rest)
-    (ap (take (suc n)) (over_none o new) ∙ ap (λ ys. 0 ∷ ys) (taken n [] o new)
-    ∙ ap (λ ys. 0 ∷ overwritten ys (min o n) (take (n - min o n) new)) none ∙ sym (over_none (min o n) (take (n - min o n) new)))
-taken (suc n) (x ∷ xs) (suc o) new =
-    let at : min (suc o) (suc n) ≡ suc (min o n) = omega arith in
-    let rest : suc n - suc (min o n) ≡ n - min o n = omega arith in
-    rw (at, rest)
-    (ap (take (suc n)) (over_later x o xs new) ∙ ap (λ ys. x ∷ ys) (taken n xs o new)
-    ∙ sym (over_later x (min o n) (take n xs) (take (n - min o n) new)))
+from_at : (k n i : ℕ) (xs : List ℕ) → i < n → get_or (bytes_from k n xs) i 0 ≡ get_or xs (k + i) 0
+from_at k n i xs within = get_or-take n (drop k xs) i 0 within ∙ get_or-drop k xs i 0
 
 -- a part of what is written over is a part that is written over
 pub part_over : (k n : ℕ) (xs : List ℕ) (o : ℕ) (new : List ℕ)
     → bytes_from k n (overwritten xs o new) ≡ overwritten (bytes_from k n xs) (min (o - k) n) (bytes_from (k - o) (n - min (o - k) n) new)
-part_over k n xs o new = ap (take n) (dropped k xs o new) ∙ taken n (drop k xs) (o - k) (drop (k - o) new)
+part_over k n xs o new =
+    let part = bytes_from k n xs in
+    let at = min (o - k) n in
+    let rest = bytes_from (k - o) (n - min (o - k) n) new in
+    let long : length rest ≡ min (n - min (o - k) n) (length new - (k - o)) = omega
+    (arith, length-take (n - min (o - k) n) (drop (k - o) new), length-drop (k - o) new) in
+    same_number_lists (bytes_from k n (overwritten xs o new)) (overwritten part at rest)
+    (omega (
+      arith,
+      long,
+      length-overwritten xs o new,
+      length-overwritten part at rest,
+      length-take n (drop k xs),
+      length-drop k xs,
+      length-take n (drop k (overwritten xs o new)),
+      length-drop k (overwritten xs o new),
+    ))
+    (λ i inside.
+    let within : i < n = omega (arith, inside, length-take n (drop k (overwritten xs o new))) in
+    from_at k n i (overwritten xs o new) within
+    ∙ elim (cases_lt (k + i) o) [
+      | inl before ↦ written_before xs o new (k + i) before ∙ sym (written_before part at rest i (omega arith) ∙ from_at k n i xs within)
+      | inr low ↦ elim (cases_lt (k + i) (o + length new)) [
+        | inl high ↦ written_here xs o new (k + i) low high
+            ∙ sym (written_here part at rest i (omega arith) (omega (arith, long)) ∙ from_at (k - o) (n - min (o - k) n) (i - at) new (omega arith)
+            ∙ ap (λ j. get_or new j 0) (omega arith))
+        | inr past ↦ written_behind xs o new (k + i) past ∙ sym (written_behind part at rest i (omega (arith, long)) ∙ from_at k n i xs within)
+      ]
+    ])
 
 -- `count` blocks hold it, and no fewer
 pub over_more : (bs : List (List ℕ)) (o : ℕ) (new : List ℕ) (count k : ℕ) → IsCut bs → count ≡ max (length bs) (div_ceil (o + length new) 4096) → k < count → 4096 * k < length (overwritten (concat bs) o new)
@@ -321,9 +248,6 @@ block_taken bs k rest d cut held within small =
     ap (take rest) (sym (concat_drop bs k cut (omega arith)) ∙ rests) ∙ take-append-le rest (get_or bs k d) (concat (drop (k + 1) bs)) long in
     ap (λ zs. zs ++ take rest (get_or bs k d)) prefix ∙ ap (λ zs. take (4096 * k) (concat bs) ++ zs) (sym back) ∙ sym (take-add (4096 * k) rest (concat bs))
 
-one_more : (xs : List (List ℕ)) (y : List ℕ) → concat (xs ++ y ∷ []) ≡ concat xs ++ y
-one_more xs y = concat-append xs (y ∷ []) ∙ ap (λ zs. concat xs ++ zs) (append-nil y)
-
 pub last_held : (bs : List (List ℕ)) (size : ℕ) → IsCut bs → size ≤ length (concat bs) → size % 4096 ≢ 0 → size / 4096 < length bs
 last_held bs size cut within some = omega (arith, most bs cut)
 
@@ -342,5 +266,5 @@ pub bytes_within : (bs : List (List ℕ)) (size : ℕ) (b d : List ℕ) → IsCu
 bytes_within bs size b d cut within some part =
     let k = size / 4096 in
     let held = last_held bs size cut within some in
-    ap concat (take_more_set bs k b held) ∙ one_more (take k bs) b ∙ ap (λ zs. concat (take k bs) ++ zs) part
+    ap concat (take_more_set bs k b held) ∙ concat_push (take k bs) b ∙ ap (λ zs. concat (take k bs) ++ zs) part
     ∙ block_taken bs k (size % 4096) d cut held (omega arith) (omega arith) ∙ ap (λ n. take n (concat bs)) (omega arith)

@@ -3,7 +3,7 @@ use Rattle.std.proofs.Common.{◌≡◌, ◌≤◌, ℕ, Bool, true, false, List
 use Rattle.std.specs.Prelude.{ok_or}
 use Rattle.std.specs.List.{list_any}
 use Rattle.std.specs.FinMap as map
-use Rattle.std.proofs.lemmas.Bool.{eqb-true}
+use Rattle.std.proofs.lemmas.Bool.{cond_both, eqb-true}
 use Rattle.assise_names.specs.Path.{is_proper_prefix, same_path}
 use Rattle.assise_names.specs.declared.call.Op.{Op}
 use Rattle.assise_names.specs.declared.call.Op.TheVariants.{Create, Mkdir, Read, Write as WriteCall, Truncate, Rename, Unlink as UnlinkCall, Rmdir, List as ListCall, Stat, Fsync, Dsync}
@@ -102,15 +102,12 @@ module _ (v : Values) (P : Reply → List Effect → Type 0) (faults : (e : Tree
 abbrev AreFew : Reply → List Effect → Type 0
 AreFew reply es = length es ≤ 4
 
-few_written : (none : Bool) (e : Effect) → length (cond none [] (e ∷ [])) ≤ 4
-few_written true e = omega arith
-few_written false e = omega arith
-
 few_where_done : (op : Op) (fresh : ℕ) → HoldsWhereDone AreFew op fresh
 few_where_done (Create p) fresh = λ d. omega arith
 few_where_done (Mkdir p) fresh = λ d. omega arith
 few_where_done (Read p offset most) fresh = λ bytes. omega arith
-few_where_done (WriteCall p offset new) fresh = λ i. few_written (length new == 0) (Write i (record { offset = offset; bytes = new }))
+few_where_done (WriteCall p offset new) fresh =
+    λ i. cond_both (length new == 0) [] (Write i (record { offset = offset; bytes = new }) ∷ []) (λ es. length es ≤ 4) (λ _. omega arith) (λ _. omega arith)
 few_where_done (Truncate p size) fresh = λ i. omega arith
 few_where_done (Rename p q) fresh = (omega arith, λ d e i. omega arith, λ d e i g. omega arith)
 few_where_done (UnlinkCall p) fresh = λ d i. omega arith
@@ -132,15 +129,13 @@ own : (b : Bool) (i fresh : ℕ) → (b ≡ true → i ≡ fresh) → (b || (fal
 own true i fresh f h = f refl
 own false i fresh f h = cc
 
-none_written : (none : Bool) (i j : ℕ) (offset : ℕ) (new : List ℕ) → list_any (makes j) (cond none [] (Write i (record { offset = offset; bytes = new }) ∷ [])) ≡ false
-none_written true i j offset new = refl
-none_written false i j offset new = refl
-
 own_where_done : (op : Op) (fresh : ℕ) → HoldsWhereDone (MakesOwn op fresh) op fresh
 own_where_done (Create p) fresh = λ d i h. (own (fresh == i) i fresh (λ t. sym (eqb-true fresh i t)) h, refl)
 own_where_done (Mkdir p) fresh = λ d i h. (own (fresh == i) i fresh (λ t. sym (eqb-true fresh i t)) h, refl)
 own_where_done (Read p offset most) fresh = λ bytes i h. cc
-own_where_done (WriteCall p offset new) fresh = λ i j h. let none = none_written (length new == 0) i j offset new in cc
+own_where_done (WriteCall p offset new) fresh = λ i j h.
+    let none = cond_both (length new == 0) [] (Write i (record { offset = offset; bytes = new }) ∷ []) (λ es. list_any (makes j) es ≡ false) (λ _. refl)
+    (λ _. refl) in cc
 own_where_done (Truncate p size) fresh = λ i j h. cc
 own_where_done (Rename p q) fresh = (λ j h. cc, λ d e i j h. cc, λ d e i g j h. cc)
 own_where_done (UnlinkCall p) fresh = λ d i j h. cc

@@ -1,7 +1,7 @@
 -- Calls that no other client saw are taken out of a run.
 use Rattle.std.proofs.Common.{◌≡◌, ℕ, ◌<◌, ◌≤◌, arith, Bool, true, false, List, [], ◌∷◌, ◌++◌, filter, if◌then◌else◌, None, refl, ap, sym, ◌∙◌, subst, ◌||◌, ◌==◌, inl, inr, MatchBool}
 use Rattle.std.specs.List.{list_any}
-use Rattle.std.proofs.lemmas.Bool.{cases_Bool, cases_eq, ltb-true, ltb-false, eqb-true, or_cases}
+use Rattle.std.proofs.lemmas.Bool.{cases_Bool, cases_eq, ltb-true, ltb-false, eqb-true, or_cases, or_parts, or_right as or_true_right}
 use Rattle.assise_record.specs.declared.effect.Effect.{Effect}
 use Rattle.assise_record.specs.declared.effect.Effect.TheVariants.{NewFile, NewDir, Write, SetLen, Link, Unlink, Free}
 use Rattle.assise_record.specs.Touched.{touched_by}
@@ -14,7 +14,7 @@ use Rattle.assise_inode_table.specs.Interaction.{Step, AgreeOn}
 use Rattle.assise_inode_table.specs.Spelled.{Spells}
 use Rattle.assise_inode_table.specs.Traces.{NumberedCall, trace, step_of, values_after_calls, MakesNew, AllMakeNew, exchanges, ops, Each, NumbersAscend, below}
 use Rattle.assise_inode_table.specs.Unseen.{Clear, Unseen}
-use Rattle.assise_inode_table.proofs.EffectValues.{or_left, or_right, contains-append, untouched}
+use Rattle.assise_inode_table.proofs.EffectValues.{contains-append, untouched}
 use Rattle.assise_inode_table.proofs.Local.{step_local}
 use Rattle.assise_inode_table.proofs.PairwiseLists.{each-always, each-both, clear-left, clear-right, clear-append, clear_nothing, AscendsAlong, ascends_along}
 use Rattle.assise_inode_table.proofs.CallSteps.{step_replies, step_spells}
@@ -43,7 +43,7 @@ agree_after dirty v w es a = λ i f. ap (λ o. value_after i o es) (a i f)
 agree_dirty : (dirty : List ℕ) (v w : Values) (es : List Effect) → AgreeOff dirty v w → AgreeOff (touched es ++ dirty) (after v es) w
 agree_dirty dirty v w es a = λ i f.
     let split : (contains (touched es) i || contains dirty i) ≡ false = sym (contains-append (touched es) dirty i) ∙ f in
-    untouched i (v i) es (or_left (contains (touched es) i) (contains dirty i) split) ∙ a i (or_right (contains (touched es) i) (contains dirty i) split)
+    untouched i (v i) es (or_parts (contains (touched es) i) (contains dirty i) split).0 ∙ a i (or_parts (contains (touched es) i) (contains dirty i) split).1
 
 -- a call that stays is the same step over both maps
 same_here : (dirty : List ℕ) (v w : Values) (x : NumberedCall) → AgreeOff dirty v w → Clear dirty ((step_of v x).visits ++ touched (step_of v x).effects) → step_of v x ≡ step_of w x
@@ -99,12 +99,8 @@ all_touched i [] h = cc
 all_touched i (e ∷ es) h =
     elim (or_cases (makes i e) (list_any (makes i) es) h) [
       | inl here ↦ rw (made_touched i e here) refl
-      | inr later ↦ rw (all_touched i es later) (or_true (touched_by e == i))
+      | inr later ↦ rw (all_touched i es later) (or_true_right (touched_by e == i) true refl)
     ]
-  where
-    or_true : (b : Bool) → (b || true) ≡ true
-    or_true true = refl
-    or_true false = refl
 
 clear_there : (dirty is : List ℕ) (i : ℕ) → Clear dirty is → contains is i ≡ true → contains dirty i ≡ false
 clear_there dirty [] i h t = cc

@@ -10,7 +10,6 @@ use Rattle.std.proofs.Math.Facts.{and_yes}
 use Rattle.assise_seq_tree.specs.Tree.{dir, Entries, no_entries, entry, same_name, find, IsBelow, AreOrdered, names_of}
 use Rattle.assise_seq_tree.proofs.Sets.{same_entries}
 use Rattle.assise_inode_table.specs.Contents.{Links}
-use Rattle.assise_inode_table.specs.Reach.{}
 
 pub is_some-find : (name : List ℕ) (es : Entries) → is_some (find name es) ≡ list_any (same_name name) (names_of es)
 is_some-find name no_entries = refl

@@ -1,16 +1,14 @@
 -- Effects made one after another.
-use Rattle.std.proofs.Common.{◌≡◌, ℕ, zero, suc, true, ◌+◌, ◌<◌, cond, List, [], ◌∷◌, ◌++◌, ◌≤◌, ◌-◌, length, take, drop, slice_index_or, Option, Some, None, IsSome, refl, ap, sym, subst, ◌∙◌, inl, inr, arith}
+use Rattle.std.proofs.Common.{◌≡◌, ℕ, zero, suc, ◌+◌, ◌<◌, cond, List, [], ◌∷◌, ◌++◌, ◌≤◌, ◌-◌, length, take, drop, slice_index_or, Option, Some, None, IsSome, refl, ap, sym, subst, ◌∙◌, inl, inr, arith}
 use Rattle.std.proofs.lemmas.Bool.{eq-eqb, ne_eqb, cases_eq}
 use Rattle.std.proofs.lemmas.List.{take_all, take_more}
 use Rattle.std.specs.Cmp.{nat_cmp_total}
 use Rattle.std.specs.Option.{is_some}
 use Rattle.std.specs.FinMap as map
 use Rattle.assise_record.specs.declared.effect.Effect.{Effect}
-use Rattle.assise_record.specs.declared.effect.Effect.TheVariants.{NewFile, NewDir, Write, SetLen, Link, Unlink, Free}
-use Rattle.assise_record.specs.Touched.{touched_by}
 use Rattle.assise_inode_table.specs.Contents.{Content, InodeMap, values}
-use Rattle.assise_inode_table.specs.Effects.{TakesAway, after, all_applied, applied, made_by, value_after, with_value}
-use Rattle.assise_inode_table.specs.Whole.{CanBeChangedWhole, CanBeMadeWhole, OnlyFirstAsks, OnlyTakeAway, is_link}
+use Rattle.assise_inode_table.specs.Effects.{TakesAway, after, all_applied, applied, value_after, with_value}
+use Rattle.assise_inode_table.specs.Whole.{OnlyFirstAsks, OnlyTakeAway}
 use Rattle.assise_inode_table.proofs.EffectValues.{get-applied, get-with_value}
 
 -- ---- one after another
@@ -40,16 +38,6 @@ takes_away_at (x ∷ es) (suc k) e t h is = takes_away_at es k e t.1 (omega (ari
 
 -- ---- behind a new inode
 
--- an effect that makes an inode puts it in place of what its number had
-pub applied_made : (m : InodeMap) (e : Effect) (c : Content) → Some c ≡ made_by e → applied m e ≡ map.insert m (touched_by e) c
-applied_made m (NewFile i) c is = ap (with_value m i) (sym is)
-applied_made m (NewDir i) c is = ap (with_value m i) (sym is)
-applied_made m (Write i patch) c is = cc
-applied_made m (SetLen i size) c is = cc
-applied_made m (Link d name i) c is = cc
-applied_made m (Unlink d name) c is = cc
-applied_made m (Free i) c is = cc
-
 -- the number has again what it had
 pub given_back : (m : InodeMap) (i : ℕ) (c : Content) (had : Option Content) → had ≡ map.get m i → with_value (map.insert m i c) i had ≡ m
 given_back m i c had is =
@@ -68,46 +56,9 @@ some_not_none (Some x) some none = cc
 
 -- ---- which effects may ask for memory
 
-makes_no_link : (e : Effect) → IsSome (made_by e) → is_link e ≡ true → ⊥
-makes_no_link (NewFile i) made link = cc
-makes_no_link (NewDir i) made link = cc
-makes_no_link (Write i patch) made link = cc
-makes_no_link (SetLen i size) made link = cc
-makes_no_link (Link d name i) made link = cc
-makes_no_link (Unlink d name) made link = cc
-makes_no_link (Free i) made link = cc
-
-pub makes_not_away : (e : Effect) → IsSome (made_by e) → TakesAway e → ⊥
-makes_not_away (NewFile i) made away = away
-makes_not_away (NewDir i) made away = away
-makes_not_away (Write i patch) made away = cc
-makes_not_away (SetLen i size) made away = cc
-makes_not_away (Link d name i) made away = cc
-makes_not_away (Unlink d name) made away = cc
-makes_not_away (Free i) made away = cc
-
 pub first_of_away : (es : List Effect) → OnlyTakeAway es → OnlyFirstAsks es
 first_of_away [] t = tt
 first_of_away (e ∷ es) t = t.1
-
-made_last : (e : Effect) (es before : List Effect) (last : Effect) → e ∷ es ≡ before ++ last ∷ [] → IsSome (made_by e) → OnlyTakeAway before → is_link last ≡ true → ⊥
-made_last e es [] last is made away links = let first : e ≡ last = cc in makes_no_link e made (ap is_link first ∙ links)
-made_last e es (b ∷ bs) last is made away links = let first : e ≡ b = cc in makes_not_away e made (subst TakesAway (sym first) away.0)
-
--- behind a new inode only one effect may ask
-pub asks_behind_made : (e : Effect) (es : List Effect) → CanBeMadeWhole (e ∷ es) → IsSome (made_by e) → OnlyFirstAsks es
-asks_behind_made e es (inl t) made = t.1
-asks_behind_made e es (inr (inl t)) made = first_of_away es t
-asks_behind_made e es (inr (inr w)) made = absurd (made_last e es w.before w.last w.are made w.take_away w.links)
-
-none_made : (e : Effect) → None ≡ made_by e → IsSome (made_by e) → ⊥
-none_made e none made = some_not_none (made_by e) made (sym none)
-
--- without a new inode in front they are changes
-pub changes_whole : (es : List Effect) (e : Effect) (rest : List Effect) → es ≡ e ∷ rest → CanBeMadeWhole es → None ≡ made_by e → CanBeChangedWhole es
-changes_whole [] e rest is (inl t) none = absurd t
-changes_whole (x ∷ es) e rest is (inl t) none = let same : x ≡ e = cc in absurd (none_made e none (subst (λ y. IsSome (made_by y)) same t.0))
-changes_whole es e rest is (inr t) none = t
 
 -- ---- the first effect, and those behind it
 

@@ -79,75 +79,57 @@ begins (Unlink d name) (Some (directory links)) = inr (record {
 
 -- ---- each effect keeps the difference
 
+-- an effect that makes other bytes, or other links, of those that there are
+bytes_then : (p : Patch) (f : Effect) (x y : Option Content) (made : List ℕ → List ℕ)
+    → ((bytes : List ℕ) → effect_on (Some (regular bytes)) f ≡ Some (regular (made bytes)))
+    → (d : InBytes p x y) → DifferIn p.offset (p.offset + length p.bytes) (made d.xs) (made d.ys) → (effect_on x f ≡ effect_on y f) ⊎ InBytes p (effect_on x f)
+    (effect_on y f)
+bytes_then p f x y made is d differ = inr (record {
+  xs = made d.xs;
+  ys = made d.ys;
+  left = ap (λ v. effect_on v f) d.left ∙ is d.xs;
+  right = ap (λ v. effect_on v f) d.right ∙ is d.ys;
+  differ = differ;
+})
+
+links_then : (name : List ℕ) (f : Effect) (x y : Option Content) (made : Links → Links)
+    → ((links : Links) → effect_on (Some (directory links)) f ≡ Some (directory (made links)))
+    → (d : AtName name x y) → ((q : List ℕ) → same_name q name ≡ false → map.get (made d.ls) q ≡ map.get (made d.ms) q) →
+    (effect_on x f ≡ effect_on y f) ⊎ AtName name (effect_on x f) (effect_on y f)
+links_then name f x y made is d others = inr (record {
+  ls = made d.ls;
+  ms = made d.ms;
+  left = ap (λ v. effect_on v f) d.left ∙ is d.ls;
+  right = ap (λ v. effect_on v f) d.right ∙ is d.ms;
+  others = others;
+})
+
 bytes_keep : (p : Patch) (f : Effect) (x y : Option Content) → InBytes p x y → (effect_on x f ≡ effect_on y f) ⊎ InBytes p (effect_on x f) (effect_on y f)
 bytes_keep p (NewFile j) x y d = inl refl
 bytes_keep p (NewDir j) x y d = inl refl
 bytes_keep p (Free j) x y d = inl refl
-bytes_keep p (Write j q) x y d = inr (record {
-  xs = overwritten d.xs q.offset q.bytes;
-  ys = overwritten d.ys q.offset q.bytes;
-  left = ap (λ v. effect_on v (Write j q)) d.left;
-  right = ap (λ v. effect_on v (Write j q)) d.right;
-  differ = write_keeps p.offset (p.offset + length p.bytes) d.xs d.ys q.offset q.bytes d.differ;
-})
-bytes_keep p (SetLen j n) x y d = inr (record {
-  xs = resized d.xs n;
-  ys = resized d.ys n;
-  left = ap (λ v. effect_on v (SetLen j n)) d.left;
-  right = ap (λ v. effect_on v (SetLen j n)) d.right;
-  differ = size_keeps p.offset (p.offset + length p.bytes) d.xs d.ys n d.differ;
-})
-bytes_keep p (Link b name j) x y d = inr (record {
-  xs = d.xs;
-  ys = d.ys;
-  left = ap (λ v. effect_on v (Link b name j)) d.left;
-  right = ap (λ v. effect_on v (Link b name j)) d.right;
-  differ = d.differ;
-})
-bytes_keep p (Unlink b name) x y d = inr (record {
-  xs = d.xs;
-  ys = d.ys;
-  left = ap (λ v. effect_on v (Unlink b name)) d.left;
-  right = ap (λ v. effect_on v (Unlink b name)) d.right;
-  differ = d.differ;
-})
+bytes_keep p (Write j q) x y d =
+    bytes_then p (Write j q) x y (λ bytes. overwritten bytes q.offset q.bytes) (λ bytes. refl) d
+    (write_keeps p.offset (p.offset + length p.bytes) d.xs d.ys q.offset q.bytes d.differ)
+bytes_keep p (SetLen j n) x y d =
+    bytes_then p (SetLen j n) x y (λ bytes. resized bytes n) (λ bytes. refl) d (size_keeps p.offset (p.offset + length p.bytes) d.xs d.ys n d.differ)
+bytes_keep p (Link b name j) x y d = bytes_then p (Link b name j) x y (λ bytes. bytes) (λ bytes. refl) d d.differ
+bytes_keep p (Unlink b name) x y d = bytes_then p (Unlink b name) x y (λ bytes. bytes) (λ bytes. refl) d d.differ
 
 entry_keeps : (name : List ℕ) (f : Effect) (x y : Option Content) → AtName name x y → (effect_on x f ≡ effect_on y f) ⊎ AtName name (effect_on x f) (effect_on y f)
 entry_keeps name (NewFile j) x y d = inl refl
 entry_keeps name (NewDir j) x y d = inl refl
 entry_keeps name (Free j) x y d = inl refl
-entry_keeps name (Write j q) x y d = inr (record {
-  ls = d.ls;
-  ms = d.ms;
-  left = ap (λ v. effect_on v (Write j q)) d.left;
-  right = ap (λ v. effect_on v (Write j q)) d.right;
-  others = d.others;
-})
-entry_keeps name (SetLen j n) x y d = inr (record {
-  ls = d.ls;
-  ms = d.ms;
-  left = ap (λ v. effect_on v (SetLen j n)) d.left;
-  right = ap (λ v. effect_on v (SetLen j n)) d.right;
-  others = d.others;
-})
-entry_keeps name (Link b other j) x y d = inr (record {
-  ls = map.insert d.ls other j;
-  ms = map.insert d.ms other j;
-  left = ap (λ v. effect_on v (Link b other j)) d.left;
-  right = ap (λ v. effect_on v (Link b other j)) d.right;
-  others = λ q away.
-      map.get-insert nat_list_cmp_total d.ls other j q ∙ ap (cond (same_name q other) (Some j)) (d.others q away)
-      ∙ sym (map.get-insert nat_list_cmp_total d.ms other j q);
-})
-entry_keeps name (Unlink b other) x y d = inr (record {
-  ls = map.remove d.ls other;
-  ms = map.remove d.ms other;
-  left = ap (λ v. effect_on v (Unlink b other)) d.left;
-  right = ap (λ v. effect_on v (Unlink b other)) d.right;
-  others = λ q away.
-      map.get-remove nat_list_cmp_total d.ls other q ∙ ap (cond (same_name q other) None) (d.others q away)
-      ∙ sym (map.get-remove nat_list_cmp_total d.ms other q);
-})
+entry_keeps name (Write j q) x y d = links_then name (Write j q) x y (λ links. links) (λ links. refl) d d.others
+entry_keeps name (SetLen j n) x y d = links_then name (SetLen j n) x y (λ links. links) (λ links. refl) d d.others
+entry_keeps name (Link b other j) x y d =
+    links_then name (Link b other j) x y (λ links. map.insert links other j) (λ links. refl) d (λ q away.
+    map.get-insert nat_list_cmp_total d.ls other j q ∙ ap (cond (same_name q other) (Some j)) (d.others q away)
+    ∙ sym (map.get-insert nat_list_cmp_total d.ms other j q))
+entry_keeps name (Unlink b other) x y d =
+    links_then name (Unlink b other) x y (λ links. map.remove links other) (λ links. refl) d (λ q away.
+    map.get-remove nat_list_cmp_total d.ls other q ∙ ap (cond (same_name q other) None) (d.others q away)
+    ∙ sym (map.get-remove nat_list_cmp_total d.ms other q))
 
 either : (P : Option Content → Option Content → Type 0) (f : Effect) (x y : Option Content)
     → (P x y → (effect_on x f ≡ effect_on y f) ⊎ P (effect_on x f) (effect_on y f))
@@ -176,80 +158,80 @@ bytes_settle p q i j x y h (inr d) =
     ∙ sym (ap (λ v. effect_on v (Write j q)) d.right)
 
 -- the maps agree where their look-ups do
-same_links : (ls ms : Links) → ((q : List ℕ) → map.get ls q ≡ map.get ms q) → ls ≡ ms
+pub same_links : (ls ms : Links) → ((q : List ℕ) → map.get ls q ≡ map.get ms q) → ls ≡ ms
 same_links ls ms same = map.same_map nat_list_cmp_total exact_bytes ls ms same
 
 over_entry : {A : Type 0} (b : Bool) (x y z : A) → (b ≡ false → y ≡ z) → cond b x y ≡ cond b x z
 over_entry true x y z h = refl
 over_entry false x y z h = h refl
 
+entry_settles : (name other : List ℕ) (f : Effect) (x y : Option Content) (made : Links → Links) (now : Option ℕ)
+    → ((links : Links) → effect_on (Some (directory links)) f ≡ Some (directory (made links)))
+    → ((links : Links) (q : List ℕ) → map.get (made links) q ≡ cond (same_name q other) now (map.get links q)) → same_name other name ≡ true →
+    (x ≡ y) ⊎ AtName name x y → effect_on x f ≡ effect_on y f
+entry_settles name other f x y made now is got h (inl same) = ap (λ v. effect_on v f) same
+entry_settles name other f x y made now is got h (inr d) =
+    ap (λ v. effect_on v f) d.left ∙ is d.ls
+    ∙ ap (λ links. Some (directory links)) (same_links (made d.ls) (made d.ms) (λ q.
+    got d.ls q ∙ over_entry (same_name q other) now (map.get d.ls q) (map.get d.ms q)
+    (λ away. d.others q (ap (same_name q) (sym (one_name other name h)) ∙ away))
+    ∙ sym (got d.ms q)))
+    ∙ sym (ap (λ v. effect_on v f) d.right ∙ is d.ms)
+
 link_settles : (name other : List ℕ) (b j : ℕ) (x y : Option Content) → same_name other name ≡ true → (x ≡ y) ⊎ AtName name x y
     → effect_on x (Link b other j) ≡ effect_on y (Link b other j)
-link_settles name other b j x y h (inl same) = ap (λ v. effect_on v (Link b other j)) same
-link_settles name other b j x y h (inr d) =
-    ap (λ v. effect_on v (Link b other j)) d.left
-    ∙ ap (λ links. Some (directory links)) (same_links (map.insert d.ls other j) (map.insert d.ms other j) (λ q.
-    map.get-insert nat_list_cmp_total d.ls other j q
-    ∙ over_entry (same_name q other) (Some j) (map.get d.ls q) (map.get d.ms q) (λ away. d.others q (ap (same_name q) (sym (one_name other name h)) ∙ away))
-    ∙ sym (map.get-insert nat_list_cmp_total d.ms other j q)))
-    ∙ sym (ap (λ v. effect_on v (Link b other j)) d.right)
+link_settles name other b j x y =
+    entry_settles name other (Link b other j) x y (λ links. map.insert links other j) (Some j) (λ links. refl)
+    (λ links. map.get-insert nat_list_cmp_total links other j)
 
 unlink_settles : (name other : List ℕ) (b : ℕ) (x y : Option Content) → same_name other name ≡ true → (x ≡ y) ⊎ AtName name x y
     → effect_on x (Unlink b other) ≡ effect_on y (Unlink b other)
-unlink_settles name other b x y h (inl same) = ap (λ v. effect_on v (Unlink b other)) same
-unlink_settles name other b x y h (inr d) =
-    ap (λ v. effect_on v (Unlink b other)) d.left
-    ∙ ap (λ links. Some (directory links)) (same_links (map.remove d.ls other) (map.remove d.ms other) (λ q.
-    map.get-remove nat_list_cmp_total d.ls other q
-    ∙ over_entry (same_name q other) None (map.get d.ls q) (map.get d.ms q) (λ away. d.others q (ap (same_name q) (sym (one_name other name h)) ∙ away))
-    ∙ sym (map.get-remove nat_list_cmp_total d.ms other q)))
-    ∙ sym (ap (λ v. effect_on v (Unlink b other)) d.right)
+unlink_settles name other b x y =
+    entry_settles name other (Unlink b other) x y (λ links. map.remove links other) None (λ links. refl)
+    (λ links. map.get-remove nat_list_cmp_total links other)
+
+-- what a write or an entry overrides
+within_cases : (i : ℕ) (q : Patch) (P : Effect → Type 0) → ((p : Patch) → covers q p ≡ true → P (Write i p)) → (e : Effect) → is_write_within i q e ≡ true → P e
+within_cases i q P write (Write j p) h =
+    let parts = and_parts (j == i) (covers q p) h in subst (λ k. P (Write k p)) (sym (eqb-true j i parts.0)) (write p parts.1)
+within_cases i q P write (NewFile j) h = absurd (false≢true h)
+within_cases i q P write (NewDir j) h = absurd (false≢true h)
+within_cases i q P write (SetLen j n) h = absurd (false≢true h)
+within_cases i q P write (Link b name j) h = absurd (false≢true h)
+within_cases i q P write (Unlink b name) h = absurd (false≢true h)
+within_cases i q P write (Free j) h = absurd (false≢true h)
+
+entry_cases : (d : ℕ) (name : List ℕ) (P : Effect → Type 0) → ((other : List ℕ) (i : ℕ) → same_name name other ≡ true → P (Link d other i))
+    → ((other : List ℕ) → same_name name other ≡ true → P (Unlink d other)) → (e : Effect) → is_of_entry d name e ≡ true → P e
+entry_cases d name P link unlink (Link b other j) h =
+    let parts = and_parts (b == d) (same_name name other) h in subst (λ k. P (Link k other j)) (sym (eqb-true b d parts.0)) (link other j parts.1)
+entry_cases d name P link unlink (Unlink b other) h =
+    let parts = and_parts (b == d) (same_name name other) h in subst (λ k. P (Unlink k other)) (sym (eqb-true b d parts.0)) (unlink other parts.1)
+entry_cases d name P link unlink (NewFile j) h = absurd (false≢true h)
+entry_cases d name P link unlink (NewDir j) h = absurd (false≢true h)
+entry_cases d name P link unlink (Write j p) h = absurd (false≢true h)
+entry_cases d name P link unlink (SetLen j n) h = absurd (false≢true h)
+entry_cases d name P link unlink (Free j) h = absurd (false≢true h)
 
 settles : (f e : Effect) (x y : Option Content) → overrides f e ≡ true → Differ e x y → effect_on x f ≡ effect_on y f
 settles (NewFile j) e x y h d = refl
 settles (NewDir j) e x y h d = refl
 settles (Free j) e x y h d = refl
 settles (SetLen j n) e x y h d = absurd (false≢true h)
-settles (Write j q) (Write i p) x y h d = bytes_settle p q i j x y (and_parts (i == j) (covers q p) h).1 d
-settles (Write j q) (NewFile i) x y h d = absurd (false≢true h)
-settles (Write j q) (NewDir i) x y h d = absurd (false≢true h)
-settles (Write j q) (SetLen i n) x y h d = absurd (false≢true h)
-settles (Write j q) (Link b name i) x y h d = absurd (false≢true h)
-settles (Write j q) (Unlink b name) x y h d = absurd (false≢true h)
-settles (Write j q) (Free i) x y h d = absurd (false≢true h)
-settles (Link b other j) (Link c name i) x y h d = link_settles name other b j x y (and_parts (c == b) (same_name other name) h).1 d
-settles (Link b other j) (Unlink c name) x y h d = link_settles name other b j x y (and_parts (c == b) (same_name other name) h).1 d
-settles (Link b other j) (NewFile i) x y h d = absurd (false≢true h)
-settles (Link b other j) (NewDir i) x y h d = absurd (false≢true h)
-settles (Link b other j) (Write i p) x y h d = absurd (false≢true h)
-settles (Link b other j) (SetLen i n) x y h d = absurd (false≢true h)
-settles (Link b other j) (Free i) x y h d = absurd (false≢true h)
-settles (Unlink b other) (Link c name i) x y h d = unlink_settles name other b x y (and_parts (c == b) (same_name other name) h).1 d
-settles (Unlink b other) (Unlink c name) x y h d = unlink_settles name other b x y (and_parts (c == b) (same_name other name) h).1 d
-settles (Unlink b other) (NewFile i) x y h d = absurd (false≢true h)
-settles (Unlink b other) (NewDir i) x y h d = absurd (false≢true h)
-settles (Unlink b other) (Write i p) x y h d = absurd (false≢true h)
-settles (Unlink b other) (SetLen i n) x y h d = absurd (false≢true h)
-settles (Unlink b other) (Free i) x y h d = absurd (false≢true h)
+settles (Write j q) e x y h d = within_cases j q (λ e. Differ e x y → effect_on x (Write j q) ≡ effect_on y (Write j q)) (λ p. bytes_settle p q j j x y) e h d
+settles (Link b other j) e x y h d =
+    entry_cases b other (λ e. Differ e x y → effect_on x (Link b other j) ≡ effect_on y (Link b other j))
+    (λ name i. link_settles name other b j x y) (λ name. link_settles name other b j x y) e h d
+settles (Unlink b other) e x y h d =
+    entry_cases b other (λ e. Differ e x y → effect_on x (Unlink b other) ≡ effect_on y (Unlink b other))
+    (λ name i. unlink_settles name other b x y) (λ name. unlink_settles name other b x y) e h d
 
 -- it touches the same inode
 within_same : (i : ℕ) (q : Patch) (e : Effect) → is_write_within i q e ≡ true → touched_by e ≡ i
-within_same i q (Write j p) h = eqb-true j i (and_parts (j == i) (covers q p) h).0
-within_same i q (NewFile j) h = absurd (false≢true h)
-within_same i q (NewDir j) h = absurd (false≢true h)
-within_same i q (SetLen j n) h = absurd (false≢true h)
-within_same i q (Link b name j) h = absurd (false≢true h)
-within_same i q (Unlink b name) h = absurd (false≢true h)
-within_same i q (Free j) h = absurd (false≢true h)
+within_same i q = within_cases i q (λ e. touched_by e ≡ i) (λ p covered. refl)
 
 entry_same : (d : ℕ) (name : List ℕ) (e : Effect) → is_of_entry d name e ≡ true → touched_by e ≡ d
-entry_same d name (Link b other j) h = eqb-true b d (and_parts (b == d) (same_name name other) h).0
-entry_same d name (Unlink b other) h = eqb-true b d (and_parts (b == d) (same_name name other) h).0
-entry_same d name (NewFile j) h = absurd (false≢true h)
-entry_same d name (NewDir j) h = absurd (false≢true h)
-entry_same d name (Write j p) h = absurd (false≢true h)
-entry_same d name (SetLen j n) h = absurd (false≢true h)
-entry_same d name (Free j) h = absurd (false≢true h)
+entry_same d name = entry_cases d name (λ e. touched_by e ≡ d) (λ other i same. refl) (λ other same. refl)
 
 pub overrides_same : (f e : Effect) → overrides f e ≡ true → touched_by e ≡ touched_by f
 overrides_same (NewFile j) e h = eqb-true (touched_by e) j h

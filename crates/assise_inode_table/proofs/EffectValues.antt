@@ -1,25 +1,16 @@
 -- What effects make of the value of an inode.
 use Rattle.std.proofs.Common.{◌≡◌, ℕ, Bool, true, false, cond, if◌then◌else◌, List, [], ◌∷◌, ◌++◌, ◌||◌, ◌==◌, Option, Some, None, refl, ap, sym, ◌∙◌, inl, inr}
-use Rattle.std.proofs.lemmas.Bool.{eq-eqb, ne_eqb, cases_eq}
+use Rattle.assise_seq_tree.proofs.Sets.{tied}
+use Rattle.std.proofs.lemmas.Bool.{eq-eqb, ne_eqb, cases_eq, false_from_ne_true, or_parts}
 use Rattle.std.proofs.lemmas.List.{map-append}
 use Rattle.std.specs.Ordering.{nat_cmp, eq_by_cmp, is_eq}
 use Rattle.std.specs.Cmp.{nat_cmp_total, tied_itself}
 use Rattle.std.proofs.lemmas.Map.Lookups.{exact_unsigned}
-use Rattle.std.specs.declared.cmp.Ordering.{Ordering}
-use Rattle.std.specs.declared.cmp.Ordering.TheVariants.{Less, Equal, Greater}
 use Rattle.std.specs.FinMap as fin
 use Rattle.assise_record.specs.declared.effect.Effect.{Effect}
 use Rattle.assise_record.specs.Touched.{touched_by}
 use Rattle.assise_inode_table.specs.Contents.{Content, InodeMap}
 use Rattle.assise_inode_table.specs.Effects.{effect_on, value_after, touched, contains, with_value, applied}
-
-pub or_left : (a b : Bool) → (a || b) ≡ false → a ≡ false
-or_left true b h = h
-or_left false b h = refl
-
-pub or_right : (a b : Bool) → (a || b) ≡ false → b ≡ false
-or_right true b h = cc
-or_right false b h = h
 
 or_assoc : (a b c : Bool) → ((a || b) || c) ≡ (a || (b || c))
 or_assoc true b c = refl
@@ -42,25 +33,16 @@ value_after-append i old (e ∷ es) fs = value_after-append i (if touched_by e =
 -- an inode that no effect touches keeps its value
 pub untouched : (i : ℕ) (old : Option Content) (es : List Effect) → contains (touched es) i ≡ false → value_after i old es ≡ old
 untouched i old [] h = refl
-untouched i old (e ∷ es) h = rw (or_left (touched_by e == i) _ h) (untouched i old es (or_right (touched_by e == i) _ h))
+untouched i old (e ∷ es) h = let parts = or_parts (touched_by e == i) (contains (touched es) i) h in rw parts.0 (untouched i old es parts.1)
 
 -- ---- finite maps
 
-tied : (o : Ordering) → is_eq o ≡ true → o ≡ Equal
-tied Less e = cc
-tied Equal e = refl
-tied Greater e = cc
-
 -- one number by its order
-other_number : (i j : ℕ) → (j ≡ i → ⊥) → (b : Bool) → eq_by_cmp nat_cmp i j ≡ b → b ≡ false
-other_number i j differs true e = absurd (differs (sym (exact_unsigned i j (tied (nat_cmp i j) e))))
-other_number i j differs false e = refl
-
 pub same_number : (i j : ℕ) → eq_by_cmp nat_cmp i j ≡ (j == i)
 same_number i j =
     elim (cases_eq j i) [
       | inl same ↦ ap (eq_by_cmp nat_cmp i) same ∙ ap is_eq (tied_itself nat_cmp_total i) ∙ sym (eq-eqb j i same)
-      | inr differs ↦ other_number i j differs (eq_by_cmp nat_cmp i j) refl ∙ sym (ne_eqb j i differs)
+      | inr differs ↦ false_from_ne_true (eq_by_cmp nat_cmp i j) (λ e. differs (sym (exact_unsigned i j (tied (nat_cmp i j) e)))) ∙ sym (ne_eqb j i differs)
     ]
 
 pub get-with_value : (m : InodeMap) (j : ℕ) (o : Option Content) (i : ℕ) → fin.get (with_value m j o) i ≡ (if j == i then o else fin.get m i)

@@ -1,7 +1,7 @@
 -- An entry is moved to another place, with all that it leads to.
 use Rattle.std.proofs.Common.{◌≡◌, ℕ, ◌==◌, Bool, true, false, cond, List, [], ◌∷◌, ◌++◌, Option, Some, None, IsSome, is_some, Ok, refl, sym, ap, ◌∙◌, eqb}
 use Rattle.std.proofs.lemmas.List.{append_assoc}
-use Rattle.std.proofs.lemmas.Bool.{eq-eqb, ne_eqb, eqb-true, eqb-false}
+use Rattle.std.proofs.lemmas.Bool.{cond_both, eq-eqb, ne_eqb, eqb-true, eqb-false}
 use Rattle.std.specs.Cmp.Lexicographic.{nat_list_cmp_total}
 use Rattle.std.specs.FinMap as map
 use Rattle.assise_record.specs.declared.effect.Effect.TheVariants.{Link, Unlink}
@@ -54,11 +54,8 @@ module _ (v : Values) (t m : Tree) (d e i : ℕ) (p q : Path) (name new : List �
   none_left : (b : Bool) → (d == e) ≡ b → map.get (cond b (map.remove from name) to) new ≡ None
   none_left true same =
       map.get-remove nat_list_cmp_total from name new
-      ∙ go (same_name new name) (ap (λ links. map.get links new) (same_links (eqb-true d e same)) ∙ absent)
-    where
-      go : (b : Bool) → map.get from new ≡ None → cond b None (map.get from new) ≡ None
-      go true none = refl
-      go false none = none
+      ∙ cond_both {A = Option ℕ} (same_name new name) None (map.get from new) (λ o. o ≡ None) (λ _. refl)
+      (λ _. ap (λ links. map.get links new) (same_links (eqb-true d e same)) ∙ absent)
   none_left false other = absent
 
   adds : AddsLink between moved e new i left

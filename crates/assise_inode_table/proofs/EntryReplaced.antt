@@ -1,6 +1,6 @@
 -- An entry is moved onto another, whose inode is freed.
 use Rattle.std.proofs.Common.{◌≡◌, ◌≢◌, ℕ, ◌==◌, Bool, true, false, cond, List, [], ◌∷◌, ◌++◌, Option, Some, None, Ok, refl, sym, ap, subst, ◌∙◌}
-use Rattle.std.proofs.lemmas.Bool.{eq-eqb, ne_eqb, eqb-true}
+use Rattle.std.proofs.lemmas.Bool.{cond_both, eq-eqb, ne_eqb, eqb-true}
 use Rattle.std.proofs.lemmas.List.{append_assoc, append-nil}
 use Rattle.std.specs.Prelude.{ok_or}
 use Rattle.std.specs.Cmp.Lexicographic.{nat_list_cmp_total}
@@ -129,11 +129,9 @@ module _ (v : Values) (t m : Tree) (d e i g : ℕ) (p q : Path) (name new : List
 
   entry_by : (b : Bool) → (e == d) ≡ b → map.get (cond b (map.remove to new) from) name ≡ Some i
   entry_by false other = entry
-  entry_by true same = map.get-remove nat_list_cmp_total to new name ∙ go (same_name name new) refl
-    where
-      go : (b : Bool) → same_name name new ≡ b → cond b None (map.get to name) ≡ Some i
-      go true named = absurd (other_names (eqb-true e d same) named)
-      go false differs = ap (λ links. map.get links name) (same_links (eqb-true e d same)) ∙ entry
+  entry_by true same =
+      map.get-remove nat_list_cmp_total to new name ∙ cond_both {A = Option ℕ} (same_name name new) None (map.get to name) (λ o. o ≡ Some i)
+      (λ named. absurd (other_names (eqb-true e d same) named)) (λ _. ap (λ links. map.get links name) (same_links (eqb-true e d same)) ∙ entry)
 
   goal_holds : cleared e ≡ Some (directory (map.remove to new))
   goal_holds = others e (λ x. goal_stays (sym x)) ∙ removes.after

@@ -9,6 +9,7 @@ use Rattle.assise_names.specs.declared.reply.TreeError.TheVariants.{NoEnt}
 use Rattle.assise_seq_tree.specs.Tree.{Tree, dir, Entries, same_name, find, remove, at, without, AreOrdered, names_of}
 use Rattle.assise_seq_tree.proofs.Sets.{same_itself, one_name, find-remove, ordered-remove}
 use Rattle.assise_seq_tree.proofs.Moves.{Path}
+use Rattle.assise_seq_tree.proofs.Checks.{no_error}
 use Rattle.assise_inode_table.specs.Contents.{Links, Values}
 use Rattle.assise_inode_table.specs.Reach.{children, reach, link_of}
 use Rattle.assise_inode_table.specs.Spelled.{ReachesOnce, SpellsFrom, ShareNone, RemovesLink}
@@ -64,11 +65,9 @@ module _ (v w : Values) (r d i : ℕ) (t : Tree) (p : Path) (name : List ℕ) (l
 
   before : (q : Path) (j : ℕ) → reach (children w) d q ≡ Ok j → reach (children v) d q ≡ Ok j
   before [] j e = e
-  before (x ∷ q) j e = go (same_name x name) (sym (relinked v w d name links (map.remove links name) None change once_here x q) ∙ e)
-    where
-      go : (b : Bool) → cond b (Err NoEnt) (reach (children v) d (x ∷ q)) ≡ Ok j → reach (children v) d (x ∷ q) ≡ Ok j
-      go true f = cc
-      go false f = f
+  before (x ∷ q) j e =
+      (no_error (same_name x name) NoEnt (reach (children v) d (x ∷ q)) j
+      (sym (relinked v w d name links (map.remove links name) None change once_here x q) ∙ e)).1
 
   spells_here : SpellsFrom w d (dir (remove name place.entries))
   spells_here =

@@ -1,11 +1,11 @@
 -- Changes of a few inodes.
-use Rattle.std.proofs.Common.{◌≡◌, ◌≢◌, inl, inr, ℕ, zero, suc, ◌+◌, ◌<◌, ◌==◌, ◌||◌, Bool, true, false, List, [], ◌∷◌, ◌++◌, if◌then◌else◌, length, get_or, set, take, drop, Option, refl, sym, ap, ◌∙◌, subst, arith}
+use Rattle.std.proofs.Common.{◌≡◌, ◌≢◌, inl, inr, ℕ, zero, suc, ◌+◌, ◌<◌, ◌==◌, ◌||◌, Bool, true, false, List, [], ◌∷◌, ◌++◌, if◌then◌else◌, length, get_or, set, take, Option, refl, sym, ap, ◌∙◌, subst, arith}
 use Rattle.std.proofs.lemmas.Bool.{cases_eq, eq-eqb, ne_eqb, or_parts}
-use Rattle.std.proofs.lemmas.List.{drop_more, take_more}
+use Rattle.std.proofs.lemmas.List.{take_more}
 use Rattle.assise_record.specs.declared.effect.Effect.{Effect}
 use Rattle.assise_record.specs.Touched.{touched_by}
 use Rattle.assise_inode_table.specs.Contents.{Content}
-use Rattle.assise_inode_table.specs.Effects.{contains, effect_on, touched, value_after}
+use Rattle.assise_inode_table.specs.Effects.{effect_on, value_after}
 use Rattle.assise_inode_table.specs.Changes.{found, is_among, Lacks, AreDistinctChanges, IsPlace}
 use Rattle.assise_inode_table.specs.declared.changes.Change.{Change}
 
@@ -118,30 +118,20 @@ made_distinct cs p i here new distinct place read =
     let at : here.inode ≡ i = ap (λ x. x.inode) read ∙ place.is here in
     subst (λ k. AreDistinctChanges (set cs p (record { inode = k; value = new }))) (sym at) (distinct_set cs p i here new place.within (place.is here) distinct)
 
--- one more, of an inode that was not among them
-pub found_new : (cs : List Change) (c : Change) (i : ℕ) (old : Option Content) → Lacks cs c.inode → found (cs ++ c ∷ []) i old ≡ (if c.inode == i then c.value else found cs i old)
-found_new cs c i old lacks =
-    found_append cs (c ∷ []) i old
-    ∙ elim (cases_eq c.inode i) [
-      | inl same ↦ ap (found cs i) (chosen_same c.inode i c.value old same) ∙ found_lacking cs i c.value (subst (Lacks cs) same lacks) ∙ sym (chosen_same c.inode i c.value (found cs i old) same)
-      | inr other ↦ ap (found cs i) (chosen_other c.inode i c.value old other) ∙ sym (chosen_other c.inode i c.value (found cs i old) other)
-    ]
-
 -- what a push that had room left
 pub pushed : {X : Type 0} (b : Bool) (xs ys zs : X) → b ≡ true → xs ≡ (if b then ys else zs) → xs ≡ ys
 pushed b xs ys zs e is = is ∙ ap (λ t. if t then ys else zs) e
 
 -- ---- which inodes they are of
 
+turned : (a b d : Bool) → (a || (b || d)) ≡ (b || (a || d))
+turned true true d = refl
+turned true false d = refl
+turned false b d = refl
+
 pub among_push : (cs : List Change) (c : Change) (i : ℕ) → is_among (cs ++ c ∷ []) i ≡ ((c.inode == i) || is_among cs i)
 among_push [] c i = refl
 among_push (x ∷ xs) c i = ap (λ b. (x.inode == i) || b) (among_push xs c i) ∙ turned (x.inode == i) (c.inode == i) (is_among xs i)
-  where
-    turned : (a b d : Bool) → (a || (b || d)) ≡ (b || (a || d))
-    turned true true d = refl
-    turned true false d = refl
-    turned false true d = refl
-    turned false false d = refl
 
 pub among_set : (cs : List Change) (p k i : ℕ) (none : Change) (v : Option Content) → p < length cs → (get_or cs p none).inode ≡ k → is_among (set cs p (record { inode = k; value = v })) i ≡ is_among cs i
 among_set [] p k i none v within is = refl
@@ -156,12 +146,6 @@ among_place (c ∷ cs) zero k i none within is = ap (λ j. (j == i) || is_among 
     twice true b = refl
     twice false b = refl
 among_place (c ∷ cs) (suc p) k i none within is = ap (λ b. (c.inode == i) || b) (among_place cs p k i none (omega arith) is) ∙ turned (c.inode == i) (k == i) (is_among cs i)
-  where
-    turned : (a b d : Bool) → (a || (b || d)) ≡ (b || (a || d))
-    turned true true d = refl
-    turned true false d = refl
-    turned false true d = refl
-    turned false false d = refl
 
 pub not_among : (cs : List Change) (i : ℕ) (old : Option Content) → is_among cs i ≡ false → found cs i old ≡ old
 not_among [] i old e = refl
@@ -173,16 +157,3 @@ among (c ∷ cs) i old other e = elim (c.inode == i) as (λ b. (b || is_among cs
   | true ↦ λ h. refl
   | false ↦ λ h. among cs i old other h
 ] e
-
--- one effect more
-pub among_next : (cs ds : List Change) (es : List Effect) (p i : ℕ) (e : Effect) → p < length es → e ≡ get_or es p e → is_among ds i ≡ ((touched_by e == i) || is_among cs i)
-    → (is_among ds i || contains (touched (drop (p + 1) es)) i) ≡ (is_among cs i || contains (touched (drop p es)) i)
-among_next cs ds es p i e within read is =
-    ap (λ b. b || contains (touched (drop (p + 1) es)) i) is ∙ turned (touched_by e == i) (is_among cs i) (contains (touched (drop (p + 1) es)) i)
-    ∙ ap (λ xs. is_among cs i || contains (touched xs) i) (sym (drop_more es p e within ∙ ap (λ x. x ∷ drop (p + 1) es) (sym read)))
-  where
-    turned : (a b d : Bool) → ((a || b) || d) ≡ (b || (a || d))
-    turned true true d = refl
-    turned true false d = refl
-    turned false true d = refl
-    turned false false d = refl

@@ -6,11 +6,12 @@ use Rattle.assise_seq_tree.specs.Tree.{Tree, same_name, at, put}
 use Rattle.assise_seq_tree.specs.Answer.{◌>>=◌}
 use Rattle.assise_seq_tree.proofs.Sets.{one_name}
 use Rattle.assise_seq_tree.proofs.Moves.{Path}
+use Rattle.assise_seq_tree.proofs.Checks.{then_ok}
 use Rattle.assise_inode_table.specs.Contents.{Values}
 use Rattle.assise_inode_table.specs.Reach.{children, reach, link_of, shape_of, shown_in}
 use Rattle.assise_inode_table.specs.Spelled.{ReachesOnce, SpellsFrom, AgreeBut}
 use Rattle.assise_inode_table.proofs.Prefixes.{two_names, past, past_prefix, past_itself, past-Some}
-use Rattle.assise_inode_table.proofs.PathReach.{then_ok, reach_step, reach-append, once_child, Away, away_keeps, same_reach}
+use Rattle.assise_inode_table.proofs.PathReach.{reach_step, reach-append, once_child, Away, away_keeps, same_reach}
 use Rattle.assise_inode_table.proofs.TreeShows.{shown-put}
 
 -- past d the new paths, elsewhere the old ones

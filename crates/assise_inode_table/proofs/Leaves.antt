@@ -8,11 +8,11 @@ use Rattle.assise_names.specs.declared.reply.TreeError.TheVariants.{NoEnt}
 use Rattle.assise_seq_tree.specs.Tree.{file, dir, no_entries, same_name, at}
 use Rattle.assise_seq_tree.specs.Answer.{◌>>=◌}
 use Rattle.assise_seq_tree.proofs.Moves.{Path}
+use Rattle.assise_seq_tree.proofs.Checks.{then_ok}
 use Rattle.assise_inode_table.specs.Contents.{regular, directory, Links, Values}
 use Rattle.assise_inode_table.specs.Reach.{Children, children, reach, link_of, folder, shape_of, shown_from, shown_in}
 use Rattle.assise_inode_table.specs.Spelled.{SpellsFrom}
 use Rattle.assise_inode_table.proofs.DirectoryNames.{names_are_keys}
-use Rattle.assise_inode_table.proofs.PathReach.{then_ok}
 
 abbrev pub LeadsNowhere : Children → ℕ → Type 0
 LeadsNowhere c i = (name : List ℕ) (j : ℕ) → c i name ≢ Ok j

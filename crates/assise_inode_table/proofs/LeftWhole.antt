@@ -5,6 +5,7 @@ use Rattle.assise_record.specs.declared.effect.Effect.{Effect}
 use Rattle.assise_record.specs.Coalesced.{overridden}
 use Rattle.assise_record.specs.Groups.{left_of}
 use Rattle.assise_inode_table.specs.Whole.{OnlyTakeAway, OnlyFirstAsks, MakesThenAsks, EndsWithLink, CanBeMadeWhole}
+use Rattle.assise_inode_table.proofs.EffectLists.{first_of_away}
 
 left_of-both : (es fs later : List Effect) → left_of (es ++ fs) later ≡ left_of es (fs ++ later) ++ left_of fs later
 left_of-both [] fs later = refl
@@ -26,15 +27,11 @@ take_left (e ∷ es) later h =
       | inr stays ↦ rw stays (h.0, take_left es later h.1)
     ]
 
-first_of_take : (es : List Effect) → OnlyTakeAway es → OnlyFirstAsks es
-first_of_take [] h = tt
-first_of_take (e ∷ es) h = h.1
-
 first_left : (es later : List Effect) → OnlyFirstAsks es → OnlyFirstAsks (left_of es later)
 first_left [] later h = tt
 first_left (e ∷ es) later h =
     elim (cases_Bool (overridden e (es ++ later))) [
-      | inl gone ↦ rw gone (first_of_take (left_of es later) (take_left es later h))
+      | inl gone ↦ rw gone (first_of_away (left_of es later) (take_left es later h))
       | inr stays ↦ rw stays (take_left es later h)
     ]
 
@@ -53,7 +50,7 @@ link_left es later h =
     (elim (cases_Bool (overridden h.last later)) [
       | inl gone ↦
           rw gone (inr (inl (subst OnlyFirstAsks (sym (append-nil (left_of h.before (h.last ∷ later))))
-          (first_of_take (left_of h.before (h.last ∷ later)) (take_left h.before (h.last ∷ later) h.take_away)))))
+          (first_of_away (left_of h.before (h.last ∷ later)) (take_left h.before (h.last ∷ later) h.take_away)))))
       | inr stays ↦
           rw stays (inr (inr (record {
             before = left_of h.before (h.last ∷ later);

@@ -1,43 +1,29 @@
 -- A link that is made before effects that only take away.
-use Rattle.std.proofs.Common.{◌≡◌, ℕ, ◌==◌, ◌&&◌, not, Bool, true, false, if◌then◌else◌, cond, List, [], ◌∷◌, ◌++◌, ◌+◌, ◌<◌, ◌≤◌, ◌-◌, arith, length, take, slice_index_or, Option, Some, None, refl, ap, sym, subst, ◌∙◌, inl, inr}
+use Rattle.std.proofs.Common.{◌≡◌, ℕ, ◌==◌, ◌&&◌, Bool, true, false, if◌then◌else◌, cond, List, [], ◌∷◌, ◌++◌, ◌+◌, ◌<◌, ◌≤◌, ◌-◌, arith, length, take, slice_index_or, Option, Some, None, refl, ap, sym, subst, ◌∙◌, inl, inr}
 use Rattle.std.specs.List.{filter, list_all}
-use Rattle.std.proofs.lemmas.List.{take_all, take_more}
+use Rattle.std.proofs.lemmas.List.{take_all, take_more, same_from_push}
 use Rattle.std.proofs.lemmas.List.Elements.{filter-append}
-use Rattle.std.proofs.lemmas.Bool.{eq-eqb, eqb-true}
+use Rattle.std.proofs.lemmas.Bool.{eq-eqb, eqb-true, and_parts, not-false, not-true}
 use Rattle.std.specs.Cmp.Lexicographic.{nat_list_cmp_total}
 use Rattle.std.specs.FinMap as map
 use Rattle.assise_record.specs.declared.effect.Effect.{Effect}
 use Rattle.assise_record.specs.declared.effect.Effect.TheVariants.{NewFile, NewDir, Write, SetLen, Link, Unlink, Free}
 use Rattle.assise_seq_tree.specs.Tree.{same_name}
-use Rattle.assise_seq_tree.proofs.Sets.{same_itself, one_name}
+use Rattle.assise_seq_tree.proofs.Sets.{one_name, swapped, shadowed, not_both}
 use Rattle.assise_inode_table.specs.Contents.{Content, regular, directory, Links, InodeMap}
 use Rattle.assise_inode_table.specs.Effects.{TakesAway, all_applied, applied, effect_on, value_after}
 use Rattle.assise_inode_table.specs.Whole.{CanBeChangedWhole, OnlyFirstAsks, OnlyTakeAway, is_link, leaves_entry, takes_away}
 use Rattle.assise_inode_table.proofs.EffectLists.{append_applied, get-all_applied, same_inodes}
+use Rattle.assise_inode_table.proofs.EffectOverrides.{same_links}
 
 -- ---- the entries of one directory
-
-same_links : (m n : Links) → ((x : List ℕ) → map.get m x ≡ map.get n x) → m ≡ n
-same_links m n same = map.same_map nat_list_cmp_total (map.slice_cmp-IsAntisymmetric map.nat_cmp-IsAntisymmetric) m n same
-
-two_entries : (a b : Bool) (i : ℕ) (o : Option ℕ) → (a ≡ true → b ≡ true → ⊥) → cond a (Some i) (cond b None o) ≡ cond b None (cond a (Some i) o)
-two_entries true true i o disjoint = absurd (disjoint refl refl)
-two_entries true false i o disjoint = refl
-two_entries false b i o disjoint = refl
-
-one_entry : (b : Bool) (i : ℕ) (o : Option ℕ) → cond b (Some i) (cond b None o) ≡ cond b (Some i) o
-one_entry true i o = refl
-one_entry false i o = refl
-
-not_both_names : (x name other : List ℕ) → same_name other name ≡ false → same_name x name ≡ true → same_name x other ≡ true → ⊥
-not_both_names x name other differs a b = let same : same_name other name ≡ true = ap (λ n. same_name n name) (sym (one_name x other b) ∙ one_name x name a) ∙ same_itself name in cc
 
 insert_other : (links : Links) (name other : List ℕ) (i : ℕ) → same_name other name ≡ false → map.insert (map.remove links other) name i ≡ map.remove (map.insert links name i) other
 insert_other links name other i differs =
     same_links _ _ (λ x.
     map.get-insert nat_list_cmp_total (map.remove links other) name i x
     ∙ ap (cond (same_name x name) (Some i)) (map.get-remove nat_list_cmp_total links other x)
-    ∙ two_entries (same_name x name) (same_name x other) i (map.get links x) (not_both_names x name other differs)
+    ∙ swapped (same_name x name) (same_name x other) (Some i) None (map.get links x) (not_both x other name differs)
     ∙ sym (map.get-remove nat_list_cmp_total (map.insert links name i) other x ∙ ap (cond (same_name x other) None) (map.get-insert nat_list_cmp_total links name i x)))
 
 insert_again : (links : Links) (name : List ℕ) (i : ℕ) → map.insert (map.remove links name) name i ≡ map.insert links name i
@@ -45,7 +31,7 @@ insert_again links name i =
     same_links _ _ (λ x.
     map.get-insert nat_list_cmp_total (map.remove links name) name i x
     ∙ ap (cond (same_name x name) (Some i)) (map.get-remove nat_list_cmp_total links name x)
-    ∙ one_entry (same_name x name) i (map.get links x)
+    ∙ sym (shadowed (same_name x name) (Some i) None (map.get links x))
     ∙ sym (map.get-insert nat_list_cmp_total links name i x))
 
 -- ---- one inode
@@ -77,43 +63,34 @@ last_alone : (b : Bool) (o : Option Content) (e f : Effect) → effect_on (effec
 last_alone true o e f same = same
 last_alone false o e f same = refl
 
-another_name : (here there : Bool) → not (here && there) ≡ true → here ≡ true → there ≡ false
-another_name true true leaves is = cc
-another_name true false leaves is = refl
-another_name false there leaves is = cc
-
-this_directory : (here there : Bool) → not (here && there) ≡ false → here ≡ true
-this_directory true there gone = refl
-this_directory false there gone = cc
-
-this_name : (here there : Bool) → not (here && there) ≡ false → there ≡ true
-this_name true true gone = refl
-this_name true false gone = cc
-this_name false there gone = cc
+-- only an entry and an inode are taken away
+away_cases : (P : Effect → Type 0) → ((c : ℕ) (other : List ℕ) → P (Unlink c other)) → ((c : ℕ) → P (Free c)) → (e : Effect) → TakesAway e → P e
+away_cases P entry inode (Unlink c other) t = entry c other
+away_cases P entry inode (Free c) t = inode c
+away_cases P entry inode (NewFile c) t = absurd t
+away_cases P entry inode (NewDir c) t = absurd t
+away_cases P entry inode (Write c patch) t = absurd t
+away_cases P entry inode (SetLen c size) t = absurd t
+away_cases P entry inode (Link c other j) t = absurd t
 
 module _ (d : ℕ) (name : List ℕ) (i : ℕ) where
   link_before : (q : ℕ) (o : Option Content) (e : Effect) → TakesAway e → leaves_entry d name e ≡ true → value_after q o (e ∷ Link d name i ∷ []) ≡ value_after q o (Link d name i ∷ e ∷ [])
-  link_before q o (Unlink c other) t leaves =
-      both_orders (c == q) (d == q) o (Unlink c other) (Link d name i) (λ at_c at_d.
-      other_entry_after o c d name other i (another_name (c == d) (same_name other name) leaves (eq-eqb c d (eqb-true c q at_c ∙ sym (eqb-true d q at_d)))))
-  link_before q o (Free c) t leaves = both_orders (c == q) (d == q) o (Free c) (Link d name i) (λ at_c at_d. refl)
-  link_before q o (NewFile c) t leaves = absurd t
-  link_before q o (NewDir c) t leaves = absurd t
-  link_before q o (Write c patch) t leaves = absurd t
-  link_before q o (SetLen c size) t leaves = absurd t
-  link_before q o (Link c other j) t leaves = absurd t
+  link_before q o =
+      away_cases (λ e. leaves_entry d name e ≡ true → value_after q o (e ∷ Link d name i ∷ []) ≡ value_after q o (Link d name i ∷ e ∷ []))
+      (λ c other leaves. both_orders (c == q) (d == q) o (Unlink c other) (Link d name i) (λ at_c at_d.
+      other_entry_after o c d name other i
+      (ap (λ b. b && same_name other name) (sym (eq-eqb c d (eqb-true c q at_c ∙ sym (eqb-true d q at_d))))
+      ∙ not-true ((c == d) && same_name other name) leaves)))
+      (λ c leaves. both_orders (c == q) (d == q) o (Free c) (Link d name i) (λ at_c at_d. refl))
 
   link_instead : (q : ℕ) (o : Option Content) (e : Effect) → TakesAway e → leaves_entry d name e ≡ false → value_after q o (e ∷ Link d name i ∷ []) ≡ value_after q o (Link d name i ∷ [])
-  link_instead q o (Unlink c other) t gone =
-      let here : c ≡ d = eqb-true c d (this_directory (c == d) (same_name other name) gone) in
-      ap (λ k. value_after q o (Unlink k other ∷ Link d name i ∷ [])) here
-      ∙ last_alone (d == q) o (Unlink d other) (Link d name i) (same_entry_after o d d name other i (this_name (c == d) (same_name other name) gone))
-  link_instead q o (Free c) t gone = cc
-  link_instead q o (NewFile c) t gone = absurd t
-  link_instead q o (NewDir c) t gone = absurd t
-  link_instead q o (Write c patch) t gone = absurd t
-  link_instead q o (SetLen c size) t gone = absurd t
-  link_instead q o (Link c other j) t gone = absurd t
+  link_instead q o =
+      away_cases (λ e. leaves_entry d name e ≡ false → value_after q o (e ∷ Link d name i ∷ []) ≡ value_after q o (Link d name i ∷ []))
+      (λ c other gone.
+      let both = and_parts (c == d) (same_name other name) (not-false ((c == d) && same_name other name) gone) in
+      ap (λ k. value_after q o (Unlink k other ∷ Link d name i ∷ [])) (eqb-true c d both.0)
+      ∙ last_alone (d == q) o (Unlink d other) (Link d name i) (same_entry_after o d d name other i both.1))
+      (λ c gone. cc)
 
   -- ---- all inodes
 
@@ -155,17 +132,6 @@ one_passed_over m p es k e h is passed = one_more m p es k e h is ∙ ap (λ b. 
 
 -- ---- which effects end with a link
 
-in_prefix : {A : Type 0} (xs ys : List A) (x y : A) → xs ++ x ∷ [] ≡ ys ++ y ∷ [] → (xs ≡ ys) × (x ≡ y)
-in_prefix [] [] x y same = (refl, cc)
-in_prefix [] (b ∷ []) x y same = cc
-in_prefix [] (b ∷ c ∷ ys) x y same = cc
-in_prefix (a ∷ []) [] x y same = cc
-in_prefix (a ∷ c ∷ xs) [] x y same = cc
-in_prefix (a ∷ xs) (b ∷ ys) x y same =
-    let first : a ≡ b = cc in
-    let both = in_prefix xs ys x y cc in
-    (ap (λ c. c ∷ xs) first ∙ ap (λ cs. b ∷ cs) both.0, both.1)
-
 away_type : (e : Effect) → takes_away e ≡ true → TakesAway e
 away_type (Unlink d name) away = tt
 away_type (Free i) away = tt
@@ -176,25 +142,11 @@ away_type (SetLen i size) away = cc
 away_type (Link d name i) away = cc
 
 away_test : (e : Effect) → TakesAway e → takes_away e ≡ true
-away_test (Unlink d name) t = refl
-away_test (Free i) t = refl
-away_test (NewFile i) t = absurd t
-away_test (NewDir i) t = absurd t
-away_test (Write i patch) t = absurd t
-away_test (SetLen i size) t = absurd t
-away_test (Link d name i) t = absurd t
-
-both_left : (a b : Bool) → (a && b) ≡ true → a ≡ true
-both_left true b h = refl
-both_left false b h = cc
-
-both_right : (a b : Bool) → (a && b) ≡ true → b ≡ true
-both_right true b h = h
-both_right false b h = cc
+away_test = away_cases (λ e. takes_away e ≡ true) (λ c other. refl) (λ c. refl)
 
 pub all_take_away : (es : List Effect) → list_all takes_away es ≡ true → OnlyTakeAway es
 all_take_away [] h = tt
-all_take_away (e ∷ es) h = (away_type e (both_left (takes_away e) (list_all takes_away es) h), all_take_away es (both_right (takes_away e) (list_all takes_away es) h))
+all_take_away (e ∷ es) h = let both = and_parts (takes_away e) (list_all takes_away es) h in (away_type e both.0, all_take_away es both.1)
 
 all_pass : (es : List Effect) → OnlyTakeAway es → list_all takes_away es ≡ true
 all_pass [] t = refl
@@ -204,7 +156,7 @@ all_pass (e ∷ es) t = rw (away_test e t.0) (all_pass es t.1)
 pub made_in_order : (es before : List Effect) (last : Effect) → es ≡ before ++ last ∷ [] → CanBeChangedWhole es → (is_link last ≡ true → list_all takes_away before ≡ true → ⊥) → OnlyFirstAsks es
 made_in_order es before last are (inl asks) other = asks
 made_in_order es before last are (inr w) other =
-    let same = in_prefix w.before before w.last last (sym w.are ∙ are) in
+    let same = same_from_push w.before before w.last last (sym w.are ∙ are) in
     absurd (other (ap is_link (sym same.1) ∙ w.links) (ap (list_all takes_away) (sym same.0) ∙ all_pass w.before w.take_away))
 
 -- the effects before the last one, and the last one
@@ -214,13 +166,7 @@ last_behind es last some is =
 
 -- a link doesn't take away
 link_not_away : (e : Effect) → is_link e ≡ true → TakesAway e → ⊥
-link_not_away (Link d name i) links t = t
-link_not_away (NewFile i) links t = t
-link_not_away (NewDir i) links t = t
-link_not_away (Write i patch) links t = t
-link_not_away (SetLen i size) links t = t
-link_not_away (Unlink d name) links t = cc
-link_not_away (Free i) links t = cc
+link_not_away e links t = away_cases (λ e. is_link e ≡ true → ⊥) (λ c other h. cc) (λ c h. cc) e t links
 
 last_away : (before : List Effect) (last : Effect) → OnlyTakeAway (before ++ last ∷ []) → TakesAway last
 last_away [] last t = t.0

@@ -1,5 +1,6 @@
 -- The entries that slots have, and the map that they make, where one slot changes.
-use Rattle.std.proofs.Common.{◌≡◌, ℕ, ◌+◌, suc, List, [], ◌∷◌, ◌++◌, length, Option, Some, None, cond, Bool, true, false, refl, sym, ap, subst, ◌∙◌, arith, Ordering, Less, Equal, Greater, is_eq, length-append}
+use Rattle.std.proofs.Common.{◌≡◌, ℕ, ◌+◌, suc, List, [], ◌∷◌, ◌++◌, length, Option, Some, None, cond, Bool, true, false, refl, sym, ap, subst, ◌∙◌, arith, Ordering, Less, is_eq, length-append}
+use Rattle.assise_seq_tree.proofs.Sets.{tied}
 use Rattle.std.specs.List.{AllByRecursion}
 use Rattle.std.specs.List.Sorted.{IsStrictlySortedBy}
 use Rattle.std.specs.Map.{keys_of, lookup}
@@ -32,15 +33,15 @@ live_sorted R ((name, None) ∷ slots) s = live_sorted R slots s.1
 live_sorted R ((name, Some inode) ∷ slots) s = (live_all (λ y. R name y ≡ Less) slots s.0, live_sorted R slots s.1)
 
 -- ---- look-ups
-lookup-append : {K X : Type 0} (t : K → Bool) (es fs : List (K × X)) → lookup t (es ++ fs) ≡ option_or (lookup t es) (lookup t fs)
-lookup-append t [] fs = refl
-lookup-append t (e ∷ es) fs = go (t e.0) (lookup-append t es fs)
-  where
-    go : (b : Bool) → lookup t (es ++ fs) ≡ option_or (lookup t es) (lookup t fs) → cond b (Some e.1) (lookup t (es ++ fs)) ≡ option_or (cond b (Some e.1) (lookup t es)) (lookup t fs)
-    go true rest = refl
-    go false rest = rest
+pub or_cond : {X : Type 0} (b : Bool) (x : X) (o c : Option X) → option_or (cond b (Some x) o) c ≡ cond b (Some x) (option_or o c)
+or_cond true x o c = refl
+or_cond false x o c = refl
 
-or_none : {X : Type 0} (x : Option X) → option_or x None ≡ x
+pub lookup-append : {K X : Type 0} (t : K → Bool) (es fs : List (K × X)) → lookup t (es ++ fs) ≡ option_or (lookup t es) (lookup t fs)
+lookup-append t [] fs = refl
+lookup-append t (e ∷ es) fs = ap (cond (t e.0) (Some e.1)) (lookup-append t es fs) ∙ sym (or_cond (t e.0) e.1 (lookup t es) (lookup t fs))
+
+pub or_none : {X : Type 0} (x : Option X) → option_or x None ≡ x
 or_none None = refl
 or_none (Some x) = refl
 
@@ -53,11 +54,6 @@ pub record Parts (R : List ℕ → List ℕ → Ordering) (name : List ℕ) (xs 
   pub greater : AllByRecursion (λ key. R name key ≡ Less) (keys_of zs)
 
 module _ {R : List ℕ → List ℕ → Ordering} (o : IsTotalOrder R) (same : IsAntisymmetric R) where
-  tied : (r : Ordering) → is_eq r ≡ true → r ≡ Equal
-  tied Less e = cc
-  tied Equal e = refl
-  tied Greater e = cc
-
   nowhere : (k : List ℕ) (es : List (List ℕ × ℕ)) → AllByRecursion (λ y. is_at (R k) y ≡ false) (keys_of es) → lookup (is_at (R k)) es ≡ None
   nowhere k [] h = refl
   nowhere k (e ∷ es) h = ap (λ b. cond b (Some e.1) (lookup (is_at (R k)) es)) h.0 ∙ nowhere k es h.1

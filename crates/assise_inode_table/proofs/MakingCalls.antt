@@ -1,5 +1,5 @@
 -- The calls that make an inode agree with the tree: create and mkdir.
-use Rattle.std.proofs.Common.{◌≡◌, ◌≢◌, ℕ, ◌<◌, arith, true, false, if◌then◌else◌, nat_le, ◌==◌, List, [], ◌∷◌, ◌++◌, length, Option, Some, None, is_some, Result, Ok, Err, refl, ap, sym, subst, ◌∙◌, inl, inr}
+use Rattle.std.proofs.Common.{◌≡◌, ◌≢◌, ℕ, ◌<◌, arith, true, if◌then◌else◌, nat_le, ◌==◌, List, [], ◌∷◌, ◌++◌, length, Option, Some, None, is_some, Result, Ok, Err, refl, ap, sym, subst, ◌∙◌, inl, inr}
 use Rattle.std.specs.List.{list_any}
 use Rattle.std.proofs.lemmas.Bool.{cases_Bool, eq-eqb, ne_eqb, eqb-false}
 use Rattle.std.specs.FinMap as map
@@ -24,12 +24,9 @@ use Rattle.assise_inode_table.proofs.NewInodeLinked.{created as made}
 use Rattle.assise_inode_table.proofs.Leaves.{LeadsNowhere, file_nowhere, file_spells, empty_nowhere, empty_spells}
 use Rattle.assise_inode_table.proofs.WalkMeets.{settled, walk_fails, walk_to_file, walk_to_directory, Meets, nothing, a_file, a_directory, FindsDirectory, meets, same_count}
 use Rattle.assise_inode_table.proofs.DirectoryNames.{is_some-find}
+use Rattle.assise_inode_table.proofs.MapChanges.{no_content}
 
 -- ---- the checks
-
-none_from : {X : Type 0} (o : Option X) → is_some o ≡ false → o ≡ None
-none_from None e = refl
-none_from (Some x) e = cc
 
 room_same : (name : List ℕ) (links : Links) (es : Entries) → names_of es ≡ map.keys links → room_among name links ≡ room_for name es
 room_same name links es names =
@@ -41,7 +38,7 @@ absent_from : (name : List ℕ) (links : Links) → room_among name links ≡ Ok
 absent_from name links h =
     elim (cases_Bool (is_some (map.get links name))) [
       | inl there ↦ (let no = rw there at h in cc)
-      | inr absent ↦ none_from (map.get links name) absent
+      | inr absent ↦ no_content (map.get links name) absent
     ]
 
 -- ---- what is made

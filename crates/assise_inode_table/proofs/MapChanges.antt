@@ -153,7 +153,7 @@ without_last m n all rest i is removed =
     go false true o = refl
     go false false o = refl
 
-pub no_content : (o : Option Content) → is_some o ≡ false → o ≡ None
+pub no_content : {X : Type 0} (o : Option X) → is_some o ≡ false → o ≡ None
 no_content None e = refl
 no_content (Some x) e = cc
 

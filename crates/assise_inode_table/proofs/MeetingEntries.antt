@@ -7,13 +7,13 @@ use Rattle.assise_names.specs.declared.reply.TreeError.{TreeError}
 use Rattle.assise_names.specs.declared.reply.TreeError.TheVariants.{NoEnt}
 use Rattle.assise_seq_tree.specs.Answer.{◌>>=◌}
 use Rattle.assise_seq_tree.proofs.Moves.{Path}
+use Rattle.assise_seq_tree.proofs.Checks.{then_ok}
 use Rattle.assise_inode_table.specs.Contents.{Content, directory, Links, Values}
 use Rattle.assise_inode_table.specs.Interaction.{Interaction}
 use Rattle.assise_inode_table.specs.Calls.{then_or_error, walk_from, walk_to_entry}
 use Rattle.assise_inode_table.specs.Reach.{Children, children, reach, link_of}
 use Rattle.assise_inode_table.proofs.ReachedSpelling.{LinkTo, link_to}
 use Rattle.assise_inode_table.proofs.WalkMeets.{settled, found, walk_fails, walk_finds, found_there}
-use Rattle.assise_inode_table.proofs.PathReach.{then_ok}
 
 -- ---- the last step of a path
 

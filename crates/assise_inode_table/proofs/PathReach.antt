@@ -4,15 +4,12 @@ use Rattle.assise_names.specs.declared.reply.TreeError.{TreeError}
 use Rattle.assise_seq_tree.specs.Tree.{Tree}
 use Rattle.assise_seq_tree.specs.Answer.{◌>>=◌}
 use Rattle.assise_seq_tree.proofs.Moves.{Path}
+use Rattle.assise_seq_tree.proofs.Checks.{then_ok}
 use Rattle.assise_inode_table.specs.Contents.{Values}
 use Rattle.assise_inode_table.specs.Reach.{Children, children, reach, link_of, shape_of, shown_from}
 use Rattle.assise_inode_table.specs.Spelled.{ReachesOnce, SpellsFrom, AgreeBut}
 
 -- ---- one step, and then the rest
-pub then_ok : {A B : Type 0} (o : Result A TreeError) (f : A → Result B TreeError) (y : B) → (o >>= f) ≡ Ok y → (x : A) × (o ≡ Ok x) × (f x ≡ Ok y)
-then_ok (Ok x) f y e = (x, refl, e)
-then_ok (Err d) f y e = cc
-
 pub reach_step : (c : Children) (r k : ℕ) (name : List ℕ) (q : Path) → c r name ≡ Ok k → reach c r (name ∷ q) ≡ reach c k q
 reach_step c r k name q e = ap (λ o. o >>= λ j. reach c j q) e
 

@@ -3,13 +3,13 @@ use Rattle.std.proofs.Common.{◌≡◌, ℕ, zero, suc, ◌+◌, ◌<◌, ◌�
 use Rattle.std.specs.List.Sorted.{IsStrictlySortedBy}
 use Rattle.std.specs.Map.{keys_of}
 use Rattle.std.specs.Cmp.Lexicographic.{slice_cmp}
-use Rattle.std.proofs.lemmas.List.{length-append, length-set, length-drop, take_all}
-use Rattle.std.proofs.lemmas.List.Edits.{length-insert}
-use Rattle.std.proofs.lemmas.List.Elements.{All-append, All-take, All-drop, All-set}
+use Rattle.std.proofs.lemmas.List.{length-append, length-drop, take_all}
+use Rattle.std.proofs.lemmas.List.Elements.{All-set}
+use Rattle.std.proofs.lemmas.Slice.Zip.{length-zip, get_or-zip}
 use Rattle.assise_inode_table.specs.Pieces.{Slot, live, slots_in, piece_at, Ascend, AreFilled}
 use Rattle.assise_inode_table.proofs.KeyOrder.{sorted_without}
 use Rattle.assise_inode_table.proofs.LiveSlots.{live-append, keys-append}
-use Rattle.assise_inode_table.proofs.PieceSlots.{three_parts, slots-append, insert_filled}
+use Rattle.assise_inode_table.proofs.PieceSlots.{three_parts, slots-append}
 
 -- ---- a piece in two
 split_slots_at : (ps : List (List Slot)) (w : ℕ) (lower upper : List Slot) → w < length ps → piece_at ps w ≡ lower ++ upper → slots_in (set (insert ps (suc w) upper) w lower) ≡ slots_in ps
@@ -19,12 +19,6 @@ split_slots_at (p ∷ ps) (suc w) lower upper h e = ap (λ xs. p ++ xs) (split_s
 
 pub split_slots : (ps : List (List Slot)) (w n : ℕ) (lower upper : List Slot) → w < length ps → n ≡ w + 1 → piece_at ps w ≡ lower ++ upper → slots_in (set (insert ps n upper) w lower) ≡ slots_in ps
 split_slots ps w n lower upper h e parts = subst (λ m. slots_in (set (insert ps m upper) w lower) ≡ slots_in ps) {x = suc w} (omega arith) (split_slots_at ps w lower upper h parts)
-
-pub split_filled : (ps : List (List Slot)) (w n : ℕ) (lower upper : List Slot) → 0 < length lower → 0 < length upper → AreFilled ps → AreFilled (set (insert ps n upper) w lower)
-split_filled ps w n lower upper a b filled = All-set (λ q. 0 < length q) (insert ps n upper) w lower a (insert_filled ps n upper b filled)
-
-pub split_length : (ps : List (List Slot)) (w n : ℕ) (lower upper : List Slot) → n ≤ length ps → length (set (insert ps n upper) w lower) ≡ length ps + 1
-split_length ps w n lower upper h = length-set (insert ps n upper) w lower ∙ length-insert ps n upper h
 
 -- ---- a lower half that joins the piece in front
 join_slots_at : (ps : List (List Slot)) (v : ℕ) (lower upper : List Slot) → suc v < length ps → piece_at ps (suc v) ≡ lower ++ upper
@@ -68,15 +62,10 @@ gone_ascend ps w h s =
     subst (IsStrictlySortedBy (slice_cmp nat_cmp)) (sym (ap keys_of (removed_slots ps w) ∙ keys-append front back))
     (sorted_without (slice_cmp nat_cmp) (keys_of front) (keys_of p) (keys_of back) (subst (IsStrictlySortedBy (slice_cmp nat_cmp)) keys s))
 
-pub gone_filled : (ps : List (List Slot)) (w : ℕ) → AreFilled ps → AreFilled (remove ps w)
-gone_filled ps w filled = All-append (λ q. 0 < length q) (take w ps) (drop (suc w) ps) (All-take (λ q. 0 < length q) w ps filled) (All-drop (λ q. 0 < length q) (suc w) ps filled)
-
 -- ---- names and links side by side
 module _ {K X : Type 0} where
   pub length-side : (ns : List K) (ls : List X) → length ns ≤ length ls → length (zip ns ls) ≡ length ns
-  length-side [] ls h = refl
-  length-side (n ∷ ns) [] h = absurd (omega arith)
-  length-side (n ∷ ns) (l ∷ ls) h = ap suc (length-side ns ls (omega arith))
+  length-side ns ls h = length-zip ns ls ∙ omega arith
 
   pub keys-side : (ns : List K) (ls : List X) → length ns ≤ length ls → keys_of (zip ns ls) ≡ ns
   keys-side [] ls h = refl
@@ -84,16 +73,10 @@ module _ {K X : Type 0} where
   keys-side (n ∷ ns) (l ∷ ls) h = ap (λ ks. n ∷ ks) (keys-side ns ls (omega arith))
 
   pub name-side : (ns : List K) (ls : List X) (i : ℕ) (d : K) (e : X) → i < length ns → length ns ≤ length ls → (get_or (zip ns ls) i (d, e)).0 ≡ get_or ns i d
-  name-side [] ls i d e h k = absurd (omega arith)
-  name-side (n ∷ ns) [] i d e h k = absurd (omega arith)
-  name-side (n ∷ ns) (l ∷ ls) zero d e h k = refl
-  name-side (n ∷ ns) (l ∷ ls) (suc i) d e h k = name-side ns ls i d e (omega arith) (omega arith)
+  name-side ns ls i d e h k = ap (λ p. p.0) (get_or-zip ns ls i (d, e) h (omega arith))
 
   pub link-side : (ns : List K) (ls : List X) (i : ℕ) (d : K) (e : X) → i < length (zip ns ls) → (get_or (zip ns ls) i (d, e)).1 ≡ get_or ls i e
-  link-side [] ls i d e h = absurd (omega arith)
-  link-side (n ∷ ns) [] i d e h = absurd (omega arith)
-  link-side (n ∷ ns) (l ∷ ls) zero d e h = refl
-  link-side (n ∷ ns) (l ∷ ls) (suc i) d e h = link-side ns ls i d e (omega arith)
+  link-side ns ls i d e h = ap (λ p. p.1) (get_or-zip ns ls i (d, e) (omega (arith, length-zip ns ls)) (omega (arith, length-zip ns ls)))
 
   pub set-side : (ns : List K) (ls : List X) (i : ℕ) (d : K) (e x : X) → zip ns (set ls i x) ≡ set (zip ns ls) i ((get_or (zip ns ls) i (d, e)).0, x)
   set-side [] ls i d e x = refl

@@ -1,19 +1,19 @@
 -- The slots of pieces about a place, and what an edit of a piece makes of them.
-use Rattle.std.proofs.Common.{◌≡◌, ℕ, zero, suc, ◌+◌, ◌^◌, ◌<◌, ◌≤◌, List, [], ◌∷◌, ◌++◌, length, Option, Some, None, take, drop, set, insert, get_or, refl, sym, ap, subst, ◌∙◌, arith, true, false, is_gt, append_assoc, append-nil, nat_cmp, Less, take-append-drop, add-zero, true≢false, is_none, is_eq, cond, Bool, not, is_some, Ordering, Equal, Greater, inl, inr}
+use Rattle.std.proofs.Common.{◌≡◌, ℕ, zero, suc, ◌+◌, ◌^◌, ◌<◌, ◌≤◌, List, [], ◌∷◌, ◌++◌, length, Option, Some, None, take, drop, set, insert, get_or, refl, sym, ap, subst, ◌∙◌, arith, true, false, is_gt, append_assoc, append-nil, nat_cmp, Less, take-append-drop, add-zero, true≢false, is_none, cond, Bool, not, is_some, inl, inr}
 use Rattle.std.specs.List.{AllByRecursion}
 use Rattle.std.specs.List.Sorted.{IsStrictlySortedBy}
 use Rattle.std.specs.Map.{keys_of}
 use Rattle.std.specs.Int.{from_bool}
 use Rattle.std.proofs.lemmas.Bool.{cases_lt}
-use Rattle.std.specs.BTreeMap.{is_at}
 use Rattle.assise_inode_table.specs.Contents.{Links}
 use Rattle.std.specs.Cmp.Lexicographic.{slice_cmp, nat_list_cmp_total}
 use Rattle.std.specs.FinMap as map
 use Rattle.std.proofs.lemmas.Map.Lookups.{exact_bytes}
 use Rattle.std.proofs.lemmas.List.{set-get_or, set_split, take_all, drop_all, get_or-drop, length-set, length-drop, take_more, get_or_read}
 use Rattle.std.proofs.lemmas.List.Concat.{flat_map-append}
-use Rattle.std.proofs.lemmas.List.Elements.{All-append, All-cons, All-take, All-drop, All-set}
+use Rattle.std.proofs.lemmas.List.Elements.{All-drop, All-set}
 use Rattle.assise_inode_table.specs.Pieces.{Slot, live, slots_in, links_in, piece_at, slot_name, slot_link, slots_before, slots_behind, Ascend, AreFilled, IsDirectory, IsGapFor, IsPieceFor, StandsAt}
+use Rattle.assise_inode_table.proofs.MapView.{remove-absent}
 use Rattle.assise_inode_table.proofs.KeyOrder.{all_both, all_weaker, below_next, above_head, sorted_left, sorted_right, below_through, turned_back, is_greater}
 use Rattle.assise_inode_table.proofs.LiveSlots.{Parts, live-append, keys-append, parts_of_slot, slot_got, gap_got, slot_linked, gap_linked, slot_unlinked, slot_sorted, gap_sorted, count_linked, count_gone, count_relinked, live_keys, live_count, live_sorted}
 
@@ -137,10 +137,6 @@ got_none name ps w at s filled is gap =
     ∙ gap_got nat_list_cmp_total exact_bytes name (slots_before ps w at) (slots_behind ps w at) (gap_parts name ps w at s filled is gap)
 
 -- ---- a link under a name that stands there, and a removal
-record Relinked (name : List ℕ) (ps qs : List (List Slot)) (w at : ℕ) (link : Option ℕ) : Type 0 where
-  pub stands : StandsAt name ps w at
-  pub is : qs ≡ set ps w (set (piece_at ps w) at (slot_name (piece_at ps w) at, link))
-
 new_slots : (name : List ℕ) (ps qs : List (List Slot)) (w at : ℕ) (link : Option ℕ) → StandsAt name ps w at → qs ≡ set ps w (set (piece_at ps w) at (slot_name (piece_at ps w) at, link))
     → slots_in qs ≡ slots_before ps w at ++ (name, link) ∷ slots_behind ps w (suc at)
 new_slots name ps qs w at link is new =
@@ -221,10 +217,6 @@ begun_behind ps w n at s h e full =
     ∙ ap (λ m. slots_before ps w at ++ s ∷ slots_in (drop m ps)) {x = w + 1} {y = suc w} (omega arith)
     ∙ ap (λ q. slots_before ps w at ++ s ∷ (q ++ slots_in (drop (suc w) ps))) (sym (drop_all at p full)))
 
-pub insert_filled : (ps : List (List Slot)) (n : ℕ) (p : List Slot) → 0 < length p → AreFilled ps → AreFilled (insert ps n p)
-insert_filled ps n p h filled =
-    All-append (λ q. 0 < length q) (take n ps) (p ∷ drop n ps) (All-take (λ q. 0 < length q) n ps filled) (All-cons (λ q. 0 < length q) p (drop n ps) h (All-drop (λ q. 0 < length q) n ps filled))
-
 pub no_pieces : IsDirectory [] 0
 unfolding IsStrictlySortedBy
 no_pieces = record { ascend = tt; filled = λ k d h. absurd (omega arith); counted = refl }
@@ -232,6 +224,14 @@ no_pieces = record { ascend = tt; filled = λ k d h. absurd (omega arith); count
 -- what an index reads
 pub read_piece : (ps : List (List Slot)) (w : ℕ) (p : List Slot) → w < length ps → p ≡ get_or ps w p → p ≡ piece_at ps w
 read_piece ps w p h e = get_or_read ps w p h e []
+
+-- the link that is read at a name, and the pieces with another link there
+module _ (name : List ℕ) (ps : List (List Slot)) (w at : ℕ) (is : StandsAt name ps w at) (p : List Slot) (e : p ≡ get_or ps w p) where
+  pub link_read : (link : Option ℕ) → link ≡ slot_link p at → link ≡ slot_link (piece_at ps w) at
+  link_read link h = h ∙ ap (λ q. slot_link q at) (read_piece ps w p is.within e)
+
+  pub link_set : (q : List Slot) (link : Option ℕ) → q ≡ set p at (slot_name p at, link) → set ps w q ≡ set ps w (set (piece_at ps w) at (slot_name (piece_at ps w) at, link))
+  link_set q link h = ap (set ps w) (h ∙ ap (λ r. set r at (slot_name r at, link)) (read_piece ps w p is.within e))
 
 pub listed_pieces : (ps : List (List Slot)) (i : ℕ) (p : List Slot) → i < length ps → p ≡ get_or ps i p
     → keys_of (live (slots_in (take (i + 1) ps))) ≡ keys_of (live (slots_in (take i ps))) ++ keys_of (live p)
@@ -265,16 +265,7 @@ piece_ascend ps w h s =
 
 -- a name without an entry
 pub remove_none : (m : Links) (name : List ℕ) → map.get m name ≡ None → m ≡ map.remove m name
-remove_none m name none = map.same_map nat_list_cmp_total exact_bytes _ _ (λ q. sym (map.get-remove nat_list_cmp_total m name q ∙ go q (is_at (slice_cmp nat_cmp q) name) refl))
-  where
-    tied : (r : Ordering) → is_eq r ≡ true → r ≡ Equal
-    tied Less e = cc
-    tied Equal e = refl
-    tied Greater e = cc
-
-    go : (q : List ℕ) (b : Bool) → is_at (slice_cmp nat_cmp q) name ≡ b → cond b None (map.get m q) ≡ map.get m q
-    go q true e = sym none ∙ ap (map.get m) (sym (exact_bytes q name (tied (slice_cmp nat_cmp q name) e)))
-    go q false e = refl
+remove_none m name none = remove-absent nat_list_cmp_total exact_bytes m name none
 
 pub is_gone : (o : Option ℕ) → is_none o ≡ true → o ≡ None
 is_gone None e = refl

@@ -10,11 +10,12 @@ use Rattle.assise_seq_tree.specs.Tree.{Tree, file, dir, Entries, same_name, find
 use Rattle.assise_seq_tree.specs.Answer.{◌>>=◌}
 use Rattle.assise_seq_tree.proofs.TreePut.{at_step}
 use Rattle.assise_seq_tree.proofs.Moves.{Path}
+use Rattle.assise_seq_tree.proofs.Checks.{then_ok}
 use Rattle.assise_inode_table.specs.Contents.{Content, regular, directory, Links, Values}
 use Rattle.assise_inode_table.specs.Reach.{children, reach, link_of, Shape, folder, shape_of, shape_of_tree, shown_in}
 use Rattle.assise_inode_table.specs.Spelled.{SpellsFrom}
 use Rattle.assise_inode_table.proofs.DirectoryNames.{is_some-find}
-use Rattle.assise_inode_table.proofs.PathReach.{then_ok, once_child, Away}
+use Rattle.assise_inode_table.proofs.PathReach.{once_child, Away}
 use Rattle.assise_inode_table.proofs.TreeShows.{shown_here, shown_dir, shown_below}
 
 -- ---- what an inode shows of itself

@@ -1,6 +1,7 @@
 -- The calls that take an entry out agree with the tree: unlink and rmdir.
-use Rattle.std.proofs.Common.{◌≡◌, ℕ, arith, true, false, ◌==◌, List, [], ◌∷◌, ◌++◌, length, Result, Ok, refl, sym, subst, ◌∙◌, inl, inr}
+use Rattle.std.proofs.Common.{◌≡◌, ℕ, arith, false, ◌==◌, List, [], ◌∷◌, ◌++◌, length, Result, Ok, refl, sym, subst, ◌∙◌, inl, inr}
 use Rattle.std.proofs.lemmas.Bool.{cases_Bool, eq-eqb, ne_eqb, eqb-true, eqb-false}
+use Rattle.std.proofs.lemmas.List.{nil_from_length}
 use Rattle.std.specs.FinMap as map
 use Rattle.assise_names.specs.declared.reply.Reply.{Reply}
 use Rattle.assise_names.specs.declared.reply.Reply.TheVariants.{Done, Error}
@@ -22,11 +23,6 @@ use Rattle.assise_inode_table.proofs.EntryFreed.{freed}
 use Rattle.assise_inode_table.proofs.Leaves.{LeadsNowhere, file_nowhere, vacant_nowhere}
 use Rattle.assise_inode_table.proofs.WalkMeets.{settled, Meets, nothing, a_file, a_directory, FindsFile, FindsDirectory, meets, same_count}
 use Rattle.assise_inode_table.proofs.MeetingEntries.{HasEntry, entry_at, walk_finds_entry, walk_fails_entry}
-
--- a list of length 0 has no items
-no_items : {X : Type 0} (xs : List X) → (length xs == 0) ≡ true → xs ≡ []
-no_items [] h = refl
-no_items (x ∷ xs) h = (let no = eqb-true (length (x ∷ xs)) 0 h in absurd (omega (arith, no)))
 
 -- ---- what the tree answers where the path has a name
 
@@ -97,7 +93,7 @@ module _ (v : Values) (t : Tree) (p : Path) (name : List ℕ) (fresh : ℕ) (s :
           elim (cases_Bool (length (map.keys d.links) == 0)) [
             | inl none ↦
                 agrees v fresh _ _ Done (taken_out h.parent name d.inode) (without t (p ++ name ∷ [])) (ends ∙ rw none refl) (rw (d.there, sym many, none) refl)
-                (λ n. entry_gone d.inode h (vacant_nowhere v d.inode d.links d.holds (no_items (map.keys d.links) none)))
+                (λ n. entry_gone d.inode h (vacant_nowhere v d.inode d.links d.holds (nil_from_length (map.keys d.links) (eqb-true _ 0 none))))
             | inr some ↦ agrees_quietly v t fresh _ _ (Error NotEmpty) s (ends ∙ rw some refl) (rw (d.there, sym many, some) refl)
           ]
 
@@ -108,10 +104,10 @@ module _ (v : Values) (t : Tree) (p : Path) (name : List ℕ) (fresh : ℕ) (s :
 
 -- ---- the root has no entry
 
-module _ (v : Values) (t : Tree) (p : Path) (fresh : ℕ) (s : Spells v t) where
-  whole : (length p == 0) ≡ false → p ≡ parent_of p ++ last_name p ∷ []
-  whole deep = parent_and_last p (let no = eqb-false (length p) 0 deep in omega (arith, no))
+pub whole : (p : Path) → (length p == 0) ≡ false → p ≡ parent_of p ++ last_name p ∷ []
+whole p deep = parent_and_last p (let no = eqb-false (length p) 0 deep in omega (arith, no))
 
+module _ (v : Values) (t : Tree) (p : Path) (fresh : ℕ) (s : Spells v t) where
   pub unlink_agrees : Agrees v fresh (settled v (unlink_call p)) (unlink_answer t p)
   unfolding take_file unlinked
   unlink_agrees =
@@ -119,7 +115,9 @@ module _ (v : Values) (t : Tree) (p : Path) (fresh : ℕ) (s : Spells v t) where
         | inl root ↦ agrees_quietly v t fresh (settled v (unlink_call p)) (unlink_answer t p) (Error IsDir) s (rw root refl) (rw root refl)
         | inr deep ↦
             let below = unlink_below v t (parent_of p) (last_name p) fresh s in
-            let at_path = subst (λ q. Agrees v fresh (settled v (walk_to_entry (parent_of p) (last_name p) (take_file v t (parent_of p) (last_name p) fresh s))) (unlinked_at t q)) (sym (whole deep)) below in
+            let at_path = subst (λ q. Agrees v fresh
+            (settled v (walk_to_entry (parent_of p) (last_name p) (take_file v t (parent_of p) (last_name p) fresh s))) (unlinked_at t q))
+            (sym (whole p deep)) below in
             rw deep at_path
       ]
 
@@ -130,6 +128,8 @@ module _ (v : Values) (t : Tree) (p : Path) (fresh : ℕ) (s : Spells v t) where
         | inl root ↦ agrees_quietly v t fresh (settled v (rmdir_call p)) (rmdir_answer t p) (Error Invalid) s (rw root refl) (rw root refl)
         | inr deep ↦
             let below = rmdir_below v t (parent_of p) (last_name p) fresh s in
-            let at_path = subst (λ q. Agrees v fresh (settled v (walk_to_entry (parent_of p) (last_name p) (take_directory v t (parent_of p) (last_name p) fresh s))) (removed_at t q)) (sym (whole deep)) below in
+            let at_path = subst (λ q. Agrees v fresh
+            (settled v (walk_to_entry (parent_of p) (last_name p) (take_directory v t (parent_of p) (last_name p) fresh s))) (removed_at t q))
+            (sym (whole p deep)) below in
             rw deep at_path
       ]

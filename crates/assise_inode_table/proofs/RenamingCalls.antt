@@ -1,8 +1,8 @@
 -- A rename over inodes agrees with a rename of the tree.
-use Rattle.std.proofs.Common.{◌≡◌, ◌≢◌, ℕ, arith, Bool, true, false, cond, ◌==◌, ◌||◌, nat_le, List, [], ◌∷◌, ◌++◌, length, Option, Some, None, is_some, Result, Ok, Err, refl, ap, sym, subst, ◌∙◌, inl, inr}
+use Rattle.std.proofs.Common.{◌≡◌, ◌≢◌, ℕ, Bool, false, cond, ◌==◌, ◌||◌, nat_le, List, [], ◌∷◌, ◌++◌, length, Option, Some, None, is_some, Result, Ok, Err, refl, ap, sym, subst, ◌∙◌, inl, inr}
 use Rattle.std.specs.Prelude.{ok_or, if◌then◌else◌}
-use Rattle.std.proofs.lemmas.Bool.{cases_Bool, eqb-true, eqb-false}
-use Rattle.std.proofs.lemmas.List.{append_assoc, append-nil}
+use Rattle.std.proofs.lemmas.Bool.{cases_Bool, eqb-true, or_parts}
+use Rattle.std.proofs.lemmas.List.{append_assoc, append-nil, nil_from_length}
 use Rattle.std.specs.FinMap as map
 use Rattle.assise_names.specs.Path.{is_proper_prefix, same_path}
 use Rattle.assise_names.specs.declared.reply.Reply.{Reply}
@@ -13,7 +13,7 @@ use Rattle.assise_record.specs.declared.effect.Effect.{Effect}
 use Rattle.assise_record.specs.declared.effect.Effect.TheVariants.{Unlink, Free}
 use Rattle.assise_seq_tree.specs.Tree.{Tree, file, dir, Entries, find, names_of, at, put, without}
 use Rattle.assise_seq_tree.specs.Answer.{◌>>=◌, parent_of, last_name, as_directory, entries_at, may_receive, may_replace as tree_may_replace, reply_and_tree, tree_after_rename, rename_answer}
-use Rattle.assise_seq_tree.proofs.Moves.{Path, Disjoint, parent_and_last}
+use Rattle.assise_seq_tree.proofs.Moves.{Path, Disjoint}
 use Rattle.assise_seq_tree.proofs.Paths.{disjoint_from}
 use Rattle.assise_seq_tree.proofs.Checks.{same_is, not_begins}
 use Rattle.assise_seq_tree.proofs.MovedTreeRoom.{entry_there}
@@ -32,6 +32,7 @@ use Rattle.assise_inode_table.proofs.MeetingEntries.{HasEntry, entry_at, walk_fi
 use Rattle.assise_inode_table.proofs.EntryMoved.{moved_spells}
 use Rattle.assise_inode_table.proofs.DirectoryNames.{same_found}
 use Rattle.assise_inode_table.proofs.PathReach.{reach_step, reach-append}
+use Rattle.assise_inode_table.proofs.RemovingCalls.{whole}
 
 -- ---- what stands in the other's place
 
@@ -46,14 +47,10 @@ same_replacing c d m u (files b is there) (directories links es be too names) = 
 same_replacing c d m u (directories links es is there names) (files g be too) = rw (is, there, be, too) refl
 same_replacing c d m u (directories ks fs is there names) (directories links es be too named) = rw (is, there, be, too, same_count es links named) refl
 
-no_keys : {X : Type 0} (xs : List X) → (length xs == 0) ≡ true → xs ≡ []
-no_keys [] h = refl
-no_keys (x ∷ xs) h = (let no = eqb-true (length (x ∷ xs)) 0 h in absurd (omega (arith, no)))
-
 is_vacant : (links : Links) → without_links links ≡ Ok tt → map.keys links ≡ []
 is_vacant links h =
     elim (cases_Bool (length (map.keys links) == 0)) [
-      | inl none ↦ no_keys (map.keys links) none
+      | inl none ↦ nil_from_length (map.keys links) (eqb-true _ 0 none)
       | inr some ↦ let no = rw some at h in cc
     ]
 
@@ -245,13 +242,6 @@ module _ (v : Values) (t : Tree) (p q : Path) (fresh : ℕ) (s : Spells v t) (fr
       go (a_file f) = into f.inode (regular f.bytes) (file f.bytes) f.reached f.holds f.there (files f.bytes refl refl)
       go (a_directory d) = into d.inode (directory d.links) (dir d.entries) d.reached d.holds d.there (directories d.links d.entries refl refl d.names)
 
-neither : (a b : Bool) → (a || b) ≡ false → (a ≡ false) × (b ≡ false)
-neither true b h = cc
-neither false b h = (refl, h)
-
-whole : (p : Path) → (length p == 0) ≡ false → p ≡ parent_of p ++ last_name p ∷ []
-whole p deep = parent_and_last p (let no = eqb-false (length p) 0 deep in omega (arith, no))
-
 pub rename_agrees : (v : Values) (t : Tree) (p q : Path) (fresh : ℕ) → Spells v t → Agrees v fresh (settled v (rename_call p q)) (rename_answer t p q)
 rename_agrees v t p q fresh s =
     elim (cases_Bool ((length p == 0) || (length q == 0))) [
@@ -259,7 +249,7 @@ rename_agrees v t p q fresh s =
       | inr deep ↦ elim (cases_Bool (is_proper_prefix p q)) [
         | inl ring ↦ agrees_quietly v t fresh (settled v (rename_call p q)) (rename_answer t p q) (Error Invalid) s (rw (deep, ring) refl) (rw (deep, ring) refl)
         | inr free ↦
-            let names = neither (length p == 0) (length q == 0) deep in
+            let names = or_parts (length p == 0) (length q == 0) deep in
             let below = rename_below v t p q fresh s (whole p names.0) (whole q names.1) free in
             rw (deep, free) below
       ]

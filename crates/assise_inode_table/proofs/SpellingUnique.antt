@@ -1,12 +1,10 @@
 -- What is spelled is ordered, and one tree.
-use Rattle.std.proofs.Common.{◌≡◌, ℕ, Bool, true, false, cond, List, [], ◌∷◌, Option, Some, None, Result, Ok, Err, refl, sym, ap, subst, ◌∙◌, inl, inr}
-use Rattle.std.specs.Ordering.{is_eq}
+use Rattle.std.proofs.Common.{◌≡◌, ℕ, Bool, true, false, cond, List, [], ◌∷◌, Option, Some, None, Result, Ok, Err, refl, sym, ap, subst, ◌∙◌}
 use Rattle.std.specs.FinMap as map
-use Rattle.std.proofs.lemmas.Bool.{cases_Bool}
 use Rattle.assise_names.specs.declared.reply.TreeError.{TreeError}
 use Rattle.assise_seq_tree.specs.Tree.{Tree, file, dir, Entries, no_entries, entry, same_name, find, IsBelow, IsOrdered, AreOrdered, names_of}
 use Rattle.assise_seq_tree.specs.Answer.{◌>>=◌}
-use Rattle.assise_seq_tree.proofs.Sets.{same_itself, one_name}
+use Rattle.assise_seq_tree.proofs.Sets.{one_name, find_below, find_first, found_later}
 use Rattle.assise_seq_tree.proofs.Moves.{Path}
 use Rattle.assise_inode_table.specs.Contents.{Content, regular, directory, Values}
 use Rattle.assise_inode_table.specs.Reach.{children, reach, Shape, folder, shape_of, shown_from, shown_in}
@@ -15,21 +13,6 @@ use Rattle.assise_inode_table.proofs.DirectoryNames.{Ascend, names_below, ascend
 use Rattle.assise_inode_table.proofs.TreeShows.{shown_here, shown_dir, shown_below}
 
 -- ---- entries
-found_first : (name : List ℕ) (t : Tree) (es : Entries) → find name (entry name t es) ≡ Some t
-found_first name t es = ap (λ b. cond b (Some t) (find name es)) (same_itself name)
-
-none_below : (name : List ℕ) (es : Entries) → IsBelow name es → find name es ≡ None
-none_below name no_entries below = refl
-none_below name (entry other t es) below = ap (λ o. cond (is_eq o) (Some t) (find name es)) below.0 ∙ none_below name es below.1
-
--- a name that is found past the first entry is another one than that
-found_later : (q name : List ℕ) (t u : Tree) (es : Entries) → IsBelow name es → find q es ≡ Some u → find q (entry name t es) ≡ Some u
-found_later q name t u es below there =
-    elim (cases_Bool (same_name q name)) [
-      | inl same ↦ let none = none_below name es below in let some = ap (λ n. find n es) (sym (one_name q name same)) ∙ there in cc
-      | inr differs ↦ ap (λ b. cond b (Some t) (find q es)) differs ∙ there
-    ]
-
 -- ---- order
 -- the names of each directory that is shown ascend
 abbrev pub ShowsAscending : (Path → Result Shape TreeError) → Type 0
@@ -44,7 +27,7 @@ mutual
   ordered_entries no_entries ascend h = tt
   ordered_entries (entry name t es) ascend h =
       let below = names_below name es ascend.0 in
-      (below, ordered_tree t (h name t (found_first name t es)), ordered_entries es ascend.2 (λ q u there. h q u (found_later q name t u es below there)))
+      (below, ordered_tree t (h name t (find_first name t es)), ordered_entries es ascend.2 (λ q u there. h q u (found_later q name t u es below there)))
 
 shown_ascending : (v : Values) (r : ℕ) → ShowsAscending (shown_from v r)
 shown_ascending v r p names e = by_inode (reach (children v) r p) e
@@ -68,7 +51,8 @@ shown_entry q name t u es fs p a b h = go (same_name q name) refl h
   where
     go : (c : Bool) → same_name q name ≡ c → shown_below p (cond c (Some t) (find q es)) ≡ shown_below p (cond c (Some u) (find q fs))
         → shown_below p (find q es) ≡ shown_below p (find q fs)
-    go true e f = ap (λ n. shown_below p (find n es)) (one_name q name e) ∙ ap (shown_below p) (none_below name es a) ∙ sym (ap (shown_below p) (none_below name fs b))
+    go true e f =
+        ap (λ n. shown_below p (find n es)) (one_name q name e) ∙ ap (shown_below p) (find_below name es a) ∙ sym (ap (shown_below p) (find_below name fs b))
         ∙ sym (ap (λ n. shown_below p (find n fs)) (one_name q name e))
     go false e f = f
 
@@ -92,7 +76,7 @@ mutual
       let one : n ≡ m = cc in
       let here : ShowSame (entry n t es) (entry n u fs) = subst (λ k. ShowSame (entry n t es) (entry k u fs)) (sym one) h in
       let below : IsBelow n fs = subst (λ k. IsBelow k fs) (sym one) b.0 in
-      let first : t ≡ u = same_tree t u a.1 b.1 (λ p. sym (ap (shown_below p) (found_first n t es)) ∙ here n p ∙ ap (shown_below p) (found_first n u fs)) in
+      let first : t ≡ u = same_tree t u a.1 b.1 (λ p. sym (ap (shown_below p) (find_first n t es)) ∙ here n p ∙ ap (shown_below p) (find_first n u fs)) in
       let rest : es ≡ fs = same_all es fs a.2 b.2 (cc) (λ q p. shown_entry q n t u es fs p a.0 below (here q p)) in
       cc
 

@@ -1,11 +1,8 @@
 -- A map of inodes, of which an effect changes one.
-use Rattle.std.proofs.Common.{◌≡◌, ℕ, List, Option, Some, None, IsSome, Result, Ok, Err, OnErr, option_map, cond, true, false, Bool, nat_eq, refl, sym, ap, subst, ◌∙◌}
-use Rattle.std.specs.Ordering.{nat_cmp, is_eq}
+use Rattle.std.proofs.Common.{◌≡◌, ℕ, List, Option, Some, None, IsSome, Result, Ok, Err, OnErr, option_map, cond, nat_eq, refl, sym, ap, subst, ◌∙◌}
+use Rattle.std.specs.Ordering.{nat_cmp}
 use Rattle.std.specs.Cmp.{nat_cmp_total}
 use Rattle.std.specs.Map.{lookup}
-use Rattle.std.specs.BTreeMap.{is_at}
-use Rattle.std.specs.declared.cmp.Ordering.{Ordering}
-use Rattle.std.specs.declared.cmp.Ordering.TheVariants.{Less, Equal, Greater}
 use Rattle.std.proofs.lemmas.Map.Lookups.{exact_unsigned}
 use Rattle.std.specs.FinMap as map
 use Rattle.assise_record.specs.declared.effect.Effect.{Effect}
@@ -13,12 +10,7 @@ use Rattle.assise_record.specs.declared.effect.Effect.TheVariants.{NewFile, NewD
 use Rattle.assise_record.specs.Touched.{touched_by}
 use Rattle.assise_inode_table.specs.Contents.{Content, InodeMap}
 use Rattle.assise_inode_table.specs.Effects.{changed, with_value, applied}
-use Rattle.assise_inode_table.proofs.MapView.{get-numbers, insert-numbers}
-
-tied : (o : Ordering) → is_eq o ≡ true → o ≡ Equal
-tied Less e = cc
-tied Equal e = refl
-tied Greater e = cc
+use Rattle.assise_inode_table.proofs.MapView.{remove-absent, get-numbers, insert-numbers}
 
 -- what a look-up in the table found is what the map has
 pub value_at : (m : InodeMap) (es : List (ℕ × Content)) (i k : ℕ) (found : Option Content)
@@ -27,13 +19,6 @@ value_at m es i k found view key is = ap (λ n. map.get n i) (sym view) ∙ ap (
 
 pub is_there : {X : Type 0} (x : X) (o : Option X) → Some x ≡ o → IsSome o
 is_there x o e = subst IsSome e refl
-
-remove_absent : (m : InodeMap) (i : ℕ) → map.get m i ≡ None → map.remove m i ≡ m
-remove_absent m i none = map.same_map nat_cmp_total exact_unsigned _ _ (λ q. map.get-remove nat_cmp_total m i q ∙ go q (is_at (nat_cmp q) i) refl)
-  where
-    go : (q : ℕ) (b : Bool) → is_at (nat_cmp q) i ≡ b → cond b None (map.get m q) ≡ map.get m q
-    go q true e = sym none ∙ ap (map.get m) (sym (exact_unsigned q i (tied (nat_cmp q i) e)))
-    go q false e = refl
 
 -- what a change makes of a map of which the value of its inode is known
 abbrev pub with_change : InodeMap → Effect → Option Content → InodeMap
@@ -45,7 +30,7 @@ pub change_none : (m : InodeMap) (es : List (ℕ × Content)) (e : Effect) (k : 
     → map.from_entries es ≡ with_change m e (map.get m (touched_by e))
 change_none m es e k view key is =
     let absent = value_at m es (touched_by e) k None view key is in
-    view ∙ sym (remove_absent m (touched_by e) absent) ∙ sym (ap (with_change m e) absent)
+    view ∙ remove-absent nat_cmp_total exact_unsigned m (touched_by e) absent ∙ sym (ap (with_change m e) absent)
 
 -- the inode that is there was changed in its place
 pub change_some : (m : InodeMap) (es fs : List (ℕ × Content)) (e : Effect) (k : ℕ) (old new : Content)

@@ -1,9 +1,9 @@
 -- The effects of a call can be made all or none.
-use Rattle.std.proofs.Common.{ℕ, ◌==◌, Bool, true, false, cond, List, [], ◌∷◌, length, refl, inl, inr}
+use Rattle.std.proofs.Common.{ℕ, ◌==◌, List, [], ◌∷◌, length, refl, inl, inr}
+use Rattle.std.proofs.lemmas.Bool.{cond_both}
 use Rattle.assise_names.specs.declared.call.Op.{Op}
 use Rattle.assise_names.specs.declared.call.Op.TheVariants.{Create, Mkdir, Read, Write as WriteCall, Truncate, Rename, Unlink as UnlinkCall, Rmdir, List as ListCall, Stat, Fsync, Dsync}
 use Rattle.assise_names.specs.declared.reply.Reply.{Reply}
-use Rattle.assise_record.specs.Patch.{Patch}
 use Rattle.assise_record.specs.declared.effect.Effect.{Effect}
 use Rattle.assise_record.specs.declared.effect.Effect.TheVariants.{Write, Link, Unlink, Free}
 use Rattle.assise_seq_tree.specs.Answer.{last_name}
@@ -15,15 +15,12 @@ use Rattle.assise_inode_table.specs.Whole.{CanBeMadeWhole}
 abbrev IsWhole : Reply → List Effect → Type 0
 IsWhole reply es = CanBeMadeWhole es
 
-one_written : (none : Bool) (i : ℕ) (patch : Patch) → CanBeMadeWhole (cond none [] (Write i patch ∷ []))
-one_written true i patch = inr (inl tt)
-one_written false i patch = inr (inl tt)
-
 whole_where_done : (op : Op) (fresh : ℕ) → HoldsWhereDone IsWhole op fresh
 whole_where_done (Create p) fresh = λ d. inl (refl, tt)
 whole_where_done (Mkdir p) fresh = λ d. inl (refl, tt)
 whole_where_done (Read p offset most) fresh = λ bytes. inr (inl tt)
-whole_where_done (WriteCall p offset new) fresh = λ i. one_written (length new == 0) i (record { offset = offset; bytes = new })
+whole_where_done (WriteCall p offset new) fresh = λ i.
+    cond_both (length new == 0) [] (Write i (record { offset = offset; bytes = new }) ∷ []) CanBeMadeWhole (λ _. inr (inl tt)) (λ _. inr (inl tt))
 whole_where_done (Truncate p size) fresh = λ i. inr (inl tt)
 whole_where_done (Rename p q) fresh = (
   inr (inl tt),

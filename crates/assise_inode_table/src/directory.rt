@@ -320,35 +320,15 @@ fn halve(
     }
     let upper = pieces[piece].part(alloc, MOST_NAMES / 2, MOST_NAMES)?;
     let lower = pieces[piece].part(alloc, 0, MOST_NAMES / 2)?;
-    let place = join_lower(alloc, pieces, piece, lower, upper, name)?;
+    let place = put_halves(alloc, pieces, piece, lower, upper, name)?;
     let_go(pieces, place);
     let_go(pieces, place - 1);
     Ok(())
 }
 
-/// Puts two halves of a piece in its place. The place of the upper is returned.
+/// Puts two halves of a piece in its place, but where a name belongs in the upper half and the piece in front has room, the lower
+/// goes behind its names. The place of the upper is returned.
 fn put_halves(
-    pieces: &mut Vec<Piece>,
-    piece: usize,
-    lower: Piece,
-    upper: Piece,
-) -> Result<usize, AllocError>
-    requires piece { piece < length pieces.old.items }
-    requires halves { piece_at pieces.old.items piece ≡ lower ++ upper }
-    requires some { (0 < length lower) × (0 < length upper) }
-    requires filled { AreFilled pieces.old.items }
-    ensures same { slots_in pieces.new.items ≡ slots_in pieces.old.items }
-    ensures filled { AreFilled pieces.new.items }
-    ensures place { IfOk result (λ place. (0 < place) × (place < length pieces.new.items)) }
-{
-    pieces.insert(piece + 1, upper)?;
-    pieces[piece] = lower;
-    Ok(piece + 1)
-}
-
-/// As [`put_halves`], but where a name belongs in the upper half and the piece in front has room, the lower goes behind its
-/// names.
-fn join_lower(
     alloc: Global,
     pieces: &mut Vec<Piece>,
     piece: usize,
@@ -365,7 +345,9 @@ fn join_lower(
     ensures place { IfOk result (λ place. (0 < place) × (place < length pieces.new.items)) }
 {
     if piece == 0 || upper.first().cmp(name).is_gt() || !pieces[piece - 1].has_room_for(&lower) {
-        return put_halves(pieces, piece, lower, upper);
+        pieces.insert(piece + 1, upper)?;
+        pieces[piece] = lower;
+        return Ok(piece + 1);
     }
     pieces[piece - 1].append(alloc, &lower)?;
     pieces[piece] = upper;

@@ -1,7 +1,8 @@
 -- A loop that asks one after another.
-use Rattle.std.proofs.Common.{◌≡◌, ℕ, zero, suc, ◌+◌, ◌<◌, Bool, true, false, cond, List, [], ◌∷◌, ◌++◌, length, take, get_or, Option, inl, inr, filter, map, sym, refl, ap, subst, ◌∙◌, arith}
+use Rattle.std.proofs.Common.{◌≡◌, ℕ, zero, suc, ◌+◌, ◌<◌, Bool, true, false, cond, List, [], ◌∷◌, ◌++◌, length, take, get_or, Option, inl, inr, filter, sym, refl, ap, subst, ◌∙◌, arith, append-nil}
 use Rattle.std.proofs.lemmas.Grind.{take_at_read}
 use Rattle.std.proofs.lemmas.List.Elements.{filter-append}
+use Rattle.std.proofs.lemmas.List.{map_push}
 use Rattle.assise_private_log.specs.NumberedLog.{NumberedLog}
 use Rattle.assise_names.specs.declared.mode.Mode.TheVariants.{Read}
 use Rattle.assise_lease_table.specs.declared.lease.Lease.{Lease}
@@ -19,17 +20,6 @@ among_at (x ∷ xs) (suc i) d h = inr (among_at xs i d (omega arith))
 abbrev pub no_lease : Lease
 no_lease = record { holder = 0; mode = Read; revoked = false }
 
--- the lease that a loop has come to
-pub lease_at : (items ls : List Lease) (i : ℕ) → items ≡ ls → i < length items → Among ls (get_or items i no_lease)
-lease_at items ls i same h = subst (λ xs. Among xs (get_or items i no_lease)) same (among_at items i no_lease h)
-
-filter_last : (p : Lease → Bool) (xs : List Lease) (x : Lease) → filter p (xs ++ x ∷ []) ≡ filter p xs ++ cond (p x) (x ∷ []) []
-filter_last p xs x = filter-append p xs (x ∷ [])
-
-map_last : {X Y : Type 0} (f : X → Y) (xs : List X) (x : X) → map f (xs ++ x ∷ []) ≡ map f xs ++ f x ∷ []
-map_last f [] x = refl
-map_last f (y ∷ ys) x = ap (λ z. f y ∷ z) (map_last f ys x)
-
 module _ {C : Type 0} (answers : C → NumberedLog → ℕ → ℕ → Type 0) (revoker_of : ℕ → Option C) (view_of : ℕ → Option NumberedLog) (inode : ℕ) (choice : Lease → Bool) where
   abbrev pub Each : List Asked → Type 0
   Each asked = (a : Asked) → Among asked a → IsAnswer answers revoker_of view_of inode a
@@ -41,21 +31,19 @@ module _ {C : Type 0} (answers : C → NumberedLog → ℕ → ℕ → Type 0) (
       → is_to_ask choice (get_or xs i d) ≡ true → a.client ≡ (get_or xs i d).holder → IsAnswer answers revoker_of view_of inode a
       → AnswerAll answers revoker_of view_of inode choice (take (i + 1) xs) (asked ++ a ∷ [])
   asked_more xs i d asked a h so_far chosen mine answer = record {
-    who = map_last (λ (z : Asked). z.client) asked a ∙ (λ k. so_far.who k ++ mine k ∷ []) ∙ sym (
-        ap holders (ap (filter (is_to_ask choice)) (take_at_read xs i d h).1 ∙ filter_last (is_to_ask choice) (take i xs) (get_or xs i d) ∙ ap (λ b. filter (is_to_ask choice) (take i xs) ++ cond b (get_or xs i d ∷ []) []) chosen)
-        ∙ map_last (λ (z : Lease). z.holder) (filter (is_to_ask choice) (take i xs)) (get_or xs i d));
+    who = map_push (λ (z : Asked). z.client) asked a ∙ (λ k. so_far.who k ++ mine k ∷ []) ∙ sym (
+        ap holders (ap (filter (is_to_ask choice)) (take_at_read xs i d h).1 ∙ filter-append (is_to_ask choice) (take i xs) (get_or xs i d ∷ [])
+        ∙ ap (λ b. filter (is_to_ask choice) (take i xs) ++ cond b (get_or xs i d ∷ []) []) chosen)
+        ∙ map_push (λ (z : Lease). z.holder) (filter (is_to_ask choice) (take i xs)) (get_or xs i d));
     each = λ b in_b. elim (among_push asked a b in_b) [ inl before ↦ so_far.each b before | inr last ↦ subst (IsAnswer answers revoker_of view_of inode) (sym last) answer ];
   }
-
-  append_none : (xs : List Lease) → xs ++ [] ≡ xs
-  append_none [] = refl
-  append_none (x ∷ xs) = ap (λ z. x ∷ z) (append_none xs)
 
   pub asked_same : (xs : List Lease) (i : ℕ) (d : Lease) (asked : List Asked) → i < length xs → AnswerAll answers revoker_of view_of inode choice (take i xs) asked
       → is_to_ask choice (get_or xs i d) ≡ false
       → AnswerAll answers revoker_of view_of inode choice (take (i + 1) xs) asked
   asked_same xs i d asked h so_far passed = record {
-    who = so_far.who ∙ sym (ap holders (ap (filter (is_to_ask choice)) (take_at_read xs i d h).1 ∙ filter_last (is_to_ask choice) (take i xs) (get_or xs i d)
-        ∙ ap (λ b. filter (is_to_ask choice) (take i xs) ++ cond b (get_or xs i d ∷ []) []) passed ∙ append_none (filter (is_to_ask choice) (take i xs))));
+    who = so_far.who ∙ sym
+        (ap holders (ap (filter (is_to_ask choice)) (take_at_read xs i d h).1 ∙ filter-append (is_to_ask choice) (take i xs) (get_or xs i d ∷ [])
+        ∙ ap (λ b. filter (is_to_ask choice) (take i xs) ++ cond b (get_or xs i d ∷ []) []) passed ∙ append-nil (filter (is_to_ask choice) (take i xs))));
     each = so_far.each;
   }

@@ -1,14 +1,14 @@
 -- Which changes keep leases compatible.
-use Rattle.std.proofs.Common.{◌≡◌, ◌≢◌, ℕ, ◌==◌, Bool, true, false, cond, not, ◌&&◌, List, [], ◌∷◌, ◌++◌, inl, inr, filter, map, sym, refl, ap, ◌∙◌, eq-eqb, ne_eqb}
-use mathlib.Core.Logic.{dite}
-use native.Mathlib.Decide.{ℕ_discrete}
+use Rattle.std.proofs.Common.{◌≡◌, ◌≢◌, ℕ, ◌==◌, Bool, true, false, not, ◌&&◌, List, [], ◌∷◌, ◌++◌, inl, inr, filter, map, sym, refl, ap, ◌∙◌, ne_eqb}
 use Rattle.std.specs.List.{list_all, list_any}
+use Rattle.std.proofs.lemmas.Bool.{cond_both, false_from_ne_true, and_parts, and_from, and_left, not-true, not_from_false, eqb-true, eqb-false}
 use Rattle.assise_names.specs.declared.mode.Mode.{Mode}
 use Rattle.assise_names.specs.declared.mode.Mode.TheVariants.{Read, Write}
 use Rattle.assise_lease_table.specs.declared.lease.Lease.{Lease}
 use Rattle.assise_lease_table.specs.Modes.{against, stronger}
 use Rattle.assise_lease_table.specs.Leases.{is_own_unasked, is_rival, Among, stand_together, compatible, IsFree, raise, raise_unopposed, raised_if, without_holder, with_lease}
-use Rattle.assise_lease_table.proofs.Elements.{cases_of, both_true, and_true, and_false_left, not_true, true_not, not_both, none_among, all_among, among_all, among_filter, among_map, among_push}
+use Rattle.assise_lease_table.proofs.Elements.{not_both, none_among, all_among, among_all, among_filter, among_map, among_push}
+pub use Rattle.std.proofs.lemmas.Bool.{eqb-false as differ}
 
 pub against_swap : (a b : Mode) → against a b ≡ against b a
 against_swap Read Read = refl
@@ -16,29 +16,21 @@ against_swap Read Write = refl
 against_swap Write Read = refl
 against_swap Write Write = refl
 
-pub same_number : (a b : ℕ) → (a == b) ≡ true → a ≡ b
-same_number a b e = dite (ℕ_discrete a b) (λ y. y) (λ n. not_both (a == b) e (ne_eqb a b n))
-
-pub other_number : (a b : ℕ) → a ≢ b → (a == b) ≡ false
-other_number a b n = ne_eqb a b n
-
-pub differ : (a b : ℕ) → (a == b) ≡ false → a ≢ b
-differ a b e same = not_both (a == b) (eq-eqb a b same) e
-
 from_together : (a b : Lease) → stand_together a b ≡ true → (a.holder ≢ b.holder) × (against a.mode b.mode ≡ false)
 from_together a b e =
-    let parts = both_true (not (a.holder == b.holder)) (not (against a.mode b.mode)) e in
-    (differ a.holder b.holder (not_true (a.holder == b.holder) parts.0), not_true (against a.mode b.mode) parts.1)
+    let parts = and_parts (not (a.holder == b.holder)) (not (against a.mode b.mode)) e in
+    (eqb-false a.holder b.holder (not-true (a.holder == b.holder) parts.0), not-true (against a.mode b.mode) parts.1)
 
 to_together : (a b : Lease) → a.holder ≢ b.holder → against a.mode b.mode ≡ false → stand_together a b ≡ true
 to_together a b n e =
-    and_true (not (a.holder == b.holder)) (not (against a.mode b.mode)) (true_not (a.holder == b.holder) (other_number a.holder b.holder n)) (true_not (against a.mode b.mode) e)
+    and_from (not (a.holder == b.holder)) (not (against a.mode b.mode)) (not_from_false (a.holder == b.holder) (ne_eqb a.holder b.holder n))
+    (not_from_false (against a.mode b.mode) e)
 
 -- two leases of one holder are one
 pub one_lease : (ls : List Lease) → compatible ls ≡ true → (a b : Lease) → Among ls a → Among ls b → a.holder ≡ b.holder → a ≡ b
 one_lease [] c a b in_a in_b same = absurd in_a
 one_lease (l ∷ ls) c a b in_a in_b same =
-    let parts = both_true (list_all (stand_together l) ls) (compatible ls) c in
+    let parts = and_parts (list_all (stand_together l) ls) (compatible ls) c in
     elim in_a [
       | inl head_a ↦ elim in_b [
         | inl head_b ↦ head_a ∙ sym head_b
@@ -54,7 +46,7 @@ one_lease (l ∷ ls) c a b in_a in_b same =
 pub not_against : (ls : List Lease) → compatible ls ≡ true → (a b : Lease) → Among ls a → Among ls b → a.holder ≢ b.holder → against a.mode b.mode ≡ false
 not_against [] c a b in_a in_b other = absurd in_a
 not_against (l ∷ ls) c a b in_a in_b other =
-    let parts = both_true (list_all (stand_together l) ls) (compatible ls) c in
+    let parts = and_parts (list_all (stand_together l) ls) (compatible ls) c in
     elim in_a [
       | inl head_a ↦ elim in_b [
         | inl head_b ↦ absurd (other (ap (λ (z : Lease). z.holder) (head_a ∙ sym head_b)))
@@ -66,15 +58,14 @@ not_against (l ∷ ls) c a b in_a in_b other =
       ]
     ]
 
-filtered_head : (b : Bool) (l : Lease) (ls : List Lease) → list_all (stand_together l) ls ≡ true → compatible ls ≡ true → compatible (cond b (l ∷ ls) ls) ≡ true
-filtered_head true l ls h c = and_true (list_all (stand_together l) ls) (compatible ls) h c
-filtered_head false l ls h c = c
-
 pub filter_compatible : (p : Lease → Bool) (ls : List Lease) → compatible ls ≡ true → compatible (filter p ls) ≡ true
 filter_compatible p [] c = refl
 filter_compatible p (l ∷ ls) c =
-    let parts = both_true (list_all (stand_together l) ls) (compatible ls) c in
-    filtered_head (p l) l (filter p ls) (among_all (stand_together l) (filter p ls) (λ x a. all_among (stand_together l) ls parts.0 x (among_filter p ls x a).0)) (filter_compatible p ls parts.1)
+    let parts = and_parts (list_all (stand_together l) ls) (compatible ls) c in
+    let rest = filter_compatible p ls parts.1 in
+    let head = among_all (stand_together l) (filter p ls) (λ x a. all_among (stand_together l) ls parts.0 x (among_filter p ls x a).0) in
+    cond_both (p l) (l ∷ filter p ls) (filter p ls) (λ ks. compatible ks ≡ true) (λ _. and_from (list_all (stand_together l) (filter p ls)) _ head rest)
+    (λ _. rest)
 
 -- a change that keeps holders and modes
 module _ (f : Lease → Lease) (keeps : (l : Lease) → ((f l).holder ≡ l.holder) × ((f l).mode ≡ l.mode)) where
@@ -92,8 +83,8 @@ module _ (f : Lease → Lease) (keeps : (l : Lease) → ((f l).holder ≡ l.hold
 pub push_compatible : (ls : List Lease) (x : Lease) → compatible ls ≡ true → ((l : Lease) → Among ls l → (l.holder ≢ x.holder) × (against l.mode x.mode ≡ false)) → compatible (ls ++ x ∷ []) ≡ true
 push_compatible [] x c h = refl
 push_compatible (l ∷ ls) x c h =
-    let parts = both_true (list_all (stand_together l) ls) (compatible ls) c in
-    and_true (list_all (stand_together l) (ls ++ x ∷ [])) (compatible (ls ++ x ∷ []))
+    let parts = and_parts (list_all (stand_together l) ls) (compatible ls) c in
+    and_from (list_all (stand_together l) (ls ++ x ∷ [])) (compatible (ls ++ x ∷ []))
     (among_all (stand_together l) (ls ++ x ∷ []) (λ k a. elim (among_push ls x k a) [
       | inl before ↦ all_among (stand_together l) ls parts.0 k before
       | inr last ↦ let head = h l (inl refl) in to_together l k (λ e. head.0 (e ∙ ap (λ (z : Lease). z.holder) last)) (ap (λ (z : Lease). against l.mode z.mode) last ∙ head.1)
@@ -105,15 +96,14 @@ pub with_compatible : (ls : List Lease) (x : Lease) → compatible ls ≡ true �
 with_compatible ls x c free =
     push_compatible (without_holder x.holder ls) x (filter_compatible (λ l. not (l.holder == x.holder)) ls c) (λ l a.
     let was = among_filter (λ (k : Lease). not (k.holder == x.holder)) ls l a in
-    let other : l.holder ≢ x.holder = differ l.holder x.holder (not_true (l.holder == x.holder) was.1) in
+    let other : l.holder ≢ x.holder = eqb-false l.holder x.holder (not-true (l.holder == x.holder) was.1) in
     (other, against_swap l.mode x.mode ∙ free l was.0 other))
 
 -- a holder without rivals is free to hold
 pub no_rivals : (ls : List Lease) (h : ℕ) (mode : Mode) → list_any (is_rival h mode) ls ≡ false → IsFree ls h mode
-no_rivals ls h mode none l a other = elim (cases_of (against mode l.mode)) [
-  | inl is ↦ not_both (is_rival h mode l) (and_true (not (l.holder == h)) (against mode l.mode) (true_not (l.holder == h) (other_number l.holder h other)) is) (none_among (is_rival h mode) ls none l a)
-  | inr not_so ↦ not_so
-]
+no_rivals ls h mode none l a other = false_from_ne_true (against mode l.mode) (λ is.
+    not_both (is_rival h mode l) (and_from (not (l.holder == h)) (against mode l.mode) (not_from_false (l.holder == h) (ne_eqb l.holder h other)) is)
+    (none_among (is_rival h mode) ls none l a))
 
 -- ---- a lease that is raised
 
@@ -134,10 +124,10 @@ module _ (h : ℕ) (mode : Mode) where
   raised_now l = raised_if (is_own_unasked h l) mode l
 
   own_holder : (l : Lease) → is_own_unasked h l ≡ true → l.holder ≡ h
-  own_holder l own = same_number l.holder h (both_true (l.holder == h) (not l.revoked) own).0
+  own_holder l own = eqb-true l.holder h (and_parts (l.holder == h) (not l.revoked) own).0
 
   not_own : (l : Lease) → l.holder ≢ h → is_own_unasked h l ≡ false
-  not_own l other = and_false_left (l.holder == h) (not l.revoked) (other_number l.holder h other)
+  not_own l other = and_left (l.holder == h) (not l.revoked) (ne_eqb l.holder h other)
 
   raised_together : (a b : Lease) → (a.holder ≢ h → against mode a.mode ≡ false) → (b.holder ≢ h → against mode b.mode ≡ false) → stand_together a b ≡ true → stand_together (raised_now a) (raised_now b) ≡ true
   raised_together a b free_a free_b e =
@@ -156,16 +146,14 @@ module _ (h : ℕ) (mode : Mode) where
   pub raise_compatible : (ls : List Lease) → compatible ls ≡ true → IsFree ls h mode → compatible (raise h mode ls) ≡ true
   raise_compatible [] c free = refl
   raise_compatible (l ∷ ls) c free =
-      let parts = both_true (list_all (stand_together l) ls) (compatible ls) c in
-      and_true (list_all (stand_together (raised_now l)) (raise h mode ls)) (compatible (raise h mode ls))
+      let parts = and_parts (list_all (stand_together l) ls) (compatible ls) c in
+      and_from (list_all (stand_together (raised_now l)) (raise h mode ls)) (compatible (raise h mode ls))
       (among_all (stand_together (raised_now l)) (raise h mode ls) (λ k a.
       let was = among_map raised_now ls k a in
       ap (stand_together (raised_now l)) was.2 ∙ raised_together l was.0 (λ other. free l (inl refl) other) (λ other. free was.0 (inr was.1) other) (all_among (stand_together l) ls parts.0 was.0 was.1)))
       (raise_compatible ls parts.1 (λ k a other. free k (inr a) other))
 
-  raise_unless : (b : Bool) (ls : List Lease) → list_any (is_rival h mode) ls ≡ b → compatible ls ≡ true → compatible (cond b ls (raise h mode ls)) ≡ true
-  raise_unless true ls is c = c
-  raise_unless false ls is c = raise_compatible ls c (no_rivals ls h mode is)
-
   pub raise_unopposed_compatible : (ls : List Lease) → compatible ls ≡ true → compatible (raise_unopposed h mode ls) ≡ true
-  raise_unopposed_compatible ls c = raise_unless (list_any (is_rival h mode) ls) ls refl c
+  raise_unopposed_compatible ls c =
+      cond_both (list_any (is_rival h mode) ls) ls (raise h mode ls) (λ ks. compatible ks ≡ true) (λ _. c)
+      (λ is. raise_compatible ls c (no_rivals ls h mode is))

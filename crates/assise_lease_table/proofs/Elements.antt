@@ -1,47 +1,9 @@
 -- What is true of the elements of a list that is filtered, mapped or tested.
-use Rattle.std.proofs.Common.{◌≡◌, Bool, true, false, cond, not, ◌&&◌, ◌||◌, List, [], ◌∷◌, ◌++◌, ◌⊎◌, inl, inr, filter, map, sym, refl, ap, ◌∙◌, true≢false}
+use Rattle.std.proofs.Common.{◌≡◌, Bool, true, false, cond, List, [], ◌∷◌, ◌++◌, ◌⊎◌, inl, inr, filter, map, sym, refl, ap, ◌∙◌, true≢false}
 use Rattle.std.specs.List.{list_any, list_all}
+use Rattle.std.proofs.lemmas.Bool.{cases_Bool, and_parts, and_from, or_left, or_right, or_cases}
 use Rattle.assise_lease_table.specs.Leases.{Among}
-
-pub cases_of : (b : Bool) → (b ≡ true) ⊎ (b ≡ false)
-cases_of true = inl refl
-cases_of false = inr refl
-
-pub both_true : (a b : Bool) → (a && b) ≡ true → (a ≡ true) × (b ≡ true)
-both_true true b e = (refl, e)
-both_true false b e = cc
-
-pub and_true : (a b : Bool) → a ≡ true → b ≡ true → (a && b) ≡ true
-and_true true b e f = f
-and_true false b e f = e
-
-pub and_false_left : (a b : Bool) → a ≡ false → (a && b) ≡ false
-and_false_left true b e = cc
-and_false_left false b e = refl
-
-pub or_true_left : (a b : Bool) → a ≡ true → (a || b) ≡ true
-or_true_left true b e = refl
-or_true_left false b e = cc
-
-pub or_true_right : (a b : Bool) → b ≡ true → (a || b) ≡ true
-or_true_right true b e = refl
-or_true_right false b e = e
-
-pub or_cases : (a b : Bool) → (a || b) ≡ true → (a ≡ true) ⊎ (b ≡ true)
-or_cases true b e = inl refl
-or_cases false b e = inr e
-
-pub neither : (a b : Bool) → (a || b) ≡ false → (a ≡ false) × (b ≡ false)
-neither true b e = cc
-neither false b e = (refl, e)
-
-pub not_true : (b : Bool) → not b ≡ true → b ≡ false
-not_true true e = cc
-not_true false e = refl
-
-pub true_not : (b : Bool) → b ≡ false → not b ≡ true
-true_not true e = cc
-true_not false e = refl
+pub use Rattle.std.proofs.lemmas.Bool.{and_parts as both_true, not-true as not_true}
 
 pub not_both : {P : Type 0} (b : Bool) → b ≡ true → b ≡ false → P
 not_both b t f = absurd (true≢false (sym t ∙ f))
@@ -49,12 +11,12 @@ not_both b t f = absurd (true≢false (sym t ∙ f))
 module _ {X : Type 0} where
   pub all_among : (p : X → Bool) (xs : List X) → list_all p xs ≡ true → (x : X) → Among xs x → p x ≡ true
   all_among p [] e x a = absurd a
-  all_among p (y ∷ ys) e x a = let both = both_true (p y) (list_all p ys) e in
+  all_among p (y ∷ ys) e x a = let both = and_parts (p y) (list_all p ys) e in
       elim a [ inl same ↦ ap p same ∙ both.0 | inr rest ↦ all_among p ys both.1 x rest ]
 
   pub among_all : (p : X → Bool) (xs : List X) → ((x : X) → Among xs x → p x ≡ true) → list_all p xs ≡ true
   among_all p [] h = refl
-  among_all p (y ∷ ys) h = and_true (p y) (list_all p ys) (h y (inl refl)) (among_all p ys (λ x a. h x (inr a)))
+  among_all p (y ∷ ys) h = and_from (p y) (list_all p ys) (h y (inl refl)) (among_all p ys (λ x a. h x (inr a)))
 
   pub any_among : (p : X → Bool) (xs : List X) → list_any p xs ≡ true → (x : X) × Among xs x × (p x ≡ true)
   any_among p [] e = cc
@@ -68,13 +30,13 @@ module _ {X : Type 0} where
   among_any p [] x a e = absurd a
   among_any p (y ∷ ys) x a e =
       elim a [
-        | inl same ↦ or_true_left (p y) (list_any p ys) (sym (ap p same) ∙ e)
-        | inr rest ↦ or_true_right (p y) (list_any p ys) (among_any p ys x rest e)
+        | inl same ↦ or_left (p y) (list_any p ys) (sym (ap p same) ∙ e)
+        | inr rest ↦ or_right (p y) (list_any p ys) (among_any p ys x rest e)
       ]
 
   pub none_among : (p : X → Bool) (xs : List X) → list_any p xs ≡ false → (x : X) → Among xs x → p x ≡ false
   none_among p xs e x a =
-      elim (cases_of (p x)) [ inl here ↦ not_both (list_any p xs) (among_any p xs x a here) e | inr missed ↦ missed ]
+      elim (cases_Bool (p x)) [ inl here ↦ not_both (list_any p xs) (among_any p xs x a here) e | inr missed ↦ missed ]
 
   kept : (b : Bool) (y x : X) (ys : List X) → Among ys x → Among (cond b (y ∷ ys) ys) x
   kept true y x ys a = inr a

@@ -1,13 +1,12 @@
 -- What `retain` leaves of a map whose entries have leases, where it changes the leases of each alike.
-use Rattle.std.proofs.Common.{◌≡◌, ℕ, Bool, true, false, true≢false, ◌||◌, inl, inr, eq-eqb, cond, List, [], ◌∷◌, Option, None, Some, nat_eq, sym, refl, ap, subst, ◌∙◌}
+use Rattle.std.proofs.Common.{◌≡◌, ℕ, Bool, true, false, true≢false, inl, inr, eq-eqb, cond, List, [], ◌∷◌, Option, None, Some, nat_eq, sym, refl, ap, subst, ◌∙◌}
 use Rattle.std.specs.List.{IsDistinct, AllByRecursion, list_any}
 use Rattle.std.specs.Map.{lookup, keys_of, values_of}
 use Rattle.std.specs.Map.Calls.{RetainsPairs}
+use Rattle.std.proofs.lemmas.Bool.{cond_both, or_cases, or_parts, eqb-true}
 use Rattle.assise_lease_table.specs.declared.lease.Lease.{Lease}
 use Rattle.assise_lease_table.specs.Leases.{revoke}
 use Rattle.assise_lease_table.specs.Lists.{leases_in, is_none_or, is_any}
-use Rattle.assise_lease_table.proofs.Compatibles.{same_number}
-use Rattle.assise_lease_table.proofs.Elements.{neither, or_cases}
 
 pub revoke_any : (choice : Lease → Bool) (ls : List Lease) → is_any (revoke choice ls) ≡ is_any ls
 revoke_any choice [] = refl
@@ -17,21 +16,28 @@ pub nothing_left : (ls : List Lease) → is_any ls ≡ false → ls ≡ []
 nothing_left [] e = refl
 nothing_left (l ∷ ls) e = cc
 
--- each entry is kept
-module _ {V F : Type 0} (leases : V → List Lease) (T : F → ℕ → V → Bool → V → F → Type 0) (g : List Lease → List Lease) (none : g [] ≡ []) (f : F)
-    (says : (k : ℕ) (v : V) (b : Bool) (w : V) (f' : F) → T f k v b w f' → (b ≡ true) × (leases w ≡ g (leases v)) × (f' ≡ f)) where
-  at_head : (b : Bool) (v w : V) (old new : Option V) → leases w ≡ g (leases v) → leases_in leases new ≡ g (leases_in leases old)
-      → leases_in leases (cond b (Some w) new) ≡ g (leases_in leases (cond b (Some v) old))
+-- each entry is kept, and what is seen of it is changed alike
+module _ {V F R : Type 0} (seen : Option V → R) (T : F → ℕ → V → Bool → V → F → Type 0) (g : R → R) (none : seen None ≡ g (seen None)) (f : F)
+    (says : (k : ℕ) (v : V) (b : Bool) (w : V) (f' : F) → T f k v b w f' → (b ≡ true) × (seen (Some w) ≡ g (seen (Some v))) × (f' ≡ f)) where
+  at_head : (b : Bool) (v w : V) (old new : Option V) → seen (Some w) ≡ g (seen (Some v)) → seen new ≡ g (seen old)
+      → seen (cond b (Some w) new) ≡ g (seen (cond b (Some v) old))
   at_head true v w old new written rest = written
   at_head false v w old new written rest = rest
 
-  pub lists_after : (es kept : List (ℕ × V)) → RetainsPairs T f es kept → (i : ℕ) → leases_in leases (lookup (nat_eq i) kept) ≡ g (leases_in leases (lookup (nat_eq i) es))
-  lists_after [] kept r i = ap (λ z. leases_in leases (lookup (nat_eq i) z)) r ∙ sym none
-  lists_after (e ∷ es) kept r i =
+  seen_after : (es kept : List (ℕ × V)) → RetainsPairs T f es kept → (i : ℕ) → seen (lookup (nat_eq i) kept) ≡ g (seen (lookup (nat_eq i) es))
+  seen_after [] kept r i = ap (λ z. seen (lookup (nat_eq i) z)) r ∙ none
+  seen_after (e ∷ es) kept r i =
       let a = says e.0 e.1 r.0 r.1 r.2 r.4 in
-      let more = lists_after es r.3 (subst (λ u. RetainsPairs T u es r.3) a.2 r.5) i in
-      ap (λ z. leases_in leases (lookup (nat_eq i) z)) (r.6 ∙ ap (λ b. cond b ((e.0, r.1) ∷ r.3) r.3) a.0)
+      let more = seen_after es r.3 (subst (λ u. RetainsPairs T u es r.3) a.2 r.5) i in
+      ap (λ z. seen (lookup (nat_eq i) z)) (r.6 ∙ ap (λ b. cond b ((e.0, r.1) ∷ r.3) r.3) a.0)
       ∙ at_head (nat_eq i e.0) e.1 r.1 (lookup (nat_eq i) es) (lookup (nat_eq i) r.3) a.1 more
+
+-- each entry is kept
+module _ {V F : Type 0} (leases : V → List Lease) (T : F → ℕ → V → Bool → V → F → Type 0) (g : List Lease → List Lease) (none : g [] ≡ []) (f : F)
+    (says : (k : ℕ) (v : V) (b : Bool) (w : V) (f' : F) → T f k v b w f' → (b ≡ true) × (leases w ≡ g (leases v)) × (f' ≡ f)) where
+  pub lists_after : (es kept : List (ℕ × V)) → RetainsPairs T f es kept → (i : ℕ)
+      → leases_in leases (lookup (nat_eq i) kept) ≡ g (leases_in leases (lookup (nat_eq i) es))
+  lists_after = seen_after (leases_in leases) T g (sym none) f says
 
 -- what a call says, with what follows from the middle of it
 pub middle : {A B C D : Type 0} → (B → D) → A × B × C → A × D × C
@@ -40,25 +46,15 @@ middle follows said = (said.0, follows said.1, said.2)
 -- each entry is kept, and has a lease where it had one
 module _ {V F : Type 0} (any : V → Bool) (T : F → ℕ → V → Bool → V → F → Type 0) (f : F)
     (says : (k : ℕ) (v : V) (b : Bool) (w : V) (f' : F) → T f k v b w f' → (b ≡ true) × (any w ≡ any v) × (f' ≡ f)) where
-  held_head : (b : Bool) (v w : V) (old new : Option V) → any w ≡ any v → is_none_or any new ≡ is_none_or any old → is_none_or any (cond b (Some w) new) ≡ is_none_or any (cond b (Some v) old)
-  held_head true v w old new written rest = written
-  held_head false v w old new written rest = rest
-
   pub held_after : (es kept : List (ℕ × V)) → RetainsPairs T f es kept → (i : ℕ) → is_none_or any (lookup (nat_eq i) kept) ≡ is_none_or any (lookup (nat_eq i) es)
-  held_after [] kept r i = ap (λ z. is_none_or any (lookup (nat_eq i) z)) r
-  held_after (e ∷ es) kept r i =
-      let a = says e.0 e.1 r.0 r.1 r.2 r.4 in
-      let more = held_after es r.3 (subst (λ u. RetainsPairs T u es r.3) a.2 r.5) i in
-      ap (λ z. is_none_or any (lookup (nat_eq i) z)) (r.6 ∙ ap (λ b. cond b ((e.0, r.1) ∷ r.3) r.3) a.0)
-      ∙ held_head (nat_eq i e.0) e.1 r.1 (lookup (nat_eq i) es) (lookup (nat_eq i) r.3) a.1 more
+  held_after = seen_after (is_none_or any) T (λ b. b) refl f says
 
 -- no entry behind a key has it too
-absent_at : {V : Type 0} (m : Bool) (i k j : ℕ) (v : V) (rest : Option V) → nat_eq i k ≡ true → nat_eq k j ≡ false → rest ≡ None → cond (nat_eq i j) (Some v) rest ≡ None
-absent_at m i k j v rest same other none = ap (λ z. cond (nat_eq z j) (Some v) rest) (same_number i k same) ∙ ap (λ b. cond b (Some v) rest) other ∙ none
-
 pub absent : {V : Type 0} (i k : ℕ) (es : List (ℕ × V)) → nat_eq i k ≡ true → AllByRecursion (λ y. nat_eq k y ≡ false) (keys_of es) → lookup (nat_eq i) es ≡ None
 absent i k [] same all = refl
-absent i k (e ∷ es) same all = absent_at true i k e.0 e.1 (lookup (nat_eq i) es) same all.0 (absent i k es same all.1)
+absent i k (e ∷ es) same all =
+    ap (λ z. cond (nat_eq z e.0) (Some e.1) (lookup (nat_eq i) es)) (eqb-true i k same) ∙ ap (λ b. cond b (Some e.1) (lookup (nat_eq i) es)) all.0
+    ∙ absent i k es same all.1
 
 -- each entry is kept that has a lease then
 module _ {V F : Type 0} (leases : V → List Lease) (any : V → Bool) (empty : (v : V) → any v ≡ false → leases v ≡ []) (T : F → ℕ → V → Bool → V → F → Type 0) (g : List Lease → List Lease) (none : g [] ≡ []) (f : F)
@@ -98,25 +94,19 @@ module _ {V : Type 0} (leases : V → List Lease) (choice : Lease → Bool) wher
   abbrev pub AnyIn : List (ℕ × V) → Bool
   AnyIn es = list_any (λ v. list_any choice (leases v)) (values_of es)
 
-  none_head : (b : Bool) (v : V) (rest : Option V) → list_any choice (leases v) ≡ false → list_any choice (leases_in leases rest) ≡ false → list_any choice (leases_in leases (cond b (Some v) rest)) ≡ false
-  none_head true v rest here behind = here
-  none_head false v rest here behind = behind
-
   pub none_at : (es : List (ℕ × V)) → AnyIn es ≡ false → (i : ℕ) → list_any choice (leases_in leases (lookup (nat_eq i) es)) ≡ false
   none_at [] e i = refl
-  none_at (x ∷ xs) e i = let parts = neither (list_any choice (leases x.1)) (AnyIn xs) e in
-      none_head (nat_eq i x.0) x.1 (lookup (nat_eq i) xs) parts.0 (none_at xs parts.1 i)
-
-  -- a key with a chosen lease behind another key isn't that key
-  behind_key : (b : Bool) (v : V) (rest : Option V) → (b ≡ true → rest ≡ None) → list_any choice (leases_in leases rest) ≡ true → list_any choice (leases_in leases (cond b (Some v) rest)) ≡ true
-  behind_key true v rest gone found = absurd (true≢false (sym found ∙ ap (λ o. list_any choice (leases_in leases o)) (gone refl)))
-  behind_key false v rest gone found = found
+  none_at (x ∷ xs) e i = let parts = or_parts (list_any choice (leases x.1)) (AnyIn xs) e in
+      cond_both (nat_eq i x.0) (Some x.1) (lookup (nat_eq i) xs) (λ o. list_any choice (leases_in leases o) ≡ false) (λ _. parts.0) (λ _. none_at xs parts.1 i)
 
   pub some_at : (es : List (ℕ × V)) → IsDistinct nat_eq (keys_of es) → AnyIn es ≡ true → (i : ℕ) × (list_any choice (leases_in leases (lookup (nat_eq i) es)) ≡ true)
   unfolding IsDistinct
   some_at [] distinct e = cc
   some_at (x ∷ xs) distinct e = elim (or_cases (list_any choice (leases x.1)) (AnyIn xs) e) [
     | inl here ↦ (x.0, ap (λ b. list_any choice (leases_in leases (cond b (Some x.1) (lookup (nat_eq x.0) xs)))) (eq-eqb x.0 x.0 refl) ∙ here)
-    | inr rest ↦ let found = some_at xs distinct.1 rest in
-        (found.0, behind_key (nat_eq found.0 x.0) x.1 (lookup (nat_eq found.0) xs) (λ same. absent found.0 x.0 xs same distinct.0) found.1)
+    | inr rest ↦ let found = some_at xs distinct.1 rest in (
+      found.0,
+      cond_both (nat_eq found.0 x.0) (Some x.1) (lookup (nat_eq found.0) xs) (λ o. list_any choice (leases_in leases o) ≡ true)
+          (λ same. absurd (true≢false (sym found.1 ∙ ap (λ o. list_any choice (leases_in leases o)) (absent found.0 x.0 xs same distinct.0)))) (λ _. found.1),
+    )
   ]

@@ -1,16 +1,27 @@
 -- The chosen leases that aren't revoked, of one inode and of all.
-use Rattle.std.proofs.Common.{◌≡◌, ℕ, ◌==◌, Bool, true, false, cond, not, ◌&&◌, ◌||◌, List, [], ◌∷◌, ◌++◌, Option, Some, None, nat_eq, inl, inr, sym, refl, ap, ◌∙◌, eq-eqb}
+use Rattle.std.proofs.Common.{◌≡◌, ℕ, ◌==◌, Bool, true, false, cond, not, ◌&&◌, ◌||◌, List, [], ◌∷◌, ◌++◌, Option, Some, None, nat_eq, sym, refl, ap, ◌∙◌, eq-eqb, append-nil}
 use Rattle.std.proofs.lemmas.List.Folds.{list_all-append, list_any-append}
 use Rattle.std.specs.List.{IsDistinct, list_any, list_all}
 use Rattle.std.specs.Map.{lookup, keys_of}
+use Rattle.std.proofs.lemmas.Bool.{and_parts, and_from, cond_both, not-true, not_from_false, eqb-true, and_right, ne_eqb, eqb-false}
 use Rattle.assise_lease_table.specs.Cuts.{is_of, is_asked, are_once, are_uncut, asked_at}
 use Rattle.assise_lease_table.specs.Leases.{stand_together, compatible, is_own, is_to_ask}
 use Rattle.assise_lease_table.specs.Lists.{leases_in}
 use Rattle.assise_lease_table.specs.declared.lease.Asked.{Asked}
 use Rattle.assise_lease_table.specs.declared.lease.Lease.{Lease}
-use Rattle.assise_lease_table.proofs.Compatibles.{same_number}
-use Rattle.assise_lease_table.proofs.Elements.{cases_of, both_true, and_true, not_true, true_not}
 use Rattle.assise_lease_table.proofs.Retained.{absent}
+
+turned : (a b : ℕ) (m : Bool) → nat_eq a b ≡ m → (b == a) ≡ m
+turned a b true e = eq-eqb b a (sym (eqb-true a b e))
+turned a b false e = ne_eqb b a (λ same. eqb-false a b e (sym same))
+
+-- a holder's own lease stands with no other of it
+pub others : (l k : Lease) → stand_together l k ≡ true → is_own l.holder k ≡ false
+others l k e = turned l.holder k.holder false (not-true (l.holder == k.holder) (and_parts (not (l.holder == k.holder)) _ e).0)
+
+pub not_wanted : (b t rest : Bool) → b ≡ false → rest ≡ false → ((b && t) || rest) ≡ false
+not_wanted true t rest e f = cc
+not_wanted false t rest e f = f
 
 module _ {V : Type 0} (leases : V → List Lease) (choice : Lease → Bool) where
   -- it is the client's, chosen and not revoked
@@ -33,13 +44,9 @@ module _ {V : Type 0} (leases : V → List Lease) (choice : Lease → Bool) wher
   same_step false true a more_of c i rest e f = f
   same_step false false a more_of c i rest e f = f
 
-  and_right : (a b : Bool) → b ≡ true → (a && b) ≡ a
-  and_right true b e = e
-  and_right false b e = refl
-
-  none_right : (a b : Bool) → b ≡ false → (a && b) ≡ false
-  none_right true b e = e
-  none_right false b e = refl
+  and_same : (a b : Bool) → b ≡ true → (a && b) ≡ a
+  and_same true b e = e
+  and_same false b e = refl
 
   or_none : (a b : Bool) → b ≡ false → (a || b) ≡ a
   or_none true b e = refl
@@ -47,15 +54,15 @@ module _ {V : Type 0} (leases : V → List Lease) (choice : Lease → Bool) wher
 
   asked_here : (j i c : ℕ) → (j == i) ≡ true → (ls : List Lease) → is_asked (asked_at choice j ls) c i ≡ list_any (wanted c) ls
   asked_here j i c same [] = refl
-  asked_here j i c same (l ∷ ls) = same_step (is_to_ask choice l) (is_own c l) (answer_at j l) (asked_at choice j ls) c i (list_any (wanted c) ls) (and_right (l.holder == c) (j == i) same) (asked_here j i c same ls)
+  asked_here j i c same (l ∷ ls) =
+      same_step (is_to_ask choice l) (is_own c l) (answer_at j l) (asked_at choice j ls) c i (list_any (wanted c) ls)
+      (and_same (l.holder == c) (j == i) same) (asked_here j i c same ls)
 
   asked_elsewhere : (j i c : ℕ) → (j == i) ≡ false → (ls : List Lease) → is_asked (asked_at choice j ls) c i ≡ false
   asked_elsewhere j i c other [] = refl
-  asked_elsewhere j i c other (l ∷ ls) = same_step (is_to_ask choice l) false (answer_at j l) (asked_at choice j ls) c i false (none_right (l.holder == c) (j == i) other) (asked_elsewhere j i c other ls)
-
-  turned : (a b : ℕ) (m : Bool) → nat_eq a b ≡ m → (b == a) ≡ m
-  turned a b true e = eq-eqb b a (sym (same_number a b e))
-  turned a b false e = elim (cases_of (b == a)) [ inl same ↦ ap (λ z. z) (same ∙ sym (eq-eqb a b (sym (same_number b a same))) ∙ e) | inr other ↦ other ]
+  asked_elsewhere j i c other (l ∷ ls) =
+      same_step (is_to_ask choice l) false (answer_at j l) (asked_at choice j ls) c i false
+      (and_right (l.holder == c) (j == i) other) (asked_elsewhere j i c other ls)
 
   which_step : (m : Bool) (i c : ℕ) (j : ℕ) (v : V) (rest : Option V) (more_of : List Asked) → nat_eq i j ≡ m → (m ≡ true → rest ≡ None) → is_asked more_of c i ≡ list_any (wanted c) (leases_in leases rest)
       → is_asked (asked_at choice j (leases v) ++ more_of) c i ≡ list_any (wanted c) (leases_in leases (cond m (Some v) rest))
@@ -76,32 +83,27 @@ module _ {V : Type 0} (leases : V → List Lease) (choice : Lease → Bool) wher
 
   -- ---- each is listed once
 
-  not_wanted : (b t rest : Bool) → b ≡ false → rest ≡ false → ((b && t) || rest) ≡ false
-  not_wanted true t rest e f = cc
-  not_wanted false t rest e f = f
-
-  others : (l k : Lease) → stand_together l k ≡ true → is_own l.holder k ≡ false
-  others l k e = turned l.holder k.holder false (not_true (l.holder == k.holder) (both_true (not (l.holder == k.holder)) _ e).0)
-
   none_of : (l : Lease) (ls : List Lease) → list_all (stand_together l) ls ≡ true → list_any (wanted l.holder) ls ≡ false
   none_of l [] e = refl
-  none_of l (k ∷ ks) e = let parts = both_true (stand_together l k) (list_all (stand_together l) ks) e in
+  none_of l (k ∷ ks) e = let parts = and_parts (stand_together l k) (list_all (stand_together l) ks) e in
       not_wanted (is_own l.holder k) (is_to_ask choice k) (list_any (wanted l.holder) ks) (others l k parts.0) (none_of l ks parts.1)
-
-  once_step : (t : Bool) (a : Asked) (more_of : List Asked) → is_asked more_of a.client a.inode ≡ false → are_once more_of ≡ true → are_once (cond t (a ∷ more_of) more_of) ≡ true
-  once_step true a more_of new once = and_true (not (is_asked more_of a.client a.inode)) (are_once more_of) (true_not (is_asked more_of a.client a.inode) new) once
-  once_step false a more_of new once = once
 
   once_at : (j : ℕ) (ls : List Lease) → compatible ls ≡ true → are_once (asked_at choice j ls) ≡ true
   once_at j [] fits = refl
-  once_at j (l ∷ ls) fits = let parts = both_true (list_all (stand_together l) ls) (compatible ls) fits in
-      once_step (is_to_ask choice l) (answer_at j l) (asked_at choice j ls) (asked_here j j l.holder (eq-eqb j j refl) ls ∙ none_of l ls parts.0) (once_at j ls parts.1)
+  once_at j (l ∷ ls) fits =
+      let parts = and_parts (list_all (stand_together l) ls) (compatible ls) fits in
+      let behind = asked_at choice j ls in
+      let new = not_from_false (is_asked behind l.holder j) (asked_here j j l.holder (eq-eqb j j refl) ls ∙ none_of l ls parts.0) in
+      cond_both (is_to_ask choice l) (answer_at j l ∷ behind) behind (λ xs. are_once xs ≡ true)
+      (λ _. and_from (not (is_asked behind l.holder j)) (are_once behind) new (once_at j ls parts.1)) (λ _. once_at j ls parts.1)
 
   both_step : (t : Bool) (a : Asked) (more_of bs : List Asked) → is_asked bs a.client a.inode ≡ false → (are_once more_of ≡ true → are_once (more_of ++ bs) ≡ true) → are_once (cond t (a ∷ more_of) more_of) ≡ true → are_once (cond t (a ∷ more_of) more_of ++ bs) ≡ true
   both_step true a more_of bs new more once =
-      let parts = both_true (not (is_asked more_of a.client a.inode)) (are_once more_of) once in
-      and_true (not (is_asked (more_of ++ bs) a.client a.inode)) (are_once (more_of ++ bs))
-      (true_not (is_asked (more_of ++ bs) a.client a.inode) (list_any-append (is_of a.client a.inode) more_of bs ∙ or_none (is_asked more_of a.client a.inode) (is_asked bs a.client a.inode) new ∙ not_true (is_asked more_of a.client a.inode) parts.0))
+      let parts = and_parts (not (is_asked more_of a.client a.inode)) (are_once more_of) once in
+      and_from (not (is_asked (more_of ++ bs) a.client a.inode)) (are_once (more_of ++ bs))
+      (not_from_false (is_asked (more_of ++ bs) a.client a.inode)
+      (list_any-append (is_of a.client a.inode) more_of bs ∙ or_none (is_asked more_of a.client a.inode) (is_asked bs a.client a.inode) new
+      ∙ not-true (is_asked more_of a.client a.inode) parts.0))
       (more parts.1)
   both_step false a more_of bs new more once = more once
 
@@ -127,25 +129,19 @@ module _ {V : Type 0} (leases : V → List Lease) (choice : Lease → Bool) wher
 
   -- ---- nobody answered
 
-  uncut_step : (t : Bool) (j : ℕ) (l : Lease) (more_of : List Asked) → are_uncut more_of ≡ true → are_uncut (cond t (answer_at j l ∷ more_of) more_of) ≡ true
-  uncut_step true j l more_of more = more
-  uncut_step false j l more_of more = more
-
   uncut_at : (j : ℕ) (ls : List Lease) → are_uncut (asked_at choice j ls) ≡ true
   uncut_at j [] = refl
-  uncut_at j (l ∷ ls) = uncut_step (is_to_ask choice l) j l (asked_at choice j ls) (uncut_at j ls)
+  uncut_at j (l ∷ ls) =
+      cond_both (is_to_ask choice l) (answer_at j l ∷ asked_at choice j ls) (asked_at choice j ls) (λ xs. are_uncut xs ≡ true) (λ _. uncut_at j ls)
+      (λ _. uncut_at j ls)
 
   pub uncut_in : (es : List (ℕ × V)) → are_uncut (unasked_in es) ≡ true
   uncut_in [] = refl
   uncut_in (e ∷ es) =
       list_all-append (λ (a : Asked). a.cut == 0) (asked_at choice e.0 (leases e.1)) (unasked_in es)
-      ∙ and_true (are_uncut (asked_at choice e.0 (leases e.1))) (are_uncut (unasked_in es)) (uncut_at e.0 (leases e.1)) (uncut_in es)
-
-  nothing_more : (asked : List Asked) → asked ++ [] ≡ asked
-  nothing_more [] = refl
-  nothing_more (a ∷ asked) = ap (λ z. a ∷ z) (nothing_more asked)
+      ∙ and_from (are_uncut (asked_at choice e.0 (leases e.1))) (are_uncut (unasked_in es)) (uncut_at e.0 (leases e.1)) (uncut_in es)
 
   -- ---- the end of a loop over all
 
   pub all_listed : (asked : List Asked) (es left : List (ℕ × V)) → left ≡ [] → asked ++ unasked_in left ≡ unasked_in es → asked ≡ unasked_in es
-  all_listed asked es left done so_far = sym (nothing_more asked) ∙ ap (λ xs. asked ++ unasked_in xs) (sym done) ∙ so_far
+  all_listed asked es left done so_far = sym (append-nil asked) ∙ ap (λ xs. asked ++ unasked_in xs) (sym done) ∙ so_far

@@ -1,16 +1,17 @@
 -- What is asked for keeps both levels sound.
 use Rattle.std.proofs.Common.{◌≡◌, ◌≢◌, ℕ, ◌==◌, ◌&&◌, ◌||◌, Bool, true, false, cond, not, List, [], ◌∷◌, Option, Some, None, ◌⊎◌, inl, inr, sym, refl, ap, subst, ◌∙◌}
 use Rattle.std.specs.List.{list_any}
+use Rattle.std.proofs.lemmas.Bool.{cases_Bool, cond_both, and_parts, and_from, or_right, not-true, not_from_false, ne_eqb, eqb-false}
 use Rattle.assise_names.specs.declared.mode.Mode.{Mode}
 use Rattle.assise_lease_table.specs.declared.lease.Lease.{Lease}
 use Rattle.assise_lease_table.specs.Modes.{against, strong}
 use Rattle.assise_lease_table.specs.Leases.{Among, lease_of, is_own_unasked, is_rival, revoked_if, revoke, leave_out, raise, raise_unopposed, raised_if}
-use Rattle.assise_lease_table.proofs.Elements.{cases_of, both_true, and_true, or_true_right, not_true, true_not, not_both, any_among, among_any, filter_among, among_filter, map_among, among_map}
-use Rattle.assise_lease_table.proofs.Compatibles.{other_number, differ, raise_unopposed_compatible}
+use Rattle.assise_lease_table.proofs.Elements.{not_both, any_among, among_any, filter_among, among_filter, map_among, among_map}
+use Rattle.assise_lease_table.proofs.Compatibles.{raise_unopposed_compatible}
 use Rattle.assise_lease_table.specs.Leases.{compatible}
 use Rattle.assise_lease_table.proofs.LeaseChanges.{leave_out_fits, revoke_fits}
 use Rattle.assise_lease_tree.specs.Levels.{Homes, lives, is_busy, carries, Under, AskedBelow, in_way, is_revoked, is_free, gives_up, nodes_asked, rivals_asked}
-use Rattle.assise_lease_tree.proofs.ClientHomes.{lives_at, one_home, lease_among, stronger_left, busy_from, busy_some}
+use Rattle.assise_lease_tree.proofs.ClientHomes.{carrier, not_given_up, lives_at, one_home, lease_among, stronger_left, busy_from, busy_some}
 
 pub cond_right : (b x : Bool) → x ≡ true → cond b true x ≡ true
 cond_right true x e = refl
@@ -46,11 +47,9 @@ module _ (home : Homes) (cs : List Lease) (n : ℕ) (mode : Mode) where
 
   raise_under : (ns : List Lease) → Under home cs ns → Under home cs (raise n mode ns)
   raise_under ns under l a =
-      let found = any_among (carries home l) ns (under l a) in
-      let k = found.0 in
-      let parts = both_true (lives home l.holder k.holder) (strong k.mode l.mode) found.2 in
-      among_any (carries home l) (raise n mode ns) (raised_now k) (map_among raised_now ns k found.1)
-      (and_true (lives home l.holder k.holder) _ parts.0 (still_strong (is_own_unasked n k) k l.mode parts.1))
+      let k = carrier home ns l (under l a) in
+      among_any (carries home l) (raise n mode ns) (raised_now k.0) (map_among raised_now ns k.0 k.1)
+      (and_from (lives home l.holder k.0.holder) _ k.2 (still_strong (is_own_unasked n k.0) k.0 l.mode k.3))
 
   raise_below : (ns : List Lease) → AskedBelow home cs ns → AskedBelow home cs (raise n mode ns)
   raise_below ns below k a revoked =
@@ -58,19 +57,11 @@ module _ (home : Homes) (cs : List Lease) (n : ℕ) (mode : Mode) where
       let goal_at : Lease → Type 0 = λ (z : Lease). (is_busy home cs z.holder ≡ true) × ((l : Lease) → Among cs l → lives home l.holder z.holder ≡ true → l.revoked ≡ true) in
       subst goal_at (sym was.2) (below was.0 was.1 (sym (ap (λ (z : Lease). z.revoked) was.2) ∙ revoked))
 
-  under_unless : (b : Bool) (ns : List Lease) → Under home cs ns → Under home cs (cond b ns (raise n mode ns))
-  under_unless true ns under = under
-  under_unless false ns under = raise_under ns under
-
-  below_unless : (b : Bool) (ns : List Lease) → AskedBelow home cs ns → AskedBelow home cs (cond b ns (raise n mode ns))
-  below_unless true ns below = below
-  below_unless false ns below = raise_below ns below
-
   raised_under : (ns : List Lease) → Under home cs ns → Under home cs (raise_unopposed n mode ns)
-  raised_under ns under = under_unless (list_any (is_rival n mode) ns) ns under
+  raised_under ns under = cond_both (list_any (is_rival n mode) ns) ns (raise n mode ns) (Under home cs) (λ _. under) (λ _. raise_under ns under)
 
   raised_below : (ns : List Lease) → AskedBelow home cs ns → AskedBelow home cs (raise_unopposed n mode ns)
-  raised_below ns below = below_unless (list_any (is_rival n mode) ns) ns below
+  raised_below ns below = cond_both (list_any (is_rival n mode) ns) ns (raise n mode ns) (AskedBelow home cs) (λ _. below) (λ _. raise_below ns below)
 
 module _ (home : Homes) (cs ns : List Lease) (c n : ℕ) (mode : Mode) (at_home : home c ≡ Some n)
     (under : Under home cs ns) (below : AskedBelow home cs ns) where
@@ -92,18 +83,13 @@ module _ (home : Homes) (cs ns : List Lease) (c n : ℕ) (mode : Mode) (at_home 
   rivals_under : Under home (revoke (in_way home ns c n mode) cs) (rivals_asked home cs n mode ns)
   rivals_under l a =
       let was = among_map revoked_now cs l a in
-      let found = any_among (carries home was.0) ns (under was.0 was.1) in
-      let k = found.0 in
-      let parts = both_true (lives home was.0.holder k.holder) (strong k.mode was.0.mode) found.2 in
-      let stays : gives_up home cs n mode k ≡ false = elim (cases_of (gives_up home cs n mode k)) [
-        | inl gone ↦ not_both (is_busy home cs k.holder) (busy_from home cs k.holder was.0 was.1 parts.0) (not_true (is_busy home cs k.holder) (both_true (is_rival n mode k) (not (is_busy home cs k.holder)) gone).1)
-        | inr kept ↦ kept
-      ] in
+      let k = carrier home ns was.0 (under was.0 was.1) in
+      let stays = not_from_false (gives_up home cs n mode k.0) (not_given_up home cs n mode was.0 k.0 was.1 k.2) in
       subst (λ (z : Lease). list_any (carries home z) (rivals_asked home cs n mode ns) ≡ true) (sym was.2)
-      (among_any (carries home (revoked_now was.0)) (rivals_asked home cs n mode ns) (revoked_if (is_rival n mode k) k)
-      (map_among (λ z. revoked_if (is_rival n mode z) z) (leave_out (gives_up home cs n mode) ns) k
-      (filter_among (λ z. not (gives_up home cs n mode z)) ns k found.1 (true_not (gives_up home cs n mode k) stays)))
-      found.2)
+      (among_any (carries home (revoked_now was.0)) (rivals_asked home cs n mode ns) (revoked_if (is_rival n mode k.0) k.0)
+      (map_among (λ z. revoked_if (is_rival n mode z) z) (leave_out (gives_up home cs n mode) ns) k.0
+      (filter_among (λ z. not (gives_up home cs n mode z)) ns k.0 k.1 stays))
+      (and_from (lives home was.0.holder k.0.holder) (strong k.0.mode was.0.mode) k.2 k.3))
 
   pub asked_under : Under home (revoke (in_way home ns c n mode) cs) (nodes_asked home cs n mode ns)
   unfolding nodes_asked
@@ -119,11 +105,12 @@ module _ (home : Homes) (cs ns : List Lease) (c n : ℕ) (mode : Mode) (at_home 
   rival_in_way : (k : Lease) → Among ns k → is_rival n mode k ≡ true → (l : Lease) → Among cs l → lives home l.holder k.holder ≡ true → in_way home ns c n mode l ≡ true
   unfolding in_way
   rival_in_way k in_k rival l in_l there =
-      let away : k.holder ≢ n = differ k.holder n (not_true (k.holder == n) (both_true (not (k.holder == n)) (against mode k.mode) rival).0) in
+      let away : k.holder ≢ n = eqb-false k.holder n (not-true (k.holder == n) (and_parts (not (k.holder == n)) (against mode k.mode) rival).0) in
       let other : l.holder ≢ c = λ same. away (one_home home c k.holder n (ap (λ z. lives home z k.holder) (sym same) ∙ there) (lives_at home c n at_home)) in
-      and_true (not (l.holder == c)) _ (true_not (l.holder == c) (other_number l.holder c other))
-      (or_true_right (lives home l.holder n && against mode l.mode) _
-      (among_any (λ (z : Lease). lives home l.holder z.holder && is_rival n mode z) ns k in_k (and_true (lives home l.holder k.holder) (is_rival n mode k) there rival)))
+      and_from (not (l.holder == c)) _ (not_from_false (l.holder == c) (ne_eqb l.holder c other))
+      (or_right (lives home l.holder n && against mode l.mode) _
+      (among_any (λ (z : Lease). lives home l.holder z.holder && is_rival n mode z) ns k in_k
+      (and_from (lives home l.holder k.holder) (is_rival n mode k) there rival)))
 
   rivals_below : AskedBelow home (revoke (in_way home ns c n mode) cs) (rivals_asked home cs n mode ns)
   rivals_below k a revoked =
@@ -132,9 +119,11 @@ module _ (home : Homes) (cs ns : List Lease) (c n : ℕ) (mode : Mode) (at_home 
       let goal_at : Lease → Type 0 = λ (z : Lease). (is_busy home (revoke (in_way home ns c n mode) cs) z.holder ≡ true) × ((l : Lease) → Among (revoke (in_way home ns c n mode) cs) l → lives home l.holder z.holder ≡ true → l.revoked ≡ true) in
       subst goal_at (sym was.2) (elim (cond_cases (is_rival n mode was.0) was.0.revoked (sym (ap (λ (z : Lease). z.revoked) was.2) ∙ revoked)) [
         | inl rival ↦
-            let busy : is_busy home cs was.0.holder ≡ true = elim (cases_of (is_busy home cs was.0.holder)) [
+            let busy : is_busy home cs was.0.holder ≡ true = elim (cases_Bool (is_busy home cs was.0.holder)) [
               | inl some ↦ some
-              | inr none ↦ not_both (gives_up home cs n mode was.0) (and_true (is_rival n mode was.0) (not (is_busy home cs was.0.holder)) rival (true_not (is_busy home cs was.0.holder) none)) (not_true (gives_up home cs n mode was.0) old.1)
+              | inr none ↦ not_both (gives_up home cs n mode was.0)
+                  (and_from (is_rival n mode was.0) (not (is_busy home cs was.0.holder)) rival (not_from_false (is_busy home cs was.0.holder) none))
+                  (not-true (gives_up home cs n mode was.0) old.1)
             ] in (
               busy_after was.0.holder busy,
               λ l in_l there.

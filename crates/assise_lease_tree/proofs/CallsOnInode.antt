@@ -1,21 +1,11 @@
 -- What the steps of a call, one after another, make of the leases of one inode.
-use Rattle.std.proofs.Common.{◌≡◌, ℕ, ◌&&◌, Bool, true, false, cond, not, List, ap, refl, ◌∙◌}
+use Rattle.std.proofs.Common.{◌≡◌, ℕ, ◌&&◌, Bool, false, cond, not, List, ap}
+use Rattle.std.proofs.lemmas.List.Elements.{filter_agree}
 use Rattle.assise_names.specs.declared.mode.Mode.{Mode}
 use Rattle.assise_lease_table.specs.declared.lease.Lease.{Lease}
 use Rattle.assise_lease_table.specs.Leases.{lease_of, without_holder, leave_out, revoke, is_rival}
 use Rattle.assise_lease_tree.specs.Levels.{Homes, is_revoked, is_busy, gives_up, nodes_released}
 use Rattle.assise_lease_tree.proofs.AskSound.{busy_same}
-use Rattle.assise_lease_tree.proofs.Lawful.{filter_alike}
-
-pub nodes_gone : (home : Homes) (cs ns : List Lease) (n : ℕ) → is_revoked (lease_of ns n) ≡ true → is_busy home cs n ≡ false → nodes_released home cs n ns ≡ without_holder n ns
-nodes_gone home cs ns n revoked idle = λ i. cond (revoked i && not (idle i)) (without_holder n ns) ns
-
-never : {X : Type 0} (b : Bool) (x y : X) → cond (b && false) x y ≡ y
-never true x y = refl
-never false x y = refl
-
-pub nodes_stay_busy : (home : Homes) (cs ns : List Lease) (n : ℕ) → is_busy home cs n ≡ true → nodes_released home cs n ns ≡ ns
-nodes_stay_busy home cs ns n busy = ap (λ b. cond (is_revoked (lease_of ns n) && not b) (without_holder n ns) ns) busy ∙ never (is_revoked (lease_of ns n)) (without_holder n ns) ns
 
 pub nodes_stay : (home : Homes) (cs ns : List Lease) (n : ℕ) → is_revoked (lease_of ns n) ≡ false → nodes_released home cs n ns ≡ ns
 nodes_stay home cs ns n thawed = ap (λ b. cond (b && not (is_busy home cs n)) (without_holder n ns) ns) thawed
@@ -23,7 +13,8 @@ nodes_stay home cs ns n thawed = ap (λ b. cond (b && not (is_busy home cs n)) (
 -- what is given up over these clients' leases and over others that hold for the same nodes
 given_up_alike : (home : Homes) (cs ds : List Lease) (n : ℕ) (mode : Mode) (ns : List Lease) → ((m : ℕ) → is_busy home ds m ≡ is_busy home cs m) → leave_out (gives_up home ds n mode) ns ≡ leave_out (gives_up home cs n mode) ns
 given_up_alike home cs ds n mode ns same =
-    filter_alike (λ k. not (gives_up home ds n mode k)) (λ k. not (gives_up home cs n mode k)) (λ k. ap (λ b. not (is_rival n mode k && not b)) (same k.holder)) ns
+    filter_agree (λ k. not (gives_up home ds n mode k)) (λ k. not (gives_up home cs n mode k))
+    (λ k. ap (λ b. not (is_rival n mode k && not b)) (same k.holder)) ns
 
 -- what is given up over clients' leases of which some were revoked
 pub given_up_still : (home : Homes) (choice : Lease → Bool) (cs : List Lease) (n : ℕ) (mode : Mode) (ns : List Lease) → leave_out (gives_up home (revoke choice cs) n mode) ns ≡ leave_out (gives_up home cs n mode) ns

@@ -8,13 +8,11 @@ use Rattle.assise_names.specs.declared.mode.Mode.{Mode}
 use Rattle.assise_lease_table.specs.declared.lease.Lease.{Lease}
 use Rattle.assise_lease_table.specs.LeaseMaps.{Becomes, SameLeases}
 use Rattle.assise_lease_table.specs.Leases.{Among, lease_of, serves, new_lease, revoke}
-use Rattle.assise_lease_tree.specs.Levels.{carries, lives, is_node, in_way, raised_mode, clients_granted, nodes_granted, nodes_asked}
-use Rattle.assise_lease_table.specs.Modes.{strong}
-use Rattle.assise_lease_table.proofs.Elements.{any_among, both_true}
+use Rattle.assise_lease_tree.specs.Levels.{lives, is_node, in_way, raised_mode, clients_granted, nodes_granted, nodes_asked}
 use Rattle.assise_lease_tree.specs.declared.lease_tree.LeaseTreeOf.{LeaseTreeOf}
 use Rattle.assise_lease_tree.specs.Trees.{levels_of}
 use Rattle.assise_lease_tree.specs.TwoLevels.{TwoLevels, LevelsInvariant, is_free_for, IsGranted, IsAskedFor}
-use Rattle.assise_lease_tree.proofs.ClientHomes.{strong_raised, lease_among, lease_found, one_home, lives_at}
+use Rattle.assise_lease_tree.proofs.ClientHomes.{carrier, strong_raised, lease_among, lease_found, one_home, lives_at}
 use Rattle.assise_lease_tree.proofs.Lookups.{with_own, with_other}
 use Rattle.assise_lease_tree.proofs.AskSound.{some_revoked}
 use Rattle.assise_lease_tree.proofs.Lawful.{lawful_at, same_lawful}
@@ -40,9 +38,8 @@ pub node_has : (t : TwoLevels) → LevelsInvariant t → (c n inode : ℕ) → t
 node_has t lawful c n inode at_home e =
     let own = has_lease (lease_of (t.clients inode) c) e in
     let is = lease_among (t.clients inode) c own.0 own.1 in
-    let k = any_among (carries t.home own.0) (t.nodes inode) (lawful.under inode own.0 is.0) in
-    let below = (both_true (lives t.home own.0.holder k.0.holder) (strong k.0.mode own.0.mode) k.2).0 in
-    let here : k.0.holder ≡ n = one_home t.home c k.0.holder n (ap (λ z. lives t.home z k.0.holder) (sym is.1) ∙ below) (lives_at t.home c n at_home) in
+    let k = carrier t.home (t.nodes inode) own.0 (lawful.under inode own.0 is.0) in
+    let here : k.0.holder ≡ n = one_home t.home c k.0.holder n (ap (λ z. lives t.home z k.0.holder) (sym is.1) ∙ k.2) (lives_at t.home c n at_home) in
     ap is_some (lease_found (t.nodes inode) (lawful.nodes_compatible inode) n k.0 k.1 here)
 
 pub on_ok : {T E : Type 0} (r : Result T E) (P : Type 0) → IsOk r → OnOk r P → P
@@ -60,8 +57,7 @@ known_after now later known later_known c x y same has rest has_known rest_known
 -- a client's lease is of one that has a node
 pub has_home : (t : TwoLevels) → LevelsInvariant t → (inode : ℕ) (l : Lease) → Among (t.clients inode) l → is_some (t.home l.holder) ≡ true
 has_home t lawful inode l among =
-    let k = any_among (carries t.home l) (t.nodes inode) (lawful.under inode l among) in
-    is_some_home (t.home l.holder) k.0.holder (both_true (lives t.home l.holder k.0.holder) (strong k.0.mode l.mode) k.2).0
+    let k = carrier t.home (t.nodes inode) l (lawful.under inode l among) in is_some_home (t.home l.holder) k.0.holder k.2
 
 module _ (old : TwoLevels) (lawful : LevelsInvariant old) (c n inode : ℕ) (mode : Mode) (clients nodes : LeasesOf) where
   abbrev cs : List Lease

@@ -1,17 +1,19 @@
 -- Clients, their nodes and modes.
-use Rattle.std.proofs.Common.{◌≡◌, ℕ, ◌==◌, Bool, true, false, cond, List, [], ◌∷◌, Option, Some, None, ◌⊎◌, inl, inr, sym, refl, ap, ◌∙◌, eq-eqb}
+use Rattle.std.proofs.Common.{◌≡◌, ℕ, ◌==◌, Bool, true, false, cond, not, List, [], ◌∷◌, Option, Some, None, ◌⊎◌, inl, inr, sym, refl, ap, ◌∙◌, eq-eqb}
+use Rattle.std.specs.List.{list_any}
+use Rattle.std.proofs.lemmas.Bool.{eqb-true, and_parts, not-true, false_from_ne_true}
 use Rattle.assise_names.specs.declared.mode.Mode.{Mode}
 use Rattle.assise_names.specs.declared.mode.Mode.TheVariants.{Read, Write}
 use Rattle.assise_lease_table.specs.declared.lease.Lease.{Lease}
 use Rattle.assise_lease_table.specs.Modes.{against, strong, stronger}
-use Rattle.assise_lease_table.specs.Leases.{Among, lease_of, compatible}
+use Rattle.assise_lease_table.specs.Leases.{Among, lease_of, compatible, is_rival}
 use Rattle.assise_lease_table.proofs.Elements.{not_both, any_among, among_any}
-use Rattle.assise_lease_table.proofs.Compatibles.{same_number, one_lease}
-use Rattle.assise_lease_tree.specs.Levels.{Homes, is_node, lives, raised_mode, is_busy}
+use Rattle.assise_lease_table.proofs.Compatibles.{one_lease}
+use Rattle.assise_lease_tree.specs.Levels.{Homes, is_node, lives, raised_mode, is_busy, carries, gives_up}
 
 node_of : (o : Option ℕ) (n : ℕ) → is_node o n ≡ true → o ≡ Some n
 node_of None n e = cc
-node_of (Some m) n e = ap (λ z. Some z) (same_number m n e)
+node_of (Some m) n e = ap (λ z. Some z) (eqb-true m n e)
 
 pub home_of : (home : Homes) (c n : ℕ) → lives home c n ≡ true → home c ≡ Some n
 home_of home c n e = node_of (home c) n e
@@ -65,7 +67,7 @@ found_in false k l o e = inr e
 pub lease_among : (ls : List Lease) (h : ℕ) (l : Lease) → lease_of ls h ≡ Some l → Among ls l × (l.holder ≡ h)
 lease_among [] h l e = cc
 lease_among (k ∷ ks) h l e = elim (found_in (k.holder == h) k l (lease_of ks h) e) [
-  | inl here ↦ (inl (sym here.1), ap (λ (z : Lease). z.holder) (sym here.1) ∙ same_number k.holder h here.0)
+  | inl here ↦ (inl (sym here.1), ap (λ (z : Lease). z.holder) (sym here.1) ∙ eqb-true k.holder h here.0)
   | inr rest ↦ let found = lease_among ks h l rest in (inr found.0, found.1)
 ]
 
@@ -95,3 +97,18 @@ busy_from home cs n l a e = among_any (λ k. lives home k.holder n) cs l a e
 
 pub busy_some : (home : Homes) (cs : List Lease) (n : ℕ) → is_busy home cs n ≡ true → (l : Lease) × Among cs l × (lives home l.holder n ≡ true)
 busy_some home cs n e = any_among (λ k. lives home k.holder n) cs e
+
+-- the node's lease that carries a client's
+pub carrier : (home : Homes) (ns : List Lease) (l : Lease) → list_any (carries home l) ns ≡ true
+    → (k : Lease) × Among ns k × (lives home l.holder k.holder ≡ true) × (strong k.mode l.mode ≡ true)
+carrier home ns l carried =
+    let k = any_among (carries home l) ns carried in
+    let parts = and_parts (lives home l.holder k.0.holder) (strong k.0.mode l.mode) k.2 in
+    (k.0, k.1, parts.0, parts.1)
+
+-- no node gives up a lease below which a client is
+pub not_given_up : (home : Homes) (cs : List Lease) (n : ℕ) (mode : Mode) (l k : Lease) → Among cs l → lives home l.holder k.holder ≡ true
+    → gives_up home cs n mode k ≡ false
+not_given_up home cs n mode l k a there = false_from_ne_true (gives_up home cs n mode k) (λ gone.
+    not_both (is_busy home cs k.holder) (busy_from home cs k.holder l a there)
+    (not-true (is_busy home cs k.holder) (and_parts (is_rival n mode k) (not (is_busy home cs k.holder)) gone).1))

@@ -3,14 +3,15 @@ use Rattle.std.proofs.Common.{◌≡◌, ◌≢◌, ℕ, ◌==◌, ◌&&◌, tru
 use mathlib.Core.Logic.{dite}
 use native.Mathlib.Decide.{ℕ_discrete}
 use Rattle.std.specs.List.{list_any}
+use Rattle.std.proofs.lemmas.Bool.{cases_Bool, false_from_ne_true, and_from, or_left, or_right, not-true, not_from_false, ne_eqb, eqb-false}
 use Rattle.assise_names.specs.declared.mode.Mode.{Mode}
 use Rattle.assise_lease_table.specs.declared.lease.Lease.{Lease}
 use Rattle.assise_lease_table.specs.Modes.{against, strong, stronger}
 use Rattle.assise_lease_table.specs.Leases.{Among, lease_of, compatible, IsFree, is_rival, leave_out, without_holder, new_lease}
-use Rattle.assise_lease_table.proofs.Elements.{cases_of, both_true, and_true, or_true_left, or_true_right, not_true, true_not, not_both, any_among, among_any, none_among, filter_among, among_filter, among_prefix, among_last, among_push}
-use Rattle.assise_lease_table.proofs.Compatibles.{other_number, differ, not_against, stronger_against, with_compatible, filter_compatible}
+use Rattle.assise_lease_table.proofs.Elements.{not_both, among_any, none_among, filter_among, among_filter, among_prefix, among_last, among_push}
+use Rattle.assise_lease_table.proofs.Compatibles.{not_against, stronger_against, with_compatible, filter_compatible}
 use Rattle.assise_lease_tree.specs.Levels.{Homes, lives, is_busy, carries, Under, AskedBelow, in_way, raised_mode, gives_up, clients_granted, nodes_granted}
-use Rattle.assise_lease_tree.proofs.ClientHomes.{lives_at, one_home, weaker_against, stronger_left, stronger_both, strong_raised, lease_among, lease_found, busy_from, busy_some}
+use Rattle.assise_lease_tree.proofs.ClientHomes.{carrier, not_given_up, lives_at, one_home, weaker_against, stronger_left, stronger_both, strong_raised, lease_among, lease_found, busy_from, busy_some}
 
 module _ (home : Homes) (cs ns : List Lease) (c n : ℕ) (mode : Mode) (at_home : home c ≡ Some n)
     (fits_c : compatible cs ≡ true) (fits_n : compatible ns ≡ true) (under : Under home cs ns) (asked : AskedBelow home cs ns)
@@ -20,37 +21,27 @@ module _ (home : Homes) (cs ns : List Lease) (c n : ℕ) (mode : Mode) (at_home 
   unfolding in_way
   no_rival l in_l k in_k below rival other =
       not_both (in_way home ns c n mode l)
-      (and_true (not (l.holder == c)) _ (true_not (l.holder == c) (other_number l.holder c other))
-      (or_true_right (lives home l.holder n && against mode l.mode) _
-      (among_any (λ (z : Lease). lives home l.holder z.holder && is_rival n mode z) ns k in_k (and_true (lives home l.holder k.holder) (is_rival n mode k) below rival))))
+      (and_from (not (l.holder == c)) _ (not_from_false (l.holder == c) (ne_eqb l.holder c other))
+      (or_right (lives home l.holder n && against mode l.mode) _
+      (among_any (λ (z : Lease). lives home l.holder z.holder && is_rival n mode z) ns k in_k
+      (and_from (lives home l.holder k.holder) (is_rival n mode k) below rival))))
       (none_among (in_way home ns c n mode) cs nobody l in_l)
 
   not_rival : (l : Lease) → Among cs l → (k : Lease) → Among ns k → lives home l.holder k.holder ≡ true → l.holder ≢ c → k.holder ≢ n → against mode k.mode ≡ false
-  not_rival l in_l k in_k below other away = elim (cases_of (against mode k.mode)) [
-    | inl is ↦ absurd (no_rival l in_l k in_k below (and_true (not (k.holder == n)) (against mode k.mode) (true_not (k.holder == n) (other_number k.holder n away)) is) other)
-    | inr not_so ↦ not_so
-  ]
+  not_rival l in_l k in_k below other away = false_from_ne_true (against mode k.mode) (λ is.
+      no_rival l in_l k in_k below (and_from (not (k.holder == n)) (against mode k.mode) (not_from_false (k.holder == n) (ne_eqb k.holder n away)) is) other)
 
   local_not_against : (l : Lease) → Among cs l → lives home l.holder n ≡ true → l.holder ≢ c → against mode l.mode ≡ false
   unfolding in_way
-  local_not_against l in_l there other = elim (cases_of (against mode l.mode)) [
-    | inl is ↦ not_both (in_way home ns c n mode l)
-        (and_true (not (l.holder == c)) _ (true_not (l.holder == c) (other_number l.holder c other))
-        (or_true_left (lives home l.holder n && against mode l.mode) _ (and_true (lives home l.holder n) (against mode l.mode) there is)))
-        (none_among (in_way home ns c n mode) cs nobody l in_l)
-    | inr not_so ↦ not_so
-  ]
-
-  -- the node's lease that carries a client's
-  carrier : (l : Lease) → Among cs l → (k : Lease) × Among ns k × (lives home l.holder k.holder ≡ true) × (strong k.mode l.mode ≡ true)
-  carrier l in_l =
-      let found = any_among (carries home l) ns (under l in_l) in
-      let parts = both_true (lives home l.holder found.0.holder) (strong found.0.mode l.mode) found.2 in
-      (found.0, found.1, parts.0, parts.1)
+  local_not_against l in_l there other = false_from_ne_true (against mode l.mode) (λ is.
+      not_both (in_way home ns c n mode l)
+      (and_from (not (l.holder == c)) _ (not_from_false (l.holder == c) (ne_eqb l.holder c other))
+      (or_left (lives home l.holder n && against mode l.mode) _ (and_from (lives home l.holder n) (against mode l.mode) there is)))
+      (none_among (in_way home ns c n mode) cs nobody l in_l))
 
   mode_free : (l : Lease) → Among cs l → l.holder ≢ c → against mode l.mode ≡ false
   mode_free l in_l other =
-      let k = carrier l in_l in
+      let k = carrier home ns l (under l in_l) in
       dite (ℕ_discrete k.0.holder n)
       (λ here. local_not_against l in_l (subst (λ z. lives home l.holder z ≡ true) here k.2) other)
       (λ away. weaker_against mode k.0.mode l.mode k.3 (not_rival l in_l k.0 k.1 k.2 other away))
@@ -68,26 +59,20 @@ module _ (home : Homes) (cs ns : List Lease) (c n : ℕ) (mode : Mode) (at_home 
   unfolding clients_granted
   client_granted_compatible = with_compatible cs (new_lease c (raised_mode mode (lease_of cs c))) fits_c client_free
 
-  not_home : (l : Lease) → lives home l.holder n ≡ false → l.holder ≢ c
-  not_home l e same = not_both (lives home l.holder n) (ap (λ z. lives home z n) same ∙ lives_at home c n at_home) e
-
   elsewhere : (l : Lease) (m : ℕ) → lives home l.holder m ≡ true → m ≢ n → l.holder ≢ c
   elsewhere l m e away same = away (one_home home c m n (ap (λ z. lives home z m) (sym same) ∙ e) (lives_at home c n at_home))
 
   kept_not_against : (k : Lease) → Among (leave_out (gives_up home cs n mode) ns) k → k.holder ≢ n → against mode k.mode ≡ false
   kept_not_against k a away =
       let was = among_filter (λ z. not (gives_up home cs n mode z)) ns k a in
-      let stays = not_true (gives_up home cs n mode k) was.1 in
-      elim (cases_of (against mode k.mode)) [
-        | inl is ↦
-            let rival : is_rival n mode k ≡ true = and_true (not (k.holder == n)) (against mode k.mode) (true_not (k.holder == n) (other_number k.holder n away)) is in
-            elim (cases_of (is_busy home cs k.holder)) [
-              | inl busy ↦ let l = busy_some home cs k.holder busy in
-                  absurd (no_rival l.0 l.1 k was.0 l.2 rival (elsewhere l.0 k.holder l.2 away))
-              | inr idle ↦ not_both (gives_up home cs n mode k) (and_true (is_rival n mode k) (not (is_busy home cs k.holder)) rival (true_not (is_busy home cs k.holder) idle)) stays
-            ]
-        | inr not_so ↦ not_so
-      ]
+      let stays = not-true (gives_up home cs n mode k) was.1 in
+      false_from_ne_true (against mode k.mode) (λ is.
+      let rival = and_from (not (k.holder == n)) (against mode k.mode) (not_from_false (k.holder == n) (ne_eqb k.holder n away)) is in
+      elim (cases_Bool (is_busy home cs k.holder)) [
+        | inl busy ↦ let l = busy_some home cs k.holder busy in no_rival l.0 l.1 k was.0 l.2 rival (elsewhere l.0 k.holder l.2 away)
+        | inr idle ↦ not_both (gives_up home cs n mode k)
+            (and_from (is_rival n mode k) (not (is_busy home cs k.holder)) rival (not_from_false (is_busy home cs k.holder) idle)) stays
+      ])
 
   pub node_free : IsFree (leave_out (gives_up home cs n mode) ns) n (raised_mode mode (lease_of ns n))
   node_free k a away =
@@ -114,7 +99,7 @@ module _ (home : Homes) (cs ns : List Lease) (c n : ℕ) (mode : Mode) (at_home 
   raised_strong None is = strong_raised mode (lease_of ns n)
   raised_strong (Some o) is =
       let own = lease_among cs c o is in
-      let k = carrier o own.0 in
+      let k = carrier home ns o (under o own.0) in
       let here : k.0.holder ≡ n = one_home home c k.0.holder n (ap (λ z. lives home z k.0.holder) (sym own.1) ∙ k.2) (lives_at home c n at_home) in
       subst (λ z. strong (raised_mode mode z) (stronger o.mode mode) ≡ true) (sym (lease_found ns fits_n n k.0 k.1 here)) (stronger_both k.0.mode o.mode mode k.3)
 
@@ -123,24 +108,21 @@ module _ (home : Homes) (cs ns : List Lease) (c n : ℕ) (mode : Mode) (at_home 
   granted_under l a = elim (among_push (without_holder c cs) new_client l a) [
     | inl before ↦
         let was = among_filter (λ (z : Lease). not (z.holder == c)) cs l before in
-        let k = carrier l was.0 in
+        let k = carrier home ns l (under l was.0) in
         dite (ℕ_discrete k.0.holder n)
         (λ here. among_any (carries home l) (nodes_granted home cs n mode ns) new_node (among_last kept_nodes new_node)
-        (and_true (lives home l.holder n) _ (subst (λ z. lives home l.holder z ≡ true) here k.2)
+        (and_from (lives home l.holder n) _ (subst (λ z. lives home l.holder z ≡ true) here k.2)
         (subst (λ z. strong (raised_mode mode z) l.mode ≡ true) (sym (lease_found ns fits_n n k.0 k.1 here)) (stronger_left k.0.mode mode l.mode k.3))))
         (λ away. among_any (carries home l) (nodes_granted home cs n mode ns) k.0
         (among_prefix kept_nodes new_node k.0
         (filter_among (λ (z : Lease). not (z.holder == n)) (leave_out (gives_up home cs n mode) ns) k.0
         (filter_among (λ z. not (gives_up home cs n mode z)) ns k.0 k.1
-        (true_not (gives_up home cs n mode k.0) (elim (cases_of (gives_up home cs n mode k.0)) [
-          | inl gone ↦ not_both (is_busy home cs k.0.holder) (busy_from home cs k.0.holder l was.0 k.2) (not_true (is_busy home cs k.0.holder) (both_true (is_rival n mode k.0) (not (is_busy home cs k.0.holder)) gone).1)
-          | inr stays ↦ stays
-        ])))
-        (true_not (k.0.holder == n) (other_number k.0.holder n away))))
-        (and_true (lives home l.holder k.0.holder) (strong k.0.mode l.mode) k.2 k.3))
+        (not_from_false (gives_up home cs n mode k.0) (not_given_up home cs n mode l k.0 was.0 k.2)))
+        (not_from_false (k.0.holder == n) (ne_eqb k.0.holder n away))))
+        (and_from (lives home l.holder k.0.holder) (strong k.0.mode l.mode) k.2 k.3))
     | inr last ↦ among_any (carries home l) (nodes_granted home cs n mode ns) new_node (among_last kept_nodes new_node)
         (subst (λ (z : Lease). carries home z new_node ≡ true) (sym last)
-        (and_true (lives home c n) _ (lives_at home c n at_home) (raised_strong (lease_of cs c) refl)))
+        (and_from (lives home c n) _ (lives_at home c n at_home) (raised_strong (lease_of cs c) refl)))
   ]
 
   pub granted_asked : AskedBelow home (clients_granted c mode cs) (nodes_granted home cs n mode ns)
@@ -148,11 +130,13 @@ module _ (home : Homes) (cs ns : List Lease) (c n : ℕ) (mode : Mode) (at_home 
   granted_asked k a revoked = elim (among_push kept_nodes new_node k a) [
     | inl before ↦
         let was = among_filter (λ (z : Lease). not (z.holder == n)) (leave_out (gives_up home cs n mode) ns) k before in
-        let away : k.holder ≢ n = differ k.holder n (not_true (k.holder == n) was.1) in
+        let away : k.holder ≢ n = eqb-false k.holder n (not-true (k.holder == n) was.1) in
         let old = asked k (among_filter (λ z. not (gives_up home cs n mode z)) ns k was.0).0 revoked in
         let l = busy_some home cs k.holder old.0 in (
           busy_from home (clients_granted c mode cs) k.holder l.0
-              (among_prefix (without_holder c cs) new_client l.0 (filter_among (λ (z : Lease). not (z.holder == c)) cs l.0 l.1 (true_not (l.0.holder == c) (other_number l.0.holder c (elsewhere l.0 k.holder l.2 away)))))
+              (among_prefix (without_holder c cs) new_client l.0
+              (filter_among (λ (z : Lease). not (z.holder == c)) cs l.0 l.1
+              (not_from_false (l.0.holder == c) (ne_eqb l.0.holder c (elsewhere l.0 k.holder l.2 away)))))
               l.2,
           λ x in_x below. elim (among_push (without_holder c cs) new_client x in_x) [
             | inl old_x ↦ old.1 x (among_filter (λ (z : Lease). not (z.holder == c)) cs x old_x).0 below

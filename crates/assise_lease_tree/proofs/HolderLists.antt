@@ -1,11 +1,11 @@
 -- Which leases are listed where a test looks at holders alone.
 use Rattle.std.proofs.Common.{◌≡◌, ℕ, ◌==◌, Bool, true, false, cond, not, ◌&&◌, ◌||◌, List, [], ◌∷◌, Option, Some, sym, refl, ap, ◌∙◌}
 use Rattle.std.specs.List.{list_any, list_all}
+use Rattle.std.proofs.lemmas.Bool.{and_parts, eqb-true}
 use Rattle.assise_lease_table.specs.Cuts.{is_unasked}
 use Rattle.assise_lease_table.specs.Leases.{stand_together, compatible, is_own, is_to_ask, lease_of}
 use Rattle.assise_lease_table.specs.declared.lease.Lease.{Lease}
-use Rattle.assise_lease_table.proofs.Compatibles.{same_number, other_number, differ}
-use Rattle.assise_lease_table.proofs.Elements.{both_true, not_true}
+use Rattle.assise_lease_table.proofs.Unasked.{others, not_wanted}
 
 module _ (by : ℕ → Bool) where
   abbrev chosen : ℕ → Lease → Bool
@@ -14,19 +14,10 @@ module _ (by : ℕ → Bool) where
   abbrev pub left_of : ℕ → List Lease → Bool
   left_of c ls = by c && is_unasked (lease_of ls c)
 
-  passed : (b t rest : Bool) → b ≡ false → rest ≡ false → ((b && t) || rest) ≡ false
-  passed true t rest e f = cc
-  passed false t rest e f = f
-
-  together_head : (l k : Lease) → stand_together l k ≡ true → is_own l.holder k ≡ false
-  together_head l k e =
-      let other = not_true (l.holder == k.holder) (both_true (not (l.holder == k.holder)) _ e).0 in
-      other_number k.holder l.holder (λ same. differ l.holder k.holder other (sym same))
-
   none_left : (l : Lease) (ls : List Lease) → list_all (stand_together l) ls ≡ true → list_any (chosen l.holder) ls ≡ false
   none_left l [] e = refl
-  none_left l (k ∷ ks) e = let parts = both_true (stand_together l k) (list_all (stand_together l) ks) e in
-      passed (is_own l.holder k) (is_to_ask (λ z. by z.holder) k) (list_any (chosen l.holder) ks) (together_head l k parts.0) (none_left l ks parts.1)
+  none_left l (k ∷ ks) e = let parts = and_parts (stand_together l k) (list_all (stand_together l) ks) e in
+      not_wanted (is_own l.holder k) (is_to_ask (λ z. by z.holder) k) (list_any (chosen l.holder) ks) (others l k parts.0) (none_left l ks parts.1)
 
   nothing_left : (b : Bool) → false ≡ (b && false)
   nothing_left true = refl
@@ -47,7 +38,7 @@ module _ (by : ℕ → Bool) where
   pub listed_of : (c : ℕ) (ls : List Lease) → compatible ls ≡ true → list_any (chosen c) ls ≡ left_of c ls
   listed_of c [] fits = nothing_left (by c)
   listed_of c (l ∷ ls) fits =
-      let parts = both_true (list_all (stand_together l) ls) (compatible ls) fits in
+      let parts = and_parts (list_all (stand_together l) ls) (compatible ls) fits in
       left_step (l.holder == c) l c (lease_of ls c) (list_any (chosen c) ls)
-      (λ own. let same = same_number l.holder c own in (same, ap (λ z. list_any (chosen z) ls) (sym same) ∙ none_left l ls parts.0))
+      (λ own. let same = eqb-true l.holder c own in (same, ap (λ z. list_any (chosen z) ls) (sym same) ∙ none_left l ls parts.0))
       (listed_of c ls parts.1)

@@ -1,9 +1,9 @@
 -- What is lawful inode by inode.
-use Rattle.std.proofs.Common.{◌≡◌, ℕ, Bool, true, cond, List, [], ◌∷◌, filter, sym, refl, ap, subst, ◌∙◌}
+use Rattle.std.proofs.Common.{◌≡◌, ℕ, true, List, sym, refl, ap, subst, ◌∙◌}
 use mathlib.Core.Logic.{dite}
 use native.Mathlib.Decide.{ℕ_discrete}
 use Rattle.assise_lease_table.specs.declared.lease.Lease.{Lease}
-use Rattle.assise_lease_table.specs.LeaseMaps.{Becomes, SameLeases}
+use Rattle.assise_lease_table.specs.LeaseMaps.{Becomes}
 use Rattle.assise_lease_table.specs.Leases.{compatible}
 use Rattle.assise_lease_tree.specs.Levels.{Homes, Under, AskedBelow}
 use Rattle.assise_lease_tree.specs.TwoLevels.{TwoLevels, LevelsInvariant, SameLevels, nobody}
@@ -44,20 +44,5 @@ same_lawful {old} {new} same lawful = each_lawful new old.clients old.nodes same
 pub nobody_lawful : LevelsInvariant nobody
 nobody_lawful = from_each nobody (λ i. record { fits_c = refl; fits_n = refl; under = λ l a. absurd a; asked = λ k a revoked. absurd a })
 
--- a change after one that changed no leases
-pub becomes_after : {a b d : ℕ → List Lease} {inode : ℕ} {ls : List Lease} → SameLeases a b → Becomes b d inode ls → Becomes a d inode ls
-becomes_after same change = record { here = change.here; elsewhere = λ i n. change.elsewhere i n ∙ same i }
-
--- two changes of one inode
-pub becomes_twice : {a b d : ℕ → List Lease} {inode : ℕ} {ls ks : List Lease} → Becomes a b inode ls → Becomes b d inode ks → Becomes a d inode ks
-becomes_twice first second = record { here = second.here; elsewhere = λ i n. second.elsewhere i n ∙ first.elsewhere i n }
-
-pub becomes_is : {a b : ℕ → List Lease} {inode : ℕ} {ls ks : List Lease} → ls ≡ ks → Becomes a b inode ls → Becomes a b inode ks
-becomes_is same change = record { here = change.here ∙ same; elsewhere = change.elsewhere }
-
 pub unchanged : {m : ℕ → List Lease} {inode : ℕ} {ls : List Lease} → ls ≡ m inode → Becomes m m inode ls
 unchanged same = record { here = sym same; elsewhere = λ i n. refl }
-
-pub filter_alike : (p q : Lease → Bool) → ((l : Lease) → p l ≡ q l) → (ls : List Lease) → filter p ls ≡ filter q ls
-filter_alike p q same [] = refl
-filter_alike p q same (l ∷ ls) = λ i. cond (same l i) (l ∷ filter_alike p q same ls i) (filter_alike p q same ls i)

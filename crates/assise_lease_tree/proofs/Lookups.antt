@@ -1,8 +1,8 @@
 -- What a look-up finds once a lease is put or taken away.
 use Rattle.std.proofs.Common.{◌≡◌, ◌≢◌, ℕ, ◌==◌, Bool, true, false, cond, not, List, [], ◌∷◌, ◌++◌, Option, Some, None, sym, refl, ap, ◌∙◌, eq-eqb}
+use Rattle.std.proofs.lemmas.Bool.{eqb-true, ne_eqb}
 use Rattle.assise_lease_table.specs.declared.lease.Lease.{Lease}
 use Rattle.assise_lease_table.specs.Leases.{lease_of, without_holder, with_lease}
-use Rattle.assise_lease_table.proofs.Compatibles.{same_number, other_number}
 
 none_at : (b : Bool) (l : Lease) (o : Option Lease) → cond b (Some l) o ≡ None → (b ≡ false) × (o ≡ None)
 none_at true l o e = cc
@@ -29,7 +29,7 @@ without_own (l ∷ ls) h = own_step l ls h (l.holder == h) refl (without_own ls 
 other_step : (l : Lease) (ls : List Lease) (h c : ℕ) (b : Bool) → (l.holder == h) ≡ b → c ≢ h → lease_of (without_holder h ls) c ≡ lease_of ls c
     → lease_of (cond (not b) (l ∷ without_holder h ls) (without_holder h ls)) c ≡ cond (l.holder == c) (Some l) (lease_of ls c)
 other_step l ls h c true e other rest =
-    rest ∙ sym (ap (λ b. cond b (Some l) (lease_of ls c)) (other_number l.holder c (λ same. other (sym same ∙ same_number l.holder h e))))
+    rest ∙ sym (ap (λ b. cond b (Some l) (lease_of ls c)) (ne_eqb l.holder c (λ same. other (sym same ∙ eqb-true l.holder h e))))
 other_step l ls h c false e other rest = ap (λ o. cond (l.holder == c) (Some l) o) rest
 
 pub without_other : (ls : List Lease) (h c : ℕ) → c ≢ h → lease_of (without_holder h ls) c ≡ lease_of ls c
@@ -40,4 +40,4 @@ pub with_own : (x : Lease) (ls : List Lease) → lease_of (with_lease x ls) x.ho
 with_own x ls = push_none (without_holder x.holder ls) x x.holder (without_own ls x.holder) ∙ ap (λ b. cond b (Some x) None) (eq-eqb x.holder x.holder refl)
 
 pub with_other : (x : Lease) (ls : List Lease) (c : ℕ) → c ≢ x.holder → lease_of (with_lease x ls) c ≡ lease_of ls c
-with_other x ls c other = push_other (without_holder x.holder ls) x c (other_number x.holder c (λ same. other (sym same))) ∙ without_other ls x.holder c other
+with_other x ls c other = push_other (without_holder x.holder ls) x c (ne_eqb x.holder c (λ same. other (sym same))) ∙ without_other ls x.holder c other

@@ -3,20 +3,21 @@ use Rattle.std.proofs.Common.{◌≡◌, ◌≢◌, ℕ, ◌==◌, ◌&&◌, Boo
 use mathlib.Core.Logic.{dite}
 use native.Mathlib.Decide.{ℕ_discrete}
 use Rattle.std.specs.List.{list_any}
+use Rattle.std.proofs.lemmas.Bool.{and_parts, and_from, not-true, not_from_false, ne_eqb, eqb-false}
+use Rattle.std.proofs.lemmas.Option.{none-some}
 use Rattle.assise_lease_table.specs.declared.lease.Lease.{Lease}
 use Rattle.assise_lease_table.specs.Modes.{strong}
 use Rattle.assise_lease_table.specs.Leases.{Among, lease_of, compatible, revoked_if, without_holder, revoke}
-use Rattle.assise_lease_table.proofs.Elements.{both_true, not_true, true_not, not_both, any_among, among_any, filter_among, among_filter, map_among, among_map}
-use Rattle.assise_lease_table.proofs.Compatibles.{other_number, differ}
+use Rattle.assise_lease_table.proofs.Elements.{not_both, any_among, among_any, filter_among, among_filter, map_among, among_map}
 use Rattle.assise_lease_tree.specs.Levels.{Homes, is_node, lives, is_busy, carries, Under, AskedBelow, is_revoked, nodes_released}
-use Rattle.assise_lease_tree.proofs.ClientHomes.{home_of, lives_at, one_home, lease_found, busy_from, busy_some}
+use Rattle.assise_lease_tree.proofs.ClientHomes.{carrier, home_of, lives_at, one_home, lease_found, busy_from, busy_some}
 use Rattle.assise_lease_tree.proofs.AskSound.{cond_right}
 
 in_without : (h : ℕ) (ls : List Lease) (l : Lease) → Among ls l → l.holder ≢ h → Among (without_holder h ls) l
-in_without h ls l a other = filter_among (λ (z : Lease). not (z.holder == h)) ls l a (true_not (l.holder == h) (other_number l.holder h other))
+in_without h ls l a other = filter_among (λ (z : Lease). not (z.holder == h)) ls l a (not_from_false (l.holder == h) (ne_eqb l.holder h other))
 
 of_without : (h : ℕ) (ls : List Lease) (l : Lease) → Among (without_holder h ls) l → Among ls l × (l.holder ≢ h)
-of_without h ls l a = let was = among_filter (λ (z : Lease). not (z.holder == h)) ls l a in (was.0, differ l.holder h (not_true (l.holder == h) was.1))
+of_without h ls l a = let was = among_filter (λ (z : Lease). not (z.holder == h)) ls l a in (was.0, eqb-false l.holder h (not-true (l.holder == h) was.1))
 
 module _ (home : Homes) (cs ns : List Lease) (fits_n : compatible ns ≡ true) (under : Under home cs ns) (asked : AskedBelow home cs ns) where
   -- a client lets go
@@ -27,9 +28,8 @@ module _ (home : Homes) (cs ns : List Lease) (fits_n : compatible ns ≡ true) (
     under_left : (ks : List Lease) → ((k : Lease) → Among ns k → (l : Lease) → Among left l → lives home l.holder k.holder ≡ true → Among ks k) → Under home left ks
     under_left ks keeps l a =
         let was = of_without c cs l a in
-        let k = any_among (carries home l) ns (under l was.0) in
-        let parts = both_true (lives home l.holder k.0.holder) (strong k.0.mode l.mode) k.2 in
-        among_any (carries home l) ks k.0 (keeps k.0 k.1 l a parts.0) k.2
+        let k = carrier home ns l (under l was.0) in
+        among_any (carries home l) ks k.0 (keeps k.0 k.1 l a k.2) (and_from (lives home l.holder k.0.holder) (strong k.0.mode l.mode) k.2 k.3)
 
     -- where a node's lease other than the home's was asked, or some client is left below
     asked_left : (k : Lease) → Among ns k → k.revoked ≡ true → ((k.holder ≢ n) ⊎ (is_busy home left k.holder ≡ true))
@@ -52,7 +52,7 @@ module _ (home : Homes) (cs ns : List Lease) (fits_n : compatible ns ≡ true) (
     released_at : (gone : Bool) → (is_revoked (lease_of ns n) && not (is_busy home left n)) ≡ gone
         → Under home left (cond gone (without_holder n ns) ns) × AskedBelow home left (cond gone (without_holder n ns) ns)
     released_at true e =
-        let idle : is_busy home left n ≡ false = not_true (is_busy home left n) (both_true (is_revoked (lease_of ns n)) (not (is_busy home left n)) e).1 in (
+        let idle : is_busy home left n ≡ false = not-true (is_busy home left n) (and_parts (is_revoked (lease_of ns n)) (not (is_busy home left n)) e).1 in (
           under_left (without_holder n ns) (λ k in_k l in_l there. in_without n ns k in_k (λ same.
               not_both (is_busy home left n) (busy_from home left n l in_l (subst (λ z. lives home l.holder z ≡ true) same there)) idle)),
           λ k a revoked. let was = of_without n ns k a in asked_left k was.0 revoked (inl was.1),
@@ -95,24 +95,19 @@ module _ (home : Homes) (cs ns : List Lease) (fits_n : compatible ns ≡ true) (
   module _ (n : ℕ) (idle : is_busy home cs n ≡ false) where
     pub freed_under : Under home cs (without_holder n ns)
     freed_under l a =
-        let k = any_among (carries home l) ns (under l a) in
-        let parts = both_true (lives home l.holder k.0.holder) (strong k.0.mode l.mode) k.2 in
+        let k = carrier home ns l (under l a) in
         among_any (carries home l) (without_holder n ns) k.0 (in_without n ns k.0 k.1 (λ same.
-        not_both (is_busy home cs n) (busy_from home cs n l a (subst (λ z. lives home l.holder z ≡ true) same parts.0)) idle)) k.2
+        not_both (is_busy home cs n) (busy_from home cs n l a (subst (λ z. lives home l.holder z ≡ true) same k.2)) idle))
+        (and_from (lives home l.holder k.0.holder) (strong k.0.mode l.mode) k.2 k.3)
 
     pub freed_asked : AskedBelow home cs (without_holder n ns)
     freed_asked k a revoked = asked k (of_without n ns k a).0 revoked
 
   -- a client is taken in that had no node
   module _ (later : Homes) (c : ℕ) (new : home c ≡ None) (rest : (d : ℕ) → d ≢ c → later d ≡ home d) where
-    some_none : (m : ℕ) → Some m ≡ None → ⊥
-    some_none m e = cc
-
     not_new : (l : Lease) → Among cs l → l.holder ≢ c
     not_new l a same =
-        let k = any_among (carries home l) ns (under l a) in
-        let parts = both_true (lives home l.holder k.0.holder) (strong k.0.mode l.mode) k.2 in
-        some_none k.0.holder (sym (home_of home l.holder k.0.holder parts.0) ∙ ap home same ∙ new)
+        let k = carrier home ns l (under l a) in none-some k.0.holder (sym (sym (home_of home l.holder k.0.holder k.2) ∙ ap home same ∙ new))
 
     same_lives : (l : Lease) → Among cs l → (m : ℕ) → lives later l.holder m ≡ lives home l.holder m
     same_lives l a m = ap (λ o. is_node o m) (rest l.holder (not_new l a))

@@ -1,11 +1,11 @@
 -- What each call does keeps the two levels lawful, and lists of calls do.
-use Rattle.std.proofs.Common.{◌≡◌, ℕ, ◌&&◌, Bool, true, false, cond, not, List, [], ◌∷◌, Some, None, inl, inr, refl}
+use Rattle.std.proofs.Common.{◌≡◌, ℕ, ◌&&◌, Bool, true, false, not, List, [], ◌∷◌, Some, None, inl, inr, refl}
 use Rattle.std.specs.List.{list_any}
+use Rattle.std.proofs.lemmas.Bool.{and_parts, cond_both, not-true}
 use Rattle.assise_names.specs.declared.mode.Mode.{Mode}
 use Rattle.assise_lease_table.specs.declared.lease.Lease.{Lease}
 use Rattle.assise_lease_table.specs.LeaseMaps.{SameLeases}
 use Rattle.assise_lease_table.specs.Leases.{compatible, lease_of, without_holder, revoke, is_own}
-use Rattle.assise_lease_table.proofs.Elements.{both_true, not_true}
 use Rattle.assise_lease_table.proofs.LeaseChanges.{leave_out_fits, revoke_fits}
 use Rattle.assise_lease_tree.specs.LeaseCalls.{LeaseCall, LeaseCallDoes, AllLeaseCalls}
 use Rattle.assise_lease_tree.specs.LeaseCalls.LeaseCall.{enrol, acquire, release, revoke_all, free_node}
@@ -19,7 +19,8 @@ use Rattle.assise_lease_tree.proofs.Lawful.{lawful_at, each_lawful, becomes_lawf
 -- who is granted has nobody in the way
 pub nobody_in_way : (home : Homes) (cs ns : List Lease) (c n : ℕ) (mode : Mode) → is_free home cs ns c n mode ≡ true → list_any (in_way home ns c n mode) cs ≡ false
 nobody_in_way home cs ns c n mode free =
-    not_true (list_any (in_way home ns c n mode) cs) (both_true (not (list_any (in_way home ns c n mode) cs)) (not (is_revoked (lease_of cs c)) && not (is_revoked (lease_of ns n))) free).0
+    not-true (list_any (in_way home ns c n mode) cs)
+    (and_parts (not (list_any (in_way home ns c n mode) cs)) (not (is_revoked (lease_of cs c)) && not (is_revoked (lease_of ns n))) free).0
 
 module _ (old : TwoLevels) (lawful : LevelsInvariant old) where
   pub granted_lawful : (new : TwoLevels) (c n inode : ℕ) (mode : Mode) → old.home c ≡ Some n → is_free_for old c n inode mode ≡ true → IsGranted old new c n inode mode → LevelsInvariant new
@@ -47,10 +48,6 @@ module _ (old : TwoLevels) (lawful : LevelsInvariant old) where
         asked = asked_asked old.home cs ns c n mode at_home l.under l.asked;
       }) lawful
 
-  released_fits : (gone : Bool) (n : ℕ) (ns : List Lease) → compatible ns ≡ true → compatible (cond gone (without_holder n ns) ns) ≡ true
-  released_fits true n ns fits = leave_out_fits (is_own n) ns fits
-  released_fits false n ns fits = fits
-
   pub released_lawful : (new : TwoLevels) (c n inode : ℕ) → old.home c ≡ Some n → ReleasesLease old new c n inode → LevelsInvariant new
   released_lawful new c n inode at_home r =
       let l = lawful_at lawful inode in
@@ -58,7 +55,8 @@ module _ (old : TwoLevels) (lawful : LevelsInvariant old) where
       let ns = old.nodes inode in
       becomes_lawful old new r.home r.clients r.nodes (record {
         fits_c = leave_out_fits (is_own c) cs l.fits_c;
-        fits_n = released_fits (is_revoked (lease_of ns n) && not (is_busy old.home (without_holder c cs) n)) n ns l.fits_n;
+        fits_n = cond_both (is_revoked (lease_of ns n) && not (is_busy old.home (without_holder c cs) n)) (without_holder n ns) ns
+            (λ ls. compatible ls ≡ true) (λ _. leave_out_fits (is_own n) ns l.fits_n) (λ _. l.fits_n);
         under = released_under old.home cs ns l.fits_n l.under l.asked c n at_home;
         asked = released_asked old.home cs ns l.fits_n l.under l.asked c n at_home;
       }) lawful

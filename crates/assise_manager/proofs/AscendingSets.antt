@@ -1,5 +1,5 @@
 -- Lists of numbers that ascend, as sets.
-use Rattle.std.proofs.Common.{◌≡◌, ℕ, suc, ◌+◌, ◌<◌, ◌≤◌, Bool, true, false, cond, ◌||◌, ◌⊎◌, Option, Some, None, IfSome, List, [], ◌∷◌, take, drop, length, get_or, refl, sym, ap, ◌∙◌, rules, arith, Bor, inl, inr, eqb, subst, ◌&&◌, not, zero, true≢false}
+use Rattle.std.proofs.Common.{◌≡◌, ℕ, suc, ◌+◌, ◌<◌, ◌≤◌, Bool, true, false, cond, ◌||◌, ◌⊎◌, Option, Some, None, IfSome, List, [], ◌∷◌, take, drop, length, get_or, refl, sym, ap, ◌∙◌, rules, arith, Bor, inl, inr, eqb, subst, ◌&&◌, not, zero, true≢false, add-one}
 use Rattle.std.specs.List.{list_any, insert, dedup, slice_index_or, slice_get}
 use Rattle.std.specs.Prelude.{IsSome, option_copied, Result, Ok, Err, OnOk, OnErr}
 use Rattle.std.specs.Ordering.{nat_cmp, eq_by_cmp, is_lt, is_gt, is_eq, ordering_index}
@@ -29,9 +29,6 @@ or_middle : (a b c : Bool) → (a || (b || c)) ≡ (b || (a || c))
 or_middle true true c = refl
 or_middle true false c = refl
 or_middle false b c = refl
-
-add_one : (n : ℕ) → n + 1 ≡ suc n
-add_one n = omega arith
 
 pub less : (x y : ℕ) → nat_cmp x y ≡ Less → x < y
 less x y e =
@@ -73,7 +70,7 @@ unfolding IsStrictlySortedBy
 len_ascending [] s = grind (members, rules)
 len_ascending (x ∷ xs) s =
     let few : set.len (set.from_list {R = nat_cmp} xs) ≡ length xs = len_ascending xs s.1 in
-    len-insert nat_cmp_total _ x ∙ (λ i. cond (absent x xs s.0 i) (few i) (few i + 1)) ∙ add_one _
+    len-insert nat_cmp_total _ x ∙ (λ i. cond (absent x xs s.0 i) (few i) (few i + 1)) ∙ add-one _
 
 -- the first is the lowest
 pub first_lowest : (x : ℕ) (xs : List ℕ) → IsStrictlySortedBy nat_cmp (x ∷ xs) → IsLowest (set.from_list (x ∷ xs)) x
@@ -99,7 +96,8 @@ without_first x xs s =
 behind_place : (xs : List ℕ) (i x k : ℕ) → IsStrictlySortedBy nat_cmp xs → i ≤ length xs → i < k → k < length xs → get_or (insert xs i x) k 0 < get_or (insert xs i x) (k + 1) 0
 behind_place xs i x zero s within behind inside = absurd (omega arith)
 behind_place xs i x (suc k) s within behind inside =
-    lt_both _ _ _ _ (ap (λ n. get_or (insert xs i x) n 0) (sym (add_one k)) ∙ get_or-insert_above xs i x 0 k (omega arith) within) (get_or-insert_above xs i x 0 (suc k) (omega arith) within) (below_from_sorted xs k (suc k) 0 s (omega arith) inside)
+    lt_both _ _ _ _ (ap (λ n. get_or (insert xs i x) n 0) (sym (add-one k)) ∙ get_or-insert_above xs i x 0 k (omega arith) within)
+    (get_or-insert_above xs i x 0 (suc k) (omega arith) within) (below_from_sorted xs k (suc k) 0 s (omega arith) inside)
 
 -- a number put in at its place
 pub insert_ascending : (xs : List ℕ) (i x : ℕ) → IsStrictlySortedBy nat_cmp xs → i ≤ length xs → ((k : ℕ) → k < i → get_or xs k 0 < x) → ((k : ℕ) → i ≤ k → k < length xs → x < get_or xs k 0) → IsStrictlySortedBy nat_cmp (insert xs i x)

@@ -1,13 +1,13 @@
 -- What the changes keep: each leaves a lawful membership lawful.
-use Rattle.std.proofs.Common.{◌≡◌, ℕ, zero, suc, ◌+◌, ◌-◌, ◌<◌, ◌≤◌, Bool, true, false, cond, ◌&&◌, not, inl, inr, Option, Some, None}
-use Rattle.std.proofs.Common.{List, [], ◌∷◌, ◌++◌, drop, length, refl, sym, ap, ◌∙◌, subst, arith, true≢false}
+use Rattle.std.proofs.Common.{[], ◌≡◌, ℕ, zero, suc, ◌+◌, ◌-◌, ◌<◌, ◌≤◌, Bool, true, false, cond, ◌&&◌, not, inl, inr, Option, Some, None}
+use Rattle.std.proofs.Common.{List, ◌∷◌, ◌++◌, drop, length, refl, sym, ap, ◌∙◌, subst, arith, true≢false}
 use Rattle.std.specs.Prelude.{◌==◌, nat_le}
 use Rattle.std.specs.List.{list_all, list_any, slice_get}
 use Rattle.std.specs.Ordering.{nat_cmp, eq_by_cmp}
 use Rattle.std.specs.FinSet as set
 use Rattle.std.specs.FinSet.{contains-union, contains-empty, contains-remove}
 use Rattle.std.specs.Cmp.{nat_cmp_total}
-use Rattle.std.proofs.lemmas.Bool.{and_parts, and_from, or_cases, or_left, or_right, cases_order, cond_both, eqb-false, leb-true, le-leb}
+use Rattle.std.proofs.lemmas.Bool.{and_parts, and_from, or_cases, or_left, or_right, cond_both, eqb-false, leb-true, le-leb}
 use Rattle.std.proofs.lemmas.Option.{none-some}
 use Rattle.std.proofs.lemmas.List.{length-append, length-map, length-set}
 use Rattle.assise_names.specs.declared.refusal.Refusal.{Refusal}
@@ -58,6 +58,9 @@ union_within s t u left right q inside =
       | inr r ↦ right q r
     ]
 
+union_both : (s t u v : Numbers) → Within s u → Within t v → Within (set.union s t) (set.union u v)
+union_both s t u v left right = union_within s t (set.union u v) (λ q i. union_left u v q (left q i)) (λ q i. union_right u v q (right q i))
+
 pub nothing_within : (s : Numbers) → Within set.empty s
 nothing_within s q inside = never (sym (contains-empty nat_cmp q) ∙ inside)
 
@@ -83,15 +86,9 @@ length_with_written (l ∷ next ∷ ls) inodes = ap suc (length_with_written (ne
 pub noted_keeps : (k : ℕ) (ls : List Numbers) (inodes : Numbers)
     → Within (all_inodes (drop k ls)) (all_inodes (drop k (with_written ls inodes)))
 noted_keeps k [] inodes q inside = inside
-noted_keeps zero (l ∷ []) inodes q inside =
-    union_within l set.empty (set.union (set.union l inodes) set.empty)
-    (λ r there. union_left (set.union l inodes) set.empty r (union_left l inodes r there))
-    (nothing_within (set.union (set.union l inodes) set.empty)) q inside
+noted_keeps zero (l ∷ []) inodes q inside = union_both l set.empty (set.union l inodes) set.empty (union_left l inodes) (λ r there. there) q inside
 noted_keeps zero (l ∷ next ∷ ls) inodes q inside =
-    let rest = all_inodes (with_written (next ∷ ls) inodes) in
-    union_within l (all_inodes (next ∷ ls)) (set.union l rest)
-    (union_left l rest)
-    (λ r there. union_right l rest r (noted_keeps zero (next ∷ ls) inodes r there)) q inside
+    union_both l (all_inodes (next ∷ ls)) l (all_inodes (with_written (next ∷ ls) inodes)) (λ r there. there) (noted_keeps zero (next ∷ ls) inodes) q inside
 noted_keeps (suc k) (l ∷ []) inodes q inside = inside
 noted_keeps (suc k) (l ∷ next ∷ ls) inodes q inside = noted_keeps k (next ∷ ls) inodes q inside
 
@@ -107,13 +104,13 @@ noted_there (suc k) (l ∷ next ∷ ls) inodes few q inside = noted_there k (nex
 
 -- ---- places
 
-back_one : (place : ℕ) → suc place - 1 ≡ place
-back_one place = omega arith
+pub one_fewer : (n : ℕ) → suc n - 1 ≡ n
+one_fewer n = omega arith
 
 -- a node's place in the list
 place_of : (nodes : List Standing) (node : ℕ) (s : Standing) → standing_of nodes node ≡ Some s → slice_get nodes (node - 1) ≡ Some s
 place_of nodes zero s at = absurd (none-some s at)
-place_of nodes (suc place) s at = ap (slice_get nodes) (back_one place) ∙ at
+place_of nodes (suc place) s at = ap (slice_get nodes) (one_fewer place) ∙ at
 
 numbered : (nodes : List Standing) (node : ℕ) (s : Standing) → standing_of nodes node ≡ Some s → 0 < node
 numbered nodes zero s at = absurd (none-some s at)
@@ -125,7 +122,7 @@ away_some (Some s) away = (s, refl)
 
 away_place : (nodes : List Standing) (node : ℕ) → is_away (standing_of nodes node) ≡ true → is_away (slice_get nodes (node - 1)) ≡ true
 away_place nodes zero away = never away
-away_place nodes (suc place) away = ap (λ i. is_away (slice_get nodes i)) (back_one place) ∙ away
+away_place nodes (suc place) away = ap (λ i. is_away (slice_get nodes i)) (one_fewer place) ∙ away
 
 -- what is known of each is known of this one
 pub known_of : (m : Membership) (node : ℕ) (s : Standing) → IsMembership m → standing_of m.nodes node ≡ Some s → is_known m s ≡ true
@@ -141,7 +138,7 @@ not_all_full nodes node old s at new all =
 
 -- ---- what is known
 
-listed_both : (m : Membership) (since : ℕ) → is_listed m since ≡ true → (first_listed m ≤ since) × (since ≤ m.epoch)
+pub listed_both : (m : Membership) (since : ℕ) → is_listed m since ≡ true → (first_listed m ≤ since) × (since ≤ m.epoch)
 listed_both m since listed =
     let both = and_parts (nat_le (first_listed m) since) (nat_le since m.epoch) listed in
     (leb-true (first_listed m) since both.0, leb-true since m.epoch both.1)
@@ -154,9 +151,7 @@ listed_more : (m n : Membership) → first_listed n ≡ first_listed m → m.epo
     → is_listed n since ≡ true
 listed_more m n first later since listed =
     let both = listed_both m since listed in
-    let low : first_listed m ≤ since = both.0 in
-    let high : since ≤ m.epoch = both.1 in
-    listed_from n since (subst (λ k. k ≤ since) (sym first) low) (omega arith)
+    listed_from n since (subst (λ k. k ≤ since) (sym first) both.0) (omega (arith, both.1))
 
 -- a node is full
 abbrev pub IsFullNode : Membership → ℕ → Type 0
@@ -288,21 +283,15 @@ one_more m nodes l = record { epoch = m.epoch + 1; nodes = nodes; written = m.wr
 one_list_more : (m : Membership) (l : Numbers) → length (m.written ++ l ∷ []) ≡ length m.written + 1
 one_list_more m l = length-append m.written (l ∷ [])
 
-less_by : (epoch few more : ℕ) → more ≡ few + 1 → (epoch + 1 + 1) - more ≡ (epoch + 1) - few
-less_by epoch few more e = omega arith
-
 -- the first list is that of the same epoch
-same_first : (m : Membership) (nodes : List Standing) (l : Numbers) → first_listed (one_more m nodes l) ≡ first_listed m
-same_first m nodes l = less_by m.epoch (length m.written) (length (m.written ++ l ∷ [])) (one_list_more m l)
+pub same_first : (m : Membership) (nodes : List Standing) (l : Numbers) → first_listed (one_more m nodes l) ≡ first_listed m
+same_first m nodes l = omega (arith, one_list_more m l)
 
 since_within : (m : Membership) (nodes : List Standing) (l : Numbers) (since : ℕ)
     → Within (written_since m since) (written_since (one_more m nodes l) since)
 since_within m nodes l since q inside =
     subst (λ k. set.contains (all_inodes (drop (since - k) (m.written ++ l ∷ []))) q ≡ true) (sym (same_first m nodes l))
     (later_within (since - first_listed m) m.written l q inside)
-
-more_lists : (few more epoch : ℕ) → few ≤ epoch → more ≡ few + 1 → more ≤ epoch + 1
-more_lists few more epoch h e = omega arith
 
 -- the epoch that begins has a list
 now_listed : (m : Membership) (nodes : List Standing) (l : Numbers) → is_listed (one_more m nodes l) (m.epoch + 1) ≡ true
@@ -311,15 +300,11 @@ now_listed m nodes l =
 
 -- ---- failures
 
-returning_refilled : (b : Bool) (since donor from : ℕ) (s t : Numbers)
-    → is_full (cond b (returning since donor s) (returning since from t)) ≡ false
-returning_refilled true since donor from s t = refl
-returning_refilled false since donor from s t = refl
-
 refilled_full : (written : ℕ → Numbers) (donor failed : ℕ) (s : Standing) → is_full (refilled_from written donor failed s) ≡ is_full s
 refilled_full written donor failed full = refl
 refilled_full written donor failed (down since) = refl
-refilled_full written donor failed (returning since from stale) = returning_refilled (from == failed) since donor from (written since) stale
+refilled_full written donor failed (returning since from stale) =
+    cond_both (from == failed) (returning since donor (written since)) (returning since from stale) (λ s. is_full s ≡ false) (λ _. refl) (λ _. refl)
 
 module _
     (m : Membership) (node : ℕ) (inodes : Numbers) (lawful : IsMembership m) (at : standing_of m.nodes node ≡ Some full)
@@ -373,7 +358,7 @@ module _
   full_failed_lawful : IsMembership after
   full_failed_lawful = record {
     began = omega arith;
-    lists = more_lists (length m.written) (length (m.written ++ inodes ∷ [])) m.epoch lawful.lists (one_list_more m inodes);
+    lists = omega (arith, lawful.lists, one_list_more m inodes);
     some_full = subst (λ l. 0 < length l) (sym same_full) still_full;
     known = list_all_map (λ s. is_known after (refill s)) (is_known after) refill begun.nodes
         (list_all_set (λ s. is_known after (refill s)) m.nodes (node - 1) (down (m.epoch + 1))
@@ -385,20 +370,16 @@ module _
         (sym (all_full_map refill (refilled_full (written_since begun) (lowest_full begun.nodes) node) begun.nodes) ∙ all));
   }
 
-not_last : (b : Bool) → ◌≡◌ {A = Option Refusal} (cond b (Some LastNode) None) None → b ≡ false
-not_last true none = absurd (none-some LastNode (sym none))
-not_last false none = refl
-
-more_than_one : (n : ℕ) → 0 < n → (n ≡ 1 → ⊥) → 1 < n
-more_than_one n some other =
-    elim (cases_order n 1) [ inl one ↦ absurd (other one) | inr (inl none) ↦ absurd (omega arith) | inr (inr more) ↦ more ]
+more_than_one : (n : ℕ) → 0 < n → ◌≡◌ {A = Option Refusal} (cond (n == 1) (Some LastNode) None) None → 1 < n
+more_than_one zero some fine = absurd (omega arith)
+more_than_one (suc zero) some fine = absurd (none-some LastNode (sym fine))
+more_than_one (suc (suc n)) some fine = omega arith
 
 failed_as_lawful : (m : Membership) (node : ℕ) (inodes : Numbers) → IsMembership m → (o : Option Standing) → standing_of m.nodes node ≡ o
     → failure_fault_of m o ≡ None → IsMembership (failed_as m node inodes o)
 failed_as_lawful m node inodes lawful None at fine = lawful
 failed_as_lawful m node inodes lawful (Some full) at fine =
-    let count = length (full_nodes m.nodes) in
-    full_failed_lawful m node inodes lawful at (more_than_one count lawful.some_full (eqb-false count 1 (not_last (count == 1) fine)))
+    full_failed_lawful m node inodes lawful at (more_than_one (length (full_nodes m.nodes)) lawful.some_full fine)
 failed_as_lawful m node inodes lawful (Some (down since)) at fine = lawful
 failed_as_lawful m node inodes lawful (Some (returning since donor stale)) at fine =
     with_node_lawful m node (down since) lawful (ap is_away at) refl (down_known m node since donor stale lawful at)
@@ -460,12 +441,10 @@ joined_as_lawful : (m : Membership) (node : ℕ) → IsMembership m → (levels 
 joined_as_lawful m node lawful levels same true all =
     let nodes = with_standing m.nodes node full in
     let n : Membership = record { epoch = m.epoch + 1; nodes = nodes; written = []; levels = levels } in
-    let some : 0 < length (full_nodes m.nodes) = lawful.some_full in
-    let no_fewer : length (full_nodes m.nodes) ≤ length (full_nodes nodes) = no_fewer_full 1 m.nodes (node - 1) in
     record {
       began = omega arith;
       lists = omega arith;
-      some_full = omega arith;
+      some_full = omega (arith, lawful.some_full, no_fewer_full 1 m.nodes (node - 1));
       known = list_all_more is_full (is_known n) nodes all (full_known n);
       levelled = same ∙ lawful.levelled ∙ sym (length-set m.nodes (node - 1) full);
       none_listed = λ _. refl;
@@ -473,12 +452,10 @@ joined_as_lawful m node lawful levels same true all =
 joined_as_lawful m node lawful levels same false some_away =
     let nodes = with_standing m.nodes node full in
     let n : Membership = record { epoch = m.epoch + 1; nodes = nodes; written = m.written ++ set.empty ∷ []; levels = levels } in
-    let some : 0 < length (full_nodes m.nodes) = lawful.some_full in
-    let no_fewer : length (full_nodes m.nodes) ≤ length (full_nodes nodes) = no_fewer_full 1 m.nodes (node - 1) in
     record {
       began = omega arith;
-      lists = more_lists (length m.written) (length (m.written ++ set.empty ∷ [])) m.epoch lawful.lists (one_list_more m set.empty);
-      some_full = omega arith;
+      lists = omega (arith, lawful.lists, one_list_more m set.empty);
+      some_full = omega (arith, lawful.some_full, no_fewer_full 1 m.nodes (node - 1));
       known = list_all_set (is_known n) m.nodes (node - 1) full
           (list_all_more (is_known m) (is_known n) m.nodes lawful.known
           (known_more m n (same_first m nodes set.empty) (omega arith) (λ d. all_stay 1 d m.nodes (node - 1))
@@ -494,7 +471,8 @@ joined_lawful m node lawful fine = joined_as_lawful m node lawful (joined_levels
 
 -- ---- digests
 
-stale_full : (node : ℕ) (inodes : Numbers) (s : Standing) → is_full (stale_again node inodes s) ≡ is_full s
+-- a digest makes no node full and leaves each full one so
+pub stale_full : (node : ℕ) (inodes : Numbers) (s : Standing) → is_full (stale_again node inodes s) ≡ is_full s
 stale_full node inodes full = refl
 stale_full node inodes (down since) = refl
 stale_full node inodes (returning since donor stale) = refl
@@ -543,8 +521,8 @@ module _ (m : Membership) (node : ℕ) (inodes : Numbers) (lawful : IsMembership
       })
 
   -- inodes were written at a node
-  pub noted_lawful_at : IsMembership noted_now
-  noted_lawful_at = record {
+  pub noted_lawful : IsMembership (noted m node inodes)
+  noted_lawful = record {
     began = lawful.began;
     lists = subst (λ k. k ≤ m.epoch) (sym (length_with_written m.written inodes)) lawful.lists;
     some_full = subst (λ l. 0 < length l) (sym noted_full) lawful.some_full;
@@ -553,10 +531,6 @@ module _ (m : Membership) (node : ℕ) (inodes : Numbers) (lawful : IsMembership
     none_listed = λ all. length_with_written m.written inodes
         ∙ lawful.none_listed (sym (all_full_map (stale_again node inodes) (stale_full node inodes) m.nodes) ∙ all);
   }
-
--- inodes were written at a node
-pub noted_lawful : (m : Membership) (node : ℕ) (inodes : Numbers) → IsMembership m → IsMembership (noted m node inodes)
-noted_lawful m node inodes lawful = noted_lawful_at m node inodes lawful
 
 -- ---- levels
 

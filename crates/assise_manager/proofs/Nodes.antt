@@ -1,9 +1,9 @@
 -- Lists of standings: what a change of one node, or of each, leaves of the list of full nodes.
-use Rattle.std.proofs.Common.{◌≡◌, ◌≢◌, ℕ, zero, suc, ◌+◌, ◌<◌, ◌≤◌, Bool, true, false, cond, ◌&&◌, inl, inr, Some, List, [], ◌∷◌, map}
+use Rattle.std.proofs.Common.{◌≡◌, ◌≢◌, ℕ, zero, suc, ◌+◌, ◌<◌, ◌≤◌, Bool, true, false, cond, ◌&&◌, inl, inr, IsSome, is_some, Some, List, [], ◌∷◌, map}
 use Rattle.std.proofs.Common.{length, refl, sym, ap, ◌∙◌, subst, arith, true≢false, eq-eqb, eqb-true}
 use Rattle.std.specs.Prelude.{◌==◌}
 use Rattle.std.specs.List.{list_all, list_any, slice_get, slice_set, slice_index_or}
-use Rattle.std.proofs.lemmas.Bool.{and_parts, and_from, or_cases, or_left, or_right}
+use Rattle.std.proofs.lemmas.Bool.{and_parts, and_from, cond_both, or_cases, or_left, or_right}
 use Rattle.std.proofs.lemmas.Option.{none-some, same_Some}
 use Rattle.assise_manager.specs.Standings.{Standing, full_from, is_full}
 use Rattle.assise_manager.specs.Standings.Standing.{full, down, returning}
@@ -76,10 +76,13 @@ list_all_place p (x ∷ xs) zero s all at = subst (λ t. p t ≡ true) (same_Som
 list_all_place p (x ∷ xs) (suc i) s all at = list_all_place p xs i s (and_parts (p x) (list_all p xs) all).1 at
 
 -- what is put in at a place that there is stands there
+pub set_place : (xs : List Standing) (i : ℕ) (s : Standing) → IsSome (slice_get xs i) → slice_get (slice_set xs i s) i ≡ Some s
+set_place [] i s there = never there
+set_place (x ∷ xs) zero s there = refl
+set_place (x ∷ xs) (suc i) s there = set_place xs i s there
+
 pub slice_get_set : (xs : List Standing) (i : ℕ) (old s : Standing) → slice_get xs i ≡ Some old → slice_get (slice_set xs i s) i ≡ Some s
-slice_get_set [] i old s at = absurd (none-some old at)
-slice_get_set (x ∷ xs) zero old s at = refl
-slice_get_set (x ∷ xs) (suc i) old s at = slice_get_set xs i old s at
+slice_get_set xs i old s at = set_place xs i s (ap is_some at)
 
 -- a number of the list that isn't its first, which it may lack
 tail_has : (b : Bool) (k d : ℕ) (l : List ℕ) → list_any (λ n. n == d) (cond b (k ∷ l) l) ≡ true → (k ≡ d → ⊥)
@@ -126,21 +129,16 @@ one_full_less k (x ∷ xs) zero s new at = one_less (is_full x) (is_full s) k (f
 one_full_less k (x ∷ xs) (suc i) s new at =
     rest_less (is_full x) k (full_from (suc k) xs) (full_from (suc k) (slice_set xs i s)) (one_full_less (suc k) xs i s new at)
 
-first_kept : (b : Bool) (k d : ℕ) (l : List ℕ) → list_any (λ n. n == d) (cond b (k ∷ l) l) ≡ true → list_any (λ n. n == d) (k ∷ l) ≡ true
-first_kept true k d l there = there
-first_kept false k d l there = or_right (k == d) (list_any (λ n. n == d) l) there
-
 -- a node is set to full: each that was full stays
 pub all_stay : (k d : ℕ) (xs : List Standing) (i : ℕ) → list_any (λ n. n == d) (full_from k xs) ≡ true
     → list_any (λ n. n == d) (full_from k (slice_set xs i full)) ≡ true
 all_stay k d [] i there = there
-all_stay k d (x ∷ xs) zero there = first_kept (is_full x) k d (full_from (suc k) xs) there
+all_stay k d (x ∷ xs) zero there =
+    let l = full_from (suc k) xs in
+    cond_both (is_full x) (k ∷ l) l (λ m. list_any (λ n. n == d) m ≡ true → list_any (λ n. n == d) (k ∷ l) ≡ true)
+    (λ _ h. h) (λ _ h. or_right (k == d) (list_any (λ n. n == d) l) h) there
 all_stay k d (x ∷ xs) (suc i) there =
     rest_has (is_full x) k d (full_from (suc k) xs) (full_from (suc k) (slice_set xs i full)) (λ rest. all_stay (suc k) d xs i rest) there
-
-first_counts : (b : Bool) (k : ℕ) (l : List ℕ) → length (cond b (k ∷ l) l) ≤ suc (length l)
-first_counts true k l = omega arith
-first_counts false k l = omega arith
 
 rest_counts : (b : Bool) (k : ℕ) (l m : List ℕ) → length l ≤ length m → length (cond b (k ∷ l) l) ≤ length (cond b (k ∷ m) m)
 rest_counts true k l m more = omega arith
@@ -149,18 +147,18 @@ rest_counts false k l m more = more
 -- a node is set to full: there are no fewer full nodes
 pub no_fewer_full : (k : ℕ) (xs : List Standing) (i : ℕ) → length (full_from k xs) ≤ length (full_from k (slice_set xs i full))
 no_fewer_full k [] i = omega arith
-no_fewer_full k (x ∷ xs) zero = first_counts (is_full x) k (full_from (suc k) xs)
+no_fewer_full k (x ∷ xs) zero =
+    let l = full_from (suc k) xs in cond_both (is_full x) (k ∷ l) l (λ m. length m ≤ suc (length l)) (λ _. omega arith) (λ _. omega arith)
 no_fewer_full k (x ∷ xs) (suc i) =
     rest_counts (is_full x) k (full_from (suc k) xs) (full_from (suc k) (slice_set xs i full)) (no_fewer_full (suc k) xs i)
-
-few_more : (b : Bool) (k n : ℕ) (l : List ℕ) → length l ≤ n → length (cond b (k ∷ l) l) ≤ suc n
-few_more true k n l few = omega arith
-few_more false k n l few = omega arith
 
 -- no more are full than there are
 pub few_full : (k : ℕ) (xs : List Standing) → length (full_from k xs) ≤ length xs
 few_full k [] = omega arith
-few_full k (x ∷ xs) = few_more (is_full x) k (length xs) (full_from (suc k) xs) (few_full (suc k) xs)
+few_full k (x ∷ xs) =
+    let rest = few_full (suc k) xs in
+    cond_both (is_full x) (k ∷ full_from (suc k) xs) (full_from (suc k) xs) (λ l. length l ≤ suc (length xs)) (λ _. omega (arith, rest))
+    (λ _. omega (arith, rest))
 
 first_full : (b c : Bool) (k n : ℕ) (l : List ℕ) → (b && c) ≡ true → (c ≡ true → length l ≡ n) → length (cond b (k ∷ l) l) ≡ suc n
 first_full true c k n l all rest = ap suc (rest all)
@@ -184,6 +182,13 @@ count_all_full k (x ∷ xs) count =
     first_counted (is_full x) (list_all is_full xs) k (length xs) (full_from (suc k) xs) (few_full (suc k) xs) count
     (count_all_full (suc k) xs)
 
+-- the number of a full node
+abbrev IsFullFrom : ℕ → ℕ → List Standing → Type 0
+IsFullFrom k d xs = (i : ℕ) × (d ≡ k + i) × (slice_get xs i ≡ Some full)
+
+one_further : (k d : ℕ) (x : Standing) (xs : List Standing) → IsFullFrom (suc k) d xs → IsFullFrom k d (x ∷ xs)
+one_further k d x xs rest = let at : d ≡ suc k + rest.0 = rest.1 in (suc rest.0, omega arith, rest.2)
+
 -- each number in the list is that of a full node
 pub full_there : (k d : ℕ) (xs : List Standing) → list_any (λ n. n == d) (full_from k xs) ≡ true
     → (i : ℕ) × (d ≡ k + i) × (slice_get xs i ≡ Some full)
@@ -191,16 +196,10 @@ full_there k d [] there = never there
 full_there k d (full ∷ xs) there =
     elim (or_cases (k == d) (list_any (λ n. n == d) (full_from (suc k) xs)) there) [
       | inl first ↦ (let same : k ≡ d = eqb-true k d first in (zero, omega arith, refl))
-      | inr later ↦ (let rest = full_there (suc k) d xs later in let at : d ≡ suc k + rest.0 = rest.1 in (suc rest.0, omega arith, rest.2))
+      | inr later ↦ one_further k d full xs (full_there (suc k) d xs later)
     ]
-full_there k d (down since ∷ xs) there =
-    let rest = full_there (suc k) d xs there in
-    let at : d ≡ suc k + rest.0 = rest.1 in
-    (suc rest.0, omega arith, rest.2)
-full_there k d (returning since donor stale ∷ xs) there =
-    let rest = full_there (suc k) d xs there in
-    let at : d ≡ suc k + rest.0 = rest.1 in
-    (suc rest.0, omega arith, rest.2)
+full_there k d (down since ∷ xs) there = one_further k d (down since) xs (full_there (suc k) d xs there)
+full_there k d (returning since donor stale ∷ xs) there = one_further k d (returning since donor stale) xs (full_there (suc k) d xs there)
 
 -- the first of a list is one of it
 pub first_there : (xs : List ℕ) → 0 < length xs → list_any (λ n. n == slice_index_or xs 0 0) xs ≡ true

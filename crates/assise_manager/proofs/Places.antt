@@ -1,14 +1,12 @@
 -- Nodes as they stand in a list, seen by their standings.
-use Rattle.std.proofs.Common.{◌≡◌, ℕ, zero, suc, ◌+◌, ◌-◌, ◌<◌, ◌≤◌, true, false, List, [], ◌∷◌, ◌++◌, map, take, drop, length, Option, Some, None, inl, inr, IsSome, IfSome, is_some, option_copied, Bor, ltb, eqb, cond, refl, sym, ap, ◌∙◌, subst, rules, arith, true≢false}
+use Rattle.std.proofs.Common.{◌≡◌, ℕ, Bool, zero, suc, ◌+◌, ◌-◌, ◌<◌, ◌≤◌, true, false, List, [], ◌∷◌, ◌++◌, map, take, drop, length, Option, Some, None, inl, inr, IsSome, IfSome, is_some, option_copied, Bor, ltb, eqb, cond, refl, sym, ap, ◌∙◌, subst, rules, arith, true≢false, add-one, one-add}
 use Rattle.std.specs.List.{list_all, slice_get, slice_set, slice_index_or}
-use Rattle.std.specs.Prelude.{nat_le}
 use Rattle.std.specs.Option.{option_map}
 use Rattle.std.specs.FinSet as set
 use Rattle.std.specs.Ordering.{nat_cmp}
 use Rattle.std.proofs.lemmas.Option.{slice_get-map}
-use Rattle.std.proofs.lemmas.Bool.{ltb-true, lt-ltb, eq-eqb, ne_eqb, leb-true, and_parts}
+use Rattle.std.proofs.lemmas.Bool.{false_from_ne_true, ltb-true, lt-ltb, eq-eqb, ne_eqb}
 use Rattle.std.proofs.lemmas.List.{map-set, map-append, drop-map}
-use Rattle.std.proofs.Common.{length-append}
 use Rattle.std.proofs.Math.Seq.{take-append_seam}
 use Rattle.assise_manager.specs.declared.node.Node.{Node}
 use Rattle.assise_manager.specs.declared.node.Node.TheVariants.{Full}
@@ -16,13 +14,13 @@ use Rattle.assise_manager.specs.declared.node.Return.{Return}
 use Rattle.assise_manager.specs.declared.level.Level.{Level}
 use Rattle.assise_manager.specs.declared.level.Level.TheVariants.{Plain}
 use Rattle.assise_manager.specs.NodeLevels.{joined_levels, plains}
-use Rattle.assise_manager.specs.Changes.{donor_of, joined, with_epoch, failed, failed_as, refilled_from, failure_fault, failure_fault_of, filling_fault, filling_fault_of, stale_again, is_returning, is_away, stale_of, copied_as, IsLowestOf, fulls}
+use Rattle.assise_manager.specs.Changes.{donor_of, joined, with_epoch, failed, failed_as, refilled_from, failure_fault, failure_fault_of, filling_fault, filling_fault_of, is_returning, is_away, stale_of, copied_as, IsLowestOf, fulls}
 use Rattle.assise_manager.specs.Seen.{standing, stale_inodes, listed_inodes, listed_since, lowest_besides}
 use Rattle.assise_names.specs.declared.refusal.Refusal.TheVariants.{LastNode}
 use Rattle.assise_manager.specs.declared.written_list.WrittenList.{WrittenList}
-use Rattle.assise_manager.specs.Membership.{Membership, IsMembership, is_known, is_listed, first_listed, all_inodes, written_since, lowest_full}
-use Rattle.assise_manager.proofs.Nodes.{full_from_set_away, count_all_full, all_full_count}
-use Rattle.assise_manager.proofs.Lawful.{known_of, copied_lawful}
+use Rattle.assise_manager.specs.Membership.{Membership, IsMembership, is_known, first_listed, all_inodes, written_since, lowest_full}
+use Rattle.assise_manager.proofs.Nodes.{full_from_set_away, count_all_full, all_full_count, set_place}
+use Rattle.assise_manager.proofs.Lawful.{known_of, copied_lawful, listed_both, one_fewer, same_first}
 use Rattle.assise_manager.proofs.AscendingSets.{lowest_or_none}
 use Rattle.assise_manager.specs.Standings.{Standing, full, down, returning, standing_of, with_standing, full_from, full_nodes, is_full}
 
@@ -30,13 +28,10 @@ use Rattle.assise_manager.specs.Standings.{Standing, full, down, returning, stan
 pub whole : {X : Type 0} (xs new : List X) (n : ℕ) → n ≡ length xs → length new ≡ length xs → take n (new ++ drop (length new) xs) ≡ new
 whole xs new n e f = ap (λ k. take k (new ++ drop (length new) xs)) (e ∙ sym f) ∙ take-append_seam new (drop (length new) xs)
 
-less_one : (n : ℕ) → suc n - 1 ≡ n
-less_one n = omega arith
-
 -- the standing of a node of a number above 0
 pub standing_at : (xs : List Node) (node : ℕ) → 0 < node → standing_of (map standing xs) node ≡ option_map standing (slice_get xs (node - 1))
 standing_at xs zero p = absurd (omega arith)
-standing_at xs (suc place) p = slice_get-map standing xs place ∙ ap (λ n. option_map standing (slice_get xs n)) (sym (less_one place))
+standing_at xs (suc place) p = slice_get-map standing xs place ∙ ap (λ n. option_map standing (slice_get xs n)) (sym (one_fewer place))
 
 at_place : (xs : List Node) (place : ℕ) (d : Node) → IsSome (slice_get (map standing xs) place) → slice_get (map standing xs) place ≡ Some (standing (slice_index_or xs place d))
 at_place [] place d there = absurd (true≢false (sym there))
@@ -46,7 +41,7 @@ at_place (x ∷ xs) (suc place) d there = at_place xs place d there
 -- a node that is there stands in its place
 pub stands_at : (xs : List Node) (node : ℕ) (d : Node) → IsSome (standing_of (map standing xs) node) → standing_of (map standing xs) node ≡ Some (standing (slice_index_or xs (node - 1) d))
 stands_at xs zero d there = absurd (true≢false (sym there))
-stands_at xs (suc place) d there = at_place xs place d there ∙ ap (λ n. Some (standing (slice_index_or xs n d))) (sym (less_one place))
+stands_at xs (suc place) d there = at_place xs place d there ∙ ap (λ n. Some (standing (slice_index_or xs n d))) (sym (one_fewer place))
 
 pub some_of : (o : Option Standing) → is_returning o ≡ true → IsSome o
 some_of None back = absurd (true≢false (sym back))
@@ -56,33 +51,20 @@ some_of (Some s) back = refl
 pub back_at : (xs : List Node) (node : ℕ) (d : Node) → is_returning (standing_of (map standing xs) node) ≡ true → standing_of (map standing xs) node ≡ Some (standing (slice_index_or xs (node - 1) d))
 back_at xs node d back = stands_at xs node d (some_of _ back)
 
-set_place : (xs : List Standing) (place : ℕ) (s : Standing) → IsSome (slice_get xs place) → slice_get (slice_set xs place s) place ≡ Some s
-set_place [] place s there = absurd (true≢false (sym there))
-set_place (x ∷ xs) zero s there = refl
-set_place (x ∷ xs) (suc place) s there = set_place xs place s there
-
 -- a node that was let stand otherwise does
 pub stands_now : (nodes : List Standing) (node : ℕ) (s : Standing) → IsSome (standing_of nodes node) → standing_of (with_standing nodes node s) node ≡ Some s
 stands_now nodes zero s there = absurd (true≢false (sym there))
-stands_now nodes (suc place) s there = ap (λ n. slice_get (slice_set nodes n s) place) (less_one place) ∙ set_place nodes place s there
-
-from_some : Standing → Option Standing → Standing
-from_some d None = d
-from_some d (Some s) = s
-
-some_is : (x s : Standing) → Some x ≡ Some s → x ≡ s
-unfolding from_some
-some_is x s e = ap (from_some x) e
+stands_now nodes (suc place) s there = ap (λ n. slice_get (slice_set nodes n s) place) (one_fewer place) ∙ set_place nodes place s there
 
 same_place : (xs : List Standing) (place : ℕ) (s : Standing) → slice_get xs place ≡ Some s → slice_set xs place s ≡ xs
 same_place [] place s at = refl
-same_place (x ∷ xs) zero s at = ap (λ y. y ∷ xs) (sym (some_is x s at))
+same_place (x ∷ xs) zero s at = let same : s ≡ x = cc in ap (λ y. y ∷ xs) same
 same_place (x ∷ xs) (suc place) s at = ap (λ ys. x ∷ ys) (same_place xs place s at)
 
 -- a node that is let stand as it did
 pub same_standing : (nodes : List Standing) (node : ℕ) (s : Standing) → standing_of nodes node ≡ Some s → with_standing nodes node s ≡ nodes
 same_standing nodes zero s at = grind (rules)
-same_standing nodes (suc place) s at = ap (λ n. slice_set nodes n s) (less_one place) ∙ same_place nodes place s at
+same_standing nodes (suc place) s at = ap (λ n. slice_set nodes n s) (one_fewer place) ∙ same_place nodes place s at
 
 item_there : {X : Type 0} (xs : List X) (i : ℕ) (r : Option (Bor X)) → (IsSome r → i < length xs) → (i < length xs → IsSome r) → IfSome r (λ x. x.now ≡ slice_index_or xs i x.now) → option_copied r ≡ slice_get xs i
 item_there [] i None some there at = refl
@@ -104,10 +86,7 @@ away_back (Some (returning since donor stale)) back = refl
 -- a node that isn't full is let stand otherwise, not full
 pub full_away : (nodes : List Standing) (node : ℕ) (s : Standing) → is_away (standing_of nodes node) ≡ true → is_away (Some s) ≡ true → full_nodes (with_standing nodes node s) ≡ full_nodes nodes
 full_away nodes zero s at now = absurd (true≢false (sym at))
-full_away nodes (suc place) s at now = ap (λ n. full_nodes (slice_set nodes n s)) (less_one place) ∙ full_from_set_away 1 nodes place s at now
-
-one_more : (n : ℕ) → n + 1 ≡ suc n
-one_more n = omega arith
+full_away nodes (suc place) s at now = ap (λ n. full_nodes (slice_set nodes n s)) (one_fewer place) ∙ full_from_set_away 1 nodes place s at now
 
 fulls_last : (n : ℕ) → fulls n ++ full ∷ [] ≡ fulls (suc n)
 fulls_last zero = refl
@@ -119,10 +98,10 @@ plains_last zero = refl
 plains_last (suc n) = ap (λ l. Plain ∷ l) (plains_last n)
 
 pub plains_push : (xs : List Level) (n : ℕ) → xs ≡ plains n → xs ++ Plain ∷ [] ≡ plains (n + 1)
-plains_push xs n e = ap (λ l. l ++ Plain ∷ []) e ∙ plains_last n ∙ ap plains (sym (one_more n))
+plains_push xs n e = ap (λ l. l ++ Plain ∷ []) e ∙ plains_last n ∙ ap plains (sym (add-one n))
 
 pub fulls_push : (xs : List Node) (n : ℕ) → map standing xs ≡ fulls n → map standing (xs ++ Full ∷ []) ≡ fulls (n + 1)
-fulls_push xs n e = map-append standing xs (Full ∷ []) ∙ ap (λ l. l ++ full ∷ []) e ∙ fulls_last n ∙ ap fulls (sym (one_more n))
+fulls_push xs n e = map-append standing xs (Full ∷ []) ∙ ap (λ l. l ++ full ∷ []) e ∙ fulls_last n ∙ ap fulls (sym (add-one n))
 
 -- the first of some numbers, whatever is read where there are none
 pub first_of : (xs : List ℕ) (d : ℕ) → 0 < length xs → slice_index_or xs 0 d ≡ slice_index_or xs 0 0
@@ -151,16 +130,9 @@ lowest_after k (full ∷ xs) (suc i) e at more = sym (ap (λ b. cond b (slice_in
 lowest_after k (down since ∷ xs) (suc i) e at more = lowest_after (suc k) xs i e at more ∙ ap (λ n. cond (eqb (slice_index_or (full_from (suc k) xs) 0 0) n) (slice_index_or (full_from (suc k) xs) 1 0) (slice_index_or (full_from (suc k) xs) 0 0)) (further k i)
 lowest_after k (returning since donor stale ∷ xs) (suc i) e at more = lowest_after (suc k) xs i e at more ∙ ap (λ n. cond (eqb (slice_index_or (full_from (suc k) xs) 0 0) n) (slice_index_or (full_from (suc k) xs) 1 0) (slice_index_or (full_from (suc k) xs) 0 0)) (further k i)
 
-some_listed : (m : Membership) (since : ℕ) → is_listed m since ≡ true → 0 < length m.written
-some_listed m since listed =
-    let parts : (nat_le (first_listed m) since ≡ true) × (nat_le since m.epoch ≡ true) = and_parts _ _ listed in
-    let low : first_listed m ≤ since = leb-true _ _ parts.0 in
-    let high : since ≤ m.epoch = leb-true _ _ parts.1 in
-    omega arith
-
 -- where a node is down there is a list
 pub down_listed : (m : Membership) (node since : ℕ) → IsMembership m → standing_of m.nodes node ≡ Some (down since) → 0 < length m.written
-down_listed m node since lawful at = some_listed m since (known_of m node (down since) lawful at)
+down_listed m node since lawful at = let both = listed_both m since (known_of m node (down since) lawful at) in omega (arith, both.0, both.1)
 
 -- the inodes of the lists from an epoch on, as they are read
 pub since_is : (written seen lists : List WrittenList) (since f first : ℕ) → lists ≡ drop (since - f) seen → f ≡ first → seen ≡ written → all_inodes (map listed_inodes lists) ≡ all_inodes (drop (since - first) (map listed_inodes written))
@@ -174,12 +146,6 @@ one_less epoch read lists e some within = omega arith
 -- what stands where a full node failed, whichever change comes first
 pub failed_nodes : (f : Standing → Standing) (nodes : List Standing) (node e : ℕ) → f (down e) ≡ down e → with_standing (map f nodes) node (down e) ≡ map f (with_standing nodes node (down e))
 failed_nodes f nodes node e same = sym (map-set f nodes (node - 1) (down e) ∙ ap (slice_set (map f nodes) (node - 1)) same)
-
--- a digest makes no node full and leaves each full one so
-pub still_full : (node : ℕ) (inodes : set.FinSet nat_cmp) (s : Standing) → is_full (stale_again node inodes s) ≡ is_full s
-still_full node inodes full = refl
-still_full node inodes (down since) = refl
-still_full node inodes (returning since donor stale) = refl
 
 filling : (m : Membership) (node since donor : ℕ) (stale : set.FinSet nat_cmp) → standing_of m.nodes node ≡ Some (returning since donor stale) → filling_fault m node ≡ None
 filling m node since donor stale at = ap filling_fault_of at
@@ -197,19 +163,13 @@ copied_either epoch written node r old new levels lawful at copies none =
           (copied_lawful (record { epoch = epoch; nodes = old; written = written; levels = levels }) node lawful (filling (record { epoch = epoch; nodes = old; written = written; levels = levels }) node r.since r.donor (stale_inodes r.stale) at) inode)
     ]
 
-one_plus : (n : ℕ) → 1 + n ≡ suc n
-one_plus n = omega arith
-
 -- the inodes since each epoch once a list was added, as they are read
 pub listed_is : (m : Membership) (node : ℕ) (inodes : set.FinSet nat_cmp) (lists : List WrittenList) (first : ℕ) → map listed_inodes lists ≡ m.written ++ inodes ∷ [] → first ≡ first_listed (with_epoch m node inodes) → listed_since lists first ≡ written_since (with_epoch m node inodes)
 listed_is m node inodes lists first same begins i since = all_inodes (drop (since - begins i) (same i))
 
-first_stays : (epoch old new : ℕ) → old ≤ epoch → new ≡ old + 1 → epoch + 1 - old ≡ (epoch + 1 + 1) - new
-first_stays epoch old new within e = omega arith
-
 -- the first epoch that has a list, once one was added
 pub first_is : (m : Membership) (node : ℕ) (inodes : set.FinSet nat_cmp) (len : ℕ) → IsMembership m → len ≡ length m.written → m.epoch + 1 - len ≡ first_listed (with_epoch m node inodes)
-first_is m node inodes len lawful e = ap (λ n. m.epoch + 1 - n) e ∙ first_stays m.epoch (length m.written) (length (m.written ++ inodes ∷ [])) lawful.lists (length-append m.written (inodes ∷ []))
+first_is m node inodes len lawful e = ap (λ n. m.epoch + 1 - n) e ∙ sym (same_first m (with_standing m.nodes node (down (m.epoch + 1))) inodes)
 
 -- what stands once a full node failed
 pub failed_is : (m : Membership) (node : ℕ) (inodes : set.FinSet nat_cmp) (written : ℕ → set.FinSet nat_cmp) (donor : ℕ) (lists : List (set.FinSet nat_cmp)) (new : List Standing) →
@@ -230,20 +190,20 @@ pub new_donor_is : (nodes : List Standing) (node e : ℕ) → standing_of nodes 
     lowest_full (with_standing nodes node (down e)) ≡ lowest_besides (full_nodes nodes) node
 new_donor_is nodes zero e at more = grind (rules)
 new_donor_is nodes (suc place) e at more =
-    ap (λ n. slice_index_or (full_nodes (slice_set nodes n (down e))) 0 0) (less_one place)
+    ap (λ n. slice_index_or (full_nodes (slice_set nodes n (down e))) 0 0) (one_fewer place)
     ∙ lowest_after 1 nodes place e at more
-    ∙ ap (λ n. cond (eqb (slice_index_or (full_nodes nodes) 0 0) n) (slice_index_or (full_nodes nodes) 1 0) (slice_index_or (full_nodes nodes) 0 0)) (one_plus place)
+    ∙ ap (λ n. cond (eqb (slice_index_or (full_nodes nodes) 0 0) n) (slice_index_or (full_nodes nodes) 1 0) (slice_index_or (full_nodes nodes) 0 0))
+    (one-add place)
 
 -- what stands once a node joined: where all nodes are full the lists go
-pub joined_last : (m : Membership) (node : ℕ) (new : List Standing) (lists : List (set.FinSet nat_cmp)) (levels : List Level) → new ≡ with_standing m.nodes node full → lists ≡ [] → list_all is_full (with_standing m.nodes node full) ≡ true → levels ≡ joined_levels m.levels node (donor_of (standing_of m.nodes node)) → record { epoch = m.epoch + 1; nodes = new; written = lists; levels = levels } ≡ joined m node
-joined_last m node new lists levels is gone all raised =
-    (λ i. record { epoch = m.epoch + 1; nodes = is i; written = gone i; levels = raised i })
-    ∙ sym (ap (λ b. record { epoch = m.epoch + 1; nodes = with_standing m.nodes node full; written = cond b [] (m.written ++ set.empty ∷ []); levels = joined_levels m.levels node (donor_of (standing_of m.nodes node)) }) all)
-
-pub joined_more : (m : Membership) (node : ℕ) (new : List Standing) (lists : List (set.FinSet nat_cmp)) (levels : List Level) → new ≡ with_standing m.nodes node full → lists ≡ m.written ++ set.empty ∷ [] → list_all is_full (with_standing m.nodes node full) ≡ false → levels ≡ joined_levels m.levels node (donor_of (standing_of m.nodes node)) → record { epoch = m.epoch + 1; nodes = new; written = lists; levels = levels } ≡ joined m node
-joined_more m node new lists levels is more some raised =
-    (λ i. record { epoch = m.epoch + 1; nodes = is i; written = more i; levels = raised i })
-    ∙ sym (ap (λ b. record { epoch = m.epoch + 1; nodes = with_standing m.nodes node full; written = cond b [] (m.written ++ set.empty ∷ []); levels = joined_levels m.levels node (donor_of (standing_of m.nodes node)) }) some)
+pub joined_is : (m : Membership) (node : ℕ) (new : List Standing) (lists : List (set.FinSet nat_cmp)) (levels : List Level) (all : Bool)
+    → new ≡ with_standing m.nodes node full
+    → lists ≡ cond all [] (m.written ++ set.empty ∷ []) → list_all is_full (with_standing m.nodes node full) ≡ all
+    → levels ≡ joined_levels m.levels node (donor_of (standing_of m.nodes node))
+    → record { epoch = m.epoch + 1; nodes = new; written = lists; levels = levels } ≡ joined m node
+joined_is m node new lists levels all is left whether raised =
+    let written = left ∙ ap (λ b. cond b [] (m.written ++ set.empty ∷ [])) (sym whether) in
+    λ i. record { epoch = m.epoch + 1; nodes = is i; written = written i; levels = raised i }
 
 -- as many full nodes as nodes
 pub all_counted : (xs : List Standing) (full_count count : ℕ) → full_count ≡ length (full_nodes xs) → count ≡ length xs → full_count ≡ count → list_all is_full xs ≡ true
@@ -251,7 +211,4 @@ all_counted xs full_count count e f same = count_all_full 1 xs (sym e ∙ same �
 
 pub some_away : (xs : List Standing) (full_count count : ℕ) → full_count ≡ length (full_nodes xs) → count ≡ length xs → (full_count ≡ count → ⊥) → list_all is_full xs ≡ false
 some_away xs full_count count e f other =
-    elim (list_all is_full xs) as (λ b. list_all is_full xs ≡ b → list_all is_full xs ≡ false) [
-      | true ↦ λ all. absurd (other (e ∙ all_full_count 1 xs all ∙ sym f))
-      | false ↦ λ some. some
-    ] refl
+    false_from_ne_true (list_all is_full xs) (λ all. other (e ∙ all_full_count 1 xs all ∙ sym f))

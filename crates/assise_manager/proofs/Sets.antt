@@ -1,5 +1,5 @@
 -- Sets of numbers, and the lists that they are made from.
-use Rattle.std.proofs.Common.{◌≡◌, ℕ, suc, ◌+◌, ◌<◌, Bool, true, false, cond, ◌||◌, List, [], ◌∷◌, ◌++◌, map, take, length, get_or, refl, sym, ap, ◌∙◌, rules, arith}
+use Rattle.std.proofs.Common.{◌≡◌, ℕ, ◌+◌, ◌<◌, Bool, true, false, cond, ◌||◌, List, [], ◌∷◌, ◌++◌, map, take, length, get_or, refl, sym, ap, ◌∙◌, rules, add-one}
 use Rattle.std.specs.List.{list_any}
 use Rattle.std.specs.Ordering.{nat_cmp, eq_by_cmp}
 use Rattle.std.specs.FinSet as set
@@ -13,9 +13,6 @@ use Rattle.std.proofs.Math.Seq.{take-suc}
 use Rattle.std.proofs.lemmas.List.{map-append}
 use Rattle.indexmap.specs.IndexSet.{insert_key}
 use Rattle.assise_manager.specs.Membership.{all_inodes}
-
-next : (i : ℕ) → i + 1 ≡ suc i
-next i = omega arith
 
 abbrev pub Numbers : Type 0
 Numbers = set.FinSet nat_cmp
@@ -66,7 +63,7 @@ from_permutation xs ys p = same_list ys xs (λ q. sym (list_any-IsPermutation (e
 -- the numbers of a list's prefix, and of one place more
 pub union_take : (s : Numbers) (xs : List ℕ) (i d : ℕ) → i < length xs → set.union s (set.from_list {R = nat_cmp} (take (i + 1) xs)) ≡ set.insert (set.union s (set.from_list (take i xs))) (get_or xs i d)
 union_take s xs i d inside =
-    ap (λ n. set.union s (set.from_list {R = nat_cmp} (take n xs))) (next i)
+    ap (λ n. set.union s (set.from_list {R = nat_cmp} (take n xs))) (add-one i)
     ∙ ap (λ l. set.union s (set.from_list {R = nat_cmp} l)) (take-suc xs i d inside)
     ∙ ap (set.union s) (push (take i xs) (get_or xs i d))
     ∙ union_push s _ _
@@ -80,7 +77,7 @@ all_push (k ∷ ls) l = ap (set.union k) (all_push ls l) ∙ same _ _ (λ q. gri
 pub all_take : {X : Type 0} (f : X → Numbers) (xs : List X) (i : ℕ) (d : X) → i < length xs → set.union (all_inodes (map f (take i xs))) (f (get_or xs i d)) ≡ all_inodes (map f (take (i + 1) xs))
 all_take f xs i d inside =
     sym (all_push (map f (take i xs)) (f (get_or xs i d)))
-    ∙ ap all_inodes (sym (ap (λ n. map f (take n xs)) (next i) ∙ ap (map f) (take-suc xs i d inside) ∙ map-append f (take i xs) (get_or xs i d ∷ [])))
+    ∙ ap all_inodes (sym (ap (λ n. map f (take n xs)) (add-one i) ∙ ap (map f) (take-suc xs i d inside) ∙ map-append f (take i xs) (get_or xs i d ∷ [])))
 
 pub union_empty : (s : Numbers) → set.union set.empty s ≡ s
 union_empty s = same _ _ (λ q. grind (members, rules))

@@ -20,13 +20,18 @@ border_first l k low = ap (λ b. b || get_or l.begins (k - l.first) true) (le-le
 pub border_marked : (l : NumberedLog) (k : ℕ) → l.first < k → is_border l k ≡ get_or l.begins (k - l.first) true
 border_marked l k high = ap (λ b. b || get_or l.begins (k - l.first) true) (lt-leb k l.first high)
 
+-- either way
+pub by_place : (l : NumberedLog) (k : ℕ) (P : Bool → Type 0) → (k ≤ l.first → P true) → (l.first < k → P (get_or l.begins (k - l.first) true))
+    → P (is_border l k)
+by_place l k P first marked =
+    elim (cases_lt l.first k) [
+      | inl later ↦ subst P (sym (border_marked l k later)) (marked later)
+      | inr low ↦ subst P (sym (border_first l k low)) (first low)
+    ]
+
 -- nothing is behind the last record
 pub border_end : (l : NumberedLog) (k : ℕ) → length l.begins ≡ length l.records → end l ≤ k → is_border l k ≡ true
-border_end l k marks high =
-    elim (cases_lt l.first k) [
-      | inl later ↦ border_marked l k later ∙ get_or_past l.begins (k - l.first) true (omega arith)
-      | inr low ↦ border_first l k low
-    ]
+border_end l k marks high = by_place l k (λ b. b ≡ true) (λ _. refl) (λ later. get_or_past l.begins (k - l.first) true (omega arith))
 
 no_mark : (ms : List Bool) (i : ℕ) → slice_get ms i ≡ None → get_or ms i true ≡ true
 no_mark [] i none = refl
@@ -47,28 +52,16 @@ pushed (x ∷ ms) m (suc i) same = pushed ms m i (λ e. same (ap suc e))
 
 pub border_grouped : (l : NumberedLog) (r : LogRecord) (begins : Bool) (k : ℕ) → length l.begins ≡ length l.records → (k ≡ end l → begins ≡ true) → is_border (with_grouped l r begins) k ≡ is_border l k
 border_grouped l r begins k marks same =
-    elim (cases_lt l.first k) [
-      | inl later ↦
-          border_marked (with_grouped l r begins) k later
-          ∙ pushed l.begins begins (k - l.first) (λ e. same (omega arith))
-          ∙ sym (border_marked l k later)
-      | inr low ↦ border_first (with_grouped l r begins) k low ∙ sym (border_first l k low)
-    ]
+    by_place (with_grouped l r begins) k (λ b. b ≡ is_border l k) (λ low. sym (border_first l k low))
+    (λ later. pushed l.begins begins (k - l.first) (λ e. same (omega arith)) ∙ sym (border_marked l k later))
 
 -- ---- without those in front, or behind
 
 pub border_prefix : (l : NumberedLog) (to k : ℕ) → l.first ≤ to → is_border l k ≡ true → is_border (without_prefix l to) k ≡ true
 border_prefix l to k from_first is =
-    elim (cases_lt to k) [
-      | inl later ↦
-          let place : (to - l.first) + (k - to) ≡ k - l.first = omega arith in
-          border_marked (without_prefix l to) k later
-          ∙ get_or-drop (to - l.first) l.begins (k - to) true
-          ∙ ap (λ i. get_or l.begins i true) place
-          ∙ sym (border_marked l k (omega arith))
-          ∙ is
-      | inr low ↦ border_first (without_prefix l to) k low
-    ]
+    by_place (without_prefix l to) k (λ b. b ≡ true) (λ _. refl) (λ later.
+    let place : (to - l.first) + (k - to) ≡ k - l.first = omega arith in
+    get_or-drop (to - l.first) l.begins (k - to) true ∙ ap (λ i. get_or l.begins i true) place ∙ sym (border_marked l k (omega arith)) ∙ is)
 
 taken : (ms : List Bool) (n i : ℕ) → get_or ms i true ≡ true → get_or (take n ms) i true ≡ true
 taken ms zero i is = refl
@@ -78,10 +71,8 @@ taken (m ∷ ms) (suc n) (suc i) is = taken ms n i is
 
 pub border_tail : (l : NumberedLog) (from k : ℕ) → is_border l k ≡ true → is_border (without_tail l from) k ≡ true
 border_tail l from k is =
-    elim (cases_lt l.first k) [
-      | inl later ↦ border_marked (without_tail l from) k later ∙ taken l.begins (from - l.first) (k - l.first) (sym (border_marked l k later) ∙ is)
-      | inr low ↦ border_first (without_tail l from) k low
-    ]
+    by_place (without_tail l from) k (λ b. b ≡ true) (λ _. refl)
+    (λ later. taken l.begins (from - l.first) (k - l.first) (sym (border_marked l k later) ∙ is))
 
 -- ---- groups have at most 64 records
 
@@ -235,23 +226,23 @@ is_whole l from (suc n) =
     let b : Bool = is_border l (from + suc n) in
     subst (IsWholeCount l from (suc n)) (sym (whole_suc l from n b refl)) (whole_step l from n b refl (is_whole l from n))
 
+less_unless : (a b : ℕ) → (b ≤ a → ⊥) → a < b
+less_unless a b not_so = elim (cases_lt a b) [ inl less ↦ less | inr more ↦ absurd (not_so more) ]
+
 -- some of at least 64 records are whole groups, and so are some of all that there are
 pub some_whole : (l : NumberedLog) (from most : ℕ) → IsNumberedLog l → 0 < most → (64 ≤ most) ⊎ (end l ≤ from + most) → 0 < whole_count l from most
 some_whole l from most law some enough =
     let whole : IsWholeCount l from most (whole_count l from most) = is_whole l from most in
     let next = law.groups from in
-    elim (cases_lt 0 (whole_count l from most)) [
-      | inl more ↦ more
-      | inr none ↦
-          let reached : (k : ℕ) → 0 < k → k ≤ most → is_border l (from + k) ≡ true → ⊥
-          = λ k low high is. both_ways (is_border l (from + k)) (whole.greatest k (omega arith) high) is in
-          absurd (elim enough [
-            | inl long ↦
-                let back : from + (next.0 - from) ≡ next.0 = omega (arith, next.1) in
-                reached (next.0 - from) (omega (arith, next.1)) (omega (arith, next.2)) (ap (is_border l) back ∙ next.3)
-            | inr all ↦ reached most some (omega arith) (border_end l (from + most) law.marks all)
-          ])
-    ]
+    less_unless 0 (whole_count l from most) (λ none.
+    let reached : (k : ℕ) → 0 < k → k ≤ most → is_border l (from + k) ≡ true → ⊥
+    = λ k low high is. both_ways (is_border l (from + k)) (whole.greatest k (omega arith) high) is in
+    elim enough [
+      | inl long ↦
+          let back : from + (next.0 - from) ≡ next.0 = omega (arith, next.1) in
+          reached (next.0 - from) (omega (arith, next.1)) (omega (arith, next.2)) (ap (is_border l) back ∙ next.3)
+      | inr all ↦ reached most some (omega arith) (border_end l (from + most) law.marks all)
+    ])
 
 -- ---- what a log takes in of another, in the other's groups
 
@@ -287,16 +278,9 @@ open_group own l law inside same =
     let found = last_border own (end l) in
     let b : IsLastBorder own (end l) found.0 = found.1 in
     let next = law.groups found.0 in
-    let before : found.0 < end l =
-    elim (cases_eq found.0 (end l)) [
-      | inl here ↦ absurd (both_ways (is_border own (end l)) inside (ap (is_border own) (sym here) ∙ b.is))
-      | inr other ↦ omega (arith, b.before)
-    ] in
-    let past : end l < next.0 =
-    elim (cases_lt (end l) next.0) [
-      | inl more ↦ more
-      | inr less ↦ absurd (both_ways (is_border own next.0) (b.none next.0 next.1 less) next.3)
-    ] in
+    let before : found.0 < end l = less_unless found.0 (end l) (λ more.
+    let here : end l ≡ found.0 = omega (arith, b.before) in both_ways (is_border own (end l)) inside (ap (is_border own) here ∙ b.is)) in
+    let past : end l < next.0 = less_unless (end l) next.0 (λ less. both_ways (is_border own next.0) (b.none next.0 next.1 less) next.3) in
     (found.0, before, omega (arith, next.2), same found.0 before b.is)
 
 -- ---- a cut at the end of a group

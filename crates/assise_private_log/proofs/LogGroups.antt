@@ -1,43 +1,30 @@
 -- What is left of groups of records, and logs with groups behind the last.
-use Rattle.std.proofs.Common.{get_or, ◌≡◌, ℕ, zero, suc, ◌+◌, ◌-◌, ◌<◌, ◌≤◌, ◌^◌, ◌==◌, ◌||◌, inl, inr, subst, Bool, true, false, min, None, Some, List, [], ◌∷◌, ◌++◌, length, take, drop, map, refl, ap, sym, ◌∙◌, arith, append_assoc}
+use Rattle.std.proofs.Common.{get_or, ◌≡◌, ℕ, zero, suc, ◌+◌, ◌-◌, ◌<◌, ◌≤◌, ◌^◌, ◌==◌, ◌||◌, inl, inr, subst, Bool, true, false, min, None, List, [], ◌∷◌, ◌++◌, length, take, drop, map, refl, ap, sym, ◌∙◌, arith, append_assoc, append-nil}
 use Rattle.std.specs.List.{list_any, slice_get}
 use Rattle.std.proofs.lemmas.Bool.{both_ways, cases_lt, eq-eqb, ne_eqb}
-use Rattle.std.proofs.lemmas.List.{get_or-append_right, get_or-take, get_or_append_left, get_or_at, length-append, length-drop, length-take, map_push}
+use Rattle.std.proofs.lemmas.List.{get_or-append_right, get_or-take, get_or_append_left, get_or_at, length-append, length-drop, length-take, map_push, take_min, drop_min}
+use Rattle.std.proofs.lemmas.List.Folds.{list_any-append}
 use Rattle.assise_record.specs.declared.effect.Effect.{Effect}
 use Rattle.assise_record.specs.Coalesced.{overridden, overrides}
 use Rattle.assise_record.specs.Groups.{AllHaveEffects, all_coalesced, all_marks, all_records, are_whole, begun_by, coalesced_group, groups_of, left_in, left_of, marks_of}
 use Rattle.assise_record.specs.LogRecord.{LogRecord}
-use Rattle.assise_record.specs.Records.{all_effects, call_of, record_of}
+use Rattle.assise_record.specs.Records.{all_effects, record_of}
 use Rattle.assise_record.proofs.GroupRest.{group-shorter}
 use Rattle.assise_record.proofs.GroupMarks.{all-coalesced, groups-are, groups-steps, marked}
 use Rattle.assise_record.proofs.WholeGroups.{whole_none}
 use Rattle.assise_private_log.specs.Groups.{groups_from, regrouped, with_group, with_groups, with_left}
 use Rattle.assise_private_log.specs.NumberedLog.{HasOpenGroup, IsNumberedLog, NumberedLog, end, is_border, records_from, with_grouped, without_tail}
-use Rattle.assise_private_log.proofs.Borders.{border_first, border_marked}
+use Rattle.assise_private_log.proofs.Borders.{border_first, border_marked, by_place}
 
 -- ---- effects
 
-or-assoc : (a b c : Bool) → ((a || b) || c) ≡ (a || (b || c))
-or-assoc true b c = refl
-or-assoc false b c = refl
-
-overridden-append : (e : Effect) (es fs : List Effect) → overridden e (es ++ fs) ≡ (overridden e es || overridden e fs)
-overridden-append e [] fs = refl
-overridden-append e (f ∷ es) fs = ap (λ b. overrides f e || b) (overridden-append e es fs) ∙ sym (or-assoc (overrides f e) (overridden e es) (overridden e fs))
-
 any_effects : (e : Effect) (rs : List LogRecord) → list_any (λ (r : LogRecord). overridden e r.effects) rs ≡ overridden e (all_effects rs)
 any_effects e [] = refl
-any_effects e (r ∷ rs) = ap (λ b. overridden e r.effects || b) (any_effects e rs) ∙ sym (overridden-append e r.effects (all_effects rs))
+any_effects e (r ∷ rs) = ap (λ b. overridden e r.effects || b) (any_effects e rs) ∙ sym (list_any-append (λ f. overrides f e) r.effects (all_effects rs))
 
 -- an effect is overridden by some or by those of some records
 pub overridden_both : (e : Effect) (es : List Effect) (rs : List LogRecord) → (overridden e es || list_any (λ (r : LogRecord). overridden e r.effects) rs) ≡ overridden e (es ++ all_effects rs)
-overridden_both e es rs = ap (λ b. overridden e es || b) (any_effects e rs) ∙ sym (overridden-append e es (all_effects rs))
-
-pub left_kept : (e : Effect) (es later : List Effect) → overridden e (es ++ later) ≡ false → left_of (e ∷ es) later ≡ e ∷ left_of es later
-left_kept e es later stays = rw stays refl
-
-pub left_gone : (e : Effect) (es later : List Effect) → overridden e (es ++ later) ≡ true → left_of (e ∷ es) later ≡ left_of es later
-left_gone e es later gone = rw gone refl
+overridden_both e es rs = ap (λ b. overridden e es || b) (any_effects e rs) ∙ sym (list_any-append (λ f. overrides f e) es (all_effects rs))
 
 -- ---- records
 
@@ -50,30 +37,10 @@ pub left_more : (call : ℕ) (qs : List LogRecord) (r : LogRecord) (rs : List Lo
 left_more call [] r rs = with_left-first call r.call (left_of r.effects (all_effects rs)) (left_in rs)
 left_more call (q ∷ qs) r rs = ap (λ xs. begun_by call (q ∷ xs)) (append_assoc qs (record_of r.call (left_of r.effects (all_effects rs))) (left_in rs))
 
-begun_one : (call : ℕ) (es : List Effect) → begun_by call (record_of call es) ≡ record_of call es
-begun_one call [] = refl
-begun_one call (e ∷ es) = refl
-
--- they begin with the call
-pub begun_more : (call : ℕ) (qs : List LogRecord) (r : LogRecord) (later : List Effect) → begun_by call qs ≡ qs → begun_by call (with_left call qs r later) ≡ with_left call qs r later
-begun_more call [] r later begun = begun_one call (left_of r.effects later)
-begun_more call (q ∷ qs) r later begun =
-    let first : record { call = call; effects = q.effects } ≡ q = cc in
-    ap (λ x. x ∷ (qs ++ record_of r.call (left_of r.effects later))) first
-
-append_none : {X : Type 0} (xs : List X) → xs ++ [] ≡ xs
-append_none [] = refl
-append_none (x ∷ xs) = ap (λ ys. x ∷ ys) (append_none xs)
-
 -- once there are no more
 pub left_all : (call : ℕ) (qs rest : List LogRecord) → length rest ≡ 0 → begun_by call qs ≡ qs → begun_by call (qs ++ left_in rest) ≡ qs
-left_all call qs [] none begun = ap (begun_by call) (append_none qs) ∙ begun
+left_all call qs [] none begun = ap (begun_by call) (append-nil qs) ∙ begun
 left_all call qs (r ∷ rest) none begun = absurd (omega arith)
-
--- the call that a group begins with
-pub call_first : (rs : List LogRecord) (r : LogRecord) → Some r ≡ slice_get rs 0 → call_of rs 0 0 ≡ r.call
-call_first [] r is = absurd cc
-call_first (q ∷ rs) r is = let same : r ≡ q = cc in ap (λ (x : LogRecord). x.call) (sym same)
 
 pub none_left : (rs : List LogRecord) → None ≡ slice_get rs 0 → [] ≡ coalesced_group rs
 none_left [] is = refl
@@ -87,34 +54,13 @@ first_group [] some = absurd (omega arith)
 first_group (r ∷ rs) some =
     ap (λ gs. take 64 (r ∷ rs) ∷ gs) (groups-steps (length rs) (length (drop 64 (r ∷ rs))) (drop 64 (r ∷ rs)) (omega (arith, length-drop 64 (r ∷ rs))) (omega arith))
 
-take_less : {X : Type 0} (n : ℕ) (xs : List X) → take (min (length xs) n) xs ≡ take n xs
-take_less n [] = take_nothing (min 0 n) ∙ sym (take_nothing n)
-  where
-    take_nothing : {X : Type 0} (k : ℕ) → ◌≡◌ {A = List X} (take k []) []
-    take_nothing zero = refl
-    take_nothing (suc k) = refl
-take_less zero (x ∷ xs) = let none : min (suc (length xs)) zero ≡ zero = omega arith in ap (λ k. take k (x ∷ xs)) none
-take_less (suc n) (x ∷ xs) =
-    let less : min (suc (length xs)) (suc n) ≡ suc (min (length xs) n) = omega arith in
-    ap (λ k. take k (x ∷ xs)) less ∙ ap (λ ys. x ∷ ys) (take_less n xs)
-
-drop_less : {X : Type 0} (n : ℕ) (xs : List X) → drop (min (length xs) n) xs ≡ drop n xs
-drop_less n [] = drop_nothing (min 0 n) ∙ sym (drop_nothing n)
-  where
-    drop_nothing : {X : Type 0} (k : ℕ) → ◌≡◌ {A = List X} (drop k []) []
-    drop_nothing zero = refl
-    drop_nothing (suc k) = refl
-drop_less zero (x ∷ xs) = let none : min (suc (length xs)) zero ≡ zero = omega arith in ap (λ k. drop k (x ∷ xs)) none
-drop_less (suc n) (x ∷ xs) =
-    let less : min (suc (length xs)) (suc n) ≡ suc (min (length xs) n) = omega arith in
-    ap (λ k. drop k (x ∷ xs)) less ∙ drop_less n xs
-
 -- a loop over the groups goes on
 pub groups_more : (done : List (List LogRecord)) (rest prefix behind : List LogRecord) (g : List LogRecord) (n : ℕ) → 0 < length rest → n ≡ min (length rest) 64 → prefix ≡ take n rest → behind ≡ drop n rest → g ≡ coalesced_group prefix
     → (done ++ g ∷ []) ++ map coalesced_group (groups_of (length behind) behind) ≡ done ++ map coalesced_group (groups_of (length rest) rest)
 groups_more done rest prefix behind g n some count is_prefix is_behind is =
-    let prefixes : prefix ≡ take 64 rest = is_prefix ∙ ap (λ k. take k rest) count ∙ take_less 64 rest in
-    let others : behind ≡ drop 64 rest = is_behind ∙ ap (λ k. drop k rest) count ∙ drop_less 64 rest in
+    let least : n ≡ min 64 (length rest) = omega arith in
+    let prefixes : prefix ≡ take 64 rest = is_prefix ∙ ap (λ k. take k rest) least ∙ take_min 64 rest in
+    let others : behind ≡ drop 64 rest = is_behind ∙ ap (λ k. drop k rest) least ∙ drop_min 64 rest in
     append_assoc done (g ∷ []) (map coalesced_group (groups_of (length behind) behind))
     ∙ ap (λ h. done ++ h ∷ map coalesced_group (groups_of (length behind) behind)) (is ∙ ap coalesced_group prefixes)
     ∙ ap (λ b. done ++ coalesced_group (take 64 rest) ∷ map coalesced_group (groups_of (length b) b)) others
@@ -139,12 +85,8 @@ group_more l rs r begins is = λ i. record {
 
 begun_border : (l : NumberedLog) (r : LogRecord) (rs : List LogRecord) → length l.begins ≡ length l.records → is_border (with_group l (r ∷ rs)) (end l) ≡ true
 begun_border l r rs marks =
-    elim (cases_lt l.first (end l)) [
-      | inl later ↦
-          let place : length l.begins ≡ end l - l.first = omega arith in
-          border_marked (with_group l (r ∷ rs)) (end l) later ∙ get_or_at l.begins true (map (λ (x : LogRecord). false) rs) true (end l - l.first) place
-      | inr low ↦ border_first (with_group l (r ∷ rs)) (end l) low
-    ]
+    by_place (with_group l (r ∷ rs)) (end l) (λ b. b ≡ true) (λ _. refl)
+    (λ later. get_or_at l.begins true (map (λ (x : LogRecord). false) rs) true (end l - l.first) (omega arith))
 
 -- and may grow while it has fewer than 64
 -- a record is the first of its group where the log ends as before the group
@@ -226,7 +168,7 @@ pub one_passed : {X : Type 0} (done rest left all : List X) (x : X) → done ++ 
 one_passed done rest left all x is next = append_assoc done (x ∷ []) rest ∙ ap (λ xs. done ++ xs) (sym next) ∙ is
 
 pub all_passed : {X : Type 0} (done left all : List X) → done ++ left ≡ all → length left ≡ 0 → done ≡ all
-all_passed done [] all is none = sym (append_none done) ∙ is
+all_passed done [] all is none = sym (append-nil done) ∙ is
 all_passed done (x ∷ left) all is none = absurd (omega arith)
 
 -- ---- what is in place of the last records
@@ -236,7 +178,7 @@ abbrev pub with_all : NumberedLog → List (List LogRecord) → NumberedLog
 with_all l gs = record { first = l.first; limit = l.limit; records = l.records ++ all_records gs; begins = l.begins ++ all_marks gs }
 
 with_groups_all : (l : NumberedLog) (gs : List (List LogRecord)) → with_groups l gs ≡ with_all l gs
-with_groups_all l [] = λ i. record { first = l.first; limit = l.limit; records = sym (append_none l.records) i; begins = sym (append_none l.begins) i }
+with_groups_all l [] = λ i. record { first = l.first; limit = l.limit; records = sym (append-nil l.records) i; begins = sym (append-nil l.begins) i }
 with_groups_all l (g ∷ gs) =
     with_groups_all (with_group l g) gs
     ∙ (λ i. record { first = l.first; limit = l.limit; records = append_assoc l.records g (all_records gs) i; begins = append_assoc l.begins (marks_of g) (all_marks gs) i })
@@ -268,14 +210,9 @@ regrouped_before l from number law last before =
     let prefix : List Bool = take (from - l.first) l.begins in
     let kept : length prefix ≡ from - l.first = omega (arith, law.marks, length-take (from - l.first) l.begins) in
     ap (λ m. is_border m number) (regrouped_all l from)
-    ∙ elim (cases_lt l.first number) [
-      | inl high ↦
-          border_marked (with_all (without_tail l from) (groups_from l from)) number high
-          ∙ get_or_append_left prefix (all_marks (groups_from l from)) true (number - l.first) (omega arith)
-          ∙ get_or-take (from - l.first) l.begins (number - l.first) true (omega arith)
-          ∙ sym (border_marked l number high)
-      | inr low ↦ border_first (with_all (without_tail l from) (groups_from l from)) number low ∙ sym (border_first l number low)
-    ]
+    ∙ by_place (with_all (without_tail l from) (groups_from l from)) number (λ b. b ≡ is_border l number) (λ low. sym (border_first l number low)) (λ high.
+    get_or_append_left prefix (all_marks (groups_from l from)) true (number - l.first) (omega arith)
+    ∙ get_or-take (from - l.first) l.begins (number - l.first) true (omega arith) ∙ sym (border_marked l number high))
 
 -- a border among them is where one begins
 border_among : (l : NumberedLog) (from k : ℕ) → IsNumberedLog l → l.first < from + k → l.first ≤ from → from ≤ end l → is_border (regrouped l from) (from + k) ≡ get_or (all_marks (groups_from l from)) k true

@@ -3,7 +3,7 @@ use Rattle.std.proofs.Common.{◌≡◌, ℕ, zero, suc, ◌+◌, ◌-◌, ◌<�
 use Rattle.std.specs.List.{list_any, slice_get, slice_index_or}
 use Rattle.std.proofs.lemmas.Option.{get_or_from_slice_get, slice_get_cases, slice_get_within}
 use Rattle.circular_buffer.proofs.Places.{slice_get-some}
-use Rattle.std.proofs.lemmas.Bool.{cases_lt}
+use Rattle.std.proofs.lemmas.Bool.{cases_lt, or_parts}
 use Rattle.assise_record.specs.LogRecord.{LogRecord}
 use Rattle.assise_private_log.specs.NumberedLog.{NumberedLog, record_at}
 use Rattle.assise_private_log.specs.Touches.{IsLastTouch, UntouchedFrom, found_touches, record_touches, touches, touches_after}
@@ -18,14 +18,10 @@ any_from_reads p (y ∷ ys) zero none =
     ap (λ b. b || list_any p ys) (none zero y (omega arith) refl) ∙ any_from_reads p ys zero (λ k x from s. none (suc k) x (omega arith) s)
 any_from_reads p (y ∷ ys) (suc j) none = any_from_reads p ys j (λ k x from s. none (suc k) x (omega arith) s)
 
-or_none : (a b : Bool) → (a || b) ≡ false → (a ≡ false) × (b ≡ false)
-or_none false b none = (refl, none)
-or_none true b none = absurd cc
-
 reads_from_any : {X : Type 0} (p : X → Bool) (xs : List X) (j : ℕ) → list_any p (drop j xs) ≡ false → (k : ℕ) (x : X) → j ≤ k → slice_get xs k ≡ Some x → p x ≡ false
 reads_from_any p [] j none k x from s = cc
-reads_from_any p (y ∷ ys) zero none zero x from s = let first : p y ≡ false = (or_none (p y) (list_any p ys) none).0 in cc
-reads_from_any p (y ∷ ys) zero none (suc k) x from s = reads_from_any p ys zero (or_none (p y) (list_any p ys) none).1 k x (omega arith) s
+reads_from_any p (y ∷ ys) zero none zero x from s = let first : p y ≡ false = (or_parts (p y) (list_any p ys) none).0 in cc
+reads_from_any p (y ∷ ys) zero none (suc k) x from s = reads_from_any p ys zero (or_parts (p y) (list_any p ys) none).1 k x (omega arith) s
 reads_from_any p (y ∷ ys) (suc j) none zero x from s = absurd (omega arith)
 reads_from_any p (y ∷ ys) (suc j) none (suc k) x from s = reads_from_any p ys j none k x (omega arith) s
 

@@ -1,5 +1,5 @@
 -- What the reader of headers says, by the places of their fields.
-use Rattle.std.proofs.Common.{◌≡◌, ◌≢◌, ◌⊎◌, ℕ, zero, suc, ◌+◌, ◌-◌, ◌<◌, ◌≤◌, true, false, ◌==◌, nat_lt, ltb, List, [], ◌∷◌, get_or, length, take, drop, Ok, Err, refl, sym, ap, ap₂, subst, ◌∙◌, inl, inr, arith}
+use Rattle.std.proofs.Common.{◌≡◌, ◌≢◌, ◌⊎◌, ℕ, zero, suc, ◌+◌, ◌-◌, ◌<◌, ◌≤◌, true, false, ◌==◌, nat_lt, ltb, List, [], ◌∷◌, get_or, length, take, drop, Ok, Err, refl, sym, ap, ap₂, subst, ◌∙◌, inl, inr, arith, true≢false}
 use Rattle.std.proofs.lemmas.Bool.{cases_Bool, cases_lt, eq-eqb, eqb-true, lt-ltb, le-ltb, ltb-true}
 use Rattle.std.proofs.lemmas.List.{drop-drop, length-drop}
 use Rattle.byteorder.specs.Endian.{big_number}
@@ -161,11 +161,11 @@ behind_version newest v known t =
                   | inr all ↦ let w = whole newest v known t there somebody numbers right all in entire w.0 w.1 w.2 lawful w.3 (omega (arith, w.4))
                 ]
             | inr unlawful ↦ wrong BadValue (no_number newest v known t there somebody numbers unlawful) not_value
-                (λ fields. let bad : true ≡ false = sym (count_again (first newest v known t) (count newest v known t) (fields.count (omega (arith, numbers)))) ∙ unlawful in cc)
+                (λ fields. true≢false (sym (count_again (first newest v known t) (count newest v known t) (fields.count (omega (arith, numbers)))) ∙ unlawful))
           ]
         ]
         | inr nobody_there ↦ wrong BadValue (nobody newest v known t there nobody_there) not_value
-            (λ fields. let bad : true ≡ false = sym (lt-ltb 0 (client newest v known t) (fields.client (omega (arith, there)))) ∙ nobody_there in cc)
+            (λ fields. true≢false (sym (lt-ltb 0 (client newest v known t) (fields.client (omega (arith, there)))) ∙ nobody_there))
       ]
     ] where
       magic : take 2 (65 ∷ 83 ∷ v ∷ t) ≡ take (length (65 ∷ 83 ∷ v ∷ t)) (65 ∷ 83 ∷ [])
@@ -187,40 +187,33 @@ tails a b xs ys e = cc
 no_third : (newest : ℕ) (bytes : List ℕ) → length bytes < 3 → 3 ≤ length bytes → IsVersion newest (get_or bytes 2 0)
 no_third newest bytes few all = absurd (omega (arith, few, all))
 
+behind_second : (newest : ℕ) (t : List ℕ) → Class newest (65 ∷ 83 ∷ t)
+unfolding header_at version_at
+behind_second newest [] = early refl (few_fields newest (65 ∷ 83 ∷ []) (omega arith) refl (no_third newest (65 ∷ 83 ∷ []) (omega arith)))
+behind_second newest (v ∷ t) =
+    elim (cases_Bool (is_version newest v)) [
+      | inl known ↦ behind_version newest v known t
+      | inr other ↦ wrong BadVersion (rw other refl) not_version (λ fields. true≢false (sym (version_again newest v (fields.version (omega arith))) ∙ other))
+    ]
+
+behind_first : (newest : ℕ) (t : List ℕ) → Class newest (65 ∷ t)
+unfolding header_at version_at
+behind_first newest [] = early refl (few_fields newest (65 ∷ []) (omega arith) refl (no_third newest (65 ∷ []) (omega arith)))
+behind_first newest (b ∷ t) =
+    elim (cases_Bool (b == 83)) [
+      | inl is ↦ subst (λ x. Class newest (65 ∷ x ∷ t)) (sym (eqb-true b 83 is)) (behind_second newest t)
+      | inr other ↦ wrong BadMagic (rw other refl) not_magic
+          (λ fields. true≢false (sym (eq-eqb b 83 (heads b 83 [] (take (length t) []) (tails 65 65 (b ∷ []) (83 ∷ take (length t) []) fields.magic))) ∙ other))
+    ]
+
 class_of : (newest : ℕ) (bytes : List ℕ) → Class newest bytes
 unfolding header_at version_at
 class_of newest [] = early refl (few_fields newest [] (omega arith) refl (no_third newest [] (omega arith)))
-class_of newest (a ∷ []) =
+class_of newest (a ∷ t) =
     elim (cases_Bool (a == 65)) [
-      | inl is ↦ let e : a ≡ 65 = eqb-true a 65 is in early (rw is refl) (few_fields newest (a ∷ []) (omega arith) (ap (λ x. x ∷ []) e) (no_third newest (a ∷ []) (omega arith)))
-      | inr other ↦ wrong BadMagic (rw other refl) not_magic (λ fields. let e : a ≡ 65 = heads a 65 [] [] fields.magic in let bad : true ≡ false = sym (eq-eqb a 65 e) ∙ other in cc)
-    ]
-class_of newest (a ∷ b ∷ []) =
-    elim (cases_Bool (a == 65)) [
-      | inl is ↦ elim (cases_Bool (b == 83)) [
-        | inl too ↦
-            early (rw (is, too) refl)
-            (few_fields newest (a ∷ b ∷ []) (omega arith) (ap₂ (λ x y. x ∷ y ∷ []) (eqb-true a 65 is) (eqb-true b 83 too)) (no_third newest (a ∷ b ∷ []) (omega arith)))
-        | inr other ↦ wrong BadMagic (rw (is, other) refl) not_magic
-            (λ fields. let bad : true ≡ false = sym (eq-eqb b 83 (heads b 83 [] [] (tails a 65 (b ∷ []) (83 ∷ []) fields.magic))) ∙ other in cc)
-      ]
+      | inl is ↦ subst (λ x. Class newest (x ∷ t)) (sym (eqb-true a 65 is)) (behind_first newest t)
       | inr other ↦ wrong BadMagic (rw other refl) not_magic
-          (λ fields. let bad : true ≡ false = sym (eq-eqb a 65 (heads a 65 (b ∷ []) (83 ∷ []) fields.magic)) ∙ other in cc)
-    ]
-class_of newest (a ∷ b ∷ v ∷ t) =
-    elim (cases_Bool (a == 65)) [
-      | inl is ↦ elim (cases_Bool (b == 83)) [
-        | inl too ↦ elim (cases_Bool (is_version newest v)) [
-          | inl known ↦
-              subst (λ x. Class newest (x ∷ b ∷ v ∷ t)) (sym (eqb-true a 65 is)) (subst (λ x. Class newest (65 ∷ x ∷ v ∷ t)) (sym (eqb-true b 83 too)) (behind_version newest v known t))
-          | inr other ↦ wrong BadVersion (rw (is, too, other) refl) not_version
-              (λ fields. let bad : true ≡ false = sym (version_again newest v (fields.version (omega arith))) ∙ other in cc)
-        ]
-        | inr other ↦ wrong BadMagic (rw (is, other) refl) not_magic
-            (λ fields. let bad : true ≡ false = sym (eq-eqb b 83 (heads b 83 [] (take (length (v ∷ t)) []) (tails a 65 (b ∷ []) (83 ∷ take (length (v ∷ t)) []) fields.magic))) ∙ other in cc)
-      ]
-      | inr other ↦ wrong BadMagic (rw other refl) not_magic
-          (λ fields. let bad : true ≡ false = sym (eq-eqb a 65 (heads a 65 (b ∷ []) (83 ∷ take (length (v ∷ t)) []) fields.magic)) ∙ other in cc)
+          (λ fields. true≢false (sym (eq-eqb a 65 (heads a 65 (take 1 t) (take (length t) (83 ∷ [])) fields.magic)) ∙ other))
     ]
 
 -- ---- what follows
@@ -235,15 +228,20 @@ ends_inside newest bytes is = go (class_of newest bytes) where
   go (wrong fault read other fields) = let same : fault ≡ Short = let both : Short_ ≡ Err fault = sym is ∙ read in cc in absurd (other same)
   go (entire h rest read fields size long) = let both : Short_ ≡ ok_header h rest = sym is ∙ read in absurd cc
 
-pub header_then : (newest : ℕ) (bytes : List ℕ) (h : Header) (rest : List ℕ) → header_at newest bytes ≡ Ok (h, rest) → length rest < h.size → IsUnfinished newest bytes
-header_then newest bytes h rest is few = go (class_of newest bytes) where
-  go : Class newest bytes → IsUnfinished newest bytes
-  go (early read unfinished) = unfinished
+entire_of : (newest : ℕ) (bytes : List ℕ) (h : Header) (rest : List ℕ) → header_at newest bytes ≡ Ok (h, rest)
+    → HasLawfulFields newest bytes × (h.size ≡ field 25 4 bytes) × (length rest + 29 ≡ length bytes)
+entire_of newest bytes h rest is = go (class_of newest bytes) where
+  go : Class newest bytes → HasLawfulFields newest bytes × (h.size ≡ field 25 4 bytes) × (length rest + 29 ≡ length bytes)
+  go (early read unfinished) = let both : ok_header h rest ≡ Short_ = sym is ∙ read in absurd cc
   go (wrong fault read other fields) = let failed : Read Header = Err fault in let both : ok_header h rest ≡ failed = sym is ∙ read in absurd cc
   go (entire g more read fields size long) =
       let both : ok_header h rest ≡ ok_header g more = sym is ∙ read in
       let pair = ok_is (h, rest) (g, more) both in
-      record { lawful = fields; short = λ _. omega (arith, few, ap (λ (x : Header × List ℕ). x.0.size) pair, size, ap (λ (x : Header × List ℕ). length x.1) pair, long) }
+      (fields, ap (λ (x : Header × List ℕ). x.0.size) pair ∙ size, ap (λ (x : Header × List ℕ). length x.1 + 29) pair ∙ long)
+
+pub header_then : (newest : ℕ) (bytes : List ℕ) (h : Header) (rest : List ℕ) → header_at newest bytes ≡ Ok (h, rest) → length rest < h.size
+    → IsUnfinished newest bytes
+header_then newest bytes h rest is few = let e = entire_of newest bytes h rest is in record { lawful = e.0; short = λ _. omega (arith, few, e.1, e.2) }
 
 pub header_says : (newest : ℕ) (bytes : List ℕ) → IsUnfinished newest bytes → (header_at newest bytes ≡ Err Short) ⊎ ((h : Header) × (rest : List ℕ) × (header_at newest bytes ≡ Ok (h, rest)) × (length rest < h.size))
 header_says newest bytes u = go (class_of newest bytes) where
@@ -254,11 +252,4 @@ header_says newest bytes u = go (class_of newest bytes) where
 
 -- a header has 29 bytes
 pub header_long : (newest : ℕ) (bytes : List ℕ) (h : Header) (rest : List ℕ) → header_at newest bytes ≡ Ok (h, rest) → length rest + 29 ≡ length bytes
-header_long newest bytes h rest is = go (class_of newest bytes) where
-  go : Class newest bytes → length rest + 29 ≡ length bytes
-  go (early read unfinished) = let both : ok_header h rest ≡ Short_ = sym is ∙ read in absurd cc
-  go (wrong fault read other fields) = let failed : Read Header = Err fault in let both : ok_header h rest ≡ failed = sym is ∙ read in absurd cc
-  go (entire g more read fields size long) =
-      let both : ok_header h rest ≡ ok_header g more = sym is ∙ read in
-      let pair = ok_is (h, rest) (g, more) both in
-      ap (λ (x : Header × List ℕ). length x.1 + 29) pair ∙ long
+header_long newest bytes h rest is = (entire_of newest bytes h rest is).2

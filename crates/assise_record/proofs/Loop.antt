@@ -15,11 +15,6 @@ pub record IsMany {A C : Type 0} (read : ℕ → List ℕ → Read A) (add : A �
 abbrev pub through : {C : Type 0} → (C → C) → Read C → Read C
 through prefix read = read >>= λ x. Ok (prefix x.0, x.1)
 
--- nothing was read before
-pub through_none : {C : Type 0} (prefix : C → C) (r : Read C) → ((y : C) → prefix y ≡ y) → through prefix r ≡ r
-through_none {C} prefix (Ok y) same = ap (λ (c : C). Ok (c, y.1)) (same y.0)
-through_none prefix (Err fault) same = refl
-
 -- a fault other than out of memory
 fails_as : {A B : Type 0} (fault : FrameFault) (one : Result A FrameFault) (total : Result B FrameFault) → FailsReading fault one → (one ≡ Err fault → total ≡ Err fault) → FailsReading fault total
 fails_as Memory one total h f = tt

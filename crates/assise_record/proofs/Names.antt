@@ -2,18 +2,14 @@
 use Rattle.std.proofs.Common.{◌≡◌, ℕ, ◌<◌, Bool, true, false, not, ◌==◌, cond, List, length, Ok, Err, IsTrue, refl, arith, inl, inr}
 use Rattle.std.specs.Str.{IsUtf8, is_utf8}
 use Rattle.std.proofs.lemmas.Str.{IsUtf8-from_is_utf8}
-use Rattle.std.proofs.lemmas.Bool.{cases_eq, and_parts}
+use Rattle.std.proofs.lemmas.Bool.{cases_eq, and_parts, false_from_ne_true}
 use Rattle.assise_names.specs.Name.{is_name}
 use Rattle.assise_record.specs.Reading.{name_in}
 use Rattle.assise_record.specs.declared.fault.FrameFault.TheVariants.{BadValue}
 
-not_true : (b : Bool) → ¬ (b ≡ true) → b ≡ false
-not_true true h = absurd (h refl)
-not_true false h = refl
-
 -- bytes that are no text are no name
 pub no_text : (bytes : List ℕ) → ¬ (IsUtf8 bytes) → name_in bytes ≡ Err BadValue
-no_text bytes h = rw (not_true (is_utf8 bytes) (λ e. h (IsUtf8-from_is_utf8 bytes e))) refl
+no_text bytes h = rw (false_from_ne_true (is_utf8 bytes) (λ e. h (IsUtf8-from_is_utf8 bytes e))) refl
 
 -- what is read as a name is the bytes, which are one
 pub named : (bytes name : List ℕ) → name_in bytes ≡ Ok name → IsTrue (is_name bytes) × (bytes ≡ name)

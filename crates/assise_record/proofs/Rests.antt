@@ -1,8 +1,8 @@
 -- What stands behind a reading is the end of the bytes, and the bytes of a write stand right before it.
-use Rattle.std.proofs.Common.{◌≡◌, ℕ, zero, suc, ◌+◌, ◌-◌, ◌≤◌, ◌<◌, Bool, true, false, List, [], ◌∷◌, ◌++◌, length, take, drop, slice_range, Ok, refl, sym, ap, subst, ◌∙◌, append_assoc, arith, Err, IfOk, Option, Result}
-use Rattle.std.proofs.lemmas.List.{take_at, drop_at, drop-drop, length-append, length-drop}
+use Rattle.std.proofs.Common.{◌≡◌, ℕ, ◌+◌, ◌-◌, Bool, List, [], ◌∷◌, ◌++◌, length, take, drop, slice_range, Ok, refl, sym, ap, ◌∙◌, append_assoc, arith, Err, IfOk, Option, Result}
+use Rattle.std.proofs.lemmas.List.{take_at, drop_at, length-append}
 use Rattle.byteorder.specs.Endian.{big_bytes}
-use Rattle.assise_record.specs.Spelling.{effect_spelling, mark_spelling, patch_spelling}
+use Rattle.assise_record.specs.Spelling.{effect_spelling, mark_spelling}
 use Rattle.assise_record.specs.Header.{Header}
 use Rattle.assise_record.specs.Reading.{Exactly, IsRest, byte_at, effect_at, fields_at, header_at, mark_at, number_at}
 use Rattle.assise_record.specs.Views.{EndsAt, effect_of}
@@ -11,7 +11,7 @@ use Rattle.assise_record.specs.declared.effects.EffectView.TheVariants.{NewFile,
 use Rattle.assise_record.specs.declared.fault.FrameFault.{FrameFault}
 use Rattle.assise_record.specs.declared.fault.FrameFault.TheVariants.{BadLength}
 use Rattle.assise_record.proofs.EffectLaws.{effect_reads}
-use Rattle.assise_record.proofs.FieldLaws.{IsBytes, Takes, Takes-then, byte_reads, u64_reads}
+use Rattle.assise_record.proofs.FieldLaws.{IsBytes, Takes-then, byte_reads, u64_reads}
 use Rattle.assise_record.proofs.FrameLaws.{header_spelling, header_takes}
 use Rattle.assise_record.proofs.Headers.{header_long}
 use Rattle.assise_record.proofs.Marks.{mark_reads}

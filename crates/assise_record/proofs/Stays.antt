@@ -1,5 +1,6 @@
 -- More bytes change nothing but what is Short.
-use Rattle.std.proofs.Common.{◌≡◌, ℕ, ◌+◌, Bool, true, false, ◌==◌, nat_lt, List, [], ◌∷◌, ◌++◌, length, Result, Ok, Err, refl, sym, ap, ◌∙◌, arith, inl, inr}
+use Rattle.std.proofs.Common.{◌≡◌, ℕ, ◌+◌, Bool, true, false, ◌==◌, nat_lt, List, [], ◌∷◌, ◌++◌, length, Result, Ok, Err, refl, sym, ap, ◌∙◌, arith, inl, inr, take, drop, if◌then◌else◌}
+use Rattle.byteorder.specs.Endian.{big_number}
 use Rattle.std.proofs.lemmas.Bool.{cases_lt, lt-ltb, le-ltb}
 use Rattle.std.proofs.lemmas.List.{length-append, take-append-le, drop-append-le}
 use Rattle.assise_record.specs.Header.{Header}
@@ -26,8 +27,10 @@ byte_stays : Stays (byte_at Short)
 byte_stays [] more h = absurd (h refl)
 byte_stays (b ∷ bytes) more h = refl
 
-bytes_stay : (n : ℕ) → Stays (bytes_at n Short)
-bytes_stay n bytes more h =
+-- a field of `n` bytes
+field_stays : {A : Type 0} (n : ℕ) (value : List ℕ → A)
+    → Stays (λ bytes. if nat_lt (length bytes) n then short (A × List ℕ) else done (value (take n bytes), drop n bytes))
+field_stays n value bytes more h =
     elim (cases_lt (length bytes) n) [
       | inl lt ↦ let few = lt-ltb (length bytes) n lt in absurd (h (rw few refl))
       | inr le ↦
@@ -36,15 +39,11 @@ bytes_stay n bytes more h =
           rw (before, after, take-append-le n bytes more le, drop-append-le n bytes more le) refl
     ]
 
+bytes_stay : (n : ℕ) → Stays (bytes_at n Short)
+bytes_stay n = field_stays n (λ taken. taken)
+
 number_stays : (n : ℕ) → Stays (number_at n Short)
-number_stays n bytes more h =
-    elim (cases_lt (length bytes) n) [
-      | inl lt ↦ let few = lt-ltb (length bytes) n lt in absurd (h (rw few refl))
-      | inr le ↦
-          let before = le-ltb (length bytes) n le in
-          let after = le-ltb (length (bytes ++ more)) n (omega (arith, le, length-append bytes more)) in
-          rw (before, after, take-append-le n bytes more le, drop-append-le n bytes more le) refl
-    ]
+number_stays n = field_stays n (big_number n)
 
 -- one reading behind the other
 then_stays : {A B : Type 0} (read : List ℕ → Read A) (next : A → List ℕ → Read B) → Stays read → ((a : A) → Stays (next a)) → Stays (λ bytes. read bytes >>= λ x. next x.0 x.1)

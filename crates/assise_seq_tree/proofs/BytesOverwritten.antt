@@ -3,7 +3,7 @@ use Rattle.std.proofs.Common.{◌≡◌, ℕ, zero, suc, ◌+◌, ◌-◌, ◌�
 use Rattle.std.proofs.lemmas.List.{take_all, drop_all, length-replicate, take-replicate}
 use Rattle.assise_seq_tree.specs.Contents.{overwritten}
 
-take-append : (n : ℕ) (xs ys : List ℕ) → take n (xs ++ ys) ≡ take n xs ++ take (n - length xs) ys
+pub take-append : (n : ℕ) (xs ys : List ℕ) → take n (xs ++ ys) ≡ take n xs ++ take (n - length xs) ys
 take-append zero xs ys = let none : 0 - length xs ≡ 0 = omega arith in rw none
 take-append (suc n) [] ys = let all : suc n - 0 ≡ suc n = omega arith in rw all
 take-append (suc n) (x ∷ xs) ys = let less : suc n - length (x ∷ xs) ≡ n - length xs = omega arith in rw less (ap (λ zs. x ∷ zs) (take-append n xs ys))

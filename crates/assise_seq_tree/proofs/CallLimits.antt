@@ -17,29 +17,23 @@ use Rattle.assise_seq_tree.proofs.FileResized.{length-resized}
 use Rattle.assise_seq_tree.proofs.Calls.{second, read_leaves, list_leaves, stat_leaves}
 use Rattle.assise_seq_tree.proofs.Limits.{put_there, put_new, within-without, within-at}
 use Rattle.assise_seq_tree.proofs.MovedTreeRoom.{received}
+use Rattle.assise_seq_tree.proofs.Checks.{no_error}
 use Rattle.assise_names.specs.Path.{same_path}
 
 -- ---- what the checks found
-some_room : (b c : Bool) (r : Result (Unit {0}) TreeError) → cond b (Err Exists) (cond c (Err DirFull) r) ≡ Ok tt → c ≡ false
-some_room true c r h = cc
-some_room false true r h = cc
-some_room false false r h = refl
-
 has_room : (r : Result Tree TreeError) (name : List ℕ) → (r >>= λ found. as_directory found >>= λ es. room_for name es) ≡ Ok tt → (es : Entries) × ((r ≡ Ok (dir es)) × (count es < 4096))
 has_room (Ok (file bytes)) name h = cc
 has_room (Ok (dir es)) name h =
-    let room = some_room (is_some (find name es)) (nat_le 4096 (count es)) (Ok tt) h in
+    let new = no_error (is_some (find name es)) Exists (cond (nat_le 4096 (count es)) (Err DirFull) (Ok tt)) tt h in
+    let room = (no_error (nat_le 4096 (count es)) DirFull (Ok tt) tt new.1).0 in
     (es, (refl, grind (arith, nat_tests)))
 has_room (Err e) name h = cc
-
-not_root : (b : Bool) (r : Result (Unit {0}) TreeError) → cond b (Err Exists) r ≡ Ok tt → r ≡ Ok tt
-not_root true r h = cc
-not_root false r h = h
 
 put_made : (t x : Tree) (p : Path) → room_at t p ≡ Ok tt → IsWithinLimits t → IsWithinLimits x → IsWithinLimits (put t p x)
 put_made t x [] h s o = cc
 put_made t x (n ∷ p) h s o =
-    let found = has_room (at t (parent_of (n ∷ p))) (last_name (n ∷ p)) (not_root (length (n ∷ p) == 0) (at t (parent_of (n ∷ p)) >>= λ found. as_directory found >>= λ es. room_for (last_name (n ∷ p)) es) h) in
+    let found = has_room (at t (parent_of (n ∷ p))) (last_name (n ∷ p))
+    (no_error (length (n ∷ p) == 0) Exists (at t (parent_of (n ∷ p)) >>= λ found. as_directory found >>= λ es. room_for (last_name (n ∷ p)) es) tt h).1 in
     let parts = parent_and_last (n ∷ p) (omega arith) in
     subst (λ q. IsWithinLimits (put t q x)) (sym parts) (put_new (parent_of (n ∷ p)) (last_name (n ∷ p)) t x found.0 found.1.0 found.1.1 s o)
 

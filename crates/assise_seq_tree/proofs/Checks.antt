@@ -2,7 +2,7 @@
 use Rattle.std.proofs.Common.{◌≡◌, ◌≢◌, ℕ, ◌<◌, Bool, true, false, not, cond, List, [], ◌∷◌, ◌++◌, length, take, Some, Result, Ok, Err, ◌==◌, refl, ap, sym, ◌∙◌, ◌⊎◌, inl, inr, arith}
 use Rattle.std.specs.Prelude.{nat_lt, ◌||◌, if◌then◌else◌}
 use Rattle.std.specs.Bool.{Decides}
-use Rattle.std.proofs.lemmas.Bool.{cases_Bool}
+use Rattle.std.proofs.lemmas.Bool.{cases_Bool, or_parts}
 use Rattle.std.proofs.lemmas.Bool.Decides.{nat_tests}
 use Rattle.std.proofs.lemmas.Slice.Eq.{slice_eq-Decides, bytes_eq-Decides, starts_is}
 use Rattle.std.proofs.lemmas.List.{append-nil}
@@ -11,7 +11,7 @@ use Rattle.assise_names.specs.declared.reply.TreeError.{TreeError}
 use Rattle.assise_names.specs.declared.reply.TreeError.TheVariants.{Invalid}
 use Rattle.assise_seq_tree.specs.Tree.{Tree, file, dir, Entries, no_entries, entry, find, count, at, AreDisjointPaths}
 use Rattle.assise_seq_tree.specs.Answer.{◌>>=◌, parent_of, last_name, as_directory, entries_at, may_receive, may_rename}
-use Rattle.assise_seq_tree.proofs.TreePut.{cases_option}
+use Rattle.assise_seq_tree.proofs.TreePut.{through_entry, last_entry}
 use Rattle.assise_seq_tree.proofs.Moves.{Path, parent_and_last}
 
 -- ---- what the tests of paths say
@@ -46,26 +46,14 @@ on_the_way [] rest r (file bytes) u h = cc
 on_the_way [] rest r (dir no_entries) u h = cc
 on_the_way [] rest r (dir (entry n t es)) u h = (entry n t es, refl, λ e. omega arith)
 on_the_way (n ∷ q) rest r (file bytes) u h = cc
-on_the_way (n ∷ q) rest r (dir es) u h =
-    elim (cases_option (find n es)) [
-      | inl none ↦ let no = rw none at h in cc
-      | inr some ↦ rw some.1 (on_the_way q rest r some.0 u (rw some.1 at h))
-    ]
+on_the_way (n ∷ q) rest r (dir es) u h = through_entry es n (q ++ r ∷ rest) u h (λ t found there. rw found (on_the_way q rest r t u there))
 
 last_step : (q : Path) (n : List ℕ) (t u : Tree) (es : Entries) → at t q ≡ Ok (dir es) → at t (q ++ n ∷ []) ≡ Ok u → find n es ≡ Some u
 unfolding at
 last_step [] n (file bytes) u es h k = cc
-last_step [] n (dir fs) u es h k =
-    elim (cases_option (find n fs)) [
-      | inl none ↦ let no = rw none at k in cc
-      | inr some ↦ let same : some.0 ≡ u = (let is = rw some.1 at k in cc) in let one : fs ≡ es = cc in ap (find n) (sym one) ∙ some.1 ∙ ap Some same
-    ]
+last_step [] n (dir fs) u es h k = let one : fs ≡ es = cc in ap (find n) (sym one) ∙ last_entry fs n u k
 last_step (m ∷ q) n (file bytes) u es h k = cc
-last_step (m ∷ q) n (dir fs) u es h k =
-    elim (cases_option (find m fs)) [
-      | inl none ↦ let no = rw none at h in cc
-      | inr some ↦ last_step q n some.0 u es (rw some.1 at h) (rw some.1 at k)
-    ]
+last_step (m ∷ q) n (dir fs) u es h k = through_entry fs m q (dir es) h (λ t found there. last_step q n t u es there (rw found at k))
 
 -- nothing takes the place of a directory with entries
 no_place : (moved : Tree) (stays : Bool) (es fs : Entries) → count fs ≢ 0 → may_receive moved stays es (Some (dir fs)) ≡ Ok tt → ⊥
@@ -76,7 +64,7 @@ no_place (dir ms) stays es fs some h =
       | inr more ↦ let no = rw more at h in cc
     ]
 
-then_ok : {A B : Type 0} (r : Result A TreeError) (f : A → Result B TreeError) (y : B) → (r >>= f) ≡ Ok y → (x : A) × (r ≡ Ok x) × (f x ≡ Ok y)
+pub then_ok : {A B : Type 0} (r : Result A TreeError) (f : A → Result B TreeError) (y : B) → (r >>= f) ≡ Ok y → (x : A) × (r ≡ Ok x) × (f x ≡ Ok y)
 then_ok (Ok x) f y h = (x, refl, h)
 then_ok (Err e) f y h = cc
 
@@ -91,17 +79,13 @@ pub record Passed (p q : Path) (t : Tree) : Type 0 where
   pub from_name : 0 < length p
   pub to_name : 0 < length q
 
-is_directory : (t : Tree) (es : Entries) → as_directory t ≡ Ok es → t ≡ dir es
+pub is_directory : (t : Tree) (es : Entries) → as_directory t ≡ Ok es → t ≡ dir es
 is_directory (file bytes) es h = cc
 is_directory (dir fs) es h = cc
 
-no_error : {A : Type 0} (b : Bool) (e : TreeError) (r : Result A TreeError) (y : A) → cond b (Err e) r ≡ Ok y → (b ≡ false) × (r ≡ Ok y)
+pub no_error : {A : Type 0} (b : Bool) (e : TreeError) (r : Result A TreeError) (y : A) → cond b (Err e) r ≡ Ok y → (b ≡ false) × (r ≡ Ok y)
 no_error true e r y h = cc
 no_error false e r y h = (refl, h)
-
-neither : (a b : Bool) → (a || b) ≡ false → (a ≡ false) × (b ≡ false)
-neither true b h = cc
-neither false b h = (refl, h)
 
 is_some_name : (n : ℕ) → (n == 0) ≡ false → 0 < n
 is_some_name n h = grind (arith, nat_tests)
@@ -113,16 +97,11 @@ not_true b false e h = refl
 abbrev entered : Path → Path → Tree → Entries → Result (Unit {0}) TreeError
 entered p q moved es = if same_path p q then Ok tt else may_receive moved (same_path (parent_of p) (parent_of q)) es (find (last_name q) es)
 
--- the check of paths that differ
-otherwise : (same : Bool) (r : Result (Unit {0}) TreeError) → same ≡ false → cond same (Ok tt) r ≡ Ok tt → r ≡ Ok tt
-otherwise true r other h = cc
-otherwise false r other h = h
-
 pub passed : (p q : Path) (t : Tree) → may_rename t p q ≡ Ok tt → same_path p q ≡ false → Passed p q t
 passed p q t h other =
     let below = no_error (length p == 0 || length q == 0) Invalid (if is_proper_prefix p q then Err Invalid else (at t p >>= λ moved. entries_at t (parent_of q) >>= λ es. entered p q moved es)) tt h in
     let checked = no_error (is_proper_prefix p q) Invalid (at t p >>= λ moved. entries_at t (parent_of q) >>= λ es. entered p q moved es) tt below.1 in
-    let roots = neither (length p == 0) (length q == 0) below.0 in
+    let roots = or_parts (length p == 0) (length q == 0) below.0 in
     let source = then_ok (at t p) (λ moved. entries_at t (parent_of q) >>= λ es. entered p q moved es) tt checked.1 in
     walked (is_some_name (length p) roots.0) (is_some_name (length q) roots.1) checked.0 source.0 source.1 source.2
   where
@@ -156,4 +135,4 @@ passed p q t h other =
         let inside = then_ok (entries_at t (parent_of q)) (entered p q moved) tt rest in
         let parent = then_ok (at t (parent_of q)) as_directory inside.0 inside.1 in
         entering from to below moved inside.0 source (parent.1 ∙ ap Ok (is_directory parent.0 inside.0 parent.2))
-        (otherwise (same_path p q) (may_receive moved (same_path (parent_of p) (parent_of q)) inside.0 (find (last_name q) inside.0)) other inside.2)
+        (sym (ap (λ b. cond b (Ok tt) (may_receive moved (same_path (parent_of p) (parent_of q)) inside.0 (find (last_name q) inside.0))) other) ∙ inside.2)

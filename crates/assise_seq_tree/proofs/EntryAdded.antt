@@ -4,15 +4,12 @@ use Rattle.std.specs.Ordering.{is_eq, match_ordering}
 use Rattle.std.specs.BTreeMap.{get, insert_entry}
 use Rattle.std.specs.Cmp.Lexicographic.{slice_cmp}
 use Rattle.assise_names.specs.declared.reply.TreeError.TheVariants.{NoEnt}
-use Rattle.assise_seq_tree.specs.Tree.{Tree, dir, Entries, no_entries, entry, find, replace, insert, set, at, put, IsBelow, AreOrdered, IsOrdered}
+use Rattle.assise_seq_tree.specs.Tree.{Tree, dir, Entries, no_entries, entry, find, replace, insert, set, at, put, AreOrdered, IsOrdered}
 use Rattle.assise_seq_tree.specs.View.{map_entries}
 use Rattle.assise_seq_tree.proofs.Entries.{find-entries_of, insert-entries_of}
 use Rattle.assise_seq_tree.proofs.Order.{below_trans}
 use Rattle.assise_seq_tree.proofs.Walk.{at_missing}
-
-none_below : (name : List ℕ) (es : Entries) → IsBelow name es → find name es ≡ None
-none_below name no_entries below = refl
-none_below name (entry other t es) below = ap (λ o. cond (is_eq o) (Some t) (find name es)) below.0 ∙ none_below name es below.1
+use Rattle.assise_seq_tree.proofs.Sets.{find_below}
 
 within : (other : List ℕ) (u : Tree) (b : Bool) (new changed inserted : Entries) → new ≡ cond b changed inserted → entry other u new ≡ cond b (entry other u changed) (entry other u inserted)
 within other u true new changed inserted e = ap (entry other u) e
@@ -26,7 +23,9 @@ insert_sets name t (entry other u es) s = go (insert_sets name t es s.2) (slice_
     go : insert name t es ≡ set name t es → (o : Ordering) → slice_cmp nat_cmp name other ≡ o → match_ordering o (entry name t (entry other u es)) (entry other t es) (entry other u (insert name t es))
         ≡ cond (is_some (cond (is_eq o) (Some u) (find name es))) (cond (is_eq o) (entry other t es) (entry other u (replace name t es)))
         (match_ordering o (entry name t (entry other u es)) (entry other t es) (entry other u (insert name t es)))
-    go rest Less e = ap (λ found. cond (is_some found) (entry other u (replace name t es)) (entry name t (entry other u es))) (sym (none_below name es (below_trans name other es e s.0)))
+    go rest Less e =
+        ap (λ found. cond (is_some found) (entry other u (replace name t es)) (entry name t (entry other u es)))
+        (sym (find_below name es (below_trans name other es e s.0)))
     go rest Equal e = refl
     go rest Greater e = within other u (is_some (find name es)) _ _ _ rest
 

@@ -1,6 +1,5 @@
 -- What a file is after it was given another size.
-use Rattle.std.proofs.Common.{◌≡◌, ℕ, zero, suc, ◌+◌, ◌-◌, ◌≤◌, Bool, true, false, cond, nat_le, List, ◌++◌, length, take, drop, replicate, Result, Ok, Err, refl, ap, sym, ◌∙◌, arith, length-append}
-use Rattle.std.proofs.lemmas.List.{length-take, length-drop, length-replicate, drop_at, take_all, take-take, take-append-le, drop-take}
+use Rattle.std.proofs.Common.{◌≡◌, ℕ, ◌+◌, ◌-◌, ◌≤◌, Bool, true, false, cond, nat_le, List, length, replicate, Result, Ok, Err, refl, ap, sym, ◌∙◌, arith}
 use Rattle.assise_names.specs.declared.reply.Reply.TheVariants.{Done, Bytes, File}
 use Rattle.assise_names.specs.declared.reply.TreeError.{TreeError}
 use Rattle.assise_names.specs.declared.reply.TreeError.TheVariants.{TooBig}
@@ -9,49 +8,14 @@ use Rattle.assise_seq_tree.specs.Contents.{bytes_from, resized}
 use Rattle.assise_seq_tree.specs.Tree.{Tree, file, at, put}
 use Rattle.assise_seq_tree.proofs.TreePut.{at-put}
 use Rattle.assise_seq_tree.proofs.Moves.{Path}
-use Rattle.assise_seq_tree.proofs.BytesRead.{read_again}
 use Rattle.assise_seq_tree.proofs.Writes.{file_there, reads, have_read, has_size, sized}
+use Rattle.assise_seq_tree.proofs.BytesRead.{read_alike, read_prefix, read_zeros}
+pub use Rattle.assise_seq_tree.proofs.BytesRead.{length-resized}
 
 -- ---- bytes
-abbrev zeros : ℕ → List ℕ
-zeros n = replicate n 0
-
-length-zeros : (n : ℕ) → length (zeros n) ≡ n
-length-zeros n = let none : ℕ = 0 in length-replicate n none
-
-pub length-resized : (bytes : List ℕ) (size : ℕ) → length (resized bytes size) ≡ size
-length-resized bytes size =
-    length-append (take size bytes) (zeros (size - length bytes))
-    ∙ omega (arith, length-take size bytes, length-zeros (size - length bytes))
-
--- up to the old end
-read_prefix : (bytes : List ℕ) (size from n : ℕ) → from + n ≤ size → from + n ≤ length bytes → bytes_from from n (resized bytes size) ≡ bytes_from from n bytes
-read_prefix bytes size from n h k =
-    let short : from + n ≤ length (take size bytes) = omega (arith, length-take size bytes, h, k) in
-    sym (drop-take from n (resized bytes size))
-    ∙ ap (drop from) (take-append-le (from + n) (take size bytes) (zeros (size - length bytes)) short ∙ take-take (from + n) size bytes h)
-    ∙ drop-take from n bytes
-
-none_read : (n from : ℕ) (xs ys : List ℕ) → n ≡ 0 → bytes_from from n xs ≡ bytes_from from n ys
-none_read n from xs ys e = rw e refl
-
 read_kept : (bytes : List ℕ) (size from most : ℕ) → from + length (bytes_from from most bytes) ≤ size
     → bytes_from from (length (bytes_from from most bytes)) (resized bytes size) ≡ bytes_from from most bytes
-read_kept bytes size from most h = go (length (bytes_from from most bytes)) refl ∙ read_again from most bytes
-  where
-    go : (n : ℕ) → n ≡ length (bytes_from from most bytes) → bytes_from from (length (bytes_from from most bytes)) (resized bytes size) ≡ bytes_from from (length (bytes_from from most bytes)) bytes
-    go zero e = none_read _ from (resized bytes size) bytes (sym e)
-    go (suc n) e =
-        let within : from + length (bytes_from from most bytes) ≤ length bytes = omega (arith, length-take most (drop from bytes), length-drop from bytes, e) in
-        read_prefix bytes size from (length (bytes_from from most bytes)) h within
-
--- from the old end on
-read_zeros : (bytes : List ℕ) (size : ℕ) → length bytes ≤ size → bytes_from (length bytes) (size - length bytes) (resized bytes size) ≡ replicate (size - length bytes) 0
-read_zeros bytes size h =
-    let more = size - length bytes in
-    ap (bytes_from (length bytes) more) (ap (λ xs. xs ++ zeros more) (take_all size bytes h))
-    ∙ ap (take more) (drop_at bytes (zeros more) (length bytes) refl)
-    ∙ take_all more (zeros more) (omega (arith, length-zeros more))
+read_kept bytes size from most = read_alike bytes (resized bytes size) from most size (read_prefix bytes size from)
 
 -- ---- the file before and after
 pub record Truncated (t u : Tree) (p : Path) (size : ℕ) : Type 0 where

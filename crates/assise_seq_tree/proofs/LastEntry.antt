@@ -1,5 +1,5 @@
 -- A map without its last entry.
-use Rattle.std.proofs.Common.{◌≡◌, ◌+◌, List, [], ◌∷◌, ◌++◌, ℕ, length, refl, arith}
+use Rattle.std.proofs.Common.{◌≡◌, ◌+◌, List, [], ◌∷◌, ◌++◌, ℕ, arith}
 use Rattle.assise_seq_tree.specs.Tree.{AreOrdered, IsBelow, size_of, sizes_of}
 use Rattle.assise_seq_tree.specs.View.{map_entries}
 use Rattle.assise_seq_tree.proofs.Entries.{Stored}
@@ -15,7 +15,3 @@ ordered-front (d ∷ es) e ordered = (below-front (d.0) es e ordered.0, ordered.
 pub sizes-front : (es : List Stored) (e : Stored) → sizes_of (map_entries (es ++ e ∷ [])) ≡ sizes_of (map_entries es) + size_of e.1 + 1
 sizes-front [] e = omega arith
 sizes-front (d ∷ es) e = omega (arith, sizes-front es e)
-
-pub none-left : (es : List Stored) → length es ≡ 0 → es ≡ []
-none-left [] empty = refl
-none-left (e ∷ es) empty = absurd (omega (arith, empty))

@@ -4,7 +4,7 @@ use Rattle.std.specs.Ordering.{match_ordering}
 use Rattle.std.specs.Cmp.Lexicographic.{slice_cmp}
 use Rattle.std.proofs.lemmas.Bool.{cases_Bool}
 use Rattle.assise_seq_tree.specs.Tree.{Tree, file, dir, Entries, no_entries, entry, same_name, find, replace, insert, set, remove, count, at, put, without, IsWithinLimits, AreWithinLimits}
-use Rattle.assise_seq_tree.proofs.TreePut.{cases_option, put_step}
+use Rattle.assise_seq_tree.proofs.TreePut.{cases_option, put_step, through_entry}
 use Rattle.assise_seq_tree.proofs.Moves.{Path, below}
 
 -- ---- entries
@@ -90,12 +90,8 @@ unfolding at put
 put_there [] t x u h s o = o
 put_there (n ∷ p) (file bytes) x u h s o = s
 put_there (n ∷ p) (dir es) x u h s o =
-    elim (cases_option (find n es)) [
-      | inl none ↦ let no = rw none at h in cc
-      | inr some ↦
-          subst IsWithinLimits (sym (put_step es n p x some.0 some.1))
-          (within-replaced n (put some.0 p x) es s (put_there p some.0 x u (rw some.1 at h) (within-find n es some.0 s.1 some.1) o))
-    ]
+    through_entry es n p u h (λ t found there.
+    subst IsWithinLimits (sym (put_step es n p x t found)) (within-replaced n (put t p x) es s (put_there p t x u there (within-find n es t s.1 found) o)))
 
 -- what is new has a parent with room
 pub put_new : (p : Path) (n : List ℕ) (t x : Tree) (es : Entries) → at t p ≡ Ok (dir es) → count es < 4096 → IsWithinLimits t → IsWithinLimits x → IsWithinLimits (put t (p ++ n ∷ []) x)
@@ -104,12 +100,9 @@ put_new [] n (file bytes) x es h room s o = cc
 put_new [] n (dir fs) x es h room s o = let one : fs ≡ es = cc in within-set n x fs (omega (arith, room, ap count one)) s.1 o
 put_new (k ∷ p) n (file bytes) x es h room s o = cc
 put_new (k ∷ p) n (dir fs) x es h room s o =
-    elim (cases_option (find k fs)) [
-      | inl none ↦ let no = rw none at h in cc
-      | inr some ↦
-          subst IsWithinLimits (sym (put_step fs k (p ++ n ∷ []) x some.0 some.1))
-          (within-replaced k (put some.0 (p ++ n ∷ []) x) fs s (put_new p n some.0 x es (rw some.1 at h) room (within-find k fs some.0 s.1 some.1) o))
-    ]
+    through_entry fs k p (dir es) h (λ t found there.
+    subst IsWithinLimits (sym (put_step fs k (p ++ n ∷ []) x t found))
+    (within-replaced k (put t (p ++ n ∷ []) x) fs s (put_new p n t x es there room (within-find k fs t s.1 found) o)))
 
 -- what is taken out leaves no more than there was
 pub within-without : (p : Path) (t : Tree) → IsWithinLimits t → IsWithinLimits (without t p)
@@ -123,8 +116,4 @@ pub within-at : (p : Path) (t u : Tree) → at t p ≡ Ok u → IsWithinLimits t
 unfolding at
 within-at [] t u h s = let one : t ≡ u = cc in subst IsWithinLimits one s
 within-at (n ∷ p) (file bytes) u h s = cc
-within-at (n ∷ p) (dir es) u h s =
-    elim (cases_option (find n es)) [
-      | inl none ↦ let no = rw none at h in cc
-      | inr some ↦ within-at p some.0 u (rw some.1 at h) (within-find n es some.0 s.1 some.1)
-    ]
+within-at (n ∷ p) (dir es) u h s = through_entry es n p u h (λ t found there. within-at p t u there (within-find n es t s.1 found))

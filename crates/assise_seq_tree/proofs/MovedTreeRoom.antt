@@ -8,7 +8,7 @@ use Rattle.assise_names.specs.Path.{same_path}
 use Rattle.assise_names.specs.declared.reply.TreeError.TheVariants.{NoEnt}
 use Rattle.assise_seq_tree.specs.Answer.{parent_of, last_name, may_receive, may_rename}
 use Rattle.assise_seq_tree.specs.Tree.{Tree, file, dir, Entries, no_entries, entry, same_name, find, replace, remove, count, at, put, without, IsWithinLimits}
-use Rattle.assise_seq_tree.proofs.TreePut.{cases_option}
+use Rattle.assise_seq_tree.proofs.TreePut.{cases_option, through_entry, last_entry}
 use Rattle.assise_seq_tree.proofs.Sets.{same_itself, one_name}
 use Rattle.assise_seq_tree.proofs.Moves.{Path, below, find_remove_other, find_replace_there, find_replace_other, at-without_disjoint, parent_and_last}
 use Rattle.assise_seq_tree.proofs.Paths.{step_disjoint}
@@ -29,10 +29,6 @@ pub record StaysDirectory (t : Tree) (p s : Path) (es : Entries) : Type 0 where
   pub entries : Entries
   pub there : at (without t p) s ≡ Ok (dir entries)
   pub few : count entries ≤ count es
-
-through : (n m : List ℕ) (child : Tree) (es : Entries) (s : Path) → find m (remove n es) ≡ Some child → at (dir (remove n es)) (m ∷ s) ≡ at child s
-unfolding at
-through n m child es s h = ap (λ o. option_map_or (λ t. at t s) o (Err NoEnt)) h
 
 pub stays_directory : (s p : Path) (t : Tree) (es : Entries) → at t s ≡ Ok (dir es) → ((rest : Path) → s ≡ p ++ rest → ⊥) → StaysDirectory t p s es
 unfolding at without
@@ -55,19 +51,16 @@ stays_directory (m ∷ s) (n ∷ k ∷ p) (dir fs) es h outside =
       | inr disjoint ↦ record { entries = es; there = ap (λ o. option_map_or (λ t. at t s) o (Err NoEnt)) (find_replace_other m n (without (below n fs) (k ∷ p)) fs disjoint) ∙ h; few = omega arith }
       | inl same ↦
           let one : m ≡ n = one_name m n same in
-          elim (cases_option (find m fs)) [
-            | inl none ↦ let no = rw none at h in cc
-            | inr some ↦
-                let rest : StaysDirectory some.0 (k ∷ p) s es = stays_directory s (k ∷ p) some.0 es (rw some.1 at h) (λ more e. outside more (ap (λ x. x ∷ s) one ∙ ap (λ x. n ∷ x) e)) in
-                let child : below n fs ≡ some.0 = subst (λ x. below x fs ≡ some.0) one (rw some.1 refl) in
-                let found : find m (replace n (without (below n fs) (k ∷ p)) fs) ≡ Some (without (below n fs) (k ∷ p)) =
-                find_replace_there m n (without (below n fs) (k ∷ p)) some.0 fs (ap (λ x. find x fs) (sym one) ∙ some.1) ∙ rw same refl in
-                record {
-                  entries = rest.entries;
-                  there = ap (λ o. option_map_or (λ t. at t s) o (Err NoEnt)) found ∙ ap (λ u. at (without u (k ∷ p)) s) child ∙ rest.there;
-                  few = rest.few;
-                }
-          ]
+          through_entry fs m s (dir es) h (λ v got inside.
+          let rest : StaysDirectory v (k ∷ p) s es = stays_directory s (k ∷ p) v es inside (λ more e. outside more (ap (λ x. x ∷ s) one ∙ ap (λ x. n ∷ x) e)) in
+          let child : below n fs ≡ v = subst (λ x. below x fs ≡ v) one (rw got refl) in
+          let found : find m (replace n (without (below n fs) (k ∷ p)) fs) ≡ Some (without (below n fs) (k ∷ p)) =
+          find_replace_there m n (without (below n fs) (k ∷ p)) v fs (ap (λ x. find x fs) (sym one) ∙ got) ∙ rw same refl in
+          record {
+            entries = rest.entries;
+            there = ap (λ o. option_map_or (λ t. at t s) o (Err NoEnt)) found ∙ ap (λ u. at (without u (k ∷ p)) s) child ∙ rest.there;
+            few = rest.few;
+          })
     ]
 
 without_step : (m n : List ℕ) (s : Path) (fs : Entries) → without (dir fs) (m ∷ (s ++ n ∷ [])) ≡ dir (replace m (without (below m fs) (s ++ n ∷ [])) fs)
@@ -81,14 +74,6 @@ record LosesEntry (t : Tree) (p s : Path) (es : Entries) : Type 0 where
   pub there : at (without t p) s ≡ Ok (dir entries)
   pub less : count entries + 1 ≡ count es
 
-last_entry : (n : List ℕ) (fs : Entries) (u : Tree) → at (dir fs) (n ∷ []) ≡ Ok u → find n fs ≡ Some u
-unfolding at
-last_entry n fs u h =
-    elim (cases_option (find n fs)) [
-      | inl none ↦ let no = rw none at h in cc
-      | inr some ↦ let found = rw some.1 at h in let one : some.0 ≡ u = cc in some.1 ∙ ap Some one
-    ]
-
 taken_here : (n : List ℕ) (fs : Entries) → at (without (dir fs) (n ∷ [])) [] ≡ Ok (dir (remove n fs))
 unfolding at without
 taken_here n fs = refl
@@ -98,22 +83,20 @@ unfolding at
 loses_entry [] n (file bytes) u es h there = cc
 loses_entry [] n (dir fs) u es h there =
     let one : fs ≡ es = cc in
-    record { entries = remove n fs; there = taken_here n fs; less = count_less n fs u (last_entry n fs u there) ∙ ap count one }
+    record { entries = remove n fs; there = taken_here n fs; less = count_less n fs u (last_entry fs n u there) ∙ ap count one }
 loses_entry (m ∷ s) n (file bytes) u es h there = cc
 loses_entry (m ∷ s) n (dir fs) u es h there =
-    elim (cases_option (find m fs)) [
-      | inl none ↦ let no = rw none at h in cc
-      | inr some ↦
-          let rest : LosesEntry some.0 (s ++ n ∷ []) s es = loses_entry s n some.0 u es (rw some.1 at h) (rw some.1 at there) in
-          let child : below m fs ≡ some.0 = rw some.1 refl in
-          let found : find m (replace m (without (below m fs) (s ++ n ∷ [])) fs) ≡ Some (without (below m fs) (s ++ n ∷ [])) =
-          find_replace_there m m (without (below m fs) (s ++ n ∷ [])) some.0 fs some.1 ∙ rw (same_itself m) refl in
-          record {
-            entries = rest.entries;
-            there = ap (λ u. at u (m ∷ s)) (without_step m n s fs) ∙ ap (λ o. option_map_or (λ t. at t s) o (Err NoEnt)) found ∙ ap (λ u. at (without u (s ++ n ∷ [])) s) child ∙ rest.there;
-            less = rest.less;
-          }
-    ]
+    through_entry fs m s (dir es) h (λ v got inside.
+    let rest : LosesEntry v (s ++ n ∷ []) s es = loses_entry s n v u es inside (rw got at there) in
+    let child : below m fs ≡ v = rw got refl in
+    let found : find m (replace m (without (below m fs) (s ++ n ∷ [])) fs) ≡ Some (without (below m fs) (s ++ n ∷ [])) =
+    find_replace_there m m (without (below m fs) (s ++ n ∷ [])) v fs got ∙ rw (same_itself m) refl in
+    record {
+      entries = rest.entries;
+      there = ap (λ u. at u (m ∷ s)) (without_step m n s fs) ∙ ap (λ o. option_map_or (λ t. at t s) o (Err NoEnt)) found
+          ∙ ap (λ u. at (without u (s ++ n ∷ [])) s) child ∙ rest.there;
+      less = rest.less;
+    })
 
 pub entry_there : (s : Path) (n : List ℕ) (t u : Tree) (es : Entries) → at t s ≡ Ok (dir es) → find n es ≡ Some u → at t (s ++ n ∷ []) ≡ Ok u
 unfolding at
@@ -121,10 +104,7 @@ entry_there [] n (file bytes) u es h found = cc
 entry_there [] n (dir fs) u es h found = let one : fs ≡ es = cc in ap (λ gs. option_map_or (λ t. at t []) (find n gs) (Err NoEnt)) one ∙ ap (λ o. option_map_or (λ t. at t []) o (Err NoEnt)) found
 entry_there (m ∷ s) n (file bytes) u es h found = cc
 entry_there (m ∷ s) n (dir fs) u es h found =
-    elim (cases_option (find m fs)) [
-      | inl none ↦ let no = rw none at h in cc
-      | inr some ↦ ap (λ o. option_map_or (λ t. at t (s ++ n ∷ [])) o (Err NoEnt)) some.1 ∙ entry_there s n some.0 u es (rw some.1 at h) found
-    ]
+    through_entry fs m s (dir es) h (λ t got there. ap (λ o. option_map_or (λ t. at t (s ++ n ∷ [])) o (Err NoEnt)) got ∙ entry_there s n t u es there found)
 
 -- ---- a move
 

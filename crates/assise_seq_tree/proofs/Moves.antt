@@ -6,7 +6,7 @@ use Rattle.std.proofs.lemmas.Bool.{cases_Bool}
 use Rattle.assise_names.specs.declared.reply.TreeError.TheVariants.{NoEnt}
 use Rattle.assise_seq_tree.specs.Tree.{Tree, file, dir, Entries, no_entries, entry, same_name, find, replace, set, remove, at, put, without, IsOrdered, AreOrdered}
 use Rattle.assise_seq_tree.specs.Answer.{parent_of, last_name}
-use Rattle.assise_seq_tree.proofs.TreePut.{cases_option}
+use Rattle.assise_seq_tree.proofs.TreePut.{cases_option, through_entry}
 use Rattle.assise_seq_tree.proofs.Order.{ordered-replace, ordered-find, ordered-put}
 use Rattle.assise_seq_tree.proofs.Sets.{same_itself, one_name, shadowed, swapped, not_both, find-set, find-replace_any, find-remove, ordered-remove, ordered-set, same_entries}
 
@@ -233,14 +233,9 @@ at-put_new [] n (file bytes) x es h = cc
 at-put_new [] n (dir fs) x es h = ap (λ o. option_map_or (λ t. at t []) o (Err NoEnt)) (find_set_same n x fs)
 at-put_new (k ∷ p) n (file bytes) x es h = cc
 at-put_new (k ∷ p) n (dir fs) x es h =
-    elim (cases_option (find k fs)) [
-      | inl none ↦ let no = rw none at h in cc
-      | inr some ↦
-          let child = rw some.1 at h in
-          ap (λ o. option_map_or (λ t. at t (p ++ n ∷ [])) o (Err NoEnt)) (find_set_same k (put (below k fs) (p ++ n ∷ []) x) fs)
-          ∙ ap (λ o. at (put (unwrap_or o (dir no_entries)) (p ++ n ∷ []) x) (p ++ n ∷ [])) some.1
-          ∙ at-put_new p n some.0 x es child
-    ]
+    through_entry fs k p (dir es) h (λ t found there.
+    ap (λ o. option_map_or (λ t. at t (p ++ n ∷ [])) o (Err NoEnt)) (find_set_same k (put (below k fs) (p ++ n ∷ []) x) fs)
+    ∙ ap (λ o. at (put (unwrap_or o (dir no_entries)) (p ++ n ∷ []) x) (p ++ n ∷ [])) found ∙ at-put_new p n t x es there)
 
 pub parent_and_last : (p : Path) → 0 < length p → p ≡ parent_of p ++ last_name p ∷ []
 parent_and_last [] h = absurd (omega arith)

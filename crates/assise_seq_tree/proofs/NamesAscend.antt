@@ -1,15 +1,14 @@
 -- The names of a list ascend.
-use Rattle.std.proofs.Common.{◌≡◌, ℕ, List, [], ◌∷◌, Result, Ok, Err, Less, nat_cmp, refl, ap, inl, inr, subst}
+use Rattle.std.proofs.Common.{◌≡◌, ℕ, List, Result, Ok, Err, Less, nat_cmp, refl, ap, subst}
 use Rattle.std.specs.Cmp.Lexicographic.{slice_cmp}
 use Rattle.std.specs.List.{AllByRecursion}
 use Rattle.std.specs.List.Sorted.{IsStrictlySortedBy}
 use Rattle.assise_names.specs.declared.reply.Reply.TheVariants.{Names}
 use Rattle.assise_names.specs.declared.reply.TreeError.{TreeError}
 use Rattle.assise_seq_tree.specs.Answer.{◌>>=◌, as_directory, reply_and_tree, list_answer}
-use Rattle.assise_seq_tree.specs.Tree.{Tree, file, dir, Entries, no_entries, entry, find, names_of, at, IsBelow, IsOrdered, AreOrdered}
-use Rattle.assise_seq_tree.proofs.TreePut.{cases_option}
-use Rattle.assise_seq_tree.proofs.Order.{ordered-find}
+use Rattle.assise_seq_tree.specs.Tree.{Tree, file, dir, Entries, no_entries, entry, names_of, at, IsBelow, IsOrdered, AreOrdered}
 use Rattle.assise_seq_tree.proofs.Moves.{Path}
+use Rattle.assise_seq_tree.proofs.TreePlaced.{ordered-at}
 
 names_above : (name : List ℕ) (es : Entries) → IsBelow name es → AllByRecursion (λ other. slice_cmp nat_cmp name other ≡ Less) (names_of es)
 names_above name no_entries below = tt
@@ -19,17 +18,6 @@ names_ascend : (es : Entries) → AreOrdered es → IsStrictlySortedBy (slice_cm
 unfolding IsStrictlySortedBy
 names_ascend no_entries s = tt
 names_ascend (entry name t es) s = (names_above name es s.0, names_ascend es s.2)
-
--- what stands in an ordered tree is ordered
-ordered-at : (p : Path) (t u : Tree) → IsOrdered t → at t p ≡ Ok u → IsOrdered u
-unfolding at
-ordered-at [] t u s h = let one : t ≡ u = cc in subst IsOrdered one s
-ordered-at (n ∷ p) (file bytes) u s h = cc
-ordered-at (n ∷ p) (dir es) u s h =
-    elim (cases_option (find n es)) [
-      | inl none ↦ let no = rw none at h in cc
-      | inr some ↦ ordered-at p some.0 u (ordered-find n es some.0 s some.1) (rw some.1 at h)
-    ]
 
 pub listed_names_ascend : (t u : Tree) (p names : Path) → IsOrdered t → list_answer t p ≡ (Names names, u) → IsStrictlySortedBy (slice_cmp nat_cmp) names
 listed_names_ascend t u p names s h = go (at t p) refl h

@@ -1,11 +1,11 @@
 -- What is put at a path stands there, and what is taken out is gone.
-use Rattle.std.proofs.Common.{◌≡◌, ◌<◌, arith, cond, [], ◌∷◌, ◌++◌, length, Some, None, Ok, Err, refl, ap, sym, ◌∙◌, inl, inr, subst}
+use Rattle.std.proofs.Common.{◌≡◌, ◌<◌, arith, cond, [], ◌∷◌, ◌++◌, length, Some, None, Ok, Err, refl, ap, sym, ◌∙◌, subst}
 use Rattle.std.specs.Prelude.{unwrap_or}
 use Rattle.std.specs.Option.{option_map_or}
 use Rattle.assise_names.specs.declared.reply.TreeError.TheVariants.{NoEnt}
 use Rattle.assise_seq_tree.specs.Answer.{parent_of, last_name}
 use Rattle.assise_seq_tree.specs.Tree.{Tree, file, dir, Entries, no_entries, find, at, put, without, IsOrdered, AreDisjointPaths}
-use Rattle.assise_seq_tree.proofs.TreePut.{cases_option}
+use Rattle.assise_seq_tree.proofs.TreePut.{through_entry}
 use Rattle.assise_seq_tree.proofs.Order.{ordered-find}
 use Rattle.assise_seq_tree.proofs.Sets.{same_itself, one_name, find-remove}
 use Rattle.assise_seq_tree.proofs.Moves.{Path, Disjoint, below, find_replace_there, at-put_new, parent_and_last}
@@ -42,11 +42,9 @@ gone (n ∷ p) (file bytes) x s h there = cc
 gone (n ∷ []) (dir es) x s h there =
     ap (λ o. option_map_or (λ t. at t []) o (Err NoEnt)) (find-remove n n es s ∙ ap (λ b. cond b None (find n es)) (same_itself n))
 gone (n ∷ k ∷ p) (dir es) x s h there =
-    elim (cases_option (find n es)) [
-      | inl none ↦ let no = rw none at there in cc
-      | inr some ↦
-          let child : below n es ≡ some.0 = ap (λ o. unwrap_or o (dir no_entries)) some.1 in
-          ap (λ o. option_map_or (λ t. at t (k ∷ p)) o (Err NoEnt)) (find_replace_there n n (without (below n es) (k ∷ p)) some.0 es some.1 ∙ ap (λ b. cond b (Some (without (below n es) (k ∷ p))) (find n es)) (same_itself n))
-          ∙ ap (λ u. at (without u (k ∷ p)) (k ∷ p)) child
-          ∙ gone (k ∷ p) some.0 x (ordered-find n es some.0 s some.1) (omega arith) (rw some.1 at there)
-    ]
+    through_entry es n (k ∷ p) x there (λ t found inside.
+    let child : below n es ≡ t = ap (λ o. unwrap_or o (dir no_entries)) found in
+    ap (λ o. option_map_or (λ t. at t (k ∷ p)) o (Err NoEnt))
+    (find_replace_there n n (without (below n es) (k ∷ p)) t es found ∙ ap (λ b. cond b (Some (without (below n es) (k ∷ p))) (find n es)) (same_itself n))
+    ∙ ap (λ u. at (without u (k ∷ p)) (k ∷ p)) child
+    ∙ gone (k ∷ p) t x (ordered-find n es t s found) (omega arith) inside)

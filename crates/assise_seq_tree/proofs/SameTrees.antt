@@ -2,13 +2,10 @@
 use Rattle.std.proofs.Common.{◌≡◌, ◌↔◌, ◌+◌, ℕ, List, [], ◌∷◌, ◌++◌, Bor, Ok, Err, Result, Bool, IfOk, IsTrue, refl, ap, sym, ◌∙◌, arith}
 use Rattle.assise_seq_tree.specs.Sameness.{ArePairsSame, size_of_pairs}
 use Rattle.assise_seq_tree.specs.Answer.{as_directory}
-use Rattle.assise_seq_tree.specs.Tree.{Tree, file, dir, Entries, size_of}
+use Rattle.assise_seq_tree.specs.Tree.{Tree, dir, size_of}
 use Rattle.assise_seq_tree.specs.View.{map_entries}
 use Rattle.assise_seq_tree.proofs.Entries.{Stored}
-
-is_directory : (t : Tree) (es : Entries) → as_directory t ≡ Ok es → t ≡ dir es
-is_directory (dir fs) es h = let same : fs ≡ es = cc in ap dir same
-is_directory (file bytes) es h = cc
+use Rattle.assise_seq_tree.proofs.Checks.{is_directory}
 
 same_stored : (es fs : List Stored) → map_entries es ≡ map_entries fs → es ≡ fs
 same_stored [] [] same = refl

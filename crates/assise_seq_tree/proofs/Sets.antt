@@ -1,6 +1,6 @@
 -- One entry is set or taken out: what is found then. Ordered entries are what is found in them.
 use Rattle.std.proofs.Common.{◌≡◌, ◌≢◌, ℕ, Bool, true, false, cond, List, Option, Some, None, is_some, Ordering, Less, Equal, Greater, nat_cmp, refl, ap, sym, ◌∙◌, inl, inr, subst}
-use Rattle.std.proofs.lemmas.Bool.{false≢true, cases_Bool}
+use Rattle.std.proofs.lemmas.Bool.{false≢true, cases_Bool, cond_both}
 use Rattle.std.specs.Ordering.{is_eq, match_ordering, ordering_reverse}
 use Rattle.std.specs.Cmp.{tied_itself}
 use Rattle.std.specs.Cmp.Lexicographic.{slice_cmp, nat_list_cmp_total}
@@ -9,7 +9,7 @@ use Rattle.assise_seq_tree.specs.Tree.{Tree, Entries, no_entries, entry, same_na
 use Rattle.assise_seq_tree.proofs.Order.{cases_ordering, below_trans, ordered-replace, ordered-insert}
 
 -- ---- names
-tied : (o : Ordering) → is_eq o ≡ true → o ≡ Equal
+pub tied : (o : Ordering) → is_eq o ≡ true → o ≡ Equal
 tied Less e = cc
 tied Equal e = refl
 tied Greater e = cc
@@ -58,15 +58,21 @@ find-insert q n x (entry k t es) = go (find-insert q n x es) (slice_cmp nat_cmp 
     go ih Greater e = ap (cond (same_name q k) (Some t)) ih ∙ swapped (same_name q k) (same_name q n) (Some t) (Some x) (find q es) (not_both q n k (ap is_eq e))
 
 pub find-set : (q n : List ℕ) (x : Tree) (es : Entries) → find q (set n x es) ≡ cond (same_name q n) (Some x) (find q es)
-find-set q n x es = go (is_some (find n es)) refl
-  where
-    go : (b : Bool) → is_some (find n es) ≡ b → find q (cond b (replace n x es) (insert n x es)) ≡ cond (same_name q n) (Some x) (find q es)
-    go true e = find-replace_any q n x es e
-    go false e = find-insert q n x es
+find-set q n x es =
+    cond_both (is_some (find n es)) (replace n x es) (insert n x es) (λ fs. find q fs ≡ cond (same_name q n) (Some x) (find q es))
+    (find-replace_any q n x es) (λ _. find-insert q n x es)
 
 pub find_below : (q : List ℕ) (es : Entries) → IsBelow q es → find q es ≡ None
 find_below q no_entries below = refl
 find_below q (entry k t es) below = ap (λ o. cond (is_eq o) (Some t) (find q es)) below.0 ∙ find_below q es below.1
+
+-- a name that is found past the first entry is another one than that
+pub found_later : (q name : List ℕ) (t u : Tree) (es : Entries) → IsBelow name es → find q es ≡ Some u → find q (entry name t es) ≡ Some u
+found_later q name t u es below there =
+    elim (cases_Bool (same_name q name)) [
+      | inl same ↦ let none = find_below name es below in let some = ap (λ n. find n es) (sym (one_name q name same)) ∙ there in cc
+      | inr differs ↦ ap (λ b. cond b (Some t) (find q es)) differs ∙ there
+    ]
 
 pub find-remove : (q n : List ℕ) (es : Entries) → AreOrdered es → find q (remove n es) ≡ cond (same_name q n) None (find q es)
 find-remove q n no_entries s = go (same_name q n)
@@ -102,14 +108,11 @@ ordered-remove n (entry k t es) s =
     ]
 
 pub ordered-set : (n : List ℕ) (x : Tree) (es : Entries) → AreOrdered es → IsOrdered x → AreOrdered (set n x es)
-ordered-set n x es s o = go (is_some (find n es))
-  where
-    go : (b : Bool) → AreOrdered (cond b (replace n x es) (insert n x es))
-    go true = ordered-replace n x es s o
-    go false = ordered-insert n x es s o
+ordered-set n x es s o =
+    cond_both (is_some (find n es)) (replace n x es) (insert n x es) AreOrdered (λ _. ordered-replace n x es s o) (λ _. ordered-insert n x es s o)
 
 -- ---- ordered entries are what is found in them
-find_first : (n : List ℕ) (t : Tree) (es : Entries) → find n (entry n t es) ≡ Some t
+pub find_first : (n : List ℕ) (t : Tree) (es : Entries) → find n (entry n t es) ≡ Some t
 find_first n t es = ap (λ b. cond b (Some t) (find n es)) (same_itself n)
 
 missed : (n m : List ℕ) (t u : Tree) (es fs : Entries) {P : Type 0} → slice_cmp nat_cmp n m ≡ Less → IsBelow m fs → find n (entry n t es) ≡ find n (entry m u fs) → P

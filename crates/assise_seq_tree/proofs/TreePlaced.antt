@@ -1,8 +1,8 @@
 -- A move of a tree to another path: a placeholder first, then the tree in its place.
-use Rattle.std.proofs.Common.{◌≡◌, ℕ, ◌<◌, arith, List, [], ◌∷◌, ◌++◌, length, Option, Some, None, Ok, ap, sym, ◌∙◌, inl, inr, subst}
+use Rattle.std.proofs.Common.{◌≡◌, ℕ, ◌<◌, arith, List, [], ◌∷◌, ◌++◌, length, Option, Some, None, Ok, ap, sym, ◌∙◌, subst}
 use Rattle.assise_seq_tree.specs.Answer.{parent_of, last_name}
-use Rattle.assise_seq_tree.specs.Tree.{Tree, file, dir, Entries, no_entries, find, at, put, without, IsOrdered, AreDisjointPaths}
-use Rattle.assise_seq_tree.proofs.TreePut.{cases_option}
+use Rattle.assise_seq_tree.specs.Tree.{Tree, file, dir, Entries, no_entries, at, put, without, IsOrdered, AreDisjointPaths}
+use Rattle.assise_seq_tree.proofs.TreePut.{through_entry}
 use Rattle.assise_seq_tree.proofs.Order.{ordered-find}
 use Rattle.assise_seq_tree.proofs.Paths.{turned_disjoint}
 use Rattle.assise_seq_tree.proofs.Moves.{Path, Disjoint, at-put_disjoint, at-without_disjoint, without-put, put-put_any, at-put_new, ordered-without, parent_and_last}
@@ -26,11 +26,7 @@ pub ordered-at : (p : Path) (t u : Tree) → IsOrdered t → at t p ≡ Ok u →
 unfolding at
 ordered-at [] t u s h = let one : t ≡ u = cc in subst IsOrdered one s
 ordered-at (n ∷ p) (file bytes) u s h = cc
-ordered-at (n ∷ p) (dir es) u s h =
-    elim (cases_option (find n es)) [
-      | inl none ↦ let no = rw none at h in cc
-      | inr some ↦ ordered-at p some.0 u (ordered-find n es some.0 s some.1) (rw some.1 at h)
-    ]
+ordered-at (n ∷ p) (dir es) u s h = through_entry es n p u h (λ t found there. ordered-at p t u (ordered-find n es t s found) there)
 
 pub not_empty : (p q : Path) → Disjoint p q → 0 < length q
 not_empty [] q disjoint = absurd disjoint

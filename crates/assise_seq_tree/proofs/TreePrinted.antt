@@ -1,8 +1,7 @@
 -- What is printed of a tree, entry by entry.
-use Rattle.std.proofs.Common.{map, ◌≡◌, ℕ, ◌+◌, ◌^◌, ◌-◌, ◌<◌, min, List, [], ◌∷◌, ◌++◌, length, Ok, Err, Bor, refl, ap, sym, ◌∙◌, arith, append_assoc, append-nil}
+use Rattle.std.proofs.Common.{map, ◌≡◌, ℕ, ◌+◌, ◌^◌, ◌-◌, ◌<◌, min, List, [], ◌∷◌, ◌++◌, length, Ok, Bor, ap, sym, ◌∙◌, arith, append_assoc, append-nil}
 use Rattle.std.specs.List.{flat_map}
 use Rattle.assise_names.specs.Path.{path_spelling}
-use Rattle.assise_names.specs.declared.reply.TreeError.{TreeError}
 use Rattle.assise_seq_tree.specs.Answer.{as_directory}
 use Rattle.assise_seq_tree.specs.Lines.{Place, place_line, places_below, places_of}
 use Rattle.assise_seq_tree.specs.Tree.{Tree, file, dir, Entries, size_of, sizes_of}
@@ -14,10 +13,6 @@ use Rattle.assise_seq_tree.proofs.Entries.{Stored}
 pub below_directory : (t : Tree) (es : Entries) → as_directory t ≡ Ok es → (path : List (List ℕ)) → places_below path t ≡ places_of path es
 below_directory (dir fs) es h path = let same : fs ≡ es = cc in ap (places_of path) same
 below_directory (file bytes) es h path = cc
-
-pub below_file : (t : Tree) (e : TreeError) → as_directory t ≡ Err e → (path : List (List ℕ)) → places_below path t ≡ []
-below_file (file bytes) e h path = refl
-below_file (dir es) e h path = cc
 
 -- ---- the measure: what is left of a directory's entries is smaller than the directory
 
@@ -47,10 +42,6 @@ slashes (n ∷ path) name = append_assoc (47 ∷ n.now) (flat_map (λ n. 47 ∷ 
 pub spelled : (path : List (Bor (List ℕ))) (name : List ℕ) → flat_map (λ n. 47 ∷ n.now) path ++ 47 ∷ name ≡ path_spelling (map (λ n. n.now) path ++ name ∷ [])
 spelled [] name = slashes [] name
 spelled (n ∷ path) name = slashes (n ∷ path) name
-
-flat_map-append : (f : Place → List ℕ) (xs ys : List Place) → flat_map f (xs ++ ys) ≡ flat_map f xs ++ flat_map f ys
-flat_map-append f [] ys = refl
-flat_map-append f (x ∷ xs) ys = ap (λ t. f x ++ t) (flat_map-append f xs ys) ∙ sym (append_assoc (f x) (flat_map f xs) (flat_map f ys))
 
 abbrev pub lines_of : List Place → List ℕ
 lines_of places = flat_map place_line places

@@ -41,9 +41,19 @@ pub at_step : (es : Entries) (name : List ℕ) (p : List (List ℕ)) (u : Tree) 
 unfolding at
 at_step es name p u h = rw h
 
-at_none : (es : Entries) (name : List ℕ) (p : List (List ℕ)) (x : Tree) {P : Type 0} → find name es ≡ None → at (dir es) (name ∷ p) ≡ Ok x → P
+-- where something stands below a directory, its entry is there
+pub through_entry : {P : Type 0} (es : Entries) (name : List ℕ) (p : List (List ℕ)) (u : Tree) → at (dir es) (name ∷ p) ≡ Ok u
+    → ((t : Tree) → find name es ≡ Some t → at t p ≡ Ok u → P) → P
 unfolding at
-at_none es name p x h e = let no = rw h at e in cc
+through_entry es name p u h next =
+    elim (cases_option (find name es)) [
+      | inl none ↦ let no = rw none at h in cc
+      | inr some ↦ next some.0 some.1 (rw some.1 at h)
+    ]
+
+pub last_entry : (es : Entries) (name : List ℕ) (u : Tree) → at (dir es) (name ∷ []) ≡ Ok u → find name es ≡ Some u
+unfolding at
+last_entry es name u h = through_entry es name [] u h (λ t found there. let one : t ≡ u = cc in found ∙ ap Some one)
 
 at_in_file : (bytes name : List ℕ) (p : List (List ℕ)) (x : Tree) {P : Type 0} → at (file bytes) (name ∷ p) ≡ Ok x → P
 unfolding at
@@ -55,15 +65,11 @@ unfolding put
 put-put [] t x y u h = refl
 put-put (name ∷ p) (file bytes) x y u h = refl
 put-put (name ∷ p) (dir es) x y u h =
-    elim (cases_option (find name es)) [
-      | inl none ↦ at_none es name p u none h
-      | inr some ↦
-          let below = sym (at_step es name p some.0 some.1) ∙ h in
-          ap (λ t. put t (name ∷ p) y) (put_step es name p x some.0 some.1)
-          ∙ put_step (replace name (put some.0 p x) es) name p y (put some.0 p x) (find-replace name (put some.0 p x) some.0 es some.1)
-          ∙ ap dir (replace-replace name (put some.0 p x) (put (put some.0 p x) p y) es ∙ ap (λ t. replace name t es) (put-put p some.0 x y u below))
-          ∙ sym (put_step es name p y some.0 some.1)
-    ]
+    through_entry es name p u h (λ v found there.
+    ap (λ t. put t (name ∷ p) y) (put_step es name p x v found)
+    ∙ put_step (replace name (put v p x) es) name p y (put v p x) (find-replace name (put v p x) v es found)
+    ∙ ap dir (replace-replace name (put v p x) (put (put v p x) p y) es ∙ ap (λ t. replace name t es) (put-put p v x y u there))
+    ∙ sym (put_step es name p y v found))
 
 -- what stands at the path, put there, changes nothing
 pub put-at : (p : List (List ℕ)) (t u : Tree) → at t p ≡ Ok u → put t p u ≡ t
@@ -71,12 +77,8 @@ unfolding put at
 put-at [] t u h = cc
 put-at (name ∷ p) (file bytes) u h = refl
 put-at (name ∷ p) (dir es) u h =
-    elim (cases_option (find name es)) [
-      | inl none ↦ at_none es name p u none h
-      | inr some ↦
-          let below = sym (at_step es name p some.0 some.1) ∙ h in
-          put_step es name p u some.0 some.1 ∙ ap dir (ap (λ t. replace name t es) (put-at p some.0 u below) ∙ replace-self name some.0 es some.1)
-    ]
+    through_entry es name p u h (λ v found there.
+    put_step es name p u v found ∙ ap dir (ap (λ t. replace name t es) (put-at p v u there) ∙ replace-self name v es found))
 
 -- what is put is found
 pub at-put : (p : List (List ℕ)) (t x u : Tree) → at t p ≡ Ok u → at (put t p x) p ≡ Ok x
@@ -84,15 +86,12 @@ unfolding put at
 at-put [] t x u h = refl
 at-put (name ∷ p) (file bytes) x u h = at_in_file bytes name p u h
 at-put (name ∷ p) (dir es) x u h =
-    elim (cases_option (find name es)) [
-      | inl none ↦ at_none es name p u none h
-      | inr some ↦
-          let below = sym (at_step es name p some.0 some.1) ∙ h in
-          ap (λ t. at t (name ∷ p)) (put_step es name p x some.0 some.1)
-          ∙ at_step (replace name (put some.0 p x) es) name p (put some.0 p x) (find-replace name (put some.0 p x) some.0 es some.1)
-          ∙ at-put p some.0 x u below
-    ]
+    through_entry es name p u h (λ v found there.
+    ap (λ t. at t (name ∷ p)) (put_step es name p x v found)
+    ∙ at_step (replace name (put v p x) es) name p (put v p x) (find-replace name (put v p x) v es found) ∙ at-put p v x u there)
 
--- what stands at the path is taken out for another, and something is put back
-pub exchanged : (p : List (List ℕ)) (t u x y t' t'' : Tree) → at t p ≡ Ok u → t' ≡ put t p x → t'' ≡ put t' p y → t'' ≡ put t p y
-exchanged p t u x y t' t'' h e f = f ∙ ap (λ s. put s p y) e ∙ put-put p t x y u h
+-- what stands at the path is swapped for another, and what was made of it is swapped back
+pub swapped_back : (p : List (List ℕ)) (t u other made t' t'' : Tree) → at t p ≡ Ok u → t' ≡ put t p other
+    → ((v : Tree) → at t' p ≡ Ok v → t'' ≡ put t' p made) → t'' ≡ put t p made
+swapped_back p t u other made t' t'' h e back =
+    back other (ap (λ s. at s p) e ∙ at-put p t other u h) ∙ ap (λ s. put s p made) e ∙ put-put p t other made u h

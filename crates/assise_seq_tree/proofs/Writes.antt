@@ -1,6 +1,7 @@
 -- What a write that was done says of the file before and after it.
 use Rattle.std.proofs.Common.{◌≡◌, ℕ, ◌+◌, ◌-◌, ◌≤◌, ◌<◌, Bool, true, false, cond, ◌==◌, List, [], ◌∷◌, length, replicate, Result, Ok, Err, refl, ap, sym, ◌∙◌, arith}
 use Rattle.std.specs.Prelude.{max}
+use Rattle.std.proofs.lemmas.Bool.{cond_both}
 use Rattle.std.proofs.lemmas.Bool.Decides.{nat_tests}
 use Rattle.assise_names.specs.declared.reply.Reply.TheVariants.{Done, Bytes, File}
 use Rattle.assise_names.specs.declared.reply.TreeError.{TreeError}
@@ -80,21 +81,17 @@ pub kept_before : (t u : Tree) (p : Path) (offset from most : ℕ) (new old : Li
 kept_before t u p offset from most new old h r prefix =
     let w = wrote t u p offset new h in
     let is = have_read t p from most w.bytes old w.there r in
-    reads u p from (length old) (bytes_after w.bytes offset new) w.after ∙ ap (λ bytes. (Bytes bytes, u)) (same w.bytes is (length new == 0))
-  where
-    same : (bytes : List ℕ) → bytes_from from most bytes ≡ old → (b : Bool) → bytes_from from (length old) (cond b bytes (overwritten bytes offset new)) ≡ old
-    same bytes is true = rw (← is) (read_again from most bytes)
-    same bytes is false = rw (← is) (read_kept bytes offset new from most (omega (arith, prefix, ap length is)))
+    reads u p from (length old) (bytes_after w.bytes offset new) w.after ∙ ap (λ bytes. (Bytes bytes, u))
+    (cond_both (length new == 0) w.bytes (overwritten w.bytes offset new) (λ bytes. bytes_from from (length old) bytes ≡ old)
+    (λ _. rw (← is) (read_again from most w.bytes)) (λ _. rw (← is) (read_kept w.bytes offset new from most (omega (arith, prefix, ap length is)))))
 
 pub kept_behind : (t u : Tree) (p : Path) (offset from most : ℕ) (new old : List ℕ) → write_answer t p offset new ≡ (Done, u) → read_answer t p from most ≡ (Bytes old, t) → offset + length new ≤ from → read_answer u p from most ≡ (Bytes old, u)
 kept_behind t u p offset from most new old h r behind =
     let w = wrote t u p offset new h in
     let is = have_read t p from most w.bytes old w.there r in
-    reads u p from most (bytes_after w.bytes offset new) w.after ∙ ap (λ bytes. (Bytes bytes, u)) (same w.bytes (length new == 0) ∙ is)
-  where
-    same : (bytes : List ℕ) → (b : Bool) → bytes_from from most (cond b bytes (overwritten bytes offset new)) ≡ bytes_from from most bytes
-    same bytes true = refl
-    same bytes false = read_behind bytes offset new from most behind
+    reads u p from most (bytes_after w.bytes offset new) w.after ∙ ap (λ bytes. (Bytes bytes, u))
+    (cond_both (length new == 0) w.bytes (overwritten w.bytes offset new) (λ bytes. bytes_from from most bytes ≡ old)
+    (λ _. is) (λ _. read_behind w.bytes offset new from most behind ∙ is))
 
 pub gap_is_zeros : (t u : Tree) (p : Path) (offset size : ℕ) (new : List ℕ) → write_answer t p offset new ≡ (Done, u) → stat_answer t p ≡ (File size, t) → 0 < length new → size ≤ offset → read_answer u p size (offset - size) ≡ (Bytes (replicate (offset - size) 0), u)
 gap_is_zeros t u p offset size new h s some gap =

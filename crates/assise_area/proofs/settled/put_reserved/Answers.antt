@@ -1,6 +1,6 @@
 use Rattle.std.proofs.Common.{Some, nat_eq, sym}
+use Rattle.assise_inode_table.proofs.TableView.{is_there}
 use Rattle.std.proofs.lemmas.Map.{keys-set_value}
-use Rattle.assise_area.proofs.Seen.{is_there}
 use Rattle.assise_area.proofs.WrittenValues.{disjoint_set, disjoint_write, set_hot}
 use Rattle.assise_area.proofs.settled.put_reserved.Goals as goal
 

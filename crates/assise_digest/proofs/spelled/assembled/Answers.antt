@@ -1,6 +1,7 @@
 use Rattle.std.proofs.Common.{◌≡◌, ◌∷◌, [], length, map, reverse, sym, ap, ◌∙◌, append-nil, arith}
+use Rattle.std.proofs.lemmas.List.{same_from_push}
 use Rattle.assise_digest.specs.Postorder.{postorder, shape}
-use Rattle.assise_digest.proofs.Forests.{enough, same_end}
+use Rattle.assise_digest.proofs.Forests.{enough}
 use Rattle.assise_digest.proofs.PostorderTrees.{opened, closed, whole_tree}
 use Rattle.assise_digest.proofs.spelled.assembled.Goals as goal
 
@@ -26,4 +27,4 @@ pub returns-clause-tree : goal.returns-clause-tree
 returns-clause-tree g c =
     let none : length c.loop-place.places.items ≡ 0 = omega (arith, c.loop-place.places.ok.0, c.in_default.ensures.cases) in
     let one : c.loop-place.trees.items ≡ g.t ∷ [] = whole_tree c.loop-place.places.items c.loop-place.trees.items g.t none c.loop-place.invariant in
-    (same_end c.pop-2.new.self.items [] c.in-Some-pop.tree g.t (sym c.in-Some-pop.ensures.items ∙ one)).1
+    (same_from_push c.pop-2.new.self.items [] c.in-Some-pop.tree g.t (sym c.in-Some-pop.ensures.items ∙ one)).1

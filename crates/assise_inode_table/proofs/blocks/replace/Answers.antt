@@ -1,19 +1,15 @@
-use Rattle.std.proofs.Common.{◌≡◌, ◌∙◌, ℕ, suc, ◌-◌, ◌<◌, ap, sym, arith, List, [], length, set, take, drop, refl, length-append, ◌∷◌, ◌++◌}
-use Rattle.std.proofs.lemmas.List.{map-id, set_split}
+use Rattle.std.proofs.Common.{◌≡◌, ◌∙◌, ℕ, suc, ◌-◌, ◌<◌, ap, sym, arith, List, [], length, set, take, drop, length-append, ◌∷◌, ◌++◌}
+use Rattle.std.proofs.lemmas.List.{map-id, set_split, nil_from_length}
 use Rattle.std.proofs.lemmas.Iterator.{items_from_drains}
 use Rattle.std.proofs.lemmas.Iterator.Adapters.{YieldsList-from_vec}
 use Rattle.assise_inode_table.proofs.blocks.replace.Goals as goal
 use Rattle.assise_inode_table.proofs.blocks.replace.Goals.{in-Some+in-Some-1, in-Some+in-None-1, in_default}
 
-none_of : {X : Type 0} (xs : List X) → length xs ≡ 0 → xs ≡ []
-none_of [] e = refl
-none_of (x ∷ xs) e = absurd (omega arith)
-
 put_one : {X : Type 0} (bs made rest : List X) (k until : ℕ) (b : X) → k < length bs → until - k ≡ 1 → length made ≡ 1 → made ≡ rest ++ b ∷ []
     → set bs k b ≡ take k bs ++ (made ++ drop until bs)
 put_one bs made rest k until b held one alone is =
     let next : suc k ≡ until = omega arith in
-    let prefix = none_of rest (omega (arith, alone, ap length is, length-append rest (b ∷ []))) in
+    let prefix = nil_from_length rest (omega (arith, alone, ap length is, length-append rest (b ∷ []))) in
     set_split bs k b held ∙ ap (λ n. take k bs ++ b ∷ drop n bs) next
     ∙ ap (λ ys. take k bs ++ (ys ++ drop until bs)) (sym (is ∙ ap (λ ys. ys ++ b ∷ []) prefix))
 

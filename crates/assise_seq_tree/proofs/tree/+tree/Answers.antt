@@ -1,8 +1,8 @@
 use Rattle.std.proofs.Common.{rules, ◌≡◌, []}
-use Rattle.assise_seq_tree.proofs.LastEntry.{none-left}
+use Rattle.std.proofs.lemmas.List.{nil_from_length}
 use Rattle.assise_seq_tree.proofs.tree.+tree.Goals as goal
 
 pub Tree::drop-drop-requires : goal.Tree::drop-drop-requires
 Tree::drop-drop-requires t c κs =
-    let none : c.pop_tree.new.entries.entries ≡ [] = none-left _ (c.is_empty.ensures.0 c.if-is_empty.true) in
+    let none : c.pop_tree.new.entries.entries ≡ [] = nil_from_length _ (c.is_empty.ensures.0 c.if-is_empty.true) in
     search rules

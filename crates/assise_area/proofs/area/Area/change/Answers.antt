@@ -3,45 +3,45 @@ use Rattle.std.specs.FinMap as map
 use Rattle.std.proofs.lemmas.Map.Steps.{set_value_same}
 use Rattle.std.proofs.Common.{nat_eq}
 use Rattle.lru.specs.LruCache.{lru_cache}
-use Rattle.assise_inode_table.proofs.TableView.{on_err}
+use Rattle.assise_inode_table.proofs.TableView.{on_err, is_there}
 use Rattle.assise_inode_table.specs.Effects.{AsksForMemory, changed, with_value}
 use Rattle.assise_record.specs.Touched.{touched_by}
 use Rattle.assise_area.specs.Hot.{with_inodes}
 use Rattle.assise_area.specs.Parts.{AreaInvariant, cold_at, hot_at, area_seen}
-use Rattle.assise_area.proofs.Seen.{either, err_map, is_there, ok_map, value_of_cold, value_of_hot}
+use Rattle.assise_area.proofs.Seen.{either, err_map, ok_map, value_of_cold, value_of_hot}
 use Rattle.assise_area.proofs.WrittenValues.{seen_cold, seen_set, sound_cold, sound_set}
 use Rattle.assise_area.proofs.area.Area.change.Goals as goal
+use Rattle.assise_area.proofs.area.Area.change.Goals.{In_default}
+
+cold : (c : In_default) → hot_at c.self.inside.hot.entries (touched_by c.args.effect.now) ≡ None
+cold c = ap (hot_at c.self.inside.hot.entries) (sym c.touches.ensures) ∙ sym c.in_default.ensures.value
 
 pub invariant_of-self : goal.invariant_of-self
 invariant_of-self c =
-    let hot = c.self.inside.hot in
-    let cold = c.self.inside.cold.entries in
-    let effect = c.args.effect.now in
-    let none : hot_at hot.entries (touched_by effect) ≡ None = ap (hot_at hot.entries) (sym c.touches.ensures) ∙ sym c.in_default.ensures.value in
+    let i = touched_by c.args.effect.now in
     either c.change_cold.result c.change_cold.ensures.ok c.change_cold.ensures.err
-    (λ updates. sound_cold hot cold c.change_cold.new.cold.entries (touched_by effect) (option_map (λ content. changed content effect) (cold_at cold (touched_by effect))) none updates c.self.invariant)
-    (λ same. subst (AreaInvariant hot) (sym same) c.self.invariant)
+    (λ updates. sound_cold c.self.inside.hot c.self.inside.cold.entries c.change_cold.new.cold.entries i
+    (option_map (λ content. changed content c.args.effect.now) (cold_at c.self.inside.cold.entries i))
+    (cold (goal.at.invariant_of-self c).In_default) updates c.self.invariant)
+    (λ same. subst (AreaInvariant c.self.inside.hot) (sym same) c.self.invariant)
 
 pub returns-in_default-clause-ok : goal.returns-in_default-clause-ok
 returns-in_default-clause-ok c =
     let a = c.args.self.now in
     let hot = c.self.inside.hot in
-    let cold = c.self.inside.cold.entries in
+    let es = c.self.inside.cold.entries in
     let effect = c.args.effect.now in
     let i = touched_by effect in
-    let none : hot_at hot.entries i ≡ None = ap (hot_at hot.entries) (sym c.touches.ensures) ∙ sym c.in_default.ensures.value in
+    let none = cold (goal.at.returns-in_default-clause-ok c).In_default in
     ok_map c.change_cold.result c.change_cold.ensures.ok (λ updates.
-    seen_cold a hot cold c.change_cold.new.cold.entries i (option_map (λ content. changed content effect) (cold_at cold i)) c.self.view_is none updates
-    ∙ ap (λ o. with_inodes a (with_value a.inodes i (option_map (λ content. changed content effect) o))) (sym (value_of_cold a hot cold i c.self.view_is none)))
+    seen_cold a hot es c.change_cold.new.cold.entries i (option_map (λ content. changed content effect) (cold_at es i)) c.self.view_is none updates
+    ∙ ap (λ o. with_inodes a (with_value a.inodes i (option_map (λ content. changed content effect) o))) (sym (value_of_cold a hot es i c.self.view_is none)))
 
 pub returns-in_default-clause-asked : goal.returns-in_default-clause-asked
 returns-in_default-clause-asked c =
-    let hot = c.self.inside.hot in
-    let cold = c.self.inside.cold.entries in
-    let effect = c.args.effect.now in
-    let none : hot_at hot.entries (touched_by effect) ≡ None = ap (hot_at hot.entries) (sym c.touches.ensures) ∙ sym c.in_default.ensures.value in
-    let was = value_of_cold c.args.self.now hot cold (touched_by effect) c.self.view_is none in
-    err_map c.change_cold.result c.change_cold.ensures.asked (λ asks. subst (AsksForMemory effect) (sym was) asks)
+    let none = cold (goal.at.returns-in_default-clause-asked c).In_default in
+    let was = value_of_cold c.args.self.now c.self.inside.hot c.self.inside.cold.entries (touched_by c.args.effect.now) c.self.view_is none in
+    err_map c.change_cold.result c.change_cold.ensures.asked (λ asks. subst (AsksForMemory c.args.effect.now) (sym was) asks)
 
 pub returns-in_err-change-clause-err : goal.returns-in_err-change-clause-err
 returns-in_err-change-clause-err c =

@@ -1,8 +1,8 @@
 use Rattle.std.proofs.Common.{Some, sym, ap, ◌∙◌}
 use Rattle.std.specs.FinMap as map
-use Rattle.assise_inode_table.proofs.TableView.{on_err}
+use Rattle.assise_inode_table.proofs.TableView.{on_err, is_there}
 use Rattle.assise_area.specs.Hot.{with_inodes}
-use Rattle.assise_area.proofs.Seen.{is_there, value_of_cold, value_of_hot}
+use Rattle.assise_area.proofs.Seen.{value_of_cold, value_of_hot}
 use Rattle.assise_area.proofs.WrittenValues.{seen_cold, seen_set, sound_cold, sound_set}
 use Rattle.assise_area.proofs.area.Area.put.Goals as goal
 

@@ -1,4 +1,5 @@
-use Rattle.std.proofs.Common.{◌∙◌, OnOk, Result, Ok, Err, ap, subst, sym}
+use Rattle.std.proofs.Common.{◌∙◌, ap, subst, sym}
+use Rattle.assise_area.proofs.Seen.{ok_map}
 use Rattle.assise_digest.specs.Pending.{StandsFor, taken_in}
 use Rattle.assise_digest.specs.Region.{ahead, with_more}
 use Rattle.assise_digest.specs.Invariant.{StandsHere, seen_log}
@@ -10,10 +11,6 @@ take_in-requires-clause-fresh c =
     let l = seen_log c.args.self.now in
     kept_new c.in-Some.pending c.args.area.now.inodes l c.end-number.result c.requires.sound.begun
     (subst (StandsHere c.args.area.now.inodes l) c.in-Some.is c.requires.sound.stands) c.end-number.ensures.end
-
-ok_map : {T E A B : Type 0} (r : Result T E) → OnOk r A → (A → B) → OnOk r B
-ok_map (Ok x) a f = f a
-ok_map (Err e) a f = tt
 
 pub returns-in-Some-clause-kept : goal.returns-in-Some-clause-kept
 returns-in-Some-clause-kept c =

@@ -1,11 +1,7 @@
-use Rattle.std.proofs.Common.{OnOk, Result, Ok, Err}
+use Rattle.assise_area.proofs.Seen.{ok_map}
 use Rattle.assise_digest.specs.Region.{with_one}
 use Rattle.assise_digest.proofs.RegionLogs.{changed_there}
 use Rattle.assise_digest.proofs.region.Region.append_grouped.Goals as goal
-
-ok_map : {T E A B : Type 0} (r : Result T E) → OnOk r A → (A → B) → OnOk r B
-ok_map (Ok x) a f = f a
-ok_map (Err e) a f = tt
 
 pub returns-clause-ok : goal.returns-clause-ok
 returns-clause-ok c =

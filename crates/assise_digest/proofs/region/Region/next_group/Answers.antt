@@ -1,14 +1,14 @@
 use Rattle.std.proofs.Common.{◌<◌, subst, sym}
 use Rattle.assise_private_log.specs.NumberedLog.{end}
 use Rattle.assise_digest.specs.Region.{IsNextGroup}
-use Rattle.assise_digest.proofs.RegionLogs.{in_place, log_there, sound_there}
+use Rattle.assise_digest.proofs.RegionLogs.{here_sound, log_there}
 use Rattle.assise_digest.proofs.region.Region.next_group.Goals as goal
 
 pub next_group-requires-clause-begun : goal.next_group-requires-clause-begun
 next_group-requires-clause-begun c =
     let m = c.self.inside.area.inodes in
     let xs = c.self.inside.logs.items in
-    (sound_there m xs _ c.index.result.now c.self.invariant (in_place m xs c.args.self.now c.args.client c.self.view_is c.requires.client) c.index.ensures).begun
+    (here_sound m xs c.args.self.now c.args.client c.index.result.now c.self.invariant c.self.view_is c.requires.client c.index.ensures).begun
 
 pub next_group-requires-clause-more : goal.next_group-requires-clause-more
 next_group-requires-clause-more c =

@@ -4,7 +4,7 @@ use Rattle.assise_record.specs.Records.{all_effects}
 use Rattle.assise_digest.specs.Region.{ahead, digested_by}
 use Rattle.assise_digest.specs.Invariant.{LogInvariant, LogsInvariant, seen_log}
 use Rattle.assise_digest.proofs.Grouped.{digested_sound_all, digested_view_all}
-use Rattle.assise_digest.proofs.RegionLogs.{in_place, log_there, sound_set, sound_there}
+use Rattle.assise_digest.proofs.RegionLogs.{here_sound, log_there, sound_set}
 use Rattle.assise_digest.proofs.region.Region.settle.Goals as goal
 
 by_result : {T E A B D F P : Type 0} (r : Result T E) → OnOk r A → OnOk r B → OnErr r D → OnErr r F → (A → B → P) → (D → F → P) → P
@@ -19,7 +19,7 @@ pub settle-requires-clause-sound : goal.settle-requires-clause-sound
 settle-requires-clause-sound c =
     let m = c.self.inside.area.inodes in
     let xs = c.self.inside.logs.items in
-    sound_there m xs _ c.index_mut.result.now c.self.invariant (in_place m xs c.args.self.now c.args.client c.self.view_is c.requires.client) c.index_mut.ensures.value
+    here_sound m xs c.args.self.now c.args.client c.index_mut.result.now c.self.invariant c.self.view_is c.requires.client c.index_mut.ensures.value
 
 pub invariant_of-self : goal.invariant_of-self
 invariant_of-self c =
@@ -28,7 +28,7 @@ invariant_of-self c =
     let xs = c.self.inside.logs.items in
     let x = c.index_mut.result.now in
     let y = c.settle.new.self in
-    let here : LogInvariant m x = sound_there m xs _ x c.self.invariant (in_place m xs c.args.self.now c.args.client c.self.view_is c.requires.client) c.index_mut.ensures.value in
+    let here : LogInvariant m x = here_sound m xs c.args.self.now c.args.client x c.self.invariant c.self.view_is c.requires.client c.index_mut.ensures.value in
     by_result c.settle.result c.settle.ensures.moved c.settle.ensures.sound c.settle.ensures.err c.settle.ensures.err_area
     (λ moved sound.
     digested_sound_all m w xs c.args.self.now c.args.client (length (ahead (seen_log x))) x y c.self.view_is c.requires.client c.requires.disjoint

@@ -1,46 +1,36 @@
-use Rattle.std.proofs.Common.{◌≡◌, ◌∙◌, Some, sym, ap, set, subst, rules}
+use Rattle.std.proofs.Common.{◌∙◌, Some, sym, ap, subst, rules}
 use Rattle.std.specs.FinMap as map
-use Rattle.assise_inode_table.specs.Pieces.{StandsAt, slot_link, slot_name, piece_at}
-use Rattle.assise_inode_table.proofs.PieceSlots.{got_slot, read_piece, is_gone, is_linked, set_ascend, set_filled, count_kept, put_slot}
+use Rattle.assise_inode_table.specs.Pieces.{StandsAt}
+use Rattle.assise_inode_table.proofs.PieceSlots.{got_slot, link_read, link_set, is_gone, is_linked, set_ascend, set_filled, count_kept, put_slot}
 use Rattle.assise_inode_table.proofs.directory.Directory.relink.Goals as goal
+use Rattle.assise_inode_table.proofs.directory.Directory.relink.Goals.{In-Some}
+
+-- where the name stands
+stands : (c : In-Some) → StandsAt c.args.name.now c.self.inside.pieces.items c.in-Some.place.piece c.in-Some.place.at
+stands c = subst (λ ps. StandsAt c.args.name.now ps c.in-Some.place.piece c.in-Some.place.at) c.deref.ensures.value c.in-Some.ensures.there
 
 pub returns-then-is_none-clause-asked : goal.returns-then-is_none-clause-asked
 returns-then-is_none-clause-asked c =
-    let ps = c.self.inside.pieces.items in
-    let w = c.in-Some.place.piece in
-    let at = c.in-Some.place.at in
     let name = c.args.name.now in
-    let stands = subst (λ qs. StandsAt name qs w at) c.deref.ensures.value c.in-Some.ensures.there in
-    ap (λ m. map.get m name) (sym c.self.view_is) ∙ got_slot name ps w at c.self.invariant.ascend stands
-    ∙ sym (c.link.ensures ∙ ap (λ p. slot_link p at) (read_piece ps w c.index.result.now stands.within c.index.ensures))
-    ∙ is_gone c.link.result (search rules)
+    let there = stands (goal.at.returns-then-is_none-clause-asked c).In-Some in
+    ap (λ m. map.get m name) (sym c.self.view_is) ∙ got_slot name _ _ _ c.self.invariant.ascend there
+    ∙ sym (link_read name _ _ _ there _ c.index.ensures _ c.link.ensures) ∙ is_gone c.link.result (search rules)
 
 pub invariant_of-self : goal.invariant_of-self
 invariant_of-self c =
-    let ps = c.self.inside.pieces.items in
-    let w = c.in-Some.place.piece in
-    let at = c.in-Some.place.at in
     let name = c.args.name.now in
-    let stands = subst (λ qs. StandsAt name qs w at) c.deref.ensures.value c.in-Some.ensures.there in
-    let qs = set ps w c.set.new.self in
-    let new : qs ≡ set ps w (set (piece_at ps w) at (slot_name (piece_at ps w) at, Some c.args.inode)) =
-    ap (set ps w) (c.set.ensures ∙ ap (λ p. set p at (slot_name p at, Some c.args.inode)) (read_piece ps w c.index_mut.result.now stands.within c.index_mut.ensures.value)) in
-    let linked = is_linked c.link.result (search rules) in
-    let old = sym (c.link.ensures ∙ ap (λ p. slot_link p at) (read_piece ps w c.index.result.now stands.within c.index.ensures)) ∙ linked.1 in
+    let there = stands (goal.at.invariant_of-self c).In-Some in
+    let new = link_set name _ _ _ there _ c.index_mut.ensures.value _ (Some c.args.inode) c.set.ensures in
+    let old = is_linked c.link.result (search rules) in
     record {
-      ascend = set_ascend name ps qs w at stands (Some c.args.inode) c.self.invariant.ascend new;
-      filled = set_filled name ps qs w at stands (Some c.args.inode) c.self.invariant.filled new;
-      counted = count_kept name ps qs w at stands c.args.inode linked.0 c.self.inside.len new old c.self.invariant.counted;
+      ascend = set_ascend name _ _ _ _ there _ c.self.invariant.ascend new;
+      filled = set_filled name _ _ _ _ there _ c.self.invariant.filled new;
+      counted = count_kept name _ _ _ _ there _ old.0 _ new (sym (link_read name _ _ _ there _ c.index.ensures _ c.link.ensures) ∙ old.1) c.self.invariant.counted;
     }
 
 pub returns-clause-ok : goal.returns-clause-ok
 returns-clause-ok c =
-    let ps = c.self.inside.pieces.items in
-    let w = c.in-Some.place.piece in
-    let at = c.in-Some.place.at in
     let name = c.args.name.now in
-    let stands = subst (λ qs. StandsAt name qs w at) c.deref.ensures.value c.in-Some.ensures.there in
-    let qs = set ps w c.set.new.self in
-    let new : qs ≡ set ps w (set (piece_at ps w) at (slot_name (piece_at ps w) at, Some c.args.inode)) =
-    ap (set ps w) (c.set.ensures ∙ ap (λ p. set p at (slot_name p at, Some c.args.inode)) (read_piece ps w c.index_mut.result.now stands.within c.index_mut.ensures.value)) in
-    put_slot name ps qs w at stands c.args.inode c.self.invariant.ascend new ∙ ap (λ m. map.insert m name c.args.inode) c.self.view_is
+    let there = stands (goal.at.returns-clause-ok c).In-Some in
+    put_slot name _ _ _ _ there _ c.self.invariant.ascend (link_set name _ _ _ there _ c.index_mut.ensures.value _ (Some c.args.inode) c.set.ensures)
+    ∙ ap (λ m. map.insert m name c.args.inode) c.self.view_is

@@ -1,70 +1,56 @@
-use Rattle.std.proofs.Common.{◌≡◌, ◌∙◌, None, sym, ap, set, length, subst, arith, rules}
+use Rattle.std.proofs.Common.{◌≡◌, ◌∙◌, None, sym, ap, subst, length, set, suc, arith, rules}
 use Rattle.std.specs.FinMap as map
 use Rattle.std.specs.Cmp.Lexicographic.{slice_cmp}
 use Rattle.std.specs.Ordering.{nat_cmp}
-use Rattle.assise_inode_table.specs.Pieces.{StandsAt, slot_link, links_in, slot_name, piece_at}
-use Rattle.assise_inode_table.proofs.PieceSlots.{got_slot, read_piece, is_gone, is_linked, set_ascend, set_filled, count_cut, cut_slot, remove_none}
+use Rattle.assise_inode_table.specs.Pieces.{StandsAt, links_in, live, slots_in}
+use Rattle.assise_inode_table.proofs.PieceSlots.{got_slot, link_read, link_set, is_gone, is_linked, set_ascend, set_filled, count_cut, cut_slot, remove_none}
 use Rattle.assise_inode_table.proofs.directory.Directory.remove.Goals as goal
+use Rattle.assise_inode_table.proofs.directory.Directory.remove.Goals.{In-Some, After-set}
 
 pub returns-in_default : goal.returns-in_default
 returns-in_default c =
     let name = c.args.name.now in
     remove_none c.args.self.now name (ap (λ m. map.get m name) (sym c.self.view_is) ∙ subst (λ ps. map.get (links_in ps) name ≡ None) c.deref.ensures.value c.in_default.ensures.absent)
 
+-- where the name stands
+stands : (c : In-Some) → StandsAt c.args.name.now c.self.inside.pieces.items c.in-Some.place.piece c.in-Some.place.at
+stands c = subst (λ ps. StandsAt c.args.name.now ps c.in-Some.place.piece c.in-Some.place.at) c.deref.ensures.value c.in-Some.ensures.there
+
 pub returns-then-is_none : goal.returns-then-is_none
 returns-then-is_none c =
-    let ps = c.self.inside.pieces.items in
-    let w = c.in-Some.place.piece in
-    let at = c.in-Some.place.at in
     let name = c.args.name.now in
-    let stands = subst (λ qs. StandsAt name qs w at) c.deref.ensures.value c.in-Some.ensures.there in
+    let there = stands (goal.at.returns-then-is_none c).In-Some in
     remove_none c.args.self.now name
-    (ap (λ m. map.get m name) (sym c.self.view_is) ∙ got_slot name ps w at c.self.invariant.ascend stands
-    ∙ sym (c.link.ensures ∙ ap (λ p. slot_link p at) (read_piece ps w c.index.result.now stands.within c.index.ensures))
-    ∙ is_gone c.link.result (search rules))
+    (ap (λ m. map.get m name) (sym c.self.view_is) ∙ got_slot name _ _ _ c.self.invariant.ascend there
+    ∙ sym (link_read name _ _ _ there _ c.index.ensures _ c.link.ensures) ∙ is_gone c.link.result (search rules))
+
+-- there is a link fewer
+counted : (c : After-set) → c.self.inside.len ≡ suc (length (live (slots_in (set c.self.inside.pieces.items c.in-Some.place.piece c.set.new.self))))
+counted c =
+    let name = c.args.name.now in
+    let there = stands (goal.at.After-set c).In-Some in
+    let old = is_linked c.link.result (search rules) in
+    count_cut name _ _ _ _ there old.0 _ (link_set name _ _ _ there _ c.index_mut.ensures.value _ _ c.set.ensures)
+    (sym (link_read name _ _ _ there _ c.index.ensures _ c.link.ensures) ∙ old.1) c.self.invariant.counted
 
 pub overflow_sub-self : goal.overflow_sub-self
-overflow_sub-self c =
-    let ps = c.self.inside.pieces.items in
-    let w = c.in-Some.place.piece in
-    let at = c.in-Some.place.at in
-    let name = c.args.name.now in
-    let stands = subst (λ qs. StandsAt name qs w at) c.deref.ensures.value c.in-Some.ensures.there in
-    let qs = set ps w c.set.new.self in
-    let new : qs ≡ set ps w (set (piece_at ps w) at (slot_name (piece_at ps w) at, None)) =
-    ap (set ps w) (c.set.ensures ∙ ap (λ p. set p at (slot_name p at, None)) (read_piece ps w c.index_mut.result.now stands.within c.index_mut.ensures.value)) in
-    let linked = is_linked c.link.result (search rules) in
-    let old = sym (c.link.ensures ∙ ap (λ p. slot_link p at) (read_piece ps w c.index.result.now stands.within c.index.ensures)) ∙ linked.1 in
-    let count = count_cut name ps qs w at stands linked.0 c.self.inside.len new old c.self.invariant.counted in
-    omega (arith, count)
+overflow_sub-self c = let count = counted (goal.at.overflow_sub-self c).After-set in omega (arith, count)
 
 pub invariant_of-self : goal.invariant_of-self
 invariant_of-self c =
-    let ps = c.self.inside.pieces.items in
-    let w = c.in-Some.place.piece in
-    let at = c.in-Some.place.at in
     let name = c.args.name.now in
-    let stands = subst (λ qs. StandsAt name qs w at) c.deref.ensures.value c.in-Some.ensures.there in
-    let qs = set ps w c.set.new.self in
-    let new : qs ≡ set ps w (set (piece_at ps w) at (slot_name (piece_at ps w) at, None)) =
-    ap (set ps w) (c.set.ensures ∙ ap (λ p. set p at (slot_name p at, None)) (read_piece ps w c.index_mut.result.now stands.within c.index_mut.ensures.value)) in
-    let linked = is_linked c.link.result (search rules) in
-    let old = sym (c.link.ensures ∙ ap (λ p. slot_link p at) (read_piece ps w c.index.result.now stands.within c.index.ensures)) ∙ linked.1 in
-    let count = count_cut name ps qs w at stands linked.0 c.self.inside.len new old c.self.invariant.counted in
+    let there = stands (goal.at.invariant_of-self c).In-Some in
+    let new = link_set name _ _ _ there _ c.index_mut.ensures.value _ _ c.set.ensures in
+    let count = counted (goal.at.invariant_of-self c).After-set in
     record {
-      ascend = c.let_go.ensures.ascend (set_ascend name ps qs w at stands None c.self.invariant.ascend new);
-      filled = c.let_go.ensures.filled (set_filled name ps qs w at stands None c.self.invariant.filled new);
+      ascend = c.let_go.ensures.ascend (set_ascend name _ _ _ _ there None c.self.invariant.ascend new);
+      filled = c.let_go.ensures.filled (set_filled name _ _ _ _ there None c.self.invariant.filled new);
       counted = omega (arith, count, ap length c.let_go.ensures.live);
     }
 
 pub returns : goal.returns
 returns c =
-    let ps = c.self.inside.pieces.items in
-    let w = c.in-Some.place.piece in
-    let at = c.in-Some.place.at in
     let name = c.args.name.now in
-    let stands = subst (λ qs. StandsAt name qs w at) c.deref.ensures.value c.in-Some.ensures.there in
-    let qs = set ps w c.set.new.self in
-    let new : qs ≡ set ps w (set (piece_at ps w) at (slot_name (piece_at ps w) at, None)) =
-    ap (set ps w) (c.set.ensures ∙ ap (λ p. set p at (slot_name p at, None)) (read_piece ps w c.index_mut.result.now stands.within c.index_mut.ensures.value)) in
-    ap (λ es. map.from_entries {R = slice_cmp nat_cmp} es) c.let_go.ensures.live ∙ cut_slot name ps qs w at stands c.self.invariant.ascend new ∙ ap (λ m. map.remove m name) c.self.view_is
+    let there = stands (goal.at.returns c).In-Some in
+    ap (λ es. map.from_entries {R = slice_cmp nat_cmp} es) c.let_go.ensures.live
+    ∙ cut_slot name _ _ _ _ there c.self.invariant.ascend (link_set name _ _ _ there _ c.index_mut.ensures.value _ _ c.set.ensures) ∙ ap (λ m. map.remove m name) c.self.view_is

@@ -5,8 +5,6 @@ use Rattle.assise_inode_table.proofs.piece.Piece.has_room_for.Goals as goal
 
 pub returns : goal.returns
 returns c fits =
-    let own = slots_count c.self.invariant c.self.view_is in
-    let others = slots_count c.other.invariant c.other.view_is in
     let names : c.len.result ≡ length (arc_value c.self.inside.names).items = search (arith, rules) in
     let more : c.len-2.result ≡ length (arc_value c.other.inside.names).items = search (arith, rules) in
-    omega (arith, own, others, names, more, leb-true _ _ fits)
+    omega (arith, slots_count c.self.invariant c.self.view_is, slots_count c.other.invariant c.other.view_is, names, more, leb-true _ _ fits)

@@ -5,11 +5,12 @@ use Rattle.std.proofs.lemmas.List.{length-take, length-drop}
 use Rattle.assise_inode_table.specs.Pieces.{links_or_none}
 use Rattle.assise_inode_table.proofs.PieceLinks.{slots_count, insert_shifted}
 use Rattle.assise_inode_table.proofs.piece.Piece.insert.Goals as goal
+use Rattle.assise_inode_table.proofs.piece.Piece.insert.Goals.{After-way_told-1}
 
 pub insert_name-requires : goal.insert_name-requires
 insert_name-requires c = omega (arith, slots_count c.self.invariant c.self.view_is, c.requires.within)
 
-len_is : (c : goal.After-way_told-1) → c.len-len.result ≡ length (arc_value c.self.inside.names).items
+len_is : (c : After-way_told-1) → c.len-len.result ≡ length (arc_value c.self.inside.names).items
 len_is c = search (arith, rules)
 
 pub slice_bounds-shift_in-count : goal.slice_bounds-shift_in-count
@@ -26,7 +27,7 @@ shift_in-requires c =
     let ls = c.self.inside.links in
     let at = c.args.at in
     let w = c.len-len.result + 1 - at in
-    let len : c.len-len.result ≡ length (arc_value c.self.inside.names).items = search (arith, rules) in
+    let len = len_is (goal.at.shift_in-requires c).After-way_told-1 in
     let count = slots_count c.self.invariant c.self.view_is in
     omega (arith, len, count, c.requires.within, c.requires.room, c.self.invariant.room, length-take w (drop at ls), length-drop at ls)
 
@@ -37,7 +38,7 @@ returns-clause-ok c =
     let gs = c.self.inside.gone in
     let at = c.args.at in
     let w = c.len-len.result + 1 - at in
-    let len : c.len-len.result ≡ length ns = search (arith, rules) in
+    let len = len_is (goal.at.returns-clause-ok c).After-way_told-1 in
     let count = slots_count c.self.invariant c.self.view_is in
     let behind : at < length ns + 1 = omega (arith, count, c.requires.within) in
     let end : at + w ≡ length ns + 1 = omega (arith, len, behind) in

@@ -7,10 +7,7 @@ pub bounds-self-inside-at : goal.bounds-self-inside-at
 bounds-self-inside-at c = omega (arith, slots_count c.self.invariant c.self.view_is, c.requires, c.self.invariant.few)
 
 pub offset_bounds-self-inside-at : goal.offset_bounds-self-inside-at
-offset_bounds-self-inside-at c =
-    let count = slots_count c.self.invariant c.self.view_is in
-    let few = c.self.invariant.few in
-    omega (arith, count, c.requires, few)
+offset_bounds-self-inside-at c = omega (arith, slots_count c.self.invariant c.self.view_is, c.requires, c.self.invariant.few)
 
 pub bounds-self-inside-at-else-self-at : goal.bounds-self-inside-at-else-self-at
 bounds-self-inside-at-else-self-at c = omega (arith, slots_count c.self.invariant c.self.view_is, c.requires, c.self.invariant.few)

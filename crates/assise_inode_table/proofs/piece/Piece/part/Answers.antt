@@ -6,33 +6,20 @@ use Rattle.assise_inode_table.proofs.piece.Piece.part.Goals as goal
 
 pub slice_bounds-copied-end : goal.slice_bounds-copied-end
 slice_bounds-copied-end c =
-    let count = slots_count c.self.invariant c.self.view_is in
     let names : length c.as_slice.result.now ≡ length (arc_value c.self.inside.names).items = search rules in
-    omega (arith, names, count, c.requires)
+    omega (arith, names, slots_count c.self.invariant c.self.view_is, c.requires)
 
 pub offset_bounds-as_slice-start : goal.offset_bounds-as_slice-start
-offset_bounds-as_slice-start c =
-    let count = slots_count c.self.invariant c.self.view_is in
-    let few = c.self.invariant.few in
-    omega (arith, count, c.requires, few)
+offset_bounds-as_slice-start c = omega (arith, slots_count c.self.invariant c.self.view_is, c.requires, c.self.invariant.few)
 
 pub offset_bounds-self-inside-start : goal.offset_bounds-self-inside-start
-offset_bounds-self-inside-start c =
-    let count = slots_count c.self.invariant c.self.view_is in
-    let few = c.self.invariant.few in
-    omega (arith, count, c.requires, few)
+offset_bounds-self-inside-start c = omega (arith, slots_count c.self.invariant c.self.view_is, c.requires, c.self.invariant.few)
 
 pub slice_bounds-copy_in_front-end-2 : goal.slice_bounds-copy_in_front-end-2
-slice_bounds-copy_in_front-end-2 c =
-    let count = slots_count c.self.invariant c.self.view_is in
-    let few = c.self.invariant.few in
-    omega (arith, count, c.requires, few)
+slice_bounds-copy_in_front-end-2 c = omega (arith, slots_count c.self.invariant c.self.view_is, c.requires, c.self.invariant.few)
 
 pub slice_bounds-copy_in_front-end-4 : goal.slice_bounds-copy_in_front-end-4
-slice_bounds-copy_in_front-end-4 c =
-    let count = slots_count c.self.invariant c.self.view_is in
-    let few = c.self.invariant.few in
-    omega (arith, count, c.requires, few)
+slice_bounds-copy_in_front-end-4 c = omega (arith, slots_count c.self.invariant c.self.view_is, c.requires, c.self.invariant.few)
 
 pub returns : goal.returns
 returns c =

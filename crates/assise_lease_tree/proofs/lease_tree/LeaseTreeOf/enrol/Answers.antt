@@ -1,7 +1,7 @@
 use Rattle.std.specs.Map.{lookup}
 use Rattle.std.proofs.Common.{◌≡◌, ◌≢◌, ℕ, nat_eq, is_some, refl, sym, ap, ◌∙◌, Some, arith}
+use Rattle.std.proofs.lemmas.Bool.{ne_eqb}
 use Rattle.indexmap.specs.IndexMap.{get, Updates}
-use Rattle.assise_lease_table.proofs.Compatibles.{other_number}
 use Rattle.assise_lease_tree.specs.LeaseLevels.{clients_at, nodes_at}
 use Rattle.assise_lease_tree.specs.Trees.{levels_of}
 use Rattle.assise_lease_tree.proofs.CallsOnLevels.{tree_lawful, known_after, on_ok}
@@ -25,7 +25,7 @@ pub invariant_of-self-2 : goal.invariant_of-self-2
 invariant_of-self-2 g c =
     let made : Updates nat_eq c.reserve.new.self c.insert.new.self c.args.client (Some c.args.node) = on_ok c.insert.result _ (c.insert.ensures.succeeds (omega (arith, c.in-Ok.ensures.ok))) c.insert.ensures.updates in
     let rest : (d : ℕ) → d ≢ c.args.client → get nat_eq c.insert.new.self d ≡ get nat_eq c.args.self.now.homes d =
-    λ d other. made.2 d (other_number c.args.client d (λ same. other (sym same))) ∙ ap (λ es. lookup (nat_eq d) es) c.reserve.ensures.entries in
+    λ d other. made.2 d (ne_eqb c.args.client d (λ same. other (sym same))) ∙ ap (λ es. lookup (nat_eq d) es) c.reserve.ensures.entries in
     let told = c.in_ok-store.ensures.ok in
     let lawful = enrolled_lawful (levels_of c.args.self.now) (tree_lawful c.args.self.now) (record { home = get nat_eq c.insert.new.self; clients = clients_at c.args.self.now.leases; nodes = nodes_at c.args.self.now.leases }) c.args.client c.args.node c.requires.new
     (record { home = record { here = made.1; elsewhere = rest }; clients = λ i. refl; nodes = λ i. refl }) in

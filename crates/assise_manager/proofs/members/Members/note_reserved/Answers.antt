@@ -5,9 +5,9 @@ use Rattle.assise_manager.specs.Membership.{IsMembership}
 use Rattle.assise_manager.specs.Standings.{full_nodes}
 use Rattle.assise_manager.specs.Seen.{standing, listed_inodes}
 use Rattle.assise_manager.specs.Whole.{membership}
-use Rattle.assise_manager.proofs.Places.{still_full, whole}
+use Rattle.assise_manager.proofs.Places.{whole}
 use Rattle.assise_manager.proofs.Nodes.{full_from_map}
-use Rattle.assise_manager.proofs.Lawful.{noted_lawful}
+use Rattle.assise_manager.proofs.Lawful.{noted_lawful, stale_full}
 use Rattle.assise_manager.proofs.members.Members.note_reserved.Goals as goal
 
 pub invariant_of-self : goal.invariant_of-self
@@ -21,7 +21,8 @@ invariant_of-self c =
     record {
       lawful = subst (λ ns. IsMembership (record { epoch = old.epoch; nodes = ns; written = map listed_inodes (take old.written.len (c.insert_last.new.lists ++ drop (length c.insert_last.new.lists) old.written.items)); levels = old.levels.items })) (sym nodes)
           (subst (λ ls. IsMembership (record { epoch = old.epoch; nodes = map (stale_again c.args.node inodes) (map standing old.nodes.items); written = ls; levels = old.levels.items })) (sym lists) (noted_lawful (membership old) c.args.node inodes old.lawful));
-      listed = old.listed ∙ sym (ap full_nodes nodes ∙ full_from_map (stale_again c.args.node inodes) (still_full c.args.node inodes) 1 (map standing old.nodes.items));
+      listed = old.listed ∙ sym
+          (ap full_nodes nodes ∙ full_from_map (stale_again c.args.node inodes) (stale_full c.args.node inodes) 1 (map standing old.nodes.items));
       room = old.room;
       few = old.few;
     }

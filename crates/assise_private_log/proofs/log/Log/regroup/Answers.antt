@@ -4,15 +4,12 @@ use Rattle.assise_private_log.specs.NumberedLog.{without_tail}
 use Rattle.assise_private_log.proofs.LogGroups.{all_passed, groups_one_more, one_passed, room_for_group}
 use Rattle.assise_private_log.proofs.log.Log.regroup.Goals as goal
 
-pub append_group-requires-clause-numbers_fit : goal.append_group-requires-clause-numbers_fit
-append_group-requires-clause-numbers_fit c =
-    let all = ap (λ gs. c.loop-group.yielded ++ gs) (sym c.in-Some.ensures.steps.0) ∙ c.loop-group.invariant.items in
-    (room_for_group c.args.self.now c.loop-group.self c.args.from c.loop-group.yielded _ c.in-Some.group c.groups_from.ensures.lawful c.loop-group.invariant.log all).0
-
-pub append_group-requires-clause-room : goal.append_group-requires-clause-room
-append_group-requires-clause-room c =
-    let all = ap (λ gs. c.loop-group.yielded ++ gs) (sym c.in-Some.ensures.steps.0) ∙ c.loop-group.invariant.items in
-    (room_for_group c.args.self.now c.loop-group.self c.args.from c.loop-group.yielded _ c.in-Some.group c.groups_from.ensures.lawful c.loop-group.invariant.log all).1
+pub append_group-requires : goal.append_group-requires
+append_group-requires c =
+    let room = room_for_group c.args.self.now c.loop-group.self c.args.from c.loop-group.yielded _ c.in-Some.group c.groups_from.ensures.lawful
+    c.loop-group.invariant.log
+    (ap (λ gs. c.loop-group.yielded ++ gs) (sym c.in-Some.ensures.steps.0) ∙ c.loop-group.invariant.items) in
+    record { numbers_fit = room.0; room = room.1 }
 
 pub loop-group-preserved : goal.loop-group-preserved
 loop-group-preserved c = record {

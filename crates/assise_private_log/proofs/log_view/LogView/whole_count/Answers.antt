@@ -1,4 +1,4 @@
-use Rattle.std.proofs.Common.{◌≡◌, ℕ, ◌<◌, ◌≤◌, inl, rules, arith, ap, sym, subst, ◌∙◌}
+use Rattle.std.proofs.Common.{◌≡◌, ℕ, ◌<◌, ◌≤◌, inl, rules, arith, ap, sym, ◌∙◌}
 use Rattle.assise_private_log.specs.Borders.{whole_count}
 use Rattle.assise_private_log.specs.NumberedLog.{IsNumberedLog, NumberedLog}
 use Rattle.assise_private_log.proofs.Borders.{some_whole, whole_here, whole_none, whole_passed}

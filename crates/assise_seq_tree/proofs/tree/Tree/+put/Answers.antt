@@ -1,12 +1,13 @@
 use Rattle.std.proofs.Common.{subst, IsErr}
-use Rattle.assise_seq_tree.specs.Tree.{IsOrdered}
+use Rattle.assise_seq_tree.specs.Tree.{IsOrdered, at}
 use Rattle.assise_seq_tree.proofs.Order.{ordered-after}
-use Rattle.std.proofs.Common.{◌∙◌, ap, sym}
+use Rattle.std.proofs.Common.{◌≡◌, ◌∙◌, Err, ap, sym}
 use Rattle.assise_seq_tree.specs.View.{tree_of}
+use Rattle.assise_names.specs.declared.reply.TreeError.TheVariants.{NoEnt}
 use Rattle.assise_seq_tree.proofs.Walk.{no_items, first_and_rest, found_mut, missing_mut, at_missing, at_below, fails_at_none, put_root, put_file, put_found, put_missing, kept_found}
 use Rattle.std.proofs.lemmas.Result.{on_ok_weaker, on_err_weaker}
 use Rattle.assise_seq_tree.proofs.tree.Tree.+put.Goals as goal
-use Rattle.assise_seq_tree.proofs.tree.Tree.+put.Goals.{in-File, in-Directory+in-Some, in-Directory+in-None+in_ok-put-in-None+in_ok-key-in-None+in_ok-insert-in-None}
+use Rattle.assise_seq_tree.proofs.tree.Tree.+put.Goals.{In-None, in-File, in-Directory+in-Some, in-Directory+in-None+in_ok-put-in-None+in_ok-key-in-None+in_ok-insert-in-None}
 
 pub returns-in_default-clause-ok : goal.returns-in_default-clause-ok
 returns-in_default-clause-ok t c = c.tree.view_is ∙ put_root _ _ _ (no_items c.args.names.now c.in_default.len_below)
@@ -42,20 +43,22 @@ returns-clause-err t c =
       | in-Directory+in-None+in_ok-put-in-None+in_ok-key-in-None+in_ok-insert-in-None w ↦ rw w.result-is tt
     ]
 
+-- nothing stands at the path where its first name is missing
+missing : (t : _) (c : In-None t) → at c.args.self.now c.args.names.now ≡ Err NoEnt
+missing t c =
+    at_missing _ _ _ _ _ (first_and_rest _ _ c.in-len1-up.len_at_least c.name-item.is) (sym c.self.view_is ∙ ap tree_of c.in-Directory.is)
+    (missing_mut _ c.in-Directory.entries c.get_mut.result c.in-None.is c.get_mut.ensures.value)
+
 pub returns-in_err-put-in-None-clause-asked : goal.returns-in_err-put-in-None-clause-asked
-returns-in_err-put-in-None-clause-asked t c =
-    let none = missing_mut _ c.in-Directory.entries c.get_mut.result c.in-None.is c.get_mut.ensures.value in
-    fails_at_none c.from_residual.result _ _ (at_missing _ _ _ _ _ (first_and_rest _ _ c.in-len1-up.len_at_least c.name-item.is) (sym c.self.view_is ∙ ap tree_of c.in-Directory.is) none)
+returns-in_err-put-in-None-clause-asked t c = fails_at_none c.from_residual.result _ _ (missing t (goal.at.returns-in_err-put-in-None-clause-asked t c).In-None)
 
 pub returns-in_err-key-in-None-clause-asked : goal.returns-in_err-key-in-None-clause-asked
 returns-in_err-key-in-None-clause-asked t c =
-    let none = missing_mut _ c.in-Directory.entries c.get_mut.result c.in-None.is c.get_mut.ensures.value in
-    fails_at_none c.from_residual-in_err-key-in-None.result _ _ (at_missing _ _ _ _ _ (first_and_rest _ _ c.in-len1-up.len_at_least c.name-item.is) (sym c.self.view_is ∙ ap tree_of c.in-Directory.is) none)
+    fails_at_none c.from_residual-in_err-key-in-None.result _ _ (missing t (goal.at.returns-in_err-key-in-None-clause-asked t c).In-None)
 
 pub returns-in_err-insert-in-None-clause-asked : goal.returns-in_err-insert-in-None-clause-asked
 returns-in_err-insert-in-None-clause-asked t c =
-    let none = missing_mut _ c.in-Directory.entries c.get_mut.result c.in-None.is c.get_mut.ensures.value in
-    fails_at_none c.from_residual-in_err-insert-in-None.result _ _ (at_missing _ _ _ _ _ (first_and_rest _ _ c.in-len1-up.len_at_least c.name-item.is) (sym c.self.view_is ∙ ap tree_of c.in-Directory.is) none)
+    fails_at_none c.from_residual-in_err-insert-in-None.result _ _ (missing t (goal.at.returns-in_err-insert-in-None-clause-asked t c).In-None)
 
 pub returns-clause-asked : goal.returns-clause-asked
 returns-clause-asked t c =
