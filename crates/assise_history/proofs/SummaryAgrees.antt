@@ -65,14 +65,6 @@ last_other x k other = rw other refl
 
 number_more : (h : List EntryValue) (e : EntryValue) → IsLegal h → Fits h e → Numbered h → (c n : ℕ) (u : Durability) (before since : List EntryValue) → h ≡ before ++ opens c n u ∷ since
     → next (with_entry e (through since (newly_opened c n u))).last ≡ calls_made c (h ++ e ∷ [])
-number_more h (opens d m v) legal fits numbered c n u before since split =
-    let is = numbered c n u before since split in
-    let made = made_append c h (opens d m v ∷ []) in
-    omega arith
-number_more h (returns m) legal fits numbered c n u before since split =
-    let is = numbered c n u before since split in
-    let made = made_append c h (returns m ∷ []) in
-    omega arith
 number_more h (crashes d) legal fits numbered c n u before since split =
     let k = through since (newly_opened c n u) in
     let made = made_append c h (crashes d ∷ []) in
@@ -103,6 +95,10 @@ number_more h (calls x) legal fits numbered c n u before since split =
           let still : calls_made c (h ++ calls x ∷ []) ≡ calls_made c h = omega arith in
           ap next last ∙ numbered c n u before since split ∙ sym still
     ]
+number_more h e legal fits numbered c n u before since split =
+    let is = numbered c n u before since split in
+    let made = made_append c h (e ∷ []) in
+    omega arith
 
 numbered_more : (h : List EntryValue) (e : EntryValue) → IsLegal h → Fits h e → Numbered h → Numbered (h ++ e ∷ [])
 numbered_more h e legal fits numbered c n u before since split =
@@ -265,12 +261,6 @@ synced_sync h x j legal fits sync = (
 
 synced_more : (h : List EntryValue) (e : EntryValue) → IsLegal h → Fits h e → Synced h → (c n : ℕ) (u : Durability) (before since : List EntryValue) → h ≡ before ++ opens c n u ∷ since
     → (j : ℕ) → (is_past (with_entry e (through since (newly_opened c n u))).synced j ≡ true) ↔ UpTo (h ++ e ∷ []) c j
-synced_more h (opens d m v) legal fits synced c n u before since split j =
-    let k = through since (newly_opened c n u) in
-    synced_quiet h (opens d m v) c j k k refl (λ x is. cc) (synced c n u before since split j)
-synced_more h (returns m) legal fits synced c n u before since split j =
-    let k = through since (newly_opened c n u) in
-    synced_quiet h (returns m) c j k k refl (λ x is. cc) (synced c n u before since split j)
 synced_more h (crashes d) legal fits synced c n u before since split j =
     let k = through since (newly_opened c n u) in
     let same : (with_crash d k).synced ≡ k.synced = elim (cases_Bool (k.client == d)) [ inl t ↦ rw t refl | inr f ↦ rw f refl ] in
@@ -306,6 +296,9 @@ synced_more h (calls y) legal fits synced c n u before since split j =
             )
       ]
     ]
+synced_more h e legal fits synced c n u before since split j =
+    let k = through since (newly_opened c n u) in
+    synced_quiet h e c j k k refl (λ x is. cc) (synced c n u before since split j)
 
 -- a client that was just opened has no sync
 synced_open : (h : List EntryValue) (c n : ℕ) (u : Durability) (j : ℕ) → IsLegal h → Fits h (opens c n u) → UpTo (h ++ opens c n u ∷ []) c j
