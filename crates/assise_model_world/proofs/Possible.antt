@@ -1,6 +1,6 @@
 -- Each step can be made: the state to which it leads.
 use Rattle.std.proofs.Common.{◌≡◌, ◌⊎◌, ℕ, suc, ◌+◌, ◌-◌, ◌<◌, ◌≤◌, ◌≢◌, inl, inr, min, max, true, false, not, List, [], ◌∷◌, ◌++◌, if◌then◌else◌, refl, ap, sym, ◌∙◌, subst, ◌&&◌, ◌||◌, nat_le, ◌==◌, arith, take, drop, length, filter}
-use Rattle.std.proofs.lemmas.Bool.{cases_Bool, eqb-true, leb-true, le-leb, eq-eqb, ne_eqb, and_parts, and_from, false_from_ne_true, both_ways, or_right}
+use Rattle.std.proofs.lemmas.Bool.{cases_Bool, eqb-true, leb-true, le-leb, eq-eqb, ne_eqb, and_parts, and_from, false_from_ne_true, both_ways, or_cases, or_right}
 use Rattle.assise_names.specs.declared.mode.Mode.{Mode}
 use Rattle.assise_record.specs.Records.{all_effects, record_of}
 use Rattle.assise_inode_table.specs.Effects.{value_after, touched, contains}
@@ -14,30 +14,30 @@ use Rattle.assise_model_world.proofs.Logs.{length-both}
 
 -- ---- one of many
 
-chosen : {A : Type 0} (d c : ℕ) (x y : A) → d ≡ c → (if d == c then x else y) ≡ x
+pub chosen : {A : Type 0} (d c : ℕ) (x y : A) → d ≡ c → (if d == c then x else y) ≡ x
 chosen d c x y e = rw (eq-eqb d c e) refl
 
-passed : {A : Type 0} (d c : ℕ) (x y : A) → d ≢ c → (if d == c then x else y) ≡ y
+pub passed : {A : Type 0} (d c : ℕ) (x y : A) → d ≢ c → (if d == c then x else y) ≡ y
 passed d c x y e = rw (ne_eqb d c e) refl
 
 -- of functions
 
-chosen_at : {B : Type 0} (d c : ℕ) (x y : ℕ → B) → d ≡ c → (i : ℕ) → (if d == c then x else y) i ≡ x i
+pub chosen_at : {B : Type 0} (d c : ℕ) (x y : ℕ → B) → d ≡ c → (i : ℕ) → (if d == c then x else y) i ≡ x i
 chosen_at d c x y e i = rw (eq-eqb d c e) refl
 
-passed_at : {B : Type 0} (d c : ℕ) (x y : ℕ → B) → d ≢ c → (i : ℕ) → (if d == c then x else y) i ≡ y i
+pub passed_at : {B : Type 0} (d c : ℕ) (x y : ℕ → B) → d ≢ c → (i : ℕ) → (if d == c then x else y) i ≡ y i
 passed_at d c x y e i = rw (ne_eqb d c e) refl
 
 -- the value at one node, or of one client at one node
 
-at_one : {A : Type 0} → ℕ → ℕ → A → (ℕ → ℕ → A) → ℕ → ℕ → A
+pub at_one : {A : Type 0} → ℕ → ℕ → A → (ℕ → ℕ → A) → ℕ → ℕ → A
 at_one n c x f m d = if (m == n) && (d == c) then x else f m d
 
-at_one-here : {A : Type 0} (n c : ℕ) (x : A) (f : ℕ → ℕ → A) → at_one n c x f n c ≡ x
+pub at_one-here : {A : Type 0} (n c : ℕ) (x : A) (f : ℕ → ℕ → A) → at_one n c x f n c ≡ x
 unfolding at_one
 at_one-here n c x f = rw (and_from (n == n) (c == c) (eq-eqb n n refl) (eq-eqb c c refl)) refl
 
-at_one-else : {A : Type 0} (n c : ℕ) (x : A) (f : ℕ → ℕ → A) (m d : ℕ) → (m ≡ n → d ≡ c → ⊥) → at_one n c x f m d ≡ f m d
+pub at_one-else : {A : Type 0} (n c : ℕ) (x : A) (f : ℕ → ℕ → A) (m d : ℕ) → (m ≡ n → d ≡ c → ⊥) → at_one n c x f m d ≡ f m d
 unfolding at_one
 at_one-else n c x f m d other =
     rw (false_from_ne_true ((m == n) && (d == c)) (λ t. let p : ((m == n) ≡ true) × ((d == c) ≡ true) = and_parts (m == n) (d == c) t in other (eqb-true m n p.0) (eqb-true d c p.1))) refl
@@ -128,13 +128,17 @@ pub may_deliver : (w : World) (n c k : ℕ) → MayDeliver w n c k → (u : Worl
 may_deliver w n c k m =
     let u : World = record w { log = at_one n c (w.log n c ++ records_between w c (w.received n c) k) w.log; received = at_one n c k w.received } in (u, search (at_one-here, at_one-else) parts 3)
 
+abbrev pub digested_world : World → ℕ → ℕ → ℕ → World
+digested_world w n c k = record w {
+  digested = at_one n c k w.digested;
+  area = λ o. if o == n then (λ i. value_after i (w.area n i) (all_effects (undigested_below w n c k))) else w.area o;
+}
+
+pub world_digests : (w : World) (n c k : ℕ) → MayDigest w n c k → Digests w n c k (digested_world w n c k)
+world_digests w n c k m = search (at_one-here, at_one-else, chosen_at, passed_at) parts 3
+
 pub may_digest : (w : World) (n c k : ℕ) → MayDigest w n c k → (u : World) × Digests w n c k u
-may_digest w n c k m =
-    let u : World = record w {
-      digested = at_one n c k w.digested;
-      area = λ o. if o == n then (λ i. value_after i (w.area n i) (all_effects (undigested_below w n c k))) else w.area o;
-    } in
-    (u, search (at_one-here, at_one-else, chosen_at, passed_at) parts 3)
+may_digest w n c k m = (digested_world w n c k, world_digests w n c k m)
 
 pub may_drop : (w : World) (f : ℕ → ℕ) → MayDrop w f → (u : World) × Drops w f u
 may_drop w f m =
@@ -163,20 +167,38 @@ of-kept (k ∷ ns) n m h other =
       ])
     ]
 
+abbrev pub cut_world : World → ℕ → World
+cut_world w n = record w {
+  full = filter (λ k. not (k == n)) w.full;
+  calls = filter (below (λ c. call_at w c (kept_at_failure w n c))) w.calls;
+  records = λ c. records_between w c (w.first c) (kept_at_failure w n c);
+  goal = λ c. min (w.goal c) (kept_at_failure w n c);
+  lives = λ c. if w.home c == n then false else w.lives c;
+  log = λ k c. take (kept_at_failure w n c - w.first c) (w.log k c);
+  received = λ k c. min (w.received k c) (kept_at_failure w n c);
+}
+
+pub world_fails : (w : World) (n : ℕ) → MayFail w n → Fails w n (cut_world w n)
+world_fails w n m =
+    let gone : Full (cut_world w n) n → ⊥ = λ h. (kept-of w.full n n h).1 refl in
+    let only : (k : ℕ) → Full (cut_world w n) k → Full w k = λ k h. (kept-of w.full n k h).0 in
+    search (gone, only, of-kept, chosen, passed) parts 3
+
 pub may_fail : (w : World) (n : ℕ) → MayFail w n → (u : World) × Fails w n u
-may_fail w n m =
-    let u : World = record w {
-      full = filter (λ k. not (k == n)) w.full;
-      calls = filter (below (λ c. call_at w c (kept_at_failure w n c))) w.calls;
-      records = λ c. records_between w c (w.first c) (kept_at_failure w n c);
-      goal = λ c. min (w.goal c) (kept_at_failure w n c);
-      lives = λ c. if w.home c == n then false else w.lives c;
-      log = λ k c. take (kept_at_failure w n c - w.first c) (w.log k c);
-      received = λ k c. min (w.received k c) (kept_at_failure w n c);
-    } in
-    let gone : Full u n → ⊥ = λ h. (kept-of w.full n n h).1 refl in
-    let only : (k : ℕ) → Full u k → Full w k = λ k h. (kept-of w.full n k h).0 in
-    (u, search (gone, only, of-kept, chosen, passed) parts 3)
+may_fail w n m = (cut_world w n, world_fails w n m)
+
+-- a node more is full
+pub record FullAlso (w : World) (n : ℕ) (u : World) : Type 0 where
+  pub joined : Full u n
+  pub stay : (k : ℕ) → Full w k → Full u k
+  pub only : (k : ℕ) → Full u k → (k ≡ n) ⊎ Full w k
+
+pub one_more_full : (w : World) (n : ℕ) (u : World) → u.full ≡ n ∷ w.full → FullAlso w n u
+one_more_full w n u is = record {
+  joined = rw (is, eq-eqb n n refl) refl;
+  stay = λ k f. rw is (or_right (n == k) (contains w.full k) f);
+  only = λ k h. elim (or_cases (n == k) (contains w.full k) (rw is at h)) [ inl here ↦ inl (sym (eqb-true n k here)) | inr there ↦ inr there ];
+}
 
 pub may_join : (w : World) (n donor : ℕ) → MayJoin w n donor → (u : World) × Joins w n donor u
 may_join w n donor m =
@@ -188,9 +210,8 @@ may_join w n donor m =
       digested = λ k. if k == n then w.digested donor else w.digested k;
     } in
     let isnt : (k : ℕ) → Full w k → k ≢ n = λ k f is. m.absent (subst (λ j. contains w.full j ≡ true) is f) in
-    let joined : Full u n = rw (eq-eqb n n refl) refl in
-    let only : (k : ℕ) → Full u k → (k ≡ n) ⊎ Full w k = λ k h. elim (cases_Bool (n == k)) [ inl is ↦ inl (sym (eqb-true n k is)) | inr other ↦ inr (rw other at h) ] in
-    (u, search (isnt, joined, only, or_right, chosen_at, passed_at) parts 3)
+    let full_as : FullAlso w n u = one_more_full w n u refl in
+    (u, search (isnt, full_as.joined, full_as.stay, full_as.only, chosen_at, passed_at) parts 3)
 
 pub may_rest : (w : World) → (u : World) × Rests w u
 may_rest w = (w, search parts 3)
