@@ -186,10 +186,7 @@ failure_recorded s n s' sound r e =
 -- ---- a failure of a node that isn't full
 
 pub nothing_fair : (s : State) (n : ℕ) → IsFair s.history n []
-nothing_fair s n = record {
-  ascending = λ before between behind l m split. absurd (not_nil before (between ++ m ∷ behind) l split);
-  each = λ lower higher l split. absurd (not_nil lower higher l split);
-}
+nothing_fair s n = search (absurd, not_nil, arith) parts 3
 
 again_opened : (s : State) (n : ℕ) (s' : State) → WorldInvariant s.world → IsRecorded s → IsFailureAgain s n s' → (c : ℕ) → IsClient s.world c → WasOpened (s.history ++ fails n [] ∷ []) s'.world c
 again_opened s n s' sound r e c client =

@@ -131,14 +131,7 @@ record IsKeptFrom (prefix h : List EntryValue) (y : NumberedCall) : Type 0 where
 
 -- with an entry before
 later_on : (prefix es : List EntryValue) (e : EntryValue) (y : NumberedCall) → IsKeptFrom (prefix ++ e ∷ []) es y → IsKeptFrom prefix (e ∷ es) y
-later_on prefix es e y k = record {
-  before = e ∷ k.before;
-  later = k.later;
-  plain = k.plain;
-  split = ap (λ xs. e ∷ xs) k.split;
-  safe = k.safe;
-  numbered = k.numbered ∙ ap (λ f. numbered_in f k.plain) (append_assoc prefix (e ∷ []) k.before);
-}
+later_on prefix es e y k = search (append_assoc, arith) parts 3
 
 kept_as_from : (prefix h : List EntryValue) (y : NumberedCall) → Contains (kept_after prefix h) y → IsKeptFrom prefix h y
 kept_as_from prefix [] y h = absurd (omega (arith, h.1))

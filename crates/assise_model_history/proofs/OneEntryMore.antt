@@ -95,12 +95,7 @@ any_push p h e = list_any-append p h (e ∷ []) ∙ ap (λ b. list_any p h || b)
 -- the entry may be the client's crash or its node's failure
 pub opened_more : (h : List EntryValue) (e : EntryValue) (w w' : World) (c : ℕ) → w'.home c ≡ w.home c → w'.crashed c ≡ (w.crashed c || is_crash_of c e) → w'.lives c ≡ (w.lives c && not (is_failure_of (w.home c) e)) → WasOpened h w c → WasOpened (h ++ e ∷ []) w' c
 opened_more h e w w' c home crashed lives was = let o = was.opened in record {
-  opened = record {
-    durability = o.durability;
-    before = o.before;
-    since = o.since ++ e ∷ [];
-    split = subst (λ n. h ++ e ∷ [] ≡ o.before ++ opens c n o.durability ∷ (o.since ++ e ∷ [])) (sym home) (ap (λ g. g ++ e ∷ []) o.split ∙ append_assoc o.before (opens c (w.home c) o.durability ∷ o.since) (e ∷ []));
-  };
+  opened = search (append_assoc, arith) parts 3;
   crashed = crashed ∙ ap (λ b. b || is_crash_of c e) was.crashed ∙ sym (any_push (is_crash_of c) o.since e);
   lives = subst (λ n. w'.lives c ≡ not (list_any (is_failure_of n) (o.since ++ e ∷ []))) (sym home)
       (lives ∙ ap (λ b. b && not (is_failure_of (w.home c) e)) was.lives ∙ sym (not_or (list_any (is_failure_of (w.home c)) o.since) (is_failure_of (w.home c) e)) ∙ ap not (sym (any_push (is_failure_of (w.home c)) o.since e)));
@@ -140,11 +135,7 @@ full_moves w w' n same full = subst (λ ns. contains ns n ≡ true) same full
 
 -- the same nodes are full, and down
 pub up_same : (k : ℕ) (h h' : List EntryValue) (w w' : World) → w'.full ≡ w.full → ((n : ℕ) → IsDown h' n → IsDown h n) → ((n : ℕ) → IsDown h n → IsDown h' n) → AreUp k h w → AreUp k h' w'
-up_same k h h' w w' same back forth a = record {
-  nodes = λ n full. a.nodes n (full_moves w w' n same full);
-  up = λ n full down. a.up n (full_moves w w' n same full) (back n down);
-  down = λ n node absent. forth n (a.down n node (λ full. absent (full_moves w' w n (sym same) full)));
-}
+up_same k h h' w w' same back forth a = search (full_moves, arith) parts 3
 
 down_before : (h : List EntryValue) (e : EntryValue) (n : ℕ) → IsOfClient e → IsDown (h ++ e ∷ []) n → IsDown h n
 down_before h e n o d =

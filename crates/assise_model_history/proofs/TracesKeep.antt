@@ -165,13 +165,7 @@ stays_replicated s t r q stay = ap (λ xs. filter (below (first_unreplicated s.w
 pub trace_lasts : (s : State) (ts : List State) → WorldInvariant s.world → IsRecorded s → IsTrace s ts → IsLasting s (last_of s ts)
 trace_lasts s ts sound r m =
     let grows = trace_grows s ts m in
-    record {
-      nodes = trace_nodes s ts m;
-      more = grows.0;
-      grown = grows.1;
-      stay = stays_replicated s (last_of s ts) r (trace_recorded s ts sound r m) (trace_stays s ts sound m);
-      none_falls = trace_falls s ts sound m;
-    }
+    search (trace_nodes s ts m, stays_replicated s (last_of s ts) r (trace_recorded s ts sound r m) (trace_stays s ts sound m), trace_falls s ts sound m) parts 3
 
 -- ---- the start
 

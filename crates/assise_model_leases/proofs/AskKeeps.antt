@@ -66,10 +66,7 @@ module _ (w u : World) (l k : Leases) (c i : ℕ) (mode : Mode) (a : AreLeases w
   pub ask_keeps : WorldInvariant w → AreLeases u k
   ask_keeps s = record {
     lawful = asked_lawful l.levels a.lawful k.levels c (w.home c) i mode (a.homes c (s.opened c e.lives_on)) e.asked;
-    held = record {
-      holds = λ d j. e.goals.leases.holds d j ∙ a.held.holds d j ∙ sym (same_held d j);
-      writes = λ d j. e.goals.leases.writes d j ∙ a.held.writes d j ∙ sym (same_written d j);
-    };
+    held = search (same_held, same_written, arith) parts 3;
     homes = λ d o. e.asked.home d ∙ a.homes d (still_client w u l a e.goals.clients d o) ∙ ap (λ m. Some m) (sym (e.goals.clients.home d));
     strangers = λ d no. e.asked.home d ∙ a.strangers d (λ o. no (was_client w u l a e.goals.clients d o));
     covered = λ d j h. covers_same w u d j (k.cut d j) (e.goals.logs.records d) (e.goals.logs.first d) (ask_covered d j h);

@@ -15,7 +15,7 @@ use Rattle.assise_model_world.specs.Invariant.{WorldInvariant}
 use Rattle.assise_model_world.specs.World.{World, end_of_log}
 use Rattle.assise_model_world.proofs.WorldObserved.{part-whole}
 use Rattle.assise_model_leases.specs.Handing.{CrashesWith, FailsWithLeases}
-use Rattle.assise_model_leases.specs.Leases.{Leases, client_lease, IsRevokedLease, CoversFrom, AreLeases, is_held, is_written}
+use Rattle.assise_model_leases.specs.Leases.{Leases, client_lease, IsRevokedLease, CoversFrom, AreLeases, is_held}
 use Rattle.assise_lease_tree.proofs.ClientHomes.{lease_among}
 use Rattle.assise_model_leases.proofs.LookUps.{revoked_one, revoke_of, held_one, written_one, still_revoked, now_revoked, was_revoked}
 use Rattle.assise_model_leases.proofs.CutsCover.{covers_same, covers_end}
@@ -44,10 +44,7 @@ module _ (w u : World) (l k : Leases) (c : ℕ) (a : AreLeases w l) (e : Crashes
   pub crash_keeps : WorldInvariant w → AreLeases u k
   crash_keeps s = record {
     lawful = revoked_lawful l.levels a.lawful k.levels c e.revoked;
-    held = record {
-      holds = λ d j. e.crash.leases.holds d j ∙ a.held.holds d j ∙ sym (same_held d j);
-      writes = λ d j. e.crash.leases.writes d j ∙ a.held.writes d j ∙ sym (ap is_written (lease d j) ∙ written_one (is_own c) (client_lease l d j));
-    };
+    held = search (same_held, lease, written_one, arith) parts 3;
     homes = λ d o. e.revoked.home d ∙ a.homes d (o.0, (let n : u.clients ≡ w.clients = e.crash.clients in omega (arith, o.1, n))) ∙ ap (λ m. Some m) (sym (e.crash.home d));
     strangers = λ d no. e.revoked.home d ∙ a.strangers d (λ o. no (o.0, (let n : u.clients ≡ w.clients = e.crash.clients in omega (arith, o.1, n))));
     covered = λ d j h. covers_same w u d j (k.cut d j) (e.crash.logs.records d) (e.crash.logs.first d) (elim (cases_eq d c) [
@@ -138,10 +135,7 @@ module _ (w u : World) (l k : Leases) (n : ℕ) (a : AreLeases w l) (e : FailsWi
   pub fail_keeps : WorldInvariant u → AreLeases u k
   fail_keeps s = record {
     lawful = chosen_lawful l.levels k.levels there a.lawful e.home e.clients e.nodes;
-    held = record {
-      holds = λ d j. e.fails.leases.holds d j ∙ a.held.holds d j ∙ sym (held_now d j);
-      writes = λ d j. e.fails.leases.writes d j ∙ a.held.writes d j ∙ sym (ap is_written (lease_now d j) ∙ written_one there (client_lease l d j));
-    };
+    held = search (held_now, lease_now, written_one, there, arith) parts 3;
     homes = λ d o. e.home d ∙ a.homes d (o.0, (let m : u.clients ≡ w.clients = e.fails.clients in omega (arith, o.1, m))) ∙ ap (λ m. Some m) (sym (e.fails.home d));
     strangers = λ d no. e.home d ∙ a.strangers d (λ o. no (o.0, (let m : u.clients ≡ w.clients = e.fails.clients in omega (arith, o.1, m))));
     covered = λ d j h. elim (cases_eq (w.home d) n) [

@@ -101,17 +101,7 @@ module _ (w u : World) (l k : Leases) (c i : ℕ) (mode : Mode) (a : AreLeases w
   ]
 
   pub grant_acquires : Acquires w c i mode u
-  grant_acquires = record {
-    free = granted_free mode refl;
-    logs = e.holds.logs;
-    clients = e.holds.clients;
-    goals = e.holds.goals;
-    nodes = e.holds.nodes;
-    holds_here = e.holds.held.holds c i ∙ ap is_held here;
-    writes_here = e.holds.held.writes c i ∙ ap is_written here ∙ writing_raised mode (client_lease l c i) ∙ ap (λ b. b || is_for_writing mode) (sym (a.held.writes c i));
-    holds_else = λ d j differs. e.holds.held.holds d j ∙ ap is_held (elsewhere d j differs) ∙ sym (a.held.holds d j);
-    writes_else = λ d j differs. e.holds.held.writes d j ∙ ap is_written (elsewhere d j differs) ∙ sym (a.held.writes d j);
-  }
+  grant_acquires = search (granted_free mode refl, here, writing_raised, elsewhere, arith) parts 3
 
   -- the lease that is granted isn't revoked
   was_revoked : (d j : ℕ) → IsRevokedLease k d j → IsRevokedLease l d j

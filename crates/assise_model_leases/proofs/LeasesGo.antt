@@ -32,17 +32,7 @@ module _ (w u : World) (l k : Leases) (c i : ℕ) (a : AreLeases w l) (e : Relea
   nothing_left dropped = (let z : l.cut c i - w.first c ≡ 0 = omega (arith, e.ready, dropped c) in rw z at (a.covered c i e.revoked).untouched)
 
   pub goes : AreDropped w → Releases w c i u
-  goes dropped = record {
-    untouched = nothing_left dropped;
-    logs = e.holds.logs;
-    clients = e.holds.clients;
-    goals = e.holds.goals;
-    nodes = e.holds.nodes;
-    holds_here = e.holds.held.holds c i ∙ ap is_held gone;
-    writes_here = e.holds.held.writes c i ∙ ap is_written gone;
-    holds_else = λ d j differs. e.holds.held.holds d j ∙ ap is_held (elsewhere d j differs) ∙ sym (a.held.holds d j);
-    writes_else = λ d j differs. e.holds.held.writes d j ∙ ap is_written (elsewhere d j differs) ∙ sym (a.held.writes d j);
-  }
+  goes dropped = search (nothing_left dropped, gone, elsewhere, arith) parts 3
 
   -- a lease that is left was there
   was_there : (d j : ℕ) → is_held (client_lease k d j) ≡ true → client_lease k d j ≡ client_lease l d j

@@ -149,13 +149,7 @@ module _ (w : World) (l : Leases) (c i : ℕ) (mode : Mode) (a : AreLeases w l) 
 
   is_asked_for : IsAskedFor l.levels asked c (w.home c) i mode
   unfolding asked_clients
-  is_asked_for = record {
-    home = λ d. refl;
-    clients = becomes l.levels.clients i asked_clients;
-    nodes = becomes l.levels.nodes i (nodes_asked l.levels.home (l.levels.clients i) (w.home c) mode (l.levels.nodes i));
-    revoked = ap (λ ls. list_any (λ (b : Lease). b.revoked) ls) (chosen i i asked_clients (l.levels.clients i) refl)
-        ∙ some_revoked l.levels.home (l.levels.clients i) (l.levels.nodes i) c (w.home c) mode (a.lawful.asked i) m.not_free;
-  }
+  is_asked_for = search (becomes l.levels.clients i asked_clients, becomes, chosen, asked_clients, some_revoked, arith) parts 3
 
   pub may_ask : WorldInvariant w → (u : World) × (k : Leases) × Asks w l c i mode u k
   may_ask s =

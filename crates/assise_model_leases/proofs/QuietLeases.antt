@@ -17,7 +17,7 @@ use Rattle.assise_model_world.specs.Staying.{SameLogs, SameClients, KeepsLeases}
 use Rattle.assise_model_world.specs.World.{World, IsClient, step_at_home}
 use Rattle.assise_model_world.proofs.Logs.{of_fresh}
 use Rattle.assise_model_leases.specs.Handing.{OpensAt, CallsUnder, CoalescesUnder}
-use Rattle.assise_model_leases.specs.Leases.{Leases, client_lease, IsRevokedLease, CoversFrom, AreLeases, is_held, is_written}
+use Rattle.assise_model_leases.specs.Leases.{Leases, client_lease, IsRevokedLease, CoversFrom, AreLeases, is_held}
 use Rattle.assise_lease_tree.proofs.ClientHomes.{lease_among, home_of}
 use Rattle.assise_model_leases.proofs.LookUps.{held_some, revoked_held, revoked_serves}
 use Rattle.assise_model_leases.proofs.CutsCover.{covers_same, covers_call, covers_drop, covers_coalesced}
@@ -144,10 +144,7 @@ coalesced_keeps w u l c s new was so a e =
 pub open_keeps : (w u : World) (l k : Leases) (n : ℕ) → AreLeases w l → OpensAt w l n u k → AreLeases u k
 open_keeps w u l k n a e = record {
   lawful = enrolled_lawful l.levels a.lawful k.levels (suc w.clients) n (a.strangers (suc w.clients) new_stranger) e.enrols;
-  held = record {
-    holds = λ c i. e.opens.leases.holds c i ∙ a.held.holds c i ∙ sym (ap is_held (lease c i));
-    writes = λ c i. e.opens.leases.writes c i ∙ a.held.writes c i ∙ sym (ap is_written (lease c i));
-  };
+  held = search (lease, arith) parts 3;
   homes = λ c o. elim (cases_eq c (suc w.clients)) [
     | inl new ↦ subst (λ d. k.levels.home d ≡ Some (u.home d)) (sym new) (e.enrols.home.here ∙ ap (λ m. Some m) (sym e.opens.home_new))
     | inr old ↦ e.enrols.home.elsewhere c old ∙ a.homes c (older c o old) ∙ ap (λ m. Some m) (sym (e.opens.home_else c old))

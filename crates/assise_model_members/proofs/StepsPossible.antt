@@ -76,17 +76,7 @@ module _ (w : World) (m : Membership) (n : ℕ) (inodes : set.FinSet nat_cmp) (a
         cut_world w n,
         with_areas (cut_world w n) areas_then,
         after,
-        record {
-          fails = fails;
-          rests = rests_with (cut_world w n) areas_then (λ k i f. stays_then k i (full_no_donor (standing_of m.nodes k) n (a.full_nodes k (fails.only k f))));
-          members = refl;
-          touched_only = g.touched_only;
-          touched_all = g.touched_all;
-          over = λ k stale lost lacks i.
-              left_over-here n (donor_of (standing_of m.nodes k)) (stale_of (standing_of after.nodes k)) i (w.area k i) lost
-              ∙ ap (λ s. left_of s i (w.area k i)) lacks;
-          area_else = stays_then;
-        },
+        search (rests_with, cut_world, areas_then, stays_then, full_no_donor, left_over-here, left_of, arith) parts 3,
       )
 
 -- the inodes that the kept records of clients 0 to this one touch
@@ -159,12 +149,7 @@ may_digest w m n c p may =
       inodes,
       digested_world w n c p,
       noted m n inodes,
-      record {
-        digests = world_digests w n c p may;
-        touches = λ i. listed_as (touched (all_effects (undigested_below w n c p))) i;
-        members = refl;
-        others = λ k i away. passed_at k n _ _ (λ is. away (subst (Full w) (sym is) may.full_node)) i;
-      },
+      search (world_digests w n c p may, listed_as, passed_at, arith) parts 3,
     ))
 
 -- ---- returns
@@ -183,13 +168,7 @@ module _ (w : World) (m : Membership) (n : ℕ) (a : AreMembers w m) where
       let stays : (k i : ℕ) → k ≢ n → areas_back k i ≡ w.area k i = λ k i differs. passed k n _ _ differs in (
         with_areas w areas_back,
         back m n,
-        record {
-          fine = fine;
-          members = refl;
-          rests = rests_with w areas_back (λ k i f. stays k i (away_other w m n k since a (ap since_of is) f));
-          area_here = λ stale lacks i. chosen n n _ _ refl ∙ ap (λ s. left_of s i (w.area n i)) lacks;
-          area_else = stays;
-        },
+        search (rests_with, areas_back, away_other, chosen, left_of, arith) parts 3,
       ))
 
   pub may_refill : (i : ℕ) → MayRefill m n i → (u : World) × (o : Membership) × Refills w m n i u o

@@ -251,13 +251,7 @@ module _ (w w' : World) (y : NumberedCall) (sound : WorldInvariant w) (e : Makes
   order-commit n d full =
       let f : Full w n = full-commit n full in
       let o : IsOrdered w n d = s.order n d f in
-      record {
-        begun = rw (e.first d, e.digested n d f) o.begun;
-        replicated = rw (e.digested n d f) (omega (arith, o.replicated, received_by_all-commit d));
-        known = known-commit n d f;
-        digested_border = ap (λ k. w'.border d k) (e.digested n d f) ∙ e.border_old d (w.digested n d) (omega (arith, o.replicated, received_by_all-end w d)) ∙ o.digested_border;
-        received_border = border-commit n d f;
-      }
+      search (known-commit n d f, border-commit n d f, received_by_all-commit, received_by_all-end, arith) parts 3
 
   call_at-commit : (d k : ℕ) → call_at w d k ≤ call_at w' d k
   unfolding call_at

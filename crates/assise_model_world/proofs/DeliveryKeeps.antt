@@ -44,13 +44,7 @@ module _ (w w' : World) (n c k : ℕ) (e : Delivers w n c k w') where
   order-deliver s m d h =
       let f : Full w m = full-before m h in
       let o : IsOrdered w m d = s.order m d f in
-      record {
-        begun = rw (e.logs.first d, e.digested m d f) o.begun;
-        replicated = rw (e.digested m d f) (omega (arith, o.replicated, replicated-up d));
-        known = rw (end-same w w' e.logs d) (received-is (λ m d r. r ≤ end_of_log w d) e.to (λ m d f. (s.order m d f).known) m d f);
-        digested_border = e.logs.border d (w'.digested m d) ∙ ap (λ k. w.border d k) (e.digested m d f) ∙ o.digested_border;
-        received_border = e.logs.border d (w'.received m d) ∙ received-is (λ m d r. w.border d r ≡ true) e.border_to (λ m d f. (s.order m d f).received_border) m d f;
-      }
+      search (replicated-up, end-same, received-is, arith) parts 3
 
   deliver_coherent : CallsInvariant w → CallsInvariant w'
   unfolding Areas

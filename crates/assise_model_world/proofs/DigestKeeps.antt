@@ -95,13 +95,7 @@ digest_coherent w w' n c k s e =
     calm_coherent w w' s.coherent e.logs (rw e.clients.clients (omega arith)) (digested_by_all-digest w w' n c k e)
     (λ m d h. let f : Full w m = subst (λ ns. contains ns m ≡ true) e.full h in
     let o : IsOrdered w m d = s.coherent.order m d f in
-    record {
-      begun = rw (e.logs.first d) (omega (arith, o.begun, digested-up w w' n c k e m d f));
-      replicated = omega (arith, digested-received_by_all w w' n c k s.coherent e m d f, received_by_all-digest w w' n c k e d);
-      known = rw (end-same w w' e.logs d, e.received m d f) o.known;
-      digested_border = e.logs.border d (w'.digested m d) ∙ border-digest w w' n c k s.coherent e m d f;
-      received_border = e.logs.border d (w'.received m d) ∙ ap (λ k. w.border d k) (e.received m d f) ∙ o.received_border;
-    })
+    (search (digested-up, digested-received_by_all, received_by_all-digest, end-same, border-digest, arith) parts 3))
     (guarded-same w w' s.coherent e.logs.records e.leases) (compatible-same w w' s.coherent e.leases)
     (areas-digest w w' n c k s e)
 

@@ -273,13 +273,7 @@ module _ (w w' : World) (n : ℕ) (s : CallsInvariant w) (f : Fails w n w') wher
   order-fail : (m c : ℕ) → Full w' m → IsOrdered w' m c
   order-fail m c h =
       let o : IsOrdered w m c = s.order m c (f.only m h) in
-      record {
-        begun = rw (f.first c, f.digested m c h) o.begun;
-        replicated = rw (f.digested m c h) (omega (arith, o.replicated, received_by_all-fail c));
-        known = (let l : min (w.received m c) (cut c) ≤ cut c = omega arith in rw (f.received m c h, end-cut c) l);
-        digested_border = f.border c (w'.digested m c) (rw (f.digested m c h) (omega (arith, o.replicated, kept_low w n c))) ∙ ap (λ k. w.border c k) (f.digested m c h) ∙ o.digested_border;
-        received_border = f.border c (w'.received m c) (let l : min (w.received m c) (cut c) ≤ cut c = omega arith in rw (f.received m c h) l) ∙ ap (λ k. w.border c k) (f.received m c h) ∙ lesser w c (w.received m c) (cut c) o.received_border (kept_border w n c s);
-      }
+      search (received_by_all-fail, min, cut, end-cut, kept_low, lesser, kept_border, arith) parts 3
 
   -- of the kept calls a node that stays has digested those that it had
   same-digested : (m : ℕ) → Full w' m → (c : ℕ) → min (lost c) (first_undigested_at w' m c) ≡ first_undigested_at w m c

@@ -56,13 +56,7 @@ module _ (w w' : World) (n donor : ℕ) (e : Joins w n donor w') where
       calm_coherent w w' s e.logs (rw e.clients.clients (omega arith)) digested_up
       (λ m d h. let (b, q) = as_before m h in
       let o : IsOrdered w b d = s.order b d q.full_before in
-      record {
-        begun = rw (e.logs.first d, q.digested d) o.begun;
-        replicated = rw (q.digested d) (omega (arith, o.replicated, received_up d));
-        known = rw (end-same w w' e.logs d, q.received d) o.known;
-        digested_border = e.logs.border d (w'.digested m d) ∙ ap (λ k. w.border d k) (q.digested d) ∙ o.digested_border;
-        received_border = e.logs.border d (w'.received m d) ∙ ap (λ k. w.border d k) (q.received d) ∙ o.received_border;
-      })
+      (search (received_up, end-same, arith) parts 3))
       (guarded-same w w' s e.logs.records e.leases) (compatible-same w w' s e.leases)
       (areas-join s)
 

@@ -151,13 +151,7 @@ order-still w w' s l e m d h =
     let f : Full w m = subst (λ ns. contains ns m ≡ true) e.full h in
     let o : IsOrdered w m d = s.order m d f in
     let q : SameNode w w' m = e.same m f in
-    record {
-      begun = rw (l.first d, q.digested d) o.begun;
-      replicated = rw (q.digested d) (omega (arith, o.replicated, received_by_all-still w w' l e d));
-      known = rw (end-same w w' l d, q.received d) o.known;
-      digested_border = l.border d (w'.digested m d) ∙ ap (λ k. w.border d k) (q.digested d) ∙ o.digested_border;
-      received_border = l.border d (w'.received m d) ∙ ap (λ k. w.border d k) (q.received d) ∙ o.received_border;
-    }
+    search (received_by_all-still, end-same, arith) parts 3
 
 pub still_coherent : (w w' : World) → CallsInvariant w → SameLogs w w' → SameNodes w w' → w.clients ≤ w'.clients → Guarded w' → Compatible w' → CallsInvariant w'
 unfolding Areas

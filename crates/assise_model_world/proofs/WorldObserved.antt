@@ -235,10 +235,7 @@ part_none w c k h =
     let z : k - k ≡ 0 = omega arith in
     let none : (x : NumberedCall × Step) → window c (call_at w c k) (call_at w c k) x.0 ≡ true → ⊥ =
     λ x m. (let q : (x.0.client ≡ c) × (call_at w c k ≤ x.0.number) × (x.0.number < call_at w c k) = in_window c (call_at w c k) (call_at w c k) x.0 m in absurd (omega (arith, q.1, q.2))) in
-    record {
-      value = λ i v. rw z (sym (value-none (window c (call_at w c k) (call_at w c k)) i v (steps w) (each-always _ (steps w) (λ x. off (window c (call_at w c k) (call_at w c k) x.0) (none x)))));
-      touch = λ i q. each-always _ (steps w) (λ x m. absurd (none x m));
-    }
+    search (value-none, each-always, off, arith) parts 3
   where
     off : (b : Bool) → (b ≡ true → ⊥) → b ≡ false
     off true f = absurd (f refl)
