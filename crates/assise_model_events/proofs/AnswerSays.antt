@@ -121,16 +121,10 @@ sync_replies m m' c op reply h (is_refused r fault is same) = cc
 -- ---- a sync
 
 pub synced_all : (m m' : Machine) (c : ℕ) (op : Op) (reply : Reply) → Syncing m c op (replied reply) m' → received_by_all m.world c ≡ end_of_log m.world c
-synced_all m m' c op reply (is_synced own fine is e) = e.replicated
-synced_all m m' c op reply (is_replicating fine is e) = cc
-synced_all m m' c op reply (lacks_memory fine all is same) = all
-synced_all m m' c op reply (is_refused r fault is same) = cc
+synced_all m m' c op reply h = grind arith
 
 pub syncing_lacks : (m m' : Machine) (c : ℕ) (op : Op) → Syncing m c op not_yet m' → received_by_all m.world c < end_of_log m.world c
-syncing_lacks m m' c op (is_synced own fine is e) = cc
-syncing_lacks m m' c op (is_replicating fine is e) = e.lacking
-syncing_lacks m m' c op (lacks_memory fine all is same) = cc
-syncing_lacks m m' c op (is_refused r fault is same) = cc
+syncing_lacks m m' c op h = grind arith
 
 pub coalescing_replies : (m m' : Machine) (c : ℕ) (reply : Reply) → MachineInvariant m → Coalescing m c (replied reply) m' → reply ≡ (answer (tree_after opening_tree (kept m.history)) Dsync).0
 coalescing_replies m m' c reply h (is_synced own fine is e) = sync_replies m m' c Dsync reply h (is_synced own fine is e)
@@ -145,10 +139,7 @@ coalescing_all m m' c reply (lacks_memory fine is same) = cc
 coalescing_all m m' c reply (is_refused r fault is same) = cc
 
 pub coalescing_awaited : (m m' : Machine) (c : ℕ) → Coalescing m c not_yet m' → IsCoalescing m c m'
-coalescing_awaited m m' c (is_synced own fine is e) = cc
-coalescing_awaited m m' c (is_coalesced fine is e) = e
-coalescing_awaited m m' c (lacks_memory fine is same) = cc
-coalescing_awaited m m' c (is_refused r fault is same) = cc
+coalescing_awaited m m' c h = grind arith
 
 -- ---- a delivery
 
@@ -230,6 +221,4 @@ busy_same m m' n (lacks_memory fine is same) = same
 busy_same m m' n (is_refused r fault is same) = same
 
 pub join_fine : (m m' : Machine) (n : ℕ) → Joining m n joined m' → join_fault m.members n ≡ None
-join_fine m m' n (is_joined fine is e) = fine
-join_fine m m' n (lacks_memory fine is same) = fine
-join_fine m m' n (is_refused r fault is same) = cc
+join_fine m m' n h = grind arith

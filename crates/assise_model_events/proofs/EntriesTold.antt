@@ -1,5 +1,5 @@
 -- An event's answer tells exactly the entries that the history gets.
-use Rattle.std.proofs.Common.{◌≡◌, ℕ, List, ◌++◌, refl, ap, sym, ◌∙◌, append-nil}
+use Rattle.std.proofs.Common.{◌≡◌, ℕ, List, ◌++◌, refl, ap, sym, ◌∙◌, append-nil, arith}
 use Rattle.assise_names.specs.declared.call.Op.{Op}
 use Rattle.assise_names.specs.declared.call.Op.TheVariants.{Create, Mkdir, Read, Write, Truncate, Rename, Unlink, Rmdir, List as ListCall, Stat, Fsync, Dsync}
 use Rattle.assise_names.specs.declared.durability.Durability.{Durability}
@@ -21,17 +21,10 @@ told_as : (m m' : Machine) (e : ClusterEvent) (a b : Answer) → a ≡ b → m'.
 told_as m m' e a b is told = told ∙ ap (λ x. m.history ++ entries_of m.history e x) (sym is)
 
 pub opening_told : (m m' : Machine) (n : ℕ) (u : Durability) (a : Answer) → Opening m n u a m' → m'.history ≡ m.history ++ entries_of m.history (open_client n u) a
-opening_told m m' n u a (is_opened fine is e) = told_as m m' (open_client n u) a _ is e.adds.history
-opening_told m m' n u a (is_refused r fault is same) = told_as m m' (open_client n u) a _ is (same_told m m' same)
-opening_told m m' n u a (lacks_memory fine is same) = told_as m m' (open_client n u) a _ is (same_told m m' same)
+opening_told m m' n u a h = grind (arith, append-nil)
 
 pub calling_told : (m m' : Machine) (c : ℕ) (op : Op) (a : Answer) → Calling m c op a m' → m'.history ≡ m.history ++ entries_of m.history (try_call c op) a
-calling_told m m' c op a (is_answered reply granted is e) = told_as m m' (try_call c op) a _ is e.adds.history
-calling_told m m' c op a (is_awaited reply granted is e) = told_as m m' (try_call c op) a _ is e.adds.history
-calling_told m m' c op a (is_spent reply granted is e keeps) = told_as m m' (try_call c op) a _ is keeps.adds.history
-calling_told m m' c op a (is_full reply granted is e keeps) = told_as m m' (try_call c op) a _ is keeps.adds.history
-calling_told m m' c op a (lacks_memory reply granted is e keeps) = told_as m m' (try_call c op) a _ is keeps.adds.history
-calling_told m m' c op a (is_refused r fault is same) = told_as m m' (try_call c op) a _ is (same_told m m' same)
+calling_told m m' c op a h = grind (arith, append-nil)
 
 pub syncing_told : (m m' : Machine) (c : ℕ) (op : Op) (a : Answer) → Syncing m c op a m' → m'.history ≡ m.history ++ entries_of m.history (try_call c op) a
 syncing_told m m' c op a (is_synced reply fine is e) = told_as m m' (try_call c op) a _ is e.adds.history
@@ -56,9 +49,7 @@ crashing_told m m' c a (lacks_memory fine is same) = told_as m m' (crash c) a _ 
 crashing_told m m' c a (is_refused r fault is same) = told_as m m' (crash c) a _ is (same_told m m' same)
 
 pub sending_told : (m m' : Machine) (n : ℕ) (a : Answer) → Sending m n a m' → m'.history ≡ m.history ++ entries_of m.history (outgoing n) a
-sending_told m m' n a (is_sent fine is same) = told_as m m' (outgoing n) a _ is (same_told m m' same)
-sending_told m m' n a (lacks_memory fine some is same) = told_as m m' (outgoing n) a _ is (same_told m m' same)
-sending_told m m' n a (is_refused r fault is same) = told_as m m' (outgoing n) a _ is (same_told m m' same)
+sending_told m m' n a h = grind (arith, append-nil)
 
 pub delivering_told : (m m' : Machine) (f : LogFrame) (n : ℕ) (a : Answer) → Delivering m f n a m' → m'.history ≡ m.history ++ entries_of m.history (deliver f n) a
 delivering_told m m' f n a (is_delivered fine is e) = told_as m m' (deliver f n) a _ is e.adds.history

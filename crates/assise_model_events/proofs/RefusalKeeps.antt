@@ -1,5 +1,5 @@
 -- A refused event leaves the machine as it was, but for leases that a call got.
-use Rattle.std.proofs.Common.{◌≡◌, ℕ, false, ap, ◌∙◌, append-nil}
+use Rattle.std.proofs.Common.{◌≡◌, ℕ, false, ap, ◌∙◌, append-nil, arith}
 use Rattle.assise_names.specs.declared.call.Op.{Op}
 use Rattle.assise_names.specs.declared.call.Op.TheVariants.{Fsync}
 use Rattle.assise_names.specs.declared.durability.Durability.{Durability}
@@ -15,15 +15,10 @@ use Rattle.assise_model_events.specs.NodeEvents.{Sending, Delivering, Digesting,
 use Rattle.assise_model_events.specs.MemberEvents.{Failing, Returning, Refilling, Joining, Raising, is_back, is_failed, is_failed_again, is_joined, is_raised, is_refilled, is_refused, is_whole, lacks_memory}
 
 opening_same : (m m' : Machine) (n : ℕ) (u : Durability) (r : Refusal) → Opening m n u (refused r) m' → m' ≡ m
-opening_same m m' n u r (is_opened fine is e) = cc
-opening_same m m' n u r (is_refused other fault is same) = same
-opening_same m m' n u r (lacks_memory fine is same) = same
+opening_same m m' n u r h = grind arith
 
 syncing_same : (m m' : Machine) (c : ℕ) (op : Op) (r : Refusal) → Syncing m c op (refused r) m' → m' ≡ m
-syncing_same m m' c op r (is_synced reply fine is e) = cc
-syncing_same m m' c op r (is_replicating fine is e) = cc
-syncing_same m m' c op r (lacks_memory fine all is same) = same
-syncing_same m m' c op r (is_refused other fault is same) = same
+syncing_same m m' c op r h = grind arith
 
 noting_same : (m m' : Machine) (c : ℕ) (r : Refusal) → Noting m c (refused r) m' → m' ≡ m
 noting_same m m' c r (is_noted reply fine is e) = cc
@@ -40,9 +35,7 @@ crashing_same m m' c r (lacks_memory fine is same) = same
 crashing_same m m' c r (is_refused other fault is same) = same
 
 sending_same : (m m' : Machine) (n : ℕ) (r : Refusal) → Sending m n (refused r) m' → m' ≡ m
-sending_same m m' n r (is_sent fine is same) = same
-sending_same m m' n r (lacks_memory fine some is same) = same
-sending_same m m' n r (is_refused other fault is same) = same
+sending_same m m' n r h = grind arith
 
 delivering_same : (m m' : Machine) (f : LogFrame) (n : ℕ) (r : Refusal) → Delivering m f n (refused r) m' → m' ≡ m
 delivering_same m m' f n r (is_delivered fine is e) = cc
@@ -56,7 +49,7 @@ digesting_same m m' n r (lacks_memory fine some is same) = same
 digesting_same m m' n r (is_refused other fault is same) = same
 
 releasing_same : (m m' : Machine) (r : Refusal) → Releasing m (refused r) m' → m' ≡ m
-releasing_same m m' r (is_released gone freed is e) = cc
+releasing_same m m' r h = grind arith
 
 setting_same : (m m' : Machine) (n capacity : ℕ) (r : Refusal) → SettingHot m n capacity (refused r) m' → m' ≡ m
 setting_same m m' n capacity r (is_set fine is same) = cc
