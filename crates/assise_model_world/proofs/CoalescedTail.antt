@@ -239,14 +239,7 @@ call_at-stays w w' c s new was so e d k low high =
 
 ascending-coalesce : (w w' : World) (c s : ℕ) (new : List LogRecord) (was : ℕ → ℕ) → CallsInvariant w → Coalesces w c s new was w' → (d : ℕ) → Ascending (w'.records d) (w'.next d)
 unfolding call_at
-ascending-coalesce w w' c s new was so e d =
-    elim (cases_eq d c) [
-      | inl own ↦ subst (λ d. Ascending (w'.records d) (w'.next d)) (sym own)
-          (rw (e.records_own, e.next c)
-          (ascending-append (take (s - w.first c) (w.records c)) new (w.next c)
-          (subst (λ k. Ascending (take (s - w.first c) (w.records c)) k) (sym e.begins) (ascending-cut (w.records c) (s - w.first c) (w.next c) (so.ascending c))) e.ascending))
-      | inr other ↦ rw (e.records_else d other, e.next d) (so.ascending d)
-    ]
+ascending-coalesce w w' c s new was so e d = grind (arith, cases_eq, ascending-append, take, ascending-cut)
 
 places : (w : World) (c j k : ℕ) → Ascending (w.records c) (w.next c) → j ≤ k → call_at w c j ≤ call_at w c k
 unfolding call_at
@@ -297,11 +290,7 @@ areas-coalesce w w' c s new was so e m h i =
 
 -- a border among what all have, or of another client, stays one
 border-stays : (w w' : World) (c s : ℕ) (new : List LogRecord) (was : ℕ → ℕ) → CallsInvariant w → Coalesces w c s new was w' → (d k : ℕ) → k ≤ received_by_all w d → w'.border d k ≡ w.border d k
-border-stays w w' c s new was so e d k high =
-    elim (cases_eq d c) [
-      | inl own ↦ subst (λ d. k ≤ received_by_all w d → w'.border d k ≡ w.border d k) (sym own) (λ h. e.border_old k (omega (arith, h, e.low))) high
-      | inr other ↦ e.border_else d k other
-    ]
+border-stays w w' c s new was so e d k high = grind (arith, cases_eq)
 
 received_good : (w w' : World) (c s : ℕ) (new : List LogRecord) (was : ℕ → ℕ) → CallsInvariant w → Coalesces w c s new was w' → (m d : ℕ) → Full w m →
     (w'.received m d ≤ end_of_log w' d) × (w'.border d (w'.received m d) ≡ true)

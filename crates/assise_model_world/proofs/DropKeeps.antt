@@ -3,7 +3,6 @@ use Rattle.std.proofs.Common.{◌≡◌, ℕ, ◌+◌, ◌-◌, ◌≤◌, true,
 use Rattle.std.proofs.lemmas.List.{drop-take}
 use Rattle.assise_seq_tree.specs.Tree.{opening as opening_tree}
 use Rattle.assise_seq_tree.specs.Runs.{AreAnswered}
-use Rattle.assise_record.specs.Records.{call_of}
 use Rattle.assise_inode_table.specs.Effects.{contains}
 use Rattle.assise_inode_table.specs.Late.{late_value}
 use Rattle.assise_inode_table.specs.Traces.{AllMakeNew, exchanges, NumbersAscend, below}
@@ -25,9 +24,7 @@ full_before w w' f m e h = subst (λ ns. contains ns m ≡ true) e.full h
 
 call_at-drop : (w w' : World) (f : ℕ → ℕ) → Drops w f w' → (c k : ℕ) → f c ≤ k → call_at w' c k ≡ call_at w c k
 unfolding call_at
-call_at-drop w w' f e c k h =
-    let up : (f c - w.first c) + (k - f c) ≡ k - w.first c = omega (arith, e.low c, h) in
-    rw (e.first c, e.records c, e.next c) (at-drop (w.records c) (f c - w.first c) (k - f c) (w.next c) ∙ ap (λ j. call_of (w.records c) j (w.next c)) up)
+call_at-drop w w' f e c k h = grind (arith, at-drop)
 
 digested_by_all-end : (w : World) (c : ℕ) → digested_by_all w c ≤ end_of_log w c
 unfolding digested_by_all
@@ -43,9 +40,7 @@ end-drop w w' f e c =
 
 part-drop : (w w' : World) (f : ℕ → ℕ) → Drops w f w' → (c j k : ℕ) → f c ≤ j → records_between w' c j k ≡ records_between w c j k
 unfolding records_between
-part-drop w w' f e c j k low =
-    (let up : (f c - w.first c) + (j - f c) ≡ j - w.first c = omega (arith, e.low c, low) in
-    rw (e.first c, e.records c) (ap (λ l. take (k - j) l) (drop-of_drop (w.records c) (f c - w.first c) (j - f c) ∙ ap (λ n. drop n (w.records c)) up)))
+part-drop w w' f e c j k low = grind (arith, take, drop-of_drop, drop)
 
 stands-drop : (w w' : World) (f : ℕ → ℕ) → CallsInvariant w → Drops w f w' → (c : ℕ) → Stands w' c
 unfolding Stands

@@ -1,5 +1,5 @@
 -- Each step can be made: the state to which it leads.
-use Rattle.std.proofs.Common.{◌≡◌, ◌⊎◌, ℕ, suc, ◌+◌, ◌-◌, ◌<◌, ◌≤◌, ◌≢◌, inl, inr, min, max, true, false, not, List, [], ◌∷◌, ◌++◌, if◌then◌else◌, refl, ap, sym, ◌∙◌, subst, ◌&&◌, ◌||◌, nat_le, ◌==◌, arith, take, drop, length, filter}
+use Rattle.std.proofs.Common.{◌≡◌, ◌⊎◌, ℕ, suc, ◌+◌, ◌-◌, ◌≤◌, ◌≢◌, inl, inr, min, max, true, false, not, List, [], ◌∷◌, ◌++◌, if◌then◌else◌, refl, sym, ◌∙◌, subst, ◌&&◌, ◌||◌, nat_le, ◌==◌, arith, take, drop, length, filter}
 use Rattle.std.proofs.lemmas.Bool.{cases_Bool, eqb-true, leb-true, le-leb, eq-eqb, ne_eqb, and_parts, and_from, false_from_ne_true, both_ways, or_cases, or_right}
 use Rattle.assise_names.specs.declared.mode.Mode.{Mode}
 use Rattle.assise_record.specs.Records.{all_effects, record_of}
@@ -70,30 +70,15 @@ called w x =
 
 end-called : (w : World) (x : NumberedCall) (d : ℕ) → end_of_log w d ≤ end_of_log (called w x) d
 unfolding end_of_log called
-end-called w x d =
-    elim (d == x.client) as (λ b. w.first d + length (w.records d) ≤ w.first d + length (if b then w.records d ++ record_of x.number (step_at_home w x).effects else w.records d)) [
-      | true ↦ (let l : length (w.records d ++ record_of x.number (step_at_home w x).effects) ≡ length (w.records d) + length (record_of x.number (step_at_home w x).effects) = length-both (w.records d) (record_of x.number (step_at_home w x).effects) in omega (arith, l))
-      | false ↦ omega arith
-    ]
+end-called w x d = grind (arith, length, length-both)
 
 border_last : (w : World) (x : NumberedCall) → WorldInvariant w → (called w x).border x.client (end_of_log (called w x) x.client) ≡ true
 unfolding called
-border_last w x s =
-    elim (cases_Bool (nat_le (end_of_log (called w x) x.client) (end_of_log w x.client))) [
-      | inl within ↦
-          let is : end_of_log (called w x) x.client ≡ end_of_log w x.client = omega (arith, leb-true (end_of_log (called w x) x.client) (end_of_log w x.client) within, end-called w x x.client) in
-          rw within (ap (w.border x.client) is ∙ s.coherent.end_border x.client)
-      | inr past ↦ rw past refl
-    ]
+border_last w x s = grind (arith, cases_Bool, nat_le, called, leb-true, end-called)
 
 made_few : (w : World) (x : NumberedCall) → WorldInvariant w → MayMakeCall w x → (called w x).made x.client ≤ 1048576
 unfolding called
-made_few w x s m =
-    rw (eq-eqb x.client x.client refl)
-    (elim (call_makes_inode w x) as (λ b. (b ≡ true → w.made x.client < 1048576) → (if b then suc (w.made x.client) else w.made x.client) ≤ 1048576) [
-      | true ↦ λ room. room refl
-      | false ↦ λ room. s.coherent.fewer x.client
-    ] m.room)
+made_few w x s m = grind (arith, eq-eqb, suc)
 
 received_end : (w : World) (x : NumberedCall) → (called w x).received (w.home x.client) x.client ≡ end_of_log (called w x) x.client
 unfolding called end_of_log
@@ -179,10 +164,7 @@ cut_world w n = record w {
 }
 
 pub world_fails : (w : World) (n : ℕ) → MayFail w n → Fails w n (cut_world w n)
-world_fails w n m =
-    let gone : Full (cut_world w n) n → ⊥ = λ h. (kept-of w.full n n h).1 refl in
-    let only : (k : ℕ) → Full (cut_world w n) k → Full w k = λ k h. (kept-of w.full n k h).0 in
-    search (gone, only, of-kept, chosen, passed) parts 3
+world_fails w n m = grind (arith, kept-of, of-kept, chosen, passed)
 
 pub may_fail : (w : World) (n : ℕ) → MayFail w n → (u : World) × Fails w n u
 may_fail w n m = (cut_world w n, world_fails w n m)

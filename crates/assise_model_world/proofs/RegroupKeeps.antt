@@ -49,9 +49,7 @@ module _ (w u : World) (c s : ℕ) (gs : List (List LogRecord)) (h : WorldInvari
 
   end_new : end_of_log u c ≡ s + length new
   unfolding n rs new
-  end_new =
-      end_is u c ∙ ap (λ l. u.first c + length l) e.records_own ∙ ap (λ k. k + length (take (s - w.first c) (w.records c) ++ all_coalesced gs)) (e.first c)
-      ∙ omega (arith, length-both (take (s - w.first c) (w.records c)) (all_coalesced gs), prefix, low)
+  end_new = grind (arith, end_is, length, take, length-both, prefix, low)
 
   -- the old records from s on are those of the groups
   olds : all_records gs ≡ drop n rs
@@ -83,29 +81,15 @@ module _ (w u : World) (c s : ℕ) (gs : List (List LogRecord)) (h : WorldInvari
   -- a border is one of whole groups
   whole : (k : ℕ) → s ≤ k → k ≤ end_of_log u c → u.border c k ≡ true → are_whole gs (k - s) ≡ true
   unfolding new
-  whole k from to bk =
-      (let is : s + (k - s) ≡ k = omega (arith, from) in
-      sym (e.border_new (k - s) (omega (arith, end_new, to))) ∙ ap (u.border c) is ∙ bk)
+  whole k from to bk = grind (arith, end_new)
 
   new_part : (j k : ℕ) → s ≤ j → records_between u c j k ≡ take ((k - s) - (j - s)) (drop (j - s) new)
   unfolding n rs new
-  new_part j k from =
-      (let at : j - w.first c ≡ length (take (s - w.first c) (w.records c)) + (j - s) = omega (arith, from, low, prefix) in
-      let size : k - j ≡ (k - s) - (j - s) = omega (arith, from) in
-      between_is u c j k ∙ ap (λ f. take (k - j) (drop (j - f) (u.records c))) (e.first c) ∙ ap (λ l. take (k - j) (drop (j - w.first c) l)) e.records_own
-      ∙ ap (λ x. take (k - j) (drop x (take (s - w.first c) (w.records c) ++ all_coalesced gs))) at
-      ∙ ap (take (k - j)) (drop-append-add (take (s - w.first c) (w.records c)) (all_coalesced gs) (j - s))
-      ∙ ap (λ x. take x (drop (j - s) (all_coalesced gs))) size)
+  new_part j k from = grind (arith, length, take, low, prefix, between_is, drop, drop-append-add)
 
   old_part : (j k : ℕ) → records_between w c (was j) (was k) ≡ take (were gs (k - s) - were gs (j - s)) (drop (were gs (j - s)) (all_records gs))
   unfolding n rs was
-  old_part j k =
-      (let size : (s + were gs (k - s)) - (s + were gs (j - s)) ≡ were gs (k - s) - were gs (j - s) = omega arith in
-      let at : (s + were gs (j - s)) - w.first c ≡ (s - w.first c) + were gs (j - s) = omega (arith, low) in
-      between_is w c (s + were gs (j - s)) (s + were gs (k - s)) ∙ ap (λ x. take x (drop ((s + were gs (j - s)) - w.first c) (w.records c))) size
-      ∙ ap (λ x. take (were gs (k - s) - were gs (j - s)) (drop x (w.records c))) at
-      ∙ ap (take (were gs (k - s) - were gs (j - s))) (sym (drop-of_drop (w.records c) (s - w.first c) (were gs (j - s))))
-      ∙ ap (λ l. take (were gs (k - s) - were gs (j - s)) (drop (were gs (j - s)) l)) (sym olds))
+  old_part j k = grind (arith, low, between_is, take, drop, drop-of_drop, olds)
 
   same : (j k : ℕ) → u.border c j ≡ true → u.border c k ≡ true → s ≤ j → j ≤ k → k ≤ end_of_log u c → ComeToSame (records_between u c j k) (records_between w c (was j) (was k))
   unfolding new
@@ -131,10 +115,7 @@ module _ (w u : World) (c s : ℕ) (gs : List (List LogRecord)) (h : WorldInvari
 
   begins : call_of new 0 (w.next c) ≡ call_at w c s
   unfolding n rs new
-  begins =
-      (let still : (s - w.first c) + 0 ≡ s - w.first c = omega arith in
-      calls_same gs 0 (w.next c) e.groups (whole_none gs) ∙ ap (λ k. call_of (all_records gs) k (w.next c)) (were-none gs e.groups)
-      ∙ ap (λ l. call_of l 0 (w.next c)) olds ∙ at-drop (w.records c) (s - w.first c) 0 (w.next c) ∙ ap (λ x. call_of (w.records c) x (w.next c)) still ∙ sym (call_is w c s))
+  begins = grind (arith, calls_same, whole_none, were-none, olds, at-drop, call_is)
 
   ascending : Ascending new (w.next c)
   unfolding n rs new
