@@ -6,8 +6,7 @@ use Rattle.std.specs.Ordering.{nat_cmp, eq_by_cmp}
 use Rattle.std.specs.FinSet as set
 use Rattle.std.specs.FinSet.{contains-from_list_nat, contains-union, contains-empty, contains-items, same_set, nat_cmp-IsAntisymmetric}
 use Rattle.std.specs.Cmp.{nat_cmp_total, unsigned_tied}
-use Rattle.std.proofs.lemmas.Bool.{cases_eq, cases_lt, or_cases, or_left, or_right, true≢false}
-use Rattle.std.proofs.lemmas.Option.{none-some, same_Some}
+use Rattle.std.proofs.lemmas.Bool.{cases_eq, cases_lt, or_cases, or_left, or_right}
 use Rattle.assise_names.specs.declared.refusal.Refusal.TheVariants.{Busy}
 use Rattle.assise_record.specs.LogRecord.{LogRecord}
 use Rattle.assise_record.specs.Records.{all_effects}
@@ -56,10 +55,6 @@ left_over-else : (n : ℕ) (donor : Option ℕ) (stale : Option (set.FinSet nat_
 left_over-else n None stale i old differs = refl
 left_over-else n (Some donor) stale i old differs = passed donor n (left_of stale i old) old (λ is. differs (ap Some is))
 
-left_over-here : (n : ℕ) (donor : Option ℕ) (stale : Option (set.FinSet nat_cmp)) (i : ℕ) (old : Option Content) → donor ≡ Some n → left_over n donor stale i old ≡ left_of stale i old
-left_over-here n None stale i old is = absurd (none-some n is)
-left_over-here n (Some donor) stale i old is = chosen donor n (left_of stale i old) old (same_Some donor n is)
-
 module _ (w : World) (m : Membership) (n : ℕ) (inodes : set.FinSet nat_cmp) (a : AreMembers w m) (g : MayFailWith w n inodes) where
   abbrev after : Membership
   after = failed m n inodes
@@ -76,7 +71,7 @@ module _ (w : World) (m : Membership) (n : ℕ) (inodes : set.FinSet nat_cmp) (a
         cut_world w n,
         with_areas (cut_world w n) areas_then,
         after,
-        search (rests_with, cut_world, areas_then, stays_then, full_no_donor, left_over-here, left_of, arith) parts 3,
+        search (rests_with, cut_world, areas_then, stays_then, full_no_donor, left_of, arith) parts 3,
       )
 
 -- the inodes that the kept records of clients 0 to this one touch
@@ -113,9 +108,7 @@ touched_there w n (suc most) c i low h =
 -- a client without records touches nothing
 none_kept : (w : World) (n c i : ℕ) → w.records c ≡ [] → contains (touched (all_effects (kept_records w n c))) i ≡ true → ⊥
 unfolding records_between
-none_kept w n c i none h =
-    true≢false (sym (subst (λ rs. contains (touched (all_effects rs)) i ≡ true) none
-    (contains-drop (w.records c) (w.first c - w.first c) i (contains-take (drop (w.first c - w.first c) (w.records c)) (kept_at_failure w n c - w.first c) i h))))
+none_kept w n c i none h = grind (arith, contains-drop, contains-take, drop)
 
 pub may_list : (w : World) (n most : ℕ) → Full w n → (k : ℕ) × ((k ≢ n) × Full w k) → ((c : ℕ) → most < c → w.records c ≡ []) → (inodes : set.FinSet nat_cmp) × MayFailWith w n inodes
 may_list w n most f survivor few = (
