@@ -1,13 +1,12 @@
 -- A client that crashes, or whose node fails, has only revoked leases from then on.
 use Rattle.std.proofs.Common.{◌≡◌, ◌≢◌, ℕ, ◌==◌, ◌≤◌, inl, inr, Bool, true, List, Some, refl, ap, sym, ◌∙◌, subst, arith, eq-eqb, ne_eqb}
-use Rattle.std.specs.List.{list_any}
 use Rattle.std.proofs.lemmas.Bool.{and_right, both_ways, cases_eq}
 use Rattle.assise_lease_table.specs.declared.lease.Lease.{Lease}
 use Rattle.assise_lease_table.specs.LeaseMaps.{SameLeases}
 use Rattle.assise_lease_table.specs.Leases.{lease_of, revoke, revoked_if, is_own, compatible}
 use Rattle.assise_lease_table.proofs.LeaseChanges.{revoke_fits}
 use Rattle.assise_lease_table.proofs.Elements.{among_map, map_among, any_among, among_any}
-use Rattle.assise_lease_tree.specs.Levels.{Homes, Under, AskedBelow, carries, is_revoked, is_node, lives}
+use Rattle.assise_lease_tree.specs.Levels.{Homes, Under, AskedBelow, is_revoked, is_node, lives}
 use Rattle.assise_lease_tree.specs.TwoLevels.{TwoLevels, LevelsInvariant}
 use Rattle.assise_lease_tree.proofs.Steps.{revoked_lawful}
 use Rattle.assise_model_world.specs.NodeSteps.{kept_at_failure}
@@ -73,9 +72,7 @@ module _ (w u : World) (l k : Leases) (c : ℕ) (a : AreLeases w l) (e : Crashes
 
 module _ (home : Homes) (choice : Lease → Bool) (cs ns : List Lease) where
   chosen_under : Under home cs ns → Under home (revoke choice cs) ns
-  chosen_under under b in_b =
-      let was = among_map (λ z. revoked_if (choice z) z) cs b in_b in
-      subst (λ (z : Lease). list_any (carries home z) ns ≡ true) (sym was.2) (under was.0 was.1)
+  chosen_under under b in_b = grind (arith, among_map)
 
   chosen_asked : AskedBelow home cs ns → AskedBelow home (revoke choice cs) ns
   chosen_asked asked m in_m revoked =

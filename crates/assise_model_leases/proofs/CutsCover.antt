@@ -60,21 +60,13 @@ drop_taken rs k n le = ap (λ m. drop k (take m rs)) (omega (arith, le)) ∙ dro
 -- the record of a call that doesn't change the inode
 pub covers_call : (w u : World) (c i k : ℕ) (l : List LogRecord) → u.first c ≡ w.first c → u.records c ≡ w.records c ++ l → Spare l i → CoversFrom w c i k → CoversFrom u c i k
 unfolding client_records_from end_of_log
-covers_call w u c i k l first records none v =
-    let low : k ≤ w.first c + length (w.records c) = v.to_end in
-    search (length, length-both, drop_append, spare_both, drop, arith) parts 3
+covers_call w u c i k l first records none v = grind (arith, length, length-both, drop_append, spare_both, drop)
 
 -- ---- dropped prefixes
 
 pub covers_drop : (w u : World) (f : ℕ → ℕ) (c i k : ℕ) → Drops w f u → CoversFrom w c i k → CoversFrom u c i k
 unfolding client_records_from end_of_log digested_by_all
-covers_drop w u f c i k e v =
-    let low : k ≤ w.first c + length (w.records c) = v.to_end in
-    let up : w.first c ≤ f c = e.low c in
-    let high : f c ≤ digested_by_all w c = e.high c in
-    let top : digested_by_all w c ≤ w.first c + length (w.records c) = least_of-end w.full (λ n. w.digested n c) (w.first c + length (w.records c)) in
-    let n : length (drop (f c - w.first c) (w.records c)) ≡ length (w.records c) - (f c - w.first c) = length-drop (f c - w.first c) (w.records c) in
-    search (drop-of_drop, spare_later, arith) parts 3
+covers_drop w u f c i k e v = grind (arith, length, least_of-end, drop, length-drop, drop-of_drop, spare_later)
 
 -- ---- records that give way to others
 

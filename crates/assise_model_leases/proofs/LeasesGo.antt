@@ -1,5 +1,5 @@
 -- Leases go: a client's, once what lies before its cut is digested everywhere, and those of a node without clients that hold.
-use Rattle.std.proofs.Common.{◌≡◌, ℕ, ◌-◌, inl, inr, true, false, Some, None, ap, sym, ◌∙◌, subst, arith}
+use Rattle.std.proofs.Common.{◌≡◌, ℕ, ◌-◌, true, false, Some, None, ap, sym, ◌∙◌, subst, arith}
 use Rattle.std.proofs.lemmas.Bool.{cases_eq}
 use Rattle.assise_record.specs.Records.{all_effects}
 use Rattle.assise_inode_table.specs.Effects.{touched, contains}
@@ -20,11 +20,7 @@ module _ (w u : World) (l k : Leases) (c i : ℕ) (a : AreLeases w l) (e : Relea
   gone = ap (λ ls. lease_of ls c) e.released.clients.here ∙ without_own (l.levels.clients i) c
 
   elsewhere : (d j : ℕ) → (d ≡ c → j ≡ i → ⊥) → client_lease k d j ≡ client_lease l d j
-  elsewhere d j differs = elim (cases_eq j i) [
-    | inl same ↦ subst (λ j. client_lease k d j ≡ client_lease l d j) (sym same)
-        (ap (λ ls. lease_of ls d) e.released.clients.here ∙ without_other (l.levels.clients i) c d (λ own. differs own same))
-    | inr other ↦ ap (λ ls. lease_of ls d) (e.released.clients.elsewhere j other)
-  ]
+  elsewhere d j differs = grind (arith, cases_eq, without_other)
 
   -- where the client's log begins behind the cut, none of its records touches the inode
   nothing_left : AreDropped w → contains (touched (all_effects (w.records c))) i ≡ false

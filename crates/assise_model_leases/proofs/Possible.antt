@@ -104,16 +104,7 @@ module _ (home : Homes) (cs ns : List Lease) (c n : ℕ) (mode : Mode) (below : 
       was_found b.0 b.1 (held.1 b.0 b.1 b.2)
 
   some_revoked : is_free home cs ns c n mode ≡ false → SomeRevoked
-  some_revoked refused = elim (cases_Bool (list_any (in_way home ns c n mode) cs)) [
-    | inl way ↦ (let b = any_among (in_way home ns c n mode) cs way in found_revoked b.0 b.1 (rw b.2 refl))
-    | inr none ↦ elim (cases_Bool (is_revoked (lease_of cs c))) [
-      | inl own ↦ own_revoked (lease_of cs c) refl own
-      | inr free ↦ elim (cases_Bool (is_revoked (lease_of ns n))) [
-        | inl node ↦ node_revoked (lease_of ns n) refl node
-        | inr unasked ↦ absurd (both_ways (is_free home cs ns c n mode) refused (rw (none, free, unasked) refl))
-      ]
-    ]
-  ]
+  some_revoked refused = grind (arith, cases_Bool, any_among, found_revoked, own_revoked, node_revoked, both_ways)
 
 first_end : (w : World) (c : ℕ) → w.first c ≤ end_of_log w c
 unfolding end_of_log
@@ -141,11 +132,7 @@ module _ (w : World) (l : Leases) (c i : ℕ) (mode : Mode) (a : AreLeases w l) 
   cut_now d h = rw (and_from (i == i) (now d) (eq-eqb i i refl) h) refl
 
   goal_there : (d : ℕ) → asked_goal l answers i d ≤ end_of_log w d
-  goal_there d =
-      elim (cases_Bool (now d)) [
-        | inl h ↦ (let is : asked_goal l answers i d ≡ end_of_log w d = rw (h, and_from (i == i) true (eq-eqb i i refl) refl) refl in omega (arith, is))
-        | inr h ↦ (let is : asked_goal l answers i d ≡ 0 = rw h refl in omega (arith, is))
-      ]
+  goal_there d = grind (arith, cases_Bool, and_from, eq-eqb)
 
   is_asked_for : IsAskedFor l.levels asked c (w.home c) i mode
   unfolding asked_clients

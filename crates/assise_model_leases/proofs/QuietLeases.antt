@@ -25,14 +25,7 @@ use Rattle.assise_model_leases.proofs.CutsCover.{covers_same, covers_call, cover
 -- ---- who holds
 
 is_client : (w : World) (c : ℕ) → (IsClient w c → ⊥) ⊎ IsClient w c
-is_client w c =
-    elim (cases_lt c 1) [
-      | inl low ↦ inl (λ o. omega (arith, o.0, low))
-      | inr up ↦ elim (cases_lt w.clients c) [
-        | inl past ↦ inl (λ o. omega (arith, o.1, past))
-        | inr within ↦ inr (omega (arith, up), omega (arith, within))
-      ]
-    ]
+is_client w c = grind (arith, cases_lt)
 
 -- who holds a lease is a client, and lives where it was opened
 holder_client : (w : World) (l : Leases) (c i : ℕ) → AreLeases w l → is_held (client_lease l c i) ≡ true → IsClient w c
@@ -68,17 +61,7 @@ module _ (w u : World) (l : Leases) (a : AreLeases w l) (same : SameClients w u)
   -- and leases do, and cuts cover
   still_leases : KeepsLeases w u → ((c i : ℕ) → IsRevokedLease l c i → CoversFrom u c i (l.cut c i)) → ((c i : ℕ) → w.lives c ≡ true → IsRevokedLease l c i → l.cut c i ≤ u.goal c) →
       ((c i : ℕ) → IsRevokedLease l c i → u.first c ≤ l.cut c i → u.border c (l.cut c i) ≡ true) → AreLeases u l
-  still_leases leases covered goals borders = record {
-    lawful = a.lawful;
-    held = record { holds = λ c i. leases.holds c i ∙ a.held.holds c i; writes = λ c i. leases.writes c i ∙ a.held.writes c i };
-    homes = λ c o. a.homes c (still_client c o) ∙ ap (λ n. Some n) (sym (same.home c));
-    strangers = λ c no. a.strangers c (λ o. no (was_client c o));
-    covered = covered;
-    goals = λ c i lives h. goals c i (sym (same.lives c) ∙ lives) h;
-    borders = borders;
-    crashed = λ c i over h. a.crashed c i (sym (same.crashed c) ∙ over) h;
-    failed = λ c i over h. a.failed c i (sym (same.lives c) ∙ over) h;
-  }
+  still_leases leases covered goals borders = grind (arith, still_client, Some, was_client)
 
 -- ---- steps that leave leases
 
