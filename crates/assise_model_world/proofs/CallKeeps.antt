@@ -1,5 +1,5 @@
 -- A call keeps the invariant.
-use Rattle.std.proofs.Common.{◌≡◌, ℕ, suc, ◌+◌, ◌-◌, ◌<◌, ◌≤◌, ◌≢◌, inl, inr, Bool, true, false, List, [], ◌∷◌, ◌++◌, if◌then◌else◌, Option, Some, None, IsSome, refl, ap, sym, ◌∙◌, subst, ◌||◌, nat_lt, nat_le, arith, take, length, filter}
+use Rattle.std.proofs.Common.{◌≡◌, ℕ, suc, ◌+◌, ◌-◌, ◌<◌, ◌≤◌, ◌≢◌, inl, inr, Bool, true, false, List, [], ◌∷◌, ◌++◌, if◌then◌else◌, Option, Some, None, IsSome, refl, ap, sym, ◌∙◌, subst, ◌||◌, nat_lt, nat_le, arith, take, length}
 use Rattle.std.specs.List.{list_any}
 use Rattle.std.proofs.lemmas.Bool.{both_ways, le-ltb, cases_Bool, ltb-true, leb-true, lt-ltb, le-leb, ne_eqb, cases_eq, or_left, or_cases, or_parts, false_from_ne_true, cases_lt}
 use Rattle.std.proofs.lemmas.Bool.Decides.{nat_tests}
@@ -102,7 +102,7 @@ module _ (w w' : World) (y : NumberedCall) (sound : WorldInvariant w) (e : Makes
   -- ---- numbers of inodes
 
   made-up : (c : ℕ) → w.made c ≤ w'.made c
-  made-up c = grind (arith, cases_eq, made_own, suc)
+  made-up c = grind (arith, cases_eq, made_own)
 
   made_now : list_any (makes y.fresh) planned.effects ≡ true → IsMadeBy w' y.client y.fresh
   made_now t = (w.made y.client, (rw (made_own, t) (omega arith), e.fresh))
@@ -209,7 +209,7 @@ module _ (w w' : World) (y : NumberedCall) (sound : WorldInvariant w) (e : Makes
 
   before-same : (d k n : ℕ) → n < w.next d → nat_lt n (call_at w' d k) ≡ nat_lt n (call_at w d k)
   unfolding call_at
-  before-same d k n h = grind (arith, cases_eq, nat_lt, records_own, at-same)
+  before-same d k n h = grind (arith, cases_eq, records_own, at-same)
 
   -- the new call is digested nowhere, unless it changes nothing
   new_call : (k : ℕ) → k ≤ end_of_log w y.client →
@@ -290,11 +290,11 @@ module _ (w w' : World) (y : NumberedCall) (sound : WorldInvariant w) (e : Makes
 
   end-grown : has_some planned.effects ≡ true → end_of_log w' y.client ≡ suc (end_of_log w y.client)
   unfolding end_of_log
-  end-grown has = grind (arith, records_own, length, length-both)
+  end-grown has = grind (arith, records_own, length-both)
 
   end-stays : has_some planned.effects ≡ false → end_of_log w' y.client ≡ end_of_log w y.client
   unfolding end_of_log
-  end-stays none = grind (arith, records_own, length, length-both)
+  end-stays none = grind (arith, records_own, length-both)
 
   part-last : has_some planned.effects ≡ true →
       records_between w' y.client (end_of_log w y.client) (suc (end_of_log w y.client)) ≡ record { call = y.number; effects = planned.effects } ∷ []
@@ -460,7 +460,7 @@ module _ (w w' : World) (y : NumberedCall) (sound : WorldInvariant w) (e : Makes
   -- the calls that were replicated are replicated, and the new one is not among those before their thresholds
   pub call_stays : StayReplicated w w'
   unfolding StayReplicated calls_replicated first_unreplicated
-  call_stays = grind (arith, next-top, le-ltb, filter, filter-append, append-nil)
+  call_stays = grind (arith, next-top, le-ltb, filter-append, append-nil)
 
   -- ---- nodes' logs
 
@@ -477,10 +477,10 @@ module _ (w w' : World) (y : NumberedCall) (sound : WorldInvariant w) (e : Makes
 
   prefix_else : (n : ℕ) → Full w n → n ≢ w.home y.client → w'.log n y.client ≡ take (w'.received n y.client - w'.first y.client) (w'.records y.client)
   unfolding end_of_log
-  prefix_else n f a = grind (arith, length, records_own, take-append-le)
+  prefix_else n f a = grind (arith, records_own, take-append-le)
 
   prefix_now : (n d : ℕ) → Full w n → w'.log n d ≡ take (w'.received n d - w'.first d) (w'.records d)
-  prefix_now n d f = grind (arith, cases_eq, take, log_now, whole-prefix, prefix_else)
+  prefix_now n d f = grind (arith, cases_eq, log_now, whole-prefix, prefix_else)
 
   one_more : end_of_log w' y.client ≤ suc (end_of_log w y.client)
   unfolding end_of_log

@@ -24,7 +24,7 @@ new_dead w w' n s e = dead (w.lives (suc w.clients)) (λ t. (let o : IsClient w 
     dead false f = refl
 
 pub open_sound : (w w' : World) (n : ℕ) → WorldInvariant w → Opens w n w' → WorldInvariant w'
-open_sound w w' n s e = grind (arith, open_coherent, end-same, cases_eq, suc, held-same, new_dead, both_ways)
+open_sound w w' n s e = grind (arith, open_coherent, end-same, cases_eq, held-same, new_dead, both_ways)
 
 pub open_falls : (w w' : World) (n : ℕ) → WorldInvariant w → Opens w n w' → NoneFalls w w'
 open_falls w w' n s e = still_falls w w' s.coherent e.logs e.nodes

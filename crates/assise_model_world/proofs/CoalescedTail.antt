@@ -239,7 +239,7 @@ call_at-stays w w' c s new was so e d k low high =
 
 ascending-coalesce : (w w' : World) (c s : ℕ) (new : List LogRecord) (was : ℕ → ℕ) → CallsInvariant w → Coalesces w c s new was w' → (d : ℕ) → Ascending (w'.records d) (w'.next d)
 unfolding call_at
-ascending-coalesce w w' c s new was so e d = grind (arith, cases_eq, ascending-append, take, ascending-cut)
+ascending-coalesce w w' c s new was so e d = grind (arith, cases_eq, ascending-append, ascending-cut)
 
 places : (w : World) (c j k : ℕ) → Ascending (w.records c) (w.next c) → j ≤ k → call_at w c j ≤ call_at w c k
 unfolding call_at

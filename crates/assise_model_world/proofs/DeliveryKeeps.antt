@@ -1,5 +1,5 @@
 -- Records come to a node.
-use Rattle.std.proofs.Common.{◌≡◌, ℕ, ◌+◌, ◌-◌, ◌≤◌, true, ◌++◌, ap, sym, ◌∙◌, subst, arith, take, drop, length}
+use Rattle.std.proofs.Common.{◌≡◌, ℕ, ◌+◌, ◌-◌, ◌≤◌, true, ◌++◌, ap, sym, ◌∙◌, subst, arith, take, drop}
 use Rattle.std.proofs.lemmas.Bool.{cases_eq}
 use Rattle.std.proofs.Math.Seq.{take-add}
 use Rattle.assise_inode_table.specs.Effects.{contains}
@@ -49,7 +49,7 @@ module _ (w w' : World) (n c k : ℕ) (e : Delivers w n c k w') where
       ∙ sym (ap (λ m. take m (w.records c)) d ∙ take-add a (k - w.received n c) (w.records c))
 
   prefix_now : WorldInvariant w → (m d : ℕ) → Full w m → w'.log m d ≡ take (w'.received m d - w.first d) (w.records d)
-  prefix_now s m d f = grind (arith, cases_eq, take, log_now)
+  prefix_now s m d f = grind (arith, cases_eq, log_now)
 
   -- who had all has all
   all_stays : (m d : ℕ) → Full w m → w.received m d ≡ end_of_log w d → WorldInvariant w → w'.received m d ≡ end_of_log w d
@@ -60,4 +60,4 @@ module _ (w w' : World) (n c k : ℕ) (e : Delivers w n c k w') where
 
   pub deliver_dropped : AreDropped w → AreDropped w'
   unfolding AreDropped digested_by_all end_of_log
-  deliver_dropped d c = grind (arith, least_of-same, length)
+  deliver_dropped d c = grind (arith, least_of-same)

@@ -1,14 +1,14 @@
 -- A digest makes a full node's area that of more calls.
-use Rattle.std.proofs.Common.{◌≡◌, ℕ, ◌≤◌, true, ap, subst, arith, filter}
+use Rattle.std.proofs.Common.{◌≡◌, ℕ, ◌≤◌, true, subst, arith}
 use Rattle.std.proofs.lemmas.Bool.{cases_eq}
 use Rattle.assise_record.specs.Records.{all_effects}
 use Rattle.assise_inode_table.specs.Effects.{value_after, contains}
 use Rattle.assise_inode_table.specs.Late.{late_value, raised_at}
 use Rattle.assise_inode_table.specs.Traces.{below}
 use Rattle.assise_model_world.specs.NodeSteps.{Digests}
-use Rattle.assise_model_world.specs.Runs.{NoneFalls, StayReplicated}
+use Rattle.assise_model_world.specs.Runs.{NoneFalls}
 use Rattle.assise_model_world.specs.Invariant.{IsOrdered, Areas, CallsInvariant, WorldInvariant}
-use Rattle.assise_model_world.specs.World.{World, Full, opening_values, digested_by_all, received_by_all, call_at, first_undigested_at, first_unreplicated, steps, value_below, calls_replicated, undigested_below}
+use Rattle.assise_model_world.specs.World.{World, Full, opening_values, digested_by_all, received_by_all, call_at, first_undigested_at, steps, value_below, undigested_below}
 use Rattle.assise_model_world.proofs.Lists.{below-same}
 use Rattle.assise_model_world.proofs.WorldObserved.{call_at-mono, received_by_all-below, received_by_all-end, first_undigested-low, part_value, call_at-same, steps-same, raised_same, raised_other, later, area_at}
 use Rattle.assise_model_world.proofs.QuietSteps.{end-same, calm_coherent, calm_falls, guarded-same, compatible-same, areas-same, digested_by_all-same, received_by_all-same, held-same}
@@ -58,7 +58,3 @@ digest_sound w w' n c k s e = grind (arith, digest_coherent, end-same, held-same
 
 pub digest_falls : (w w' : World) (n c k : ℕ) → WorldInvariant w → Digests w n c k w' → NoneFalls w w'
 digest_falls w w' n c k s e = calm_falls w w' s.coherent e.logs (digested_by_all-digest w w' n c k e) (received_by_all-digest w w' n c k e)
-
-pub digest_stays : (w w' : World) (n c k : ℕ) → WorldInvariant w → Digests w n c k w' → StayReplicated w w'
-unfolding StayReplicated calls_replicated
-digest_stays w w' n c k s e = ap (filter (below (first_unreplicated w))) e.logs.calls

@@ -1,5 +1,5 @@
 -- A failure of a node takes only records that some full node lacks.
-use Rattle.std.proofs.Common.{◌≡◌, ℕ, zero, suc, ◌-◌, ◌<◌, ◌≤◌, ◌≢◌, inl, inr, min, Bool, true, false, not, List, [], ◌∷◌, if◌then◌else◌, refl, ap, sym, ◌∙◌, subst, ◌&&◌, ◌||◌, ◌==◌, arith, take, length, length-take, filter}
+use Rattle.std.proofs.Common.{◌≡◌, ℕ, zero, suc, ◌-◌, ◌<◌, ◌≤◌, ◌≢◌, inl, inr, min, Bool, true, false, not, List, [], ◌∷◌, if◌then◌else◌, refl, ap, sym, ◌∙◌, subst, ◌&&◌, ◌||◌, ◌==◌, arith, take, length-take, filter}
 use Rattle.std.proofs.lemmas.Bool.{and_from, and_right, both_ways, cases_Bool, cases_eq, cases_lt, eq-eqb, eqb-true, le-ltb, ltb-false, ne_eqb, or_cases, or_left, or_right}
 use Rattle.std.proofs.lemmas.Bool.Decides.{nat_tests}
 use Rattle.assise_seq_tree.specs.Tree.{opening as opening_tree}
@@ -94,7 +94,7 @@ kept_there w n m c lives here h = grind (arith, and_from, eq-eqb, least_of-below
 -- ---- the calls and the logs after a failure
 
 min_below : (a b d : ℕ → ℕ) (x : NumberedCall) → ((c : ℕ) → min (a c) (b c) ≡ d c) → (below a x && below b x) ≡ below d x
-min_below a b d x h = grind (arith, min, nat_tests)
+min_below a b d x h = grind (arith, nat_tests)
 
 part_first : (w : World) (c k : ℕ) → records_between w c (w.first c) k ≡ take (k - w.first c) (w.records c)
 unfolding records_between
@@ -116,7 +116,7 @@ module _ (w w' : World) (n : ℕ) (s : CallsInvariant w) (f : Fails w n w') wher
 
   end-cut : (c : ℕ) → end_of_log w' c ≡ cut c
   unfolding end_of_log
-  end-cut c = grind (arith, length, kept_high, take, min, length-take, cut-records, above-first)
+  end-cut c = grind (arith, kept_high, length-take, cut-records, above-first)
 
   call_at-as : (c k : ℕ) → call_at w' c k ≡ call_of (take (cut c - w.first c) (w.records c)) (k - w.first c) (w.next c)
   unfolding call_at
@@ -215,15 +215,15 @@ module _ (w w' : World) (n : ℕ) (s : CallsInvariant w) (f : Fails w n w') wher
       omega (arith, a, b)
 
   unseen-fail : Unseen (first_undigested w') (steps w')
-  unseen-fail = grind (arith, steps-fail, unseen-raise, filter, first_undigested-fail, pairs-filter)
+  unseen-fail = grind (arith, steps-fail, unseen-raise, first_undigested-fail, pairs-filter)
 
   order-fail : (m c : ℕ) → Full w' m → IsOrdered w' m c
-  order-fail m c h = grind (arith, received_by_all-fail, min, end-cut, kept_low, kept_border)
+  order-fail m c h = grind (arith, received_by_all-fail, end-cut, kept_low, kept_border)
 
   -- of the kept calls a node that stays has digested those that it had
   same-digested : (m : ℕ) → Full w' m → (c : ℕ) → min (lost c) (first_undigested_at w' m c) ≡ first_undigested_at w m c
   unfolding first_undigested_at
-  same-digested m h c = grind (arith, min, cases_lt, call_at-mono, call_at-kept, kept_low, next-top, call_at-lost)
+  same-digested m h c = grind (arith, cases_lt, call_at-mono, call_at-kept, kept_low, next-top, call_at-lost)
 
   areas-fail : Areas w'
   unfolding Areas value_below
@@ -324,4 +324,4 @@ module _ (w w' : World) (n : ℕ) (s : WorldInvariant w) (f : Fails w n w') wher
 
   pub fail_stays : StayReplicated w w'
   unfolding StayReplicated calls_replicated first_unreplicated
-  fail_stays = grind (arith, filter, filter-lower, call_at-mono, kept_low)
+  fail_stays = grind (arith, filter-lower, call_at-mono, kept_low)

@@ -70,15 +70,15 @@ called w x =
 
 end-called : (w : World) (x : NumberedCall) (d : ℕ) → end_of_log w d ≤ end_of_log (called w x) d
 unfolding end_of_log called
-end-called w x d = grind (arith, length, length-both)
+end-called w x d = grind (arith, length-both)
 
 border_last : (w : World) (x : NumberedCall) → WorldInvariant w → (called w x).border x.client (end_of_log (called w x) x.client) ≡ true
 unfolding called
-border_last w x s = grind (arith, cases_Bool, nat_le, called, leb-true, end-called)
+border_last w x s = grind (arith, cases_Bool, called, leb-true, end-called)
 
 made_few : (w : World) (x : NumberedCall) → WorldInvariant w → MayMakeCall w x → (called w x).made x.client ≤ 1048576
 unfolding called
-made_few w x s m = grind (arith, eq-eqb, suc)
+made_few w x s m = grind (arith, eq-eqb)
 
 received_end : (w : World) (x : NumberedCall) → (called w x).received (w.home x.client) x.client ≡ end_of_log (called w x) x.client
 unfolding called end_of_log

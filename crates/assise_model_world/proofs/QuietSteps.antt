@@ -1,5 +1,5 @@
 -- Steps that leave the calls and the logs.
-use Rattle.std.proofs.Common.{◌≡◌, ℕ, ◌≤◌, inl, inr, true, IsSome, ap, sym, ◌∙◌, subst, arith, length}
+use Rattle.std.proofs.Common.{◌≡◌, ℕ, ◌≤◌, inl, inr, true, IsSome, ap, sym, ◌∙◌, subst, arith}
 use Rattle.assise_seq_tree.specs.Tree.{opening as opening_tree}
 use Rattle.assise_seq_tree.specs.Runs.{AreAnswered, tree_after_calls}
 use Rattle.assise_inode_table.specs.Spelled.{Spells}
@@ -148,4 +148,4 @@ held-same w w' s l c i h = l.holds c i ∙ s.held c i (sym (l.writes c i) ∙ h)
 -- logs begin where they did, and all full nodes have digested what they had
 pub still_dropped : (w w' : World) → SameLogs w w' → SameNodes w w' → AreDropped w → AreDropped w'
 unfolding AreDropped digested_by_all end_of_log
-still_dropped w w' l e d c = grind (arith, least_of-same, length)
+still_dropped w w' l e d c = grind (arith, least_of-same)

@@ -4,8 +4,9 @@ use Rattle.std.proofs.lemmas.List.{length-take}
 use Rattle.std.proofs.Math.Seq.{drop-append-add}
 use Rattle.assise_record.specs.Groups.{all_records, all_coalesced, are_whole, were}
 use Rattle.assise_record.specs.LogRecord.{LogRecord}
-use Rattle.assise_record.specs.Records.{call_of, Ascending}
+use Rattle.assise_record.specs.Records.{all_effects, call_of, Ascending}
 use Rattle.assise_record.proofs.WholeGroups.{whole_none, whole-all, were-none, were-ascends, were-all, calls_same, at-past, all-ascending, all-shorter}
+use Rattle.assise_inode_table.specs.Effects.{touched, contains, SameNetEffect}
 use Rattle.assise_inode_table.proofs.Grouped.{ComeToSame, parts_same}
 use Rattle.assise_model_world.specs.Coalescing.{Coalesces}
 use Rattle.assise_model_world.specs.Regrouped.{Regroups}
@@ -49,7 +50,7 @@ module _ (w u : World) (c s : ℕ) (gs : List (List LogRecord)) (h : WorldInvari
 
   end_new : end_of_log u c ≡ s + length new
   unfolding n rs new
-  end_new = grind (arith, end_is, length, take, length-both, prefix, low)
+  end_new = grind (arith, end_is, length-both, prefix, low)
 
   -- the old records from s on are those of the groups
   olds : all_records gs ≡ drop n rs
@@ -85,11 +86,11 @@ module _ (w u : World) (c s : ℕ) (gs : List (List LogRecord)) (h : WorldInvari
 
   new_part : (j k : ℕ) → s ≤ j → records_between u c j k ≡ take ((k - s) - (j - s)) (drop (j - s) new)
   unfolding n rs new
-  new_part j k from = grind (arith, length, take, low, prefix, between_is, drop, drop-append-add)
+  new_part j k from = grind (arith, low, prefix, between_is, drop-append-add)
 
   old_part : (j k : ℕ) → records_between w c (was j) (was k) ≡ take (were gs (k - s) - were gs (j - s)) (drop (were gs (j - s)) (all_records gs))
   unfolding n rs was
-  old_part j k = grind (arith, low, between_is, take, drop, drop-of_drop, olds)
+  old_part j k = grind (arith, low, between_is, drop-of_drop, olds)
 
   same : (j k : ℕ) → u.border c j ≡ true → u.border c k ≡ true → s ≤ j → j ≤ k → k ≤ end_of_log u c → ComeToSame (records_between u c j k) (records_between w c (was j) (was k))
   unfolding new
@@ -131,42 +132,16 @@ module _ (w u : World) (c s : ℕ) (gs : List (List LogRecord)) (h : WorldInvari
 
   regrouped : Coalesces w c s new was u
   unfolding new
-  regrouped = record {
-    lives = e.lives;
-    at_border = single s (omega arith) e.high;
-    low = e.low;
-    high = e.high;
-    records_own = e.records_own;
-    records_else = e.records_else;
-    was_here = was_here;
-    was_end = was_end;
-    was_ascends = was_ascends;
-    was_border = λ k from to bk. single (was k) (was_from k) (omega (arith, was_ascends k (end_of_log u c) to, was_end));
-    same_call = same_call;
-    net = λ j k bj bk from le to. (same j k bj bk from le to).net;
-    touch = λ i j k bj bk from le to. (same j k bj bk from le to).touch i;
-    begins = begins;
-    ascending = ascending;
-    no_more = no_more;
-    border_old = e.border_old;
-    border_end = border_end;
-    border_else = e.border_else;
-    here = e.here;
-    at_home = e.at_home;
-    received_else = e.received_else;
-    log_else = e.log_else;
-    full = e.full;
-    area = e.area;
-    digested = e.digested;
-    calls = e.calls;
-    first = e.first;
-    next = e.next;
-    made = e.made;
-    clients = e.clients;
-    goal_here = e.goal_here;
-    goal_else = e.goal_else;
-    leases = e.leases;
-  }
+  regrouped =
+      let here : w.border c s ≡ true = single s (omega arith) e.high in
+      let border : (k : ℕ) → s ≤ k → k ≤ end_of_log u c → u.border c k ≡ true → w.border c (was k) ≡ true =
+      λ k from to bk. single (was k) (was_from k) (omega (arith, was_ascends k (end_of_log u c) to, was_end)) in
+      let net : (j k : ℕ) → u.border c j ≡ true → u.border c k ≡ true → s ≤ j → j ≤ k → k ≤ end_of_log u c →
+      SameNetEffect (all_effects (records_between u c j k)) (all_effects (records_between w c (was j) (was k))) = λ j k bj bk from le to. (same j k bj bk from le to).net in
+      let touch : (i j k : ℕ) → u.border c j ≡ true → u.border c k ≡ true → s ≤ j → j ≤ k → k ≤ end_of_log u c →
+      contains (touched (all_effects (records_between u c j k))) i ≡ contains (touched (all_effects (records_between w c (was j) (was k)))) i =
+      λ i j k bj bk from le to. (same j k bj bk from le to).touch i in
+      search (here, border, net, touch, was_here, was_end, was_ascends, same_call, begins, ascending, no_more, border_end) parts 1
 
   pub regroups_to : (f : ℕ → ℕ) × Coalesces w c s (all_coalesced gs) f u
   unfolding new

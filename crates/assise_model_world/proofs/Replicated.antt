@@ -1,5 +1,5 @@
 -- What all full nodes have, and what others have seen.
-use Rattle.std.proofs.Common.{◌≡◌, ◌≢◌, ℕ, List, [], ◌∷◌, if◌then◌else◌, ◌-◌, ◌<◌, ◌≤◌, inl, inr, true, false, refl, ap, sym, ◌∙◌, subst, ◌==◌, arith, drop, length, filter}
+use Rattle.std.proofs.Common.{◌≡◌, ◌≢◌, ℕ, List, [], ◌∷◌, if◌then◌else◌, ◌-◌, ◌<◌, ◌≤◌, inl, inr, true, false, refl, ap, sym, ◌∙◌, subst, ◌==◌, arith, drop, filter}
 use Rattle.std.proofs.lemmas.List.{take_all}
 use Rattle.std.proofs.lemmas.Bool.{both_ways, false_from_ne_true, cases_lt, cases_eq, lt-ltb, eq-eqb, ne_eqb}
 use Rattle.assise_record.specs.Records.{all_effects}
@@ -19,7 +19,7 @@ use Rattle.assise_model_world.proofs.RegionAlone.{first_undigested-below}
 -- a full node that received all of a log has it
 had_whole : (w : World) (n c : ℕ) → WorldInvariant w → Full w n → w.received n c ≡ end_of_log w c → w.records c ≡ w.log n c
 unfolding end_of_log
-had_whole w n c s f h = grind (arith, length, take_all)
+had_whole w n c s f h = grind (arith, take_all)
 
 pub log_of_home : (w : World) (c : ℕ) → WorldInvariant w → w.lives c ≡ true → w.records c ≡ w.log (w.home c) c
 log_of_home w c s t = had_whole w (w.home c) c s (s.homes c t) (s.whole c t)

@@ -80,7 +80,7 @@ ahead_between w n c s f =
 
 pub ahead_below_between : (w : World) (n c k : ℕ) → WorldInvariant w → Full w n → k ≤ w.received n c → undigested_below w n c k ≡ records_between w c (w.digested n c) k
 unfolding undigested_below records_between
-ahead_below_between w n c k s f h = grind (arith, take, ahead_between, take-take, drop)
+ahead_below_between w n c k s f h = grind (arith, ahead_between, take-take)
 
 -- ---- at home
 
