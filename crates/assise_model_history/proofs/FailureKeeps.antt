@@ -1,5 +1,5 @@
 -- Failures and returns keep what the history says of the state.
-use Rattle.std.proofs.Common.{◌≡◌, ◌≢◌, ℕ, zero, suc, ◌+◌, ◌-◌, ◌<◌, ◌≤◌, Bool, true, false, not, ◌&&◌, nat_le, nat_lt, ◌==◌, List, [], ◌∷◌, ◌++◌, filter, length, Contains, refl, ap, sym, subst, ◌∙◌, inl, inr, arith, eq-eqb, ne_eqb}
+use Rattle.std.proofs.Common.{◌≡◌, ◌≢◌, ℕ, zero, suc, ◌+◌, ◌-◌, ◌<◌, ◌≤◌, Bool, true, false, not, ◌&&◌, nat_le, ◌==◌, List, [], ◌∷◌, ◌++◌, filter, length, Contains, refl, ap, sym, subst, ◌∙◌, inl, inr, arith, eq-eqb, ne_eqb}
 use Rattle.std.specs.List.{list_any}
 use Rattle.std.proofs.lemmas.Bool.{cases_Bool, cases_eq, cases_lt, and_parts, and_from, eqb-true, ltb-true, ltb-false, leb-true, le-leb, false_from_ne_true, or_left, or_right, both_ways}
 use Rattle.std.proofs.lemmas.List.Elements.{Contains-append_cases}
@@ -74,11 +74,11 @@ is_taken w n x client few from =
     ]
 
 same_test : (w : World) (n : ℕ) (x : NumberedCall) → IsClient w x.client → x.number < w.next x.client → below (cut_call w n) x ≡ not (loses (losses_of w n) (plain_call x))
-same_test w n x client few = grind (arith, cases_Bool, nat_lt, not, not_taken, ltb-true, is_taken, ltb-false)
+same_test w n x client few = grind (arith, cases_Bool, not_taken, ltb-true, is_taken, ltb-false)
 
 same_filter : (w : World) (n : ℕ) → WorldInvariant w → filter (below (cut_call w n)) w.calls ≡ filter (λ x. not (loses (losses_of w n) (plain_call x))) w.calls
 unfolding Counted
-same_filter w n s = grind (arith, filter_like, not, each-map, same_test)
+same_filter w n s = grind (arith, filter_like, each-map, same_test)
 
 pub failure_takes : (w w' : World) (n : ℕ) → WorldInvariant w → Fails w n w' → w'.calls ≡ filter (λ x. not (loses (losses_of w n) (plain_call x))) w.calls
 failure_takes w w' n s e = e.calls ∙ same_filter w n s

@@ -1,5 +1,5 @@
 -- Which calls make an inode, and that a sync does nothing.
-use Rattle.std.proofs.Common.{◌≡◌, ℕ, true, false, List, [], length, ap, arith}
+use Rattle.std.proofs.Common.{◌≡◌, ℕ, true, false, List, [], ap, arith}
 use Rattle.std.specs.List.{list_any}
 use Rattle.std.proofs.lemmas.Bool.{eq-eqb}
 use Rattle.assise_names.specs.declared.call.Op.{Op}
@@ -21,7 +21,7 @@ abbrev AsReplied : Op → ℕ → Reply → List Effect → Type 0
 AsReplied op fresh reply es = list_any (makes fresh) es ≡ makes_inode op reply
 
 as_replied : (op : Op) (fresh : ℕ) → HoldsWhereDone (AsReplied op fresh) op fresh
-as_replied op fresh = grind (arith, eq-eqb, length)
+as_replied op fresh = grind (arith, eq-eqb)
 
 -- a call that fails makes none
 none_by_error : (op : Op) (e : TreeError) → false ≡ makes_inode op (Error e)

@@ -1,5 +1,5 @@
 -- A trace from the start in which a failure takes a call.
-use Rattle.std.proofs.Common.{◌≡◌, inl, inr, ℕ, ◌-◌, ◌≤◌, true, false, ◌||◌, ◌==◌, List, [], ◌∷◌, ◌++◌, drop, refl, ap, sym, subst, ◌∙◌, arith, eqb-true, Some, Ok, cond, is_some}
+use Rattle.std.proofs.Common.{◌≡◌, inl, inr, ℕ, ◌-◌, ◌≤◌, true, false, ◌||◌, ◌==◌, List, [], ◌∷◌, ◌++◌, refl, ap, sym, subst, ◌∙◌, arith, eqb-true, Some, Ok, cond, is_some}
 use Rattle.std.proofs.lemmas.Bool.{or_cases, or_right, lt-ltb}
 use Rattle.std.proofs.Math.Seq.{drop-nil}
 use Rattle.std.specs.Cmp.{nat_cmp_total}
@@ -181,7 +181,7 @@ creates v fresh root = grind (arith, room)
 
 pub sees_root : (w : World) → IsNew w → view w (w.home 1) 1 0 ≡ opening_values 0
 unfolding view undigested_records
-sees_root w n = grind (arith, drop, drop-nil)
+sees_root w n = grind (arith, drop-nil)
 
 pub step_is : (w : World) → IsNew w → step_at_home w creation ≡ first_step
 step_is w n = creates (view w (w.home 1) 1) made_number (sees_root w n ∙ empty_root)

@@ -80,7 +80,7 @@ pub kept_return : (h : List EntryValue) (n : ℕ) → kept_numbered (h ++ return
 kept_return h n = kept_parts h (returns n ∷ []) ∙ nothing_more (kept_numbered h)
 
 pub kept_fail : (h : List EntryValue) (n : ℕ) (losses : List Loss) → kept_numbered (h ++ fails n losses ∷ []) ≡ filter (λ x. not (loses losses (plain_call x))) (kept_numbered h)
-kept_fail h n losses = grind (arith, kept_parts, append-nil, filter_like, not)
+kept_fail h n losses = grind (arith, kept_parts, append-nil, filter_like)
 
 pub kept_fail_none : (h : List EntryValue) (n : ℕ) → kept_numbered (h ++ fails n [] ∷ []) ≡ kept_numbered h
 kept_fail_none h n = kept_fail h n [] ∙ filter_all (kept_numbered h)

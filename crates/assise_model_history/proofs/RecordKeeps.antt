@@ -74,7 +74,7 @@ pub opening_fits : (s : State) (n : ℕ) (u : Durability) (s' : State) → IsRec
 opening_fits s n u s' r e = record { next = (let count : s.world.clients ≡ clients_opened s.history = r.count in omega (arith, count)); up = r.up n e.world.full_node }
 
 opening_of : (s : State) (n : ℕ) (u : Durability) (s' : State) → IsRecorded s → IsOpening s n u s' → (c : ℕ) → IsClient s'.world c → WasOpened (s.history ++ opens (suc s.world.clients) n u ∷ []) s'.world c
-opening_of s n u s' r e c client = grind (arith, suc, cases_eq, opened_now, opened_more, or_false, and_true)
+opening_of s n u s' r e c client = grind (arith, cases_eq, opened_now, opened_more, or_false, and_true)
 
 pub opening_recorded : (s : State) (n : ℕ) (u : Durability) (s' : State) → WorldInvariant s.world → IsRecorded s → IsOpening s n u s' → IsRecorded s'
 opening_recorded s n u s' sound r e =
@@ -136,14 +136,14 @@ same_number : (s : State) (x : NumberedCall) (s' : State) → IsRecorded s → I
 same_number s x s' r e = ap (λ f. record x { fresh = f }) (sym (e.world.fresh ∙ ap (inode_number x.client) (r.made x.client)))
 
 call_next : (s : State) (x : NumberedCall) (s' : State) → IsRecorded s → IsCall s x s' → (c : ℕ) → s'.world.next c ≡ calls_made c (s.history ++ calls (plain_call x) ∷ [])
-call_next s x s' r e c = grind (arith, cases_eq, calls, suc, count_more, eq-eqb, count_same, ne_eqb)
+call_next s x s' r e c = grind (arith, cases_eq, calls, count_more, eq-eqb, count_same, ne_eqb)
 
 -- whether it made an inode is seen from its reply
 made_seen : (w w' : World) (x : NumberedCall) → MakesCall w x w' → makes_inode x.op x.reply ≡ call_makes_inode w x
 made_seen w w' x e = ap (makes_inode x.op) e.reply ∙ sym (makes_where_done (view w (w.home x.client) x.client) x.op x.fresh)
 
 call_made : (s : State) (x : NumberedCall) (s' : State) → IsRecorded s → IsCall s x s' → (c : ℕ) → s'.world.made c ≡ made_in c (s.history ++ calls (plain_call x) ∷ [])
-call_made s x s' r e c = grind (arith, calls, cases_eq, cases_Bool, suc, eq-eqb, made_seen, count_more, count_same, ne_eqb)
+call_made s x s' r e c = grind (arith, calls, cases_eq, cases_Bool, eq-eqb, made_seen, count_more, count_same, ne_eqb)
 
 -- a sync has no record
 sync_end : (w w' : World) (x : NumberedCall) (u : Durability) → MakesCall w x w' → is_sync x.op u ≡ true → end_of_log w' x.client ≡ end_of_log w x.client
@@ -163,7 +163,7 @@ pub sync_replicated : (s : State) (x : NumberedCall) (s' : State) → IsCall s x
 sync_replicated s x s' e sync = next_unreplicated s'.world x.client (sync_received s.world s'.world x (durability_of x.client s.history) e.world sync (e.replicated sync))
 
 call_synced : (s : State) (x : NumberedCall) (s' : State) → IsCall s x s' → (c : ℕ) (y : Call) → calls (plain_call x) ≡ calls y → y.client ≡ c → syncs s.history y ≡ true → y.number < first_unreplicated s'.world c
-call_synced s x s' e c y is client sync = grind (arith, sync_replicated, suc)
+call_synced s x s' e c y is client sync = grind (arith, sync_replicated)
 
 pub call_recorded : (s : State) (x : NumberedCall) (s' : State) → WorldInvariant s.world → IsRecorded s → IsCall s x s' → IsRecorded s'
 call_recorded s x s' sound r e =

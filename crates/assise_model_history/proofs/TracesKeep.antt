@@ -48,7 +48,7 @@ happens_nodes s s' h = grind arith
 
 -- the history grows
 happens_grows : (s s' : State) → EntryHappens s s' → (more : List EntryValue) × (s'.history ≡ s.history ++ more)
-happens_grows s s' h = grind (arith, suc, append-nil)
+happens_grows s s' h = grind (arith, append-nil)
 
 pub happens_recorded : (s s' : State) → WorldInvariant s.world → IsRecorded s → EntryHappens s s' → IsRecorded s'
 happens_recorded s s' sound r (opening n u e) = opening_recorded s n u s' sound r e
@@ -130,7 +130,7 @@ among_low a (x ∷ xs) y low h =
     ]
 
 synced_replicated : (s : State) (before since : List EntryValue) (y : Call) → IsRecorded s → s.history ≡ before ++ calls y ∷ since → WasSynced s.history y → Contains (map plain_call (numbered_replicated s)) y
-synced_replicated s before since y r split f = grind (arith, among_low, Contains, kept_plain, synced_kept)
+synced_replicated s before since y r split f = grind (arith, among_low, kept_plain, synced_kept)
 
 pub kept_of : (s : State) → WorldInvariant s.world → IsRecorded s → IsSafe s
 kept_of s sound r = record {

@@ -1,5 +1,5 @@
 -- Those who stand against a client are asked for their leases.
-use Rattle.std.proofs.Common.{◌≡◌, ℕ, ◌≤◌, ◌⊎◌, inl, inr, Bool, true, not, max, Option, Some, refl, ap, sym, ◌∙◌, subst, arith}
+use Rattle.std.proofs.Common.{◌≡◌, ℕ, ◌≤◌, ◌⊎◌, inl, inr, Bool, true, Option, Some, refl, ap, sym, ◌∙◌, subst, arith}
 use Rattle.std.proofs.lemmas.Bool.{both_ways, cases_eq, cases_Bool}
 use Rattle.assise_names.specs.declared.mode.Mode.{Mode}
 use Rattle.assise_lease_table.specs.declared.lease.Lease.{Lease}
@@ -34,7 +34,7 @@ module _ (w u : World) (l k : Leases) (c i : ℕ) (mode : Mode) (a : AreLeases w
 
   -- a lease that is revoked now was so before, with the same cut, or was asked for
   newly_or_was : (d j : ℕ) → IsRevokedLease k d j → ((j ≡ i) × (is_newly_revoked l k d i ≡ true)) ⊎ (IsRevokedLease l d j × (k.cut d j ≡ l.cut d j))
-  newly_or_was d j h = grind (arith, cases_Bool, both_ways, not, cases_eq, asked_elsewhere)
+  newly_or_was d j h = grind (arith, cases_Bool, both_ways, cases_eq, asked_elsewhere)
 
   asked_cut : (d : ℕ) → is_newly_revoked l k d i ≡ true → asked_goal l k i d ≡ k.cut d i
   asked_cut d h = rw h refl
@@ -43,7 +43,7 @@ module _ (w u : World) (l k : Leases) (c i : ℕ) (mode : Mode) (a : AreLeases w
   ask_covered d j h = grind (arith, newly_or_was)
 
   ask_goals : (d j : ℕ) → w.lives d ≡ true → IsRevokedLease k d j → k.cut d j ≤ u.goal d
-  ask_goals d j lives h = grind (arith, newly_or_was, max, asked_cut)
+  ask_goals d j lives h = grind (arith, newly_or_was, asked_cut)
 
   ask_borders : (d j : ℕ) → IsRevokedLease k d j → w.first d ≤ k.cut d j → w.border d (k.cut d j) ≡ true
   ask_borders d j h low = grind (arith, newly_or_was)

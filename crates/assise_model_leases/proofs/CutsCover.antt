@@ -60,13 +60,13 @@ drop_taken rs k n le = ap (λ m. drop k (take m rs)) (omega (arith, le)) ∙ dro
 -- the record of a call that doesn't change the inode
 pub covers_call : (w u : World) (c i k : ℕ) (l : List LogRecord) → u.first c ≡ w.first c → u.records c ≡ w.records c ++ l → Spare l i → CoversFrom w c i k → CoversFrom u c i k
 unfolding client_records_from end_of_log
-covers_call w u c i k l first records none v = grind (arith, length, length-both, drop_append, spare_both, drop)
+covers_call w u c i k l first records none v = grind (arith, length-both, drop_append, spare_both)
 
 -- ---- dropped prefixes
 
 pub covers_drop : (w u : World) (f : ℕ → ℕ) (c i k : ℕ) → Drops w f u → CoversFrom w c i k → CoversFrom u c i k
 unfolding client_records_from end_of_log digested_by_all
-covers_drop w u f c i k e v = grind (arith, length, least_of-end, drop, length-drop, drop-of_drop, spare_later)
+covers_drop w u f c i k e v = grind (arith, least_of-end, length-drop, drop-of_drop, spare_later)
 
 -- ---- records that give way to others
 

@@ -61,7 +61,7 @@ module _ (w u : World) (l : Leases) (a : AreLeases w l) (same : SameClients w u)
   -- and leases do, and cuts cover
   still_leases : KeepsLeases w u → ((c i : ℕ) → IsRevokedLease l c i → CoversFrom u c i (l.cut c i)) → ((c i : ℕ) → w.lives c ≡ true → IsRevokedLease l c i → l.cut c i ≤ u.goal c) →
       ((c i : ℕ) → IsRevokedLease l c i → u.first c ≤ l.cut c i → u.border c (l.cut c i) ≡ true) → AreLeases u l
-  still_leases leases covered goals borders = grind (arith, still_client, Some, was_client)
+  still_leases leases covered goals borders = grind (arith, still_client, was_client)
 
 -- ---- steps that leave leases
 

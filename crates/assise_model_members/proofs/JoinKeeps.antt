@@ -69,4 +69,4 @@ module _ (w u : World) (m m' : Membership) (n : ℕ) (a : AreMembers w m) (g : R
       g.area k i ∙ a.filling k since donor i stale (sym (elsewhere k (other k since (ap since_of at))) ∙ at) none ∙ sym (g.area donor i)
 
   pub rejoin_keeps : AreMembers u m'
-  rejoin_keeps = grind (arith, joined_lawful, Some, own, elsewhere, not_before, cases_eq, due, filling)
+  rejoin_keeps = grind (arith, joined_lawful, own, elsewhere, not_before, cases_eq, due, filling)

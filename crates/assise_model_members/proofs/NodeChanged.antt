@@ -51,7 +51,7 @@ module _ (w u : World) (m : Membership) (n since : ℕ) (old s : Standing) (a : 
   other_full k f = full_other w m n k since old a g.stood g.was_away f
 
   due : (k e f i : ℕ) → since_of (standing_of (with_node m n s).nodes k) ≡ Some e → Full u f → set.contains (written_since m e) i ≡ false → u.area k i ≡ u.area f i
-  due k e f i at ff none = grind (arith, was_full, other_full, cases_eq, same_Some, here, Some, elsewhere)
+  due k e f i at ff none = grind (arith, was_full, other_full, cases_eq, same_Some, here, elsewhere)
 
   filling : (k first donor i : ℕ) (stale : set.FinSet nat_cmp) → standing_of (with_node m n s).nodes k ≡ Some (returning first donor stale) →
       set.contains stale i ≡ false → u.area k i ≡ u.area donor i

@@ -43,7 +43,7 @@ set_here nodes (suc place) old s at = ap (λ i. slice_get (slice_set nodes i s) 
 
 pub set_else : (nodes : List Standing) (n k : ℕ) (old s : Standing) → standing_of nodes n ≡ Some old → k ≢ n →
     standing_of (with_standing nodes n s) k ≡ standing_of nodes k
-set_else nodes n k old s at other = grind (arith, none-some, less_one, get_else, suc)
+set_else nodes n k old s at other = grind (arith, none-some, less_one, get_else)
 
 -- ---- full nodes
 
@@ -62,7 +62,7 @@ full_listed nodes zero at = absurd (none-some full at)
 full_listed nodes (suc place) at = full_in 1 nodes place (suc place) at (omega arith)
 
 pub listed_full : (nodes : List Standing) (n : ℕ) → contains (full_nodes nodes) n ≡ true → standing_of nodes n ≡ Some full
-listed_full nodes n there = grind (arith, full_there, suc, Some)
+listed_full nodes n there = grind (arith, full_there)
 
 pub lowest_stands : (nodes : List Standing) → 0 < length (full_nodes nodes) → standing_of nodes (lowest_full nodes) ≡ Some full
 lowest_stands nodes some = listed_full nodes (lowest_full nodes) (first_there (full_nodes nodes) some)
@@ -114,7 +114,7 @@ returning_is (Some (down since)) e = never e
 returning_is (Some (returning since donor stale)) e = (since, donor, stale, refl)
 
 pub lacks_is : (o : Option Standing) (stale : set.FinSet nat_cmp) → stale_of o ≡ Some stale → (since donor : ℕ) × (o ≡ Some (returning since donor stale))
-lacks_is o stale e = grind (arith, none-some, Some, same_Some)
+lacks_is o stale e = grind (arith, none-some, same_Some)
 
 -- a node that was down, whose return isn't refused
 pub down_is : (o : Option Standing) → return_fault_of o ≡ None → (since : ℕ) × (o ≡ Some (down since))
@@ -164,10 +164,10 @@ none_failed count (suc place) = fulls_at count place
 
 pub refilled_here : (written : ℕ → set.FinSet nat_cmp) (low n since : ℕ) (stale : set.FinSet nat_cmp) (o : Option Standing) → o ≡ Some (returning since n stale) →
     option_map (refilled_from written low n) o ≡ Some (returning since low (written since))
-refilled_here written low n since stale o at = grind (arith, Some, cond, eq-eqb)
+refilled_here written low n since stale o at = grind (arith, eq-eqb)
 
 pub refilled_else : (written : ℕ → set.FinSet nat_cmp) (low n : ℕ) (o : Option Standing) → donor_of o ≢ Some n → option_map (refilled_from written low n) o ≡ o
-refilled_else written low n o other = grind (arith, Some, cond, ne_eqb)
+refilled_else written low n o other = grind (arith, ne_eqb)
 
 pub refilled_full : (written : ℕ → set.FinSet nat_cmp) (low n : ℕ) (s : Standing) → is_full (refilled_from written low n s) ≡ is_full s
 refilled_full written low n s = grind (arith, cond_both)
@@ -184,7 +184,7 @@ noted_here n since inodes stale o at =
     ap (option_map (stale_again n inodes)) at ∙ ap (λ b. Some (returning since n (cond b (set.union stale inodes) stale))) (eq-eqb n n refl)
 
 pub noted_else : (n : ℕ) (inodes : set.FinSet nat_cmp) (o : Option Standing) → donor_of o ≢ Some n → option_map (stale_again n inodes) o ≡ o
-noted_else n inodes o other = grind (arith, Some, cond, ne_eqb)
+noted_else n inodes o other = grind (arith, ne_eqb)
 
 -- ---- two ways to say that a node comes back
 

@@ -1,5 +1,5 @@
 -- Nodes fail.
-use Rattle.std.proofs.Common.{◌≡◌, ◌≢◌, inl, inr, ℕ, ◌+◌, ◌-◌, ◌≤◌, true, false, not, cond, Some, None, refl, sym, ap, ◌∙◌, subst, take, drop, arith}
+use Rattle.std.proofs.Common.{◌≡◌, ◌≢◌, inl, inr, ℕ, ◌+◌, ◌-◌, ◌≤◌, true, false, cond, Some, None, refl, sym, ap, ◌∙◌, subst, take, drop, arith}
 use Rattle.std.specs.Prelude.{◌==◌, Bool, List, ◌∷◌, [], filter}
 use Rattle.std.specs.Option.{option_map}
 use Rattle.std.specs.FinSet as set
@@ -43,7 +43,7 @@ contains-filter p (n ∷ ns) k h =
 -- no record that all full nodes have is cut
 kept_is_high : (w : World) (n c : ℕ) → received_by_all w c ≤ kept_at_failure w n c
 unfolding kept_at_failure
-kept_is_high w n c = grind (arith, cases_Bool, cond, not, least_of-above, received_by_all-end, received_by_all-below, contains-filter)
+kept_is_high w n c = grind (arith, cases_Bool, least_of-above, received_by_all-end, received_by_all-below, contains-filter)
 
 -- what no record touches that is kept, none touches that all full nodes have
 untouched : (w v : World) (n i : ℕ) → Fails w n v → ((c : ℕ) → contains (touched (all_effects (v.records c))) i ≡ false) →
@@ -111,7 +111,7 @@ module _ (w v u : World) (m m' : Membership) (n : ℕ) (inodes : set.FinSet nat_
   since_before k e differs at = grind (arith, cases_donor, filled_from, over_stands, kept_stands)
 
   full_before : (k : ℕ) → standing_of after.nodes k ≡ Some full → (k ≢ n) × (standing_of m.nodes k ≡ Some full)
-  full_before k at = grind (arith, cases_eq, away_not_full, own, Some, cases_donor, filled_from, over_stands, kept_stands)
+  full_before k at = grind (arith, cases_eq, away_not_full, own, cases_donor, filled_from, over_stands, kept_stands)
 
   full_world : (k : ℕ) → Full u k → Full w k × (k ≢ n)
   full_world k f = grind arith
@@ -183,7 +183,7 @@ module _ (w v u : World) (m m' : Membership) (n : ℕ) (inodes : set.FinSet nat_
       ]
 
   keeps_after : AreMembers u after
-  keeps_after = grind (arith, lawful_after, full_world, Some, kept_stands, full_no_donor, full_before, world_full, due, filling)
+  keeps_after = grind (arith, lawful_after, full_world, kept_stands, full_no_donor, full_before, world_full, due, filling)
 
   pub fail_keeps : AreMembers u m'
   fail_keeps = subst (AreMembers u) (sym is_after) keeps_after
@@ -191,4 +191,4 @@ module _ (w v u : World) (m m' : Membership) (n : ℕ) (inodes : set.FinSet nat_
   -- who was filled from the failed node
   pub fail_over : (k since : ℕ) (stale : set.FinSet nat_cmp) → standing_of m.nodes k ≡ Some (returning since n stale) →
       standing_of m'.nodes k ≡ Some (returning since (lowest_full m'.nodes) (written_since m' since))
-  fail_over k since stale at = grind (arith, Some, is_after, over_stands, not_own, same_low)
+  fail_over k since stale at = grind (arith, is_after, over_stands, not_own, same_low)

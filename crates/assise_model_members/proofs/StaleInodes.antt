@@ -28,17 +28,17 @@ differing_is_stale w m n since donor i stale a at differ = true_from_ne_false (s
 
 pub back_stale : (w u : World) (m o : Membership) (n since : ℕ) → BeginsReturn w m n u o → since_of (standing_of m.nodes n) ≡ Some since →
     standing_of o.nodes n ≡ Some (returning since (lowest_full o.nodes) (written_since o since))
-back_stale w u m o n since g at = grind (arith, down_is, same_Some, with_node_full, Some, back_is, set_here)
+back_stale w u m o n since g at = grind (arith, down_is, same_Some, with_node_full, back_is, set_here)
 
 pub again_down : (w u : World) (m o : Membership) (n since : ℕ) → FailsAgain w m n u o → since_of (standing_of m.nodes n) ≡ Some since →
     standing_of o.nodes n ≡ Some (down since)
-again_down w u m o n since g at = grind (arith, returning_is, again_stands, set_here, Some, same_Some)
+again_down w u m o n since g at = grind (arith, returning_is, again_stands, set_here, same_Some)
 
 -- ---- how it changes
 
 pub refilled_stale : (w u : World) (m o : Membership) (n i since donor : ℕ) (stale : set.FinSet nat_cmp) → Refills w m n i u o →
     standing_of m.nodes n ≡ Some (returning since donor stale) → standing_of o.nodes n ≡ Some (returning since donor (set.remove stale i))
-refilled_stale w u m o n i since donor stale g at = grind (arith, refill_is, set_here, Some, same_since, same_donor, same_stale)
+refilled_stale w u m o n i since donor stale g at = grind (arith, refill_is, set_here, same_since, same_donor, same_stale)
 
 module _ (w u : World) (m o : Membership) (n c k : ℕ) (inodes : set.FinSet nat_cmp) (g : DigestsNoted w m n c k inodes u o) where
   abbrev Touches : ℕ → Type 0

@@ -1,5 +1,5 @@
 -- Each step can be made.
-use Rattle.std.proofs.Common.{◌≡◌, ◌≢◌, inl, inr, ℕ, zero, suc, ◌-◌, ◌<◌, ◌≤◌, true, false, drop, Option, Some, None, List, [], ◌∷◌, refl, sym, ap, ◌∙◌, subst, eq-eqb, eqb-true, arith}
+use Rattle.std.proofs.Common.{◌≡◌, ◌≢◌, inl, inr, ℕ, zero, suc, ◌-◌, ◌<◌, ◌≤◌, true, false, Option, Some, None, List, [], ◌∷◌, refl, sym, ap, ◌∙◌, subst, eq-eqb, eqb-true, arith}
 use Rattle.std.specs.Prelude.{◌==◌, if◌then◌else◌}
 use Rattle.std.specs.List.{list_any}
 use Rattle.std.specs.Ordering.{nat_cmp, eq_by_cmp}
@@ -108,7 +108,7 @@ touched_there w n (suc most) c i low h =
 -- a client without records touches nothing
 none_kept : (w : World) (n c i : ℕ) → w.records c ≡ [] → contains (touched (all_effects (kept_records w n c))) i ≡ true → ⊥
 unfolding records_between
-none_kept w n c i none h = grind (arith, contains-drop, contains-take, drop)
+none_kept w n c i none h = grind (arith, contains-drop, contains-take)
 
 pub may_list : (w : World) (n most : ℕ) → Full w n → (k : ℕ) × ((k ≢ n) × Full w k) → ((c : ℕ) → most < c → w.records c ≡ []) → (inodes : set.FinSet nat_cmp) × MayFailWith w n inodes
 may_list w n most f survivor few = (

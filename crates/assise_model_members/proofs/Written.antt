@@ -25,7 +25,7 @@ since_few epoch few first e low = omega arith
 -- an epoch more, with a list
 module _ (m m' : Membership) (l : Numbers) (epoch : m'.epoch ≡ m.epoch + 1) (written : m'.written ≡ m.written ++ l ∷ []) where
   same_first : first_listed m' ≡ first_listed m
-  same_first = grind (arith, length, length-append)
+  same_first = grind (arith, length-append)
 
   as_listed : (since : ℕ) → written_since m' since ≡ all_inodes (drop (since - first_listed m) (m.written ++ l ∷ []))
   as_listed since = ap (λ k. all_inodes (drop (since - k) m'.written)) same_first ∙ ap (λ ls. all_inodes (drop (since - first_listed m) ls)) written
@@ -36,7 +36,7 @@ module _ (m m' : Membership) (l : Numbers) (epoch : m'.epoch ≡ m.epoch + 1) (w
 
   -- what is on the new list was written since the new epoch
   pub now_written : length m.written ≤ m.epoch → Within l (written_since m' (m.epoch + 1))
-  now_written few q inside = grind (arith, as_listed, last_within, since_few, length)
+  now_written few q inside = grind (arith, as_listed, last_within, since_few)
 
 -- ---- more on the last list
 
