@@ -31,4 +31,4 @@ call_happens m m' w x h number e replicated adds members =
 pub logs_answered : (m m' : Machine) (w : World) (x : NumberedCall) → MachineInvariant m → ((c : ℕ) → w.records c ≡ m.world.records c) → MakesCall w x m'.world →
     (has_some (step_at_home w x).effects ≡ true → length (m.world.records x.client) < m.limit) → m'.limit ≡ m.limit →
     (c : ℕ) → length (m'.world.records c) ≤ m'.limit
-logs_answered m m' w x h same e room limit c = grind (arith, cases_eq, length, length-append)
+logs_answered m m' w x h same e room limit c = grind (arith, cases_eq, length-append)

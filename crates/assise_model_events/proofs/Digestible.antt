@@ -53,7 +53,7 @@ record DigestedTo (m : Machine) (n count c : ℕ) : Type 0 where
 
 module _ (m : Machine) (n count : ℕ) (h : MachineInvariant m) (here : Full m.world n) (borders : (c : ℕ) → m.world.border c (m.world.digested n c + part_of m.world n count c) ≡ true) where
   may_next : (c : ℕ) (r : DigestedTo m n count c) → MayDigest r.world n (suc c) (r.world.digested n (suc c) + part_of m.world n count (suc c))
-  may_next c r = grind (arith, full_after, suc)
+  may_next c r = grind (arith, full_after)
 
   next_digested : (c : ℕ) → DigestedTo m n count c → DigestedTo m n count (suc c)
   next_digested c r =

@@ -1,24 +1,19 @@
 -- An event's answer tells exactly the entries that the history gets.
-use Rattle.std.proofs.Common.{◌≡◌, ℕ, List, ◌++◌, ap, sym, ◌∙◌, append-nil, arith}
+use Rattle.std.proofs.Common.{◌≡◌, ℕ, List, ◌++◌, ap, ◌∙◌, append-nil, arith}
 use Rattle.assise_names.specs.declared.call.Op.{Op}
 use Rattle.assise_names.specs.declared.call.Op.TheVariants.{Create, Mkdir, Read, Write, Truncate, Rename, Unlink, Rmdir, List as ListCall, Stat, Fsync, Dsync}
 use Rattle.assise_names.specs.declared.durability.Durability.{Durability}
 use Rattle.assise_names.specs.declared.durability.Durability.TheVariants.{Pessimistic, Optimistic}
 use Rattle.assise_history.specs.Legal.{durability_of}
 use Rattle.assise_record.specs.LogFrame.{LogFrame}
-use Rattle.assise_model_events.specs.Events.{Answer, ClusterEvent, open_client, try_call, try_fsync, outgoing, deliver, digest, release_ready, set_hot, crash, fail, back, refill, join, raise, entries_of}
+use Rattle.assise_model_events.specs.Events.{Answer, open_client, try_call, try_fsync, outgoing, deliver, digest, release_ready, set_hot, crash, fail, back, refill, join, raise, entries_of}
 use Rattle.assise_history.specs.Entries.{EntryValue}
-use Rattle.assise_model_events.specs.Dsyncs.{Coalescing, is_refused}
+use Rattle.assise_model_events.specs.Dsyncs.{Coalescing}
 use Rattle.assise_model_events.specs.Happenings.{Dsyncing, Fsyncing, Trying}
 use Rattle.assise_model_events.specs.Machine.{Machine}
-use Rattle.assise_model_events.specs.ClientEvents.{Opening, Calling, Syncing, Noting, Crashing, is_refused}
-use Rattle.assise_model_events.specs.NodeEvents.{Sending, Delivering, Digesting, Releasing, SettingHot, is_refused, is_released}
-use Rattle.assise_model_events.specs.MemberEvents.{Failing, Returning, Refilling, Joining, Raising, is_raised, is_refused}
-use Rattle.assise_model_events.proofs.EventTraces.{same_told}
-
--- an answer by another name
-told_as : (m m' : Machine) (e : ClusterEvent) (a b : Answer) → a ≡ b → m'.history ≡ m.history ++ entries_of m.history e b → m'.history ≡ m.history ++ entries_of m.history e a
-told_as m m' e a b is told = told ∙ ap (λ x. m.history ++ entries_of m.history e x) (sym is)
+use Rattle.assise_model_events.specs.ClientEvents.{Opening, Calling, Syncing, Noting, Crashing}
+use Rattle.assise_model_events.specs.NodeEvents.{Sending, Delivering, Digesting, Releasing, SettingHot}
+use Rattle.assise_model_events.specs.MemberEvents.{Failing, Returning, Refilling, Joining, Raising}
 
 pub opening_told : (m m' : Machine) (n : ℕ) (u : Durability) (a : Answer) → Opening m n u a m' → m'.history ≡ m.history ++ entries_of m.history (open_client n u) a
 opening_told m m' n u a h = grind (arith, append-nil)
@@ -48,7 +43,7 @@ pub digesting_told : (m m' : Machine) (n : ℕ) (a : Answer) → Digesting m n a
 digesting_told m m' n a h = grind (arith, append-nil)
 
 pub releasing_told : (m m' : Machine) (a : Answer) → Releasing m a m' → m'.history ≡ m.history ++ entries_of m.history release_ready a
-releasing_told m m' a (is_released gone freed is e) = told_as m m' release_ready a _ is e.adds.history
+releasing_told m m' a h = grind (arith, append-nil)
 
 pub hot_told : (m m' : Machine) (n capacity : ℕ) (a : Answer) → SettingHot m n capacity a m' → m'.history ≡ m.history ++ entries_of m.history (set_hot n capacity) a
 hot_told m m' n capacity a h = grind (arith, append-nil)
@@ -66,8 +61,7 @@ pub joining_told : (m m' : Machine) (n : ℕ) (a : Answer) → Joining m n a m' 
 joining_told m m' n a h = grind (arith, append-nil)
 
 pub raising_told : (m m' : Machine) (n : ℕ) (a : Answer) → Raising m n a m' → m'.history ≡ m.history ++ entries_of m.history (raise n) a
-raising_told m m' n a (is_raised fine is e) = told_as m m' (raise n) a _ is e.adds.history
-raising_told m m' n a (is_refused r fault is same) = told_as m m' (raise n) a _ is (same_told m m' same)
+raising_told m m' n a h = grind (arith, append-nil)
 
 -- an fsync, which has two names
 by_either_name : (h : List EntryValue) (c : ℕ) (a : Answer) → entries_of h (try_call c Fsync) a ≡ entries_of h (try_fsync c) a

@@ -58,7 +58,7 @@ beside o n at fine =
 
 no_records : (m : Machine) → MachineInvariant m → (c : ℕ) → m.world.clients < c → m.world.records c ≡ []
 unfolding end_of_log
-no_records m h c above = grind (arith, early, length, nil_from_length)
+no_records m h c above = grind (arith, early, nil_from_length)
 
 -- ---- what a failure leads to
 

@@ -1,5 +1,5 @@
 -- Where no fault stands: what holds of clients and nodes.
-use Rattle.std.proofs.Common.{◌≡◌, ℕ, true, false, not, Option, Some, None, refl, sym, arith}
+use Rattle.std.proofs.Common.{◌≡◌, ℕ, true, false, Option, Some, None, refl, sym, arith}
 use Rattle.std.proofs.lemmas.Option.{none-some}
 use Rattle.assise_names.specs.declared.refusal.Refusal.{Refusal}
 use Rattle.assise_manager.specs.Standings.{Standing}
@@ -16,4 +16,4 @@ pub stands_full : (r : Refusal) (s : Option Standing) → unless_full r s ≡ No
 stands_full r s e = grind (arith, none-some)
 
 pub client_runs : (m : Machine) (c : ℕ) → client_fault m c ≡ None → (m.world.lives c ≡ true) × (m.world.crashed c ≡ false)
-client_runs m c fine = grind (arith, not, None, first_none)
+client_runs m c fine = grind (arith, first_none)

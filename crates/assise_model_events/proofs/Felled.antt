@@ -1,5 +1,5 @@
 -- Nodes fail: a full one, whose clients' logs are cut, and one that was coming back.
-use Rattle.std.proofs.Common.{◌≡◌, ℕ, ◌+◌, ◌-◌, ◌≤◌, Option, Some, None, [], ◌∷◌, ◌++◌, drop, length, refl, ap, sym, ◌∙◌, arith, length-append}
+use Rattle.std.proofs.Common.{◌≡◌, ℕ, ◌+◌, ◌-◌, ◌≤◌, Option, Some, None, [], ◌∷◌, ◌++◌, length, refl, ap, sym, ◌∙◌, arith, length-append}
 use Rattle.std.specs.FinSet as set
 use Rattle.std.specs.Ordering.{nat_cmp}
 use Rattle.std.proofs.lemmas.List.{length-map, length-take, length-drop}
@@ -73,10 +73,10 @@ full_leads m m' n e =
 -- records are cut and dropped
 cut_short : (w : World) (c j k : ℕ) → length (records_between w c j k) ≤ length (w.records c)
 unfolding records_between
-cut_short w c j k = grind (arith, length-take, drop, length-drop)
+cut_short w c j k = grind (arith, length-take, length-drop)
 
 full_short : (m m' : Machine) (n c : ℕ) → IsFailed m n m' → length (m'.world.records c) ≤ length (m.world.records c)
-full_short m m' n c e = grind (arith, length, length-drop, cut_short)
+full_short m m' n c e = grind (arith, length-drop, cut_short)
 
 full_leases : (m m' : Machine) (n : ℕ) → MachineInvariant m → IsFailed m n m' → AreLeases m'.world m'.leases
 full_leases m m' n h e =

@@ -62,7 +62,7 @@ abbrev without_node : Leases → ℕ → Leases
 without_node l n = record { levels = record { home = l.levels.home; clients = l.levels.clients; nodes = λ i. without_holder n (l.levels.nodes i) }; cut = l.cut }
 
 still_none : (ls : List Lease) (n k : ℕ) → lease_of ls k ≡ None → lease_of (without_holder n ls) k ≡ None
-still_none ls n k is = grind (arith, cases_eq, None, without_own, without_other)
+still_none ls n k is = grind (arith, cases_eq, without_own, without_other)
 
 frees_first : (w : World) (l : Leases) (n : ℕ) → (Full w (suc n) → ⊥) → IsIdle l.levels (suc n) → FreedAll w (without_node l (suc n)) n → FreedAll w l (suc n)
 frees_first w l n away idle r = record {

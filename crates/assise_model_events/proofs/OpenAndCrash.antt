@@ -1,5 +1,5 @@
 -- A client is opened, and a client crashes.
-use Rattle.std.proofs.Common.{◌≡◌, ℕ, suc, ◌<◌, nat_le, None, [], ◌∷◌, length, refl, ap, arith}
+use Rattle.std.proofs.Common.{◌≡◌, ℕ, suc, ◌<◌, None, [], ◌∷◌, length, refl, ap, arith}
 use Rattle.std.proofs.lemmas.Bool.{leb-false}
 use Rattle.assise_names.specs.declared.durability.Durability.{Durability}
 use Rattle.assise_names.specs.declared.limits.TheConstants.{MOST_CLIENTS}
@@ -26,7 +26,7 @@ one_step m m' step = record { states = state_of m' ∷ []; trace = (step, tt); l
 -- ---- a client is opened
 
 few_clients : (m : Machine) (n : ℕ) → open_fault m n ≡ None → m.world.clients < MOST_CLIENTS
-few_clients m n fine = grind (arith, leb-false, nat_le)
+few_clients m n fine = grind (arith, leb-false)
 
 opened_leads : (m m' : Machine) (n : ℕ) (u : Durability) → IsOpened m n u m' → Leads m m'
 opened_leads m m' n u e =

@@ -1,5 +1,5 @@
 -- A node is raised: nothing else changes.
-use Rattle.std.proofs.Common.{ℕ, length, arith, append-nil}
+use Rattle.std.proofs.Common.{ℕ, arith, append-nil}
 use Rattle.assise_manager.specs.Changes.{raised}
 use Rattle.assise_manager.specs.Membership.{Membership}
 use Rattle.assise_manager.proofs.Lawful.{raised_lawful}
@@ -16,7 +16,7 @@ raised_members : (w : World) (o : Membership) (n : ℕ) → AreMembers w o → A
 raised_members w o n h = grind (arith, raised_lawful)
 
 pub raise_leads : (m m' : Machine) (n : ℕ) (a : Answer) → Raising m n a m' → Leads m m'
-raise_leads m m' n a h = grind (arith, ends_as, length, same_leads)
+raise_leads m m' n a h = grind (arith, ends_as, same_leads)
 
 pub raise_holds : (m m' : Machine) (n : ℕ) (a : Answer) → MachineInvariant m → Raising m n a m' → MachineInvariant m'
 raise_holds m m' n a h (is_raised fine is e) =

@@ -1,5 +1,5 @@
 -- Leases that are ready can go, where clients hold no inode above some number.
-use Rattle.std.proofs.Common.{◌≡◌, ◌⊎◌, ℕ, zero, suc, ◌≤◌, nat_le, inl, inr, true, false, List, [], ◌∷◌, None, refl, ap, sym, ◌∙◌, subst, arith, eq-eqb}
+use Rattle.std.proofs.Common.{◌≡◌, ◌⊎◌, ℕ, zero, suc, ◌≤◌, inl, inr, true, false, List, [], ◌∷◌, None, refl, ap, sym, ◌∙◌, subst, arith, eq-eqb}
 use Rattle.std.proofs.lemmas.Bool.{and_parts, both_ways, cases_Bool, cases_eq, leb-true, ne_eqb}
 use Rattle.assise_lease_table.specs.Leases.{Among, without_holder}
 use Rattle.assise_lease_tree.specs.Levels.{nodes_released}
@@ -57,7 +57,7 @@ module _ (w : World) (l : Leases) (c i : ℕ) where
   after = let_go w l c i
 
   goes_now : is_ready w l c i ≡ true → ReleasesReady w l c i (holding w after) after
-  goes_now ready = grind (arith, and_parts, nat_le, leb-true, becomes, holds_them)
+  goes_now ready = grind (arith, and_parts, leb-true, becomes, holds_them)
 
   one_gone : client_lease after c i ≡ None
   one_gone = rw (eq-eqb i i refl) (without_own (l.levels.clients i) c)
@@ -66,7 +66,7 @@ module _ (w : World) (l : Leases) (c i : ℕ) where
   others_same d j differs = grind (arith, cases_eq, eq-eqb, without_other, ne_eqb)
 
   same_or_gone : (d j : ℕ) → (client_lease after d j ≡ client_lease l d j) ⊎ (client_lease after d j ≡ None)
-  same_or_gone d j = grind (arith, cases_eq, None, one_gone, others_same)
+  same_or_gone d j = grind (arith, cases_eq, one_gone, others_same)
 
   still_empty : (j : ℕ) → l.levels.clients j ≡ [] → after.levels.clients j ≡ []
   still_empty j none = grind (arith, cases_eq, eq-eqb, ne_eqb)
@@ -76,7 +76,7 @@ module _ (w : World) (l : Leases) (c i : ℕ) where
   same_digested d = refl
 
   still_ready : (d j : ℕ) → client_lease after d j ≡ client_lease l d j → is_ready w l d j ≡ true → is_ready (holding w after) after d j ≡ true
-  still_ready d j same ready = grind (arith, nat_le, holding, same_digested)
+  still_ready d j same ready = grind (arith, holding, same_digested)
 
 -- ---- these go that are ready
 

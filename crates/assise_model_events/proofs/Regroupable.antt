@@ -97,13 +97,13 @@ module _ (w : World) (c : ℕ) (h : WorldInvariant w) (lives : w.lives c ≡ tru
   records_are = cond-true (c == c) records_now (w.records c) own
 
   end_now : end_of_log u c ≡ s + length (all_coalesced gs)
-  end_now = grind (arith, end_is, length, records_are, length-both, take, length-take, first_low, high)
+  end_now = grind (arith, end_is, records_are, length-both, length-take, first_low, high)
 
   border_then : (k : ℕ) → (b : Bool) → nat_le (s + k) s ≡ b → b ≡ false → u.border c (s + k) ≡ are_whole gs k
-  border_then k b is off = grind (arith, cond-true, own, cond-false, nat_le)
+  border_then k b is off = grind (arith, cond-true, own, cond-false)
 
   border_first : (k : ℕ) → k ≡ 0 → u.border c (s + k) ≡ are_whole gs k
-  border_first k none = grind (arith, cond-true, own, nat_le, le-leb, first_low, high, whole_none)
+  border_first k none = grind (arith, cond-true, own, le-leb, first_low, high, whole_none)
 
   at_home : GetsAll (w.home c) c u
   at_home = grind (arith, cond-true, and_from, own, eq-eqb, end_now, records_are)
