@@ -207,9 +207,13 @@ tied_same : (q x : ℕ) → eq_by_cmp nat_cmp q x ≡ true → q ≡ x
 tied_same q x h = eqb-true q x (sym (unsigned_tied q x) ∙ h)
 
 -- the least of some numbers
-low_for : (i x : ℕ) (xs : List ℕ) → i ≤ x → ((q : ℕ) → list_any (eq_by_cmp nat_cmp q) xs ≡ true → i ≤ q) → (q : ℕ) → list_any (eq_by_cmp nat_cmp q) (x ∷ xs) ≡ true → i ≤ q
+low_for : (i x : ℕ) (xs : List ℕ) → i ≤ x → ((q : ℕ) → list_any (eq_by_cmp nat_cmp q) xs ≡ true → i ≤ q) →
+    (q : ℕ) → list_any (eq_by_cmp nat_cmp q) (x ∷ xs) ≡ true → i ≤ q
 low_for i x xs here there q h =
-    elim (or_cases (eq_by_cmp nat_cmp q x) (list_any (eq_by_cmp nat_cmp q) xs) h) [ inl is ↦ subst (λ z. i ≤ z) (sym (tied_same q x is)) here | inr later ↦ there q later ]
+    elim (or_cases (eq_by_cmp nat_cmp q x) (list_any (eq_by_cmp nat_cmp q) xs) h) [
+      | inl is ↦ subst (λ z. i ≤ z) (sym (tied_same q x is)) here
+      | inr later ↦ there q later
+    ]
 
 least_in : (x : ℕ) (xs : List ℕ) → (i : ℕ) × (list_any (eq_by_cmp nat_cmp i) (x ∷ xs) ≡ true) × ((q : ℕ) → list_any (eq_by_cmp nat_cmp q) (x ∷ xs) ≡ true → i ≤ q)
 least_in x [] = (x, or_left (eq_by_cmp nat_cmp x x) false (same_tied x), low_for x x [] (omega arith) (λ q h. cc))

@@ -115,7 +115,8 @@ part_becomes w w' c j k j' k' b t = record {
 stands-behind : (w w' : World) (c s : ℕ) (new : List LogRecord) (was : ℕ → ℕ) → CallsInvariant w → Coalesces w c s new was w' → (j k : ℕ) → w'.border c j ≡ true → w'.border c k ≡ true →
     s ≤ j → j ≤ k → k ≤ end_of_log w' c → StandFor w' c j k
 stands-behind w w' c s new was so e j k bj bk low le high =
-    part_becomes w w' c j k (was j) (was k) (search (e.net j k bj bk low le high, e.same_call j low (omega arith) bj, e.same_call k (omega arith) high bk, steps-same w w' e.calls, low, arith) parts 3)
+    part_becomes w w' c j k (was j) (was k)
+    (search (e.net j k bj bk low le high, e.same_call j low (omega arith) bj, e.same_call k (omega arith) high bk, steps-same w w' e.calls, low, arith) parts 3)
     (part_of w c (was j) (was k) so (e.was_border j low (omega arith) bj) (e.was_border k (omega arith) high bk)
     (omega (arith, first-received_by_all w so c, e.low, was_low w w' c s new was e j low)) (e.was_ascends j k le) (was_high w w' c s new was e k high))
 

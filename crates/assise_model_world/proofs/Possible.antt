@@ -95,13 +95,15 @@ may_raise w k h = let u : World = record w { goal = λ c. max (w.goal c) (k c) }
 
 pub may_crash : (w : World) (c : ℕ) → w.lives c ≡ true → w.crashed c ≡ false → (u : World) × Crashes w c u
 may_crash w c lives running =
-    let u : World = record w { crashed = λ d. if d == c then true else w.crashed d; goal = λ d. if d == c then end_of_log w d else w.goal d } in (u, search (chosen, passed) parts 3)
+    let u : World = record w { crashed = λ d. if d == c then true else w.crashed d; goal = λ d. if d == c then end_of_log w d else w.goal d } in
+    (u, search (chosen, passed) parts 3)
 
 -- ---- leases
 
 pub may_acquire : (w : World) (c i : ℕ) (mode : Mode) → IsModeFree w c i mode → (u : World) × Acquires w c i mode u
 may_acquire w c i mode free =
-    let u : World = record w { holds = at_one c i true w.holds; writes = at_one c i (w.writes c i || is_for_writing mode) w.writes } in (u, search (at_one-here, at_one-else) parts 3)
+    let u : World = record w { holds = at_one c i true w.holds; writes = at_one c i (w.writes c i || is_for_writing mode) w.writes } in
+    (u, search (at_one-here, at_one-else) parts 3)
 
 pub may_release : (w : World) (c i : ℕ) → contains (touched (all_effects (w.records c))) i ≡ false → (u : World) × Releases w c i u
 may_release w c i none =
@@ -111,7 +113,8 @@ may_release w c i none =
 
 pub may_deliver : (w : World) (n c k : ℕ) → MayDeliver w n c k → (u : World) × Delivers w n c k u
 may_deliver w n c k m =
-    let u : World = record w { log = at_one n c (w.log n c ++ records_between w c (w.received n c) k) w.log; received = at_one n c k w.received } in (u, search (at_one-here, at_one-else) parts 3)
+    let u : World = record w { log = at_one n c (w.log n c ++ records_between w c (w.received n c) k) w.log; received = at_one n c k w.received } in
+    (u, search (at_one-here, at_one-else) parts 3)
 
 abbrev pub digested_world : World → ℕ → ℕ → ℕ → World
 digested_world w n c k = record w {
@@ -127,7 +130,8 @@ may_digest w n c k m = (digested_world w n c k, world_digests w n c k m)
 
 pub may_drop : (w : World) (f : ℕ → ℕ) → MayDrop w f → (u : World) × Drops w f u
 may_drop w f m =
-    let u : World = record w { first = f; records = λ c. drop (f c - w.first c) (w.records c); log = λ n c. drop (f c - w.first c) (w.log n c) } in (u, search parts 3)
+    let u : World = record w { first = f; records = λ c. drop (f c - w.first c) (w.records c); log = λ n c. drop (f c - w.first c) (w.log n c) } in
+    (u, search parts 3)
 
 -- the full nodes but one
 kept-of : (ns : List ℕ) (n m : ℕ) → contains (filter (λ k. not (k == n)) ns) m ≡ true → (contains ns m ≡ true) × (m ≢ n)

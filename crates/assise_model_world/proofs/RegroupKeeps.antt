@@ -137,7 +137,8 @@ module _ (w u : World) (c s : ℕ) (gs : List (List LogRecord)) (h : WorldInvari
       let border : (k : ℕ) → s ≤ k → k ≤ end_of_log u c → u.border c k ≡ true → w.border c (was k) ≡ true =
       λ k from to bk. single (was k) (was_from k) (omega (arith, was_ascends k (end_of_log u c) to, was_end)) in
       let net : (j k : ℕ) → u.border c j ≡ true → u.border c k ≡ true → s ≤ j → j ≤ k → k ≤ end_of_log u c →
-      SameNetEffect (all_effects (records_between u c j k)) (all_effects (records_between w c (was j) (was k))) = λ j k bj bk from le to. (same j k bj bk from le to).net in
+      SameNetEffect (all_effects (records_between u c j k)) (all_effects (records_between w c (was j) (was k))) =
+      λ j k bj bk from le to. (same j k bj bk from le to).net in
       let touch : (i j k : ℕ) → u.border c j ≡ true → u.border c k ≡ true → s ≤ j → j ≤ k → k ≤ end_of_log u c →
       contains (touched (all_effects (records_between u c j k))) i ≡ contains (touched (all_effects (records_between w c (was j) (was k)))) i =
       λ i j k bj bk from le to. (same j k bj bk from le to).touch i in
