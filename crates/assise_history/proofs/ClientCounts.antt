@@ -6,7 +6,7 @@ use Rattle.std.proofs.lemmas.List.Elements.{filter-append}
 use Rattle.assise_names.specs.declared.durability.Durability.{Durability}
 use Rattle.assise_names.specs.declared.durability.Durability.TheVariants.{Pessimistic}
 use Rattle.assise_history.specs.declared.call.Call.{Call}
-use Rattle.assise_history.specs.Entries.{EntryValue, opens, calls, crashes, fails, returns}
+use Rattle.assise_history.specs.Entries.{EntryValue, opens, calls}
 use Rattle.assise_history.specs.Legal.{IsLegal, Fits, IsNextCall, MayOpen, is_opening, is_call_of, clients_opened, calls_made, durability_of, opened_as}
 use Rattle.assise_history.specs.Opened.{is_opening_of, OpensOnce}
 use Rattle.assise_history.proofs.Legality.{along, fits_in}
@@ -37,26 +37,6 @@ opened_within h before since c n u legal split =
 
 -- a client that isn't opened yet has no calls
 early_more : (h : List EntryValue) (e : EntryValue) → IsLegal h → Fits h e → ((c : ℕ) → clients_opened h < c → calls_made c h ≡ 0) → (c : ℕ) → clients_opened (h ++ e ∷ []) < c → calls_made c (h ++ e ∷ []) ≡ 0
-early_more h (opens d n u) legal fits before c late =
-    let all = opened_append h (opens d n u ∷ []) in
-    let made = made_append c h (opens d n u ∷ []) in
-    let none = before c (omega arith) in
-    omega arith
-early_more h (crashes d) legal fits before c late =
-    let all = opened_append h (crashes d ∷ []) in
-    let made = made_append c h (crashes d ∷ []) in
-    let none = before c (omega arith) in
-    omega arith
-early_more h (fails n losses) legal fits before c late =
-    let all = opened_append h (fails n losses ∷ []) in
-    let made = made_append c h (fails n losses ∷ []) in
-    let none = before c (omega arith) in
-    omega arith
-early_more h (returns n) legal fits before c late =
-    let all = opened_append h (returns n ∷ []) in
-    let made = made_append c h (returns n ∷ []) in
-    let none = before c (omega arith) in
-    omega arith
 early_more h (calls x) legal fits before c late =
     let all = opened_append h (calls x ∷ []) in
     let made = made_append c h (calls x ∷ []) in
@@ -71,6 +51,11 @@ early_more h (calls x) legal fits before c late =
           absurd (omega arith)
       | inr other ↦ let still = rw other at made in omega arith
     ]
+early_more h e legal fits before c late =
+    let all = opened_append h (e ∷ []) in
+    let made = made_append c h (e ∷ []) in
+    let none = before c (omega arith) in
+    omega arith
 
 pub early : (h : List EntryValue) → IsLegal h → (c : ℕ) → clients_opened h < c → calls_made c h ≡ 0
 early = along (λ h. (c : ℕ) → clients_opened h < c → calls_made c h ≡ 0) (λ c late. refl) early_more
@@ -103,24 +88,9 @@ unopened_more h (opens d n u) legal fits before c late =
     let other : (d == c) ≡ false = ne_eqb d c (λ same. omega arith) in
     let still = rw other at grown in
     omega arith
-unopened_more h (calls x) legal fits before c late =
-    let all = opened_append h (calls x ∷ []) in
-    let grown = times_append c h (calls x ∷ []) in
-    let none = before c (omega arith) in
-    omega arith
-unopened_more h (crashes d) legal fits before c late =
-    let all = opened_append h (crashes d ∷ []) in
-    let grown = times_append c h (crashes d ∷ []) in
-    let none = before c (omega arith) in
-    omega arith
-unopened_more h (fails n losses) legal fits before c late =
-    let all = opened_append h (fails n losses ∷ []) in
-    let grown = times_append c h (fails n losses ∷ []) in
-    let none = before c (omega arith) in
-    omega arith
-unopened_more h (returns n) legal fits before c late =
-    let all = opened_append h (returns n ∷ []) in
-    let grown = times_append c h (returns n ∷ []) in
+unopened_more h e legal fits before c late =
+    let all = opened_append h (e ∷ []) in
+    let grown = times_append c h (e ∷ []) in
     let none = before c (omega arith) in
     omega arith
 
@@ -141,10 +111,7 @@ once_more h (opens d n u) legal fits before c =
           omega arith
       | inr other ↦ let still = rw other at grown in let few = before c in omega arith
     ]
-once_more h (calls x) legal fits before c = let grown = times_append c h (calls x ∷ []) in let few = before c in omega arith
-once_more h (crashes d) legal fits before c = let grown = times_append c h (crashes d ∷ []) in let few = before c in omega arith
-once_more h (fails n losses) legal fits before c = let grown = times_append c h (fails n losses ∷ []) in let few = before c in omega arith
-once_more h (returns n) legal fits before c = let grown = times_append c h (returns n ∷ []) in let few = before c in omega arith
+once_more h e legal fits before c = let grown = times_append c h (e ∷ []) in let few = before c in omega arith
 
 once : (h : List EntryValue) → IsLegal h → (c : ℕ) → times c h ≤ 1
 unfolding times
@@ -159,10 +126,7 @@ opens_once h legal = λ c. once h legal c
 opened_as-append : (c : ℕ) (u : Durability) (g h : List EntryValue) → opened_as c u (g ++ h) ≡ opened_as c (opened_as c u g) h
 opened_as-append c u [] h = refl
 opened_as-append c u (opens d n v ∷ g) h = opened_as-append c (if d == c then v else u) g h
-opened_as-append c u (calls x ∷ g) h = opened_as-append c u g h
-opened_as-append c u (crashes d ∷ g) h = opened_as-append c u g h
-opened_as-append c u (fails n losses ∷ g) h = opened_as-append c u g h
-opened_as-append c u (returns n ∷ g) h = opened_as-append c u g h
+opened_as-append c u (_ ∷ g) h = opened_as-append c u g h
 
 -- it isn't opened any more
 opened_as-still : (c : ℕ) (u : Durability) (h : List EntryValue) → times c h ≡ 0 → opened_as c u h ≡ u
@@ -173,10 +137,7 @@ opened_as-still c u (opens d n v ∷ h) none =
       | inl own ↦ let some = rw own at none in absurd (omega arith)
       | inr other ↦ let rest : times c h ≡ 0 = rw other at none in rw other (opened_as-still c u h rest)
     ]
-opened_as-still c u (calls x ∷ h) none = opened_as-still c u h none
-opened_as-still c u (crashes d ∷ h) none = opened_as-still c u h none
-opened_as-still c u (fails n losses ∷ h) none = opened_as-still c u h none
-opened_as-still c u (returns n ∷ h) none = opened_as-still c u h none
+opened_as-still c u (_ ∷ h) none = opened_as-still c u h none
 
 -- an entry more: it is the client's opening, another's, or none
 pub durability-opened : (h : List EntryValue) (c n : ℕ) (u : Durability) → durability_of c (h ++ opens c n u ∷ []) ≡ u
@@ -187,10 +148,7 @@ durability-other h c d n u other = opened_as-append c Pessimistic h (opens d n u
 
 pub durability-still : (h : List EntryValue) (e : EntryValue) (c : ℕ) → is_opening e ≡ false → durability_of c (h ++ e ∷ []) ≡ durability_of c h
 durability-still h (opens d n u) c quiet = cc
-durability-still h (calls x) c quiet = opened_as-append c Pessimistic h (calls x ∷ [])
-durability-still h (crashes d) c quiet = opened_as-append c Pessimistic h (crashes d ∷ [])
-durability-still h (fails n losses) c quiet = opened_as-append c Pessimistic h (fails n losses ∷ [])
-durability-still h (returns n) c quiet = opened_as-append c Pessimistic h (returns n ∷ [])
+durability-still h e c quiet = opened_as-append c Pessimistic h (e ∷ [])
 
 -- a client of a legal history was opened as its one opening says
 pub durability_in : (h before since : List EntryValue) (c n : ℕ) (u : Durability) → IsLegal h → h ≡ before ++ opens c n u ∷ since → durability_of c h ≡ u

@@ -1,6 +1,6 @@
 -- What stands in a history with an entry more: which entries keep that a client is alive or may call, and that a node is
 -- down, and what they add to the counts. For whoever makes a history one entry at a time.
-use Rattle.std.proofs.Common.{◌≡◌, ℕ, ◌+◌, ◌<◌, Bool, true, false, ◌||◌, ◌==◌, List, [], ◌∷◌, ◌++◌, refl, ap, sym, subst, ◌∙◌, ◌⊎◌, inl, inr, arith, append_assoc, eq-eqb}
+use Rattle.std.proofs.Common.{◌≡◌, ℕ, ◌+◌, ◌<◌, Bool, true, false, ◌||◌, List, [], ◌∷◌, ◌++◌, refl, ap, sym, subst, ◌∙◌, ◌⊎◌, inl, inr, arith, append_assoc}
 use Rattle.std.specs.List.{list_any}
 use Rattle.std.proofs.lemmas.Bool.{or_parts, or_from}
 use Rattle.std.proofs.lemmas.List.Folds.{list_any-append}
@@ -8,7 +8,7 @@ use Rattle.assise_names.specs.declared.durability.Durability.{Durability}
 use Rattle.assise_history.specs.declared.call.Call.{Call}
 use Rattle.assise_history.specs.declared.call.Loss.{Loss}
 use Rattle.assise_history.specs.Entries.{EntryValue, opens, calls, fails}
-use Rattle.assise_history.specs.Legal.{IsLegal, Fits, IsAlive, IsDown, IsOn, IsOpenedOn, IsPastSyncs, MayCall, calls_made, clients_opened, is_call_of, is_crash_of, is_failure_of, is_opening, is_return_of, syncs}
+use Rattle.assise_history.specs.Legal.{IsLegal, Fits, IsDown, IsOpenedOn, IsPastSyncs, MayCall, calls_made, clients_opened, is_call_of, is_crash_of, is_failure_of, is_opening, is_return_of, syncs}
 use Rattle.assise_history.proofs.TestedElements.{cut_end, not_nil}
 use Rattle.assise_history.proofs.Legality.{along}
 use Rattle.assise_history.proofs.ClientCounts.{made_append, next_opened, opened_append, opened_within}
@@ -18,12 +18,10 @@ none_more : {X : Type 0} (p : X → Bool) (xs : List X) (x : X) → list_any p x
 none_more p xs x none not_it = list_any-append p xs (x ∷ []) ∙ or_from (list_any p xs) (p x || false) none (or_from (p x) false not_it refl)
 
 none_before : {X : Type 0} (p : X → Bool) (xs : List X) (x : X) → list_any p (xs ++ x ∷ []) ≡ false → (list_any p xs ≡ false) × (p x ≡ false)
-none_before p xs x none =
-    let parts = or_parts (list_any p xs) (p x || false) (sym (list_any-append p xs (x ∷ [])) ∙ none) in
-    (parts.0, (or_parts (p x) false parts.1).0)
+none_before p xs x none = grind (arith, or_parts, list_any-append)
 
 -- where an entry stood it stands with an entry more
-further : (h before since : List EntryValue) (x e : EntryValue) → h ≡ before ++ x ∷ since → h ++ e ∷ [] ≡ before ++ x ∷ (since ++ e ∷ [])
+pub further : (h before since : List EntryValue) (x e : EntryValue) → h ≡ before ++ x ∷ since → h ++ e ∷ [] ≡ before ++ x ∷ (since ++ e ∷ [])
 further h before since x e split = ap (λ g. g ++ e ∷ []) split ∙ append_assoc before (x ∷ since) (e ∷ [])
 
 -- ---- a client's opening
@@ -73,49 +71,6 @@ may_call-last h e c m =
           }
     ]
 
--- ---- a client that is alive
-
-pub alive-opened : (h : List EntryValue) (c n : ℕ) (u : Durability) → IsAlive (h ++ opens c n u ∷ []) c
-alive-opened h c n u = record { node = n; opened = opened_last h c n u; no_crash = refl }
-
-pub alive-push : (h : List EntryValue) (e : EntryValue) (c : ℕ) → IsAlive h c → is_crash_of c e ≡ false → IsAlive (h ++ e ∷ []) c
-alive-push h e c a crash = record {
-  node = a.node;
-  opened = opened_further h e c a.node a.opened;
-  no_crash = none_more (is_crash_of c) a.opened.since e a.no_crash crash;
-}
-
-pub alive-last : (h : List EntryValue) (e : EntryValue) (c : ℕ) → IsAlive (h ++ e ∷ []) c → ((n : ℕ) × ((u : Durability) × (e ≡ opens c n u))) ⊎ (IsAlive h c × (is_crash_of c e ≡ false))
-alive-last h e c a =
-    let o = a.opened in
-    elim (cut_end h e o.before (opens c a.node o.durability) o.since o.split) [
-      | inl last ↦ inl (a.node, (o.durability, last.last_is))
-      | inr earlier ↦
-          let crash = none_before (is_crash_of c) earlier.rest e (subst (λ es. list_any (is_crash_of c) es ≡ false) earlier.more_is a.no_crash) in
-          inr (record { node = a.node; opened = record { durability = o.durability; before = o.before; since = earlier.rest; split = earlier.split }; no_crash = crash.0 }, crash.1)
-    ]
-
--- ---- a client on a node that hasn't failed since
-
-pub on-opened : (h : List EntryValue) (c n : ℕ) (u : Durability) → IsOn (h ++ opens c n u ∷ []) c n
-on-opened h c n u = record { opened = opened_last h c n u; no_failure = refl }
-
-pub on-push : (h : List EntryValue) (e : EntryValue) (c n : ℕ) → IsOn h c n → is_failure_of n e ≡ false → IsOn (h ++ e ∷ []) c n
-on-push h e c n on failure = record {
-  opened = opened_further h e c n on.opened;
-  no_failure = none_more (is_failure_of n) on.opened.since e on.no_failure failure;
-}
-
-pub on-last : (h : List EntryValue) (e : EntryValue) (c n : ℕ) → IsOn (h ++ e ∷ []) c n → ((u : Durability) × (e ≡ opens c n u)) ⊎ (IsOn h c n × (is_failure_of n e ≡ false))
-on-last h e c n on =
-    let o = on.opened in
-    elim (cut_end h e o.before (opens c n o.durability) o.since o.split) [
-      | inl last ↦ inl (o.durability, last.last_is)
-      | inr earlier ↦
-          let failure = none_before (is_failure_of n) earlier.rest e (subst (λ es. list_any (is_failure_of n) es ≡ false) earlier.more_is on.no_failure) in
-          inr (record { opened = record { durability = o.durability; before = o.before; since = earlier.rest; split = earlier.split }; no_failure = failure.0 }, failure.1)
-    ]
-
 -- ---- a node that is down
 
 pub down-failed : (h : List EntryValue) (n : ℕ) (losses : List Loss) → IsDown (h ++ fails n losses ∷ []) n
@@ -138,20 +93,6 @@ down-last h e n d =
           let return = none_before (is_return_of n) earlier.rest e (subst (λ es. list_any (is_return_of n) es ≡ false) earlier.more_is d.no_return) in
           inr (record { losses = d.losses; before = d.before; since = earlier.rest; split = earlier.split; no_return = return.0 }, return.1)
     ]
-
--- ---- where nothing happened
-
-opened_nil : (c n : ℕ) → IsOpenedOn [] c n → ⊥
-opened_nil c n o = not_nil o.before o.since (opens c n o.durability) o.split
-
-pub may_call-nil : (c : ℕ) → MayCall [] c → ⊥
-may_call-nil c m = opened_nil c m.node m.opened
-
-pub alive-nil : (c : ℕ) → IsAlive [] c → ⊥
-alive-nil c a = opened_nil c a.node a.opened
-
-pub on-nil : (c n : ℕ) → IsOn [] c n → ⊥
-on-nil c n on = opened_nil c n on.opened
 
 pub down-nil : (n : ℕ) → IsDown [] n → ⊥
 down-nil n d = not_nil d.before d.since (fails n d.losses) d.split
@@ -176,13 +117,6 @@ opened-push h c n u = opened_append h (opens c n u ∷ [])
 pub opened-still : (h : List EntryValue) (e : EntryValue) → is_opening e ≡ false → clients_opened (h ++ e ∷ []) ≡ clients_opened h
 opened-still h e other = let all = opened_append h (e ∷ []) in let still = rw other at all in omega arith
 
-pub made-push : (h : List EntryValue) (x : Call) (c : ℕ) → x.client ≡ c → calls_made c (h ++ calls x ∷ []) ≡ calls_made c h + 1
-made-push h x c client =
-    let own : (c == x.client) ≡ true = eq-eqb c x.client (sym client) in
-    let all = made_append c h (calls x ∷ []) in
-    let grown = rw own at all in
-    grown
-
 pub made-still : (h : List EntryValue) (e : EntryValue) (c : ℕ) → is_call_of c e ≡ false → calls_made c (h ++ e ∷ []) ≡ calls_made c h
 made-still h e c other = let all = made_append c h (e ∷ []) in let still = rw other at all in omega arith
 
@@ -199,10 +133,7 @@ abbrev OnePlace : List EntryValue → Type 0
 OnePlace h = (c n n2 : ℕ) (u u2 : Durability) (before since before2 since2 : List EntryValue) → h ≡ before ++ opens c n u ∷ since → h ≡ before2 ++ opens c n2 u2 ∷ since2 → SamePlace before since n u before2 since2 n2 u2
 
 opened_late : (h : List EntryValue) (c n m : ℕ) (u v : Durability) (before since : List EntryValue) → IsLegal h → Fits h (opens c n u) → h ≡ before ++ opens c m v ∷ since → ⊥
-opened_late h c n m u v before since legal fits split =
-    let next = next_opened h c n u fits in
-    let within = opened_within h before since c m v legal split in
-    omega arith
+opened_late h c n m u v before since legal fits split = grind (arith, next_opened, opened_within)
 
 one_place_more : (h : List EntryValue) (e : EntryValue) → IsLegal h → Fits h e → OnePlace h → OnePlace (h ++ e ∷ [])
 one_place_more h e legal fits place c n n2 u u2 before since before2 since2 split split2 =
@@ -225,17 +156,3 @@ one_place_more h e legal fits place c n n2 u u2 before since before2 since2 spli
 
 pub one_place : (h : List EntryValue) → IsLegal h → (c n n2 : ℕ) (u u2 : Durability) (before since before2 since2 : List EntryValue) → h ≡ before ++ opens c n u ∷ since → h ≡ before2 ++ opens c n2 u2 ∷ since2 → SamePlace before since n u before2 since2 n2 u2
 one_place = along OnePlace (λ c n n2 u u2 before since before2 since2 split split2. absurd (not_nil before since (opens c n u) split)) one_place_more
-
--- a client may call that is alive, and whose node hasn't failed
-pub may_call-from : (h : List EntryValue) (c n : ℕ) → IsLegal h → IsAlive h c → IsOn h c n → MayCall h c
-may_call-from h c n legal alive on =
-    let a = alive.opened in
-    let o = on.opened in
-    let same = one_place h legal c n alive.node o.durability a.durability o.before o.since a.before a.since o.split a.split in
-    record { node = n; opened = o; no_crash = subst (λ es. list_any (is_crash_of c) es ≡ false) (sym same.rest) alive.no_crash; no_failure = on.no_failure }
-
-pub alive_from : (h : List EntryValue) (c : ℕ) → MayCall h c → IsAlive h c
-alive_from h c m = record { node = m.node; opened = m.opened; no_crash = m.no_crash }
-
-pub on_from : (h : List EntryValue) (c : ℕ) (m : MayCall h c) → IsOn h c m.node
-on_from h c m = record { opened = m.opened; no_failure = m.no_failure }

@@ -1,11 +1,10 @@
 -- Which calls are lost and which are kept, in the words of the entries.
 use Rattle.std.proofs.Common.{◌≡◌, ◌↔◌, ℕ, zero, suc, nat_le, Bool, true, false, not, ◌&&◌, ◌==◌, List, [], ◌∷◌, ◌++◌, filter, Contains, refl, ap, sym, subst, inl, inr, arith, eqb-true, eq-eqb, leb-true, le-leb}
-use Rattle.std.specs.List.{list_any}
 use Rattle.std.proofs.lemmas.Bool.{cases_Bool, both_ways, false_from_ne_true}
 use Rattle.std.proofs.lemmas.List.Elements.{Contains-append_right, Contains-append_cases}
 use Rattle.assise_history.specs.declared.call.Call.{Call}
 use Rattle.assise_history.specs.declared.call.Loss.{Loss}
-use Rattle.assise_history.specs.Entries.{EntryValue, opens, calls, crashes, fails, returns}
+use Rattle.assise_history.specs.Entries.{EntryValue, calls, fails}
 use Rattle.assise_history.specs.Kept.{IsTaken, Stays, loses, is_lost, kept}
 use Rattle.assise_history.proofs.TestedElements.{passes_from, passes_at, two, two_from}
 use Rattle.assise_history.proofs.Runs.{is_lost-append}
@@ -45,34 +44,24 @@ further e es x t = record {
 
 pub taken : (es : List EntryValue) (x : Call) → is_lost es x ≡ true → IsTaken es x
 taken [] x h = cc
-taken (opens c n u ∷ es) x h = further (opens c n u) es x (taken es x h)
-taken (calls y ∷ es) x h = further (calls y) es x (taken es x h)
-taken (crashes c ∷ es) x h = further (crashes c) es x (taken es x h)
-taken (returns n ∷ es) x h = further (returns n) es x (taken es x h)
 taken (fails n losses ∷ es) x h =
     elim (cases_Bool (loses losses x)) [
       | inl now ↦ here es n losses x now
       | inr later ↦ let rest : is_lost es x ≡ true = rw later at h in further (fails n losses) es x (taken es x rest)
     ]
+taken (e ∷ es) x h = further e es x (taken es x h)
 
 lost_at : (before behind : List EntryValue) (n : ℕ) (losses : List Loss) (x : Call) → loses losses x ≡ true → is_lost (before ++ fails n losses ∷ behind) x ≡ true
 lost_at [] behind n losses x h = rw h refl
-lost_at (opens c m u ∷ es) behind n losses x h = lost_at es behind n losses x h
-lost_at (calls y ∷ es) behind n losses x h = lost_at es behind n losses x h
-lost_at (crashes c ∷ es) behind n losses x h = lost_at es behind n losses x h
-lost_at (returns m ∷ es) behind n losses x h = lost_at es behind n losses x h
 lost_at (fails m others ∷ es) behind n losses x h =
     elim (cases_Bool (loses others x)) [
       | inl now ↦ rw now refl
       | inr later ↦ rw later (lost_at es behind n losses x h)
     ]
+lost_at (_ ∷ es) behind n losses x h = lost_at es behind n losses x h
 
 pub lost : (es : List EntryValue) (x : Call) → IsTaken es x → is_lost es x ≡ true
-lost es x t =
-    let p : Loss → Bool = λ l. (l.client == x.client) && nat_le l.first x.number in
-    let one : p t.loss ≡ true = two_from (t.loss.client == x.client) (nat_le t.loss.first x.number) (eq-eqb t.loss.client x.client t.client) (le-leb t.loss.first x.number t.first) in
-    let all : loses t.losses x ≡ true = subst (λ ls. list_any p ls ≡ true) (sym t.listed) (passes_at p t.lower t.higher t.loss one) in
-    subst (λ es. is_lost es x ≡ true) (sym t.split) (lost_at t.before t.behind t.node t.losses x all)
+lost es x t = grind (arith, Bool, nat_le, two_from, eq-eqb, le-leb, passes_at, lost_at)
 
 pub lost_exactly : (es : List EntryValue) (x : Call) → (is_lost es x ≡ true) ↔ IsTaken es x
 lost_exactly es x = (taken es x, lost es x)
@@ -80,10 +69,6 @@ lost_exactly es x = (taken es x, lost es x)
 -- what is kept of two parts
 pub kept-append : (g h : List EntryValue) → kept (g ++ h) ≡ filter (λ x. not (is_lost h x)) (kept g) ++ kept h
 kept-append [] h = refl
-kept-append (opens c n u ∷ es) h = kept-append es h
-kept-append (crashes c ∷ es) h = kept-append es h
-kept-append (returns n ∷ es) h = kept-append es h
-kept-append (fails n losses ∷ es) h = kept-append es h
 kept-append (calls x ∷ es) h =
     let e = is_lost-append es h x in
     elim (cases_Bool (is_lost es x)) [
@@ -93,6 +78,7 @@ kept-append (calls x ∷ es) h =
         | inr stays ↦ rw (e, left, stays) (ap (λ xs. x ∷ xs) (kept-append es h))
       ]
     ]
+kept-append (_ ∷ es) h = kept-append es h
 
 first_of_kept : (cs : List Call) (x : Call) → Contains (x ∷ cs) x
 first_of_kept cs x = (0, omega arith, refl)
@@ -106,25 +92,18 @@ only y x (suc k, few, is) = absurd (omega arith)
 
 kept_at : (before later : List EntryValue) (x : Call) → is_lost later x ≡ false → Contains (kept (before ++ calls x ∷ later)) x
 kept_at [] later x safe = rw safe (first_of_kept (kept later) x)
-kept_at (opens c n u ∷ es) later x safe = kept_at es later x safe
-kept_at (crashes c ∷ es) later x safe = kept_at es later x safe
-kept_at (returns n ∷ es) later x safe = kept_at es later x safe
-kept_at (fails n losses ∷ es) later x safe = kept_at es later x safe
 kept_at (calls y ∷ es) later x safe =
     elim (cases_Bool (is_lost (es ++ calls x ∷ later) y)) [
       | inl gone ↦ rw gone (kept_at es later x safe)
       | inr left ↦ rw left (behind_it y (kept (es ++ calls x ∷ later)) x (kept_at es later x safe))
     ]
+kept_at (_ ∷ es) later x safe = kept_at es later x safe
 
 later_on : (e : EntryValue) (es : List EntryValue) (x : Call) → Stays es x → Stays (e ∷ es) x
 later_on e es x s = record { before = e ∷ s.before; later = s.later; split = ap (λ xs. e ∷ xs) s.split; safe = s.safe }
 
 pub stays : (h : List EntryValue) (x : Call) → Contains (kept h) x → Stays h x
 stays [] x h = absurd (omega (arith, h.1))
-stays (opens c n u ∷ es) x h = later_on (opens c n u) es x (stays es x h)
-stays (crashes c ∷ es) x h = later_on (crashes c) es x (stays es x h)
-stays (returns n ∷ es) x h = later_on (returns n) es x (stays es x h)
-stays (fails n losses ∷ es) x h = later_on (fails n losses) es x (stays es x h)
 stays (calls y ∷ es) x h =
     elim (cases_Bool (is_lost es y)) [
       | inl gone ↦ later_on (calls y) es x (stays es x (rw gone at h))
@@ -137,6 +116,7 @@ stays (calls y ∷ es) x h =
             | inr rest ↦ later_on (calls y) es x (stays es x rest)
           ]
     ]
+stays (e ∷ es) x h = later_on e es x (stays es x h)
 
 pub kept_from : (h : List EntryValue) (x : Call) → Stays h x → Contains (kept h) x
 kept_from h x s =

@@ -1,5 +1,5 @@
 -- Legal histories with an entry more, of each kind, in the words of the entries: what a machine cites for one step.
-use Rattle.std.proofs.Common.{◌≡◌, ◌↔◌, ℕ, List, [], ◌∷◌, ◌++◌, refl, ap, sym, subst, ◌∙◌, append_assoc}
+use Rattle.std.proofs.Common.{◌≡◌, ◌↔◌, ℕ, List, [], ◌∷◌, ◌++◌, refl, sym, subst, ◌∙◌, append_assoc}
 use Rattle.assise_seq_tree.specs.Tree.{opening}
 use Rattle.assise_seq_tree.specs.Answer.{answer}
 use Rattle.assise_names.specs.declared.durability.Durability.{Durability}
@@ -10,6 +10,7 @@ use Rattle.assise_history.specs.Kept.{kept, tree_after, IsRun}
 use Rattle.assise_history.specs.Legal.{IsLegal, Fits, IsAlive, IsDown, IsFair, IsNextCall, MayFollow, MayOpen}
 use Rattle.assise_history.proofs.TestedElements.{by_ends}
 use Rattle.assise_history.proofs.Runs.{kept-push, kept-call, run-push, run-last}
+use Rattle.assise_history.proofs.LivesOneMore.{further}
 use Rattle.assise_history.proofs.Legality.{legal-nil, legal-push, legal-prefix, legal-last, legal_run, legal_from, fits_in, prefix_run}
 
 -- the reply is the answer on the tree that the kept calls leave
@@ -94,22 +95,16 @@ abbrev Left : List EntryValue → Type 0
 Left h = (before later : List EntryValue) (n : ℕ) (losses : List Loss) → h ≡ before ++ fails n losses ∷ later → IsRun opening (kept (before ++ fails n losses ∷ []))
 
 fits_enough : (h : List EntryValue) (e : EntryValue) → IsLegal h → MayFollow h e → Answered (h ++ e ∷ []) → Left (h ++ e ∷ []) → Fits h e
-fits_enough h (opens c n u) legal may answered left = fits_quiet h (opens c n u) legal (kept-push h (opens c n u)) may
 fits_enough h (calls x) legal may answered left = fits_call h x legal may (answered h [] x refl)
-fits_enough h (crashes c) legal may answered left = fits_quiet h (crashes c) legal (kept-push h (crashes c)) may
 fits_enough h (fails n losses) legal may answered left = fits_failure h n losses may (left h [] n losses refl)
-fits_enough h (returns n) legal may answered left = fits_quiet h (returns n) legal (kept-push h (returns n)) may
-
--- a prefix of what stands in a list
-longer : (h before later : List EntryValue) (x e : EntryValue) → h ≡ before ++ x ∷ later → h ++ e ∷ [] ≡ before ++ x ∷ (later ++ e ∷ [])
-longer h before later x e split = ap (λ g. g ++ e ∷ []) split ∙ append_assoc before (x ∷ later) (e ∷ [])
+fits_enough h e legal may answered left = fits_quiet h e legal (kept-push h e) may
 
 pub legal_enough : (h : List EntryValue) → Follow h → Answered h → Left h → IsLegal h
 legal_enough = by_ends (λ h. Follow h → Answered h → Left h → IsLegal h)
     (λ follow answered left. legal-nil)
     (λ h e before follow answered left.
     let legal = before
-    (λ b l x split. follow b (l ++ e ∷ []) x (longer h b l x e split))
-    (λ b l x split. answered b (l ++ e ∷ []) x (longer h b l (calls x) e split))
-    (λ b l n losses split. left b (l ++ e ∷ []) n losses (longer h b l (fails n losses) e split)) in
+    (λ b l x split. follow b (l ++ e ∷ []) x (further h b l x e split))
+    (λ b l x split. answered b (l ++ e ∷ []) x (further h b l (calls x) e split))
+    (λ b l n losses split. left b (l ++ e ∷ []) n losses (further h b l (fails n losses) e split)) in
     legal-push h e legal (fits_enough h e legal (follow h [] e refl) answered left))

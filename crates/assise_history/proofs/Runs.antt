@@ -7,27 +7,8 @@ use Rattle.std.proofs.lemmas.Bool.{cases_Bool, lt-ltb}
 use Rattle.assise_seq_tree.specs.Tree.{Tree}
 use Rattle.assise_seq_tree.specs.Answer.{answer}
 use Rattle.assise_history.specs.declared.call.Call.{Call}
-use Rattle.assise_history.specs.Entries.{EntryValue, opens, calls, crashes, fails, returns}
+use Rattle.assise_history.specs.Entries.{EntryValue, calls, fails}
 use Rattle.assise_history.specs.Kept.{loses, is_lost, kept, kept_more, IsRun, tree_after}
-
--- what follows the first call is a run exactly if all of it is, where the first call's reply is right
-pub record Alike (P Q : Type 0) : Type 0 where
-  pub onto : P → Q
-  pub back : Q → P
-
-pub run_step : (P : Type 0) (t t' : Tree) (reply : _) (call : Call) (more rest : List Call) → Alike P (IsRun t rest) → rest ≡ call ∷ more → (reply, t') ≡ answer t call.op → reply ≡ call.reply → Alike P (IsRun t' more)
-run_step P t t' reply call more rest same split step right =
-    let right' : call.reply ≡ (answer t call.op).0 = sym right ∙ ap (λ p. p.0) step in
-    let left : t' ≡ (answer t call.op).1 = ap (λ p. p.1) step in
-    record {
-      onto = λ p. subst (λ s. IsRun s more) (sym left) (subst (IsRun t) split (same.onto p)).1;
-      back = λ q. same.back (subst (IsRun t) (sym split) (right', subst (λ s. IsRun s more) left q));
-    }
-
--- no run goes through a wrong reply
-pub run_stops : (P : Type 0) (t t' : Tree) (reply : _) (call : Call) (more rest : List Call) → Alike P (IsRun t rest) → rest ≡ call ∷ more → (reply, t') ≡ answer t call.op → (reply ≡ call.reply → ⊥) → P → ⊥
-run_stops P t t' reply call more rest same split step wrong p =
-    wrong (ap (λ p. p.0) step ∙ sym (subst (IsRun t) split (same.onto p)).0)
 
 or_false : (b : Bool) → (if b then true else false) ≡ b
 or_false true = refl
@@ -36,36 +17,26 @@ or_false false = refl
 -- a call more is kept
 pub is_lost-append : (es fs : List EntryValue) (call : Call) → is_lost (es ++ fs) call ≡ (if is_lost es call then true else is_lost fs call)
 is_lost-append [] fs call = refl
-is_lost-append (opens c n u ∷ es) fs call = is_lost-append es fs call
-is_lost-append (calls other ∷ es) fs call = is_lost-append es fs call
-is_lost-append (crashes c ∷ es) fs call = is_lost-append es fs call
-is_lost-append (returns n ∷ es) fs call = is_lost-append es fs call
 is_lost-append (fails n losses ∷ es) fs call =
     elim (cases_Bool (loses losses call)) [
       | inl gone ↦ rw gone
       | inr left ↦ rw left (is_lost-append es fs call)
     ]
+is_lost-append (_ ∷ es) fs call = is_lost-append es fs call
 
 pub kept-call : (es : List EntryValue) (call : Call) → kept (es ++ calls call ∷ []) ≡ kept es ++ call ∷ []
 kept-call [] call = refl
-kept-call (opens c n u ∷ es) call = kept-call es call
-kept-call (crashes c ∷ es) call = kept-call es call
-kept-call (returns n ∷ es) call = kept-call es call
-kept-call (fails n losses ∷ es) call = kept-call es call
 kept-call (calls other ∷ es) call =
     let e : is_lost (es ++ calls call ∷ []) other ≡ is_lost es other = is_lost-append es (calls call ∷ []) other ∙ or_false (is_lost es other) in
     elim (cases_Bool (is_lost es other)) [
       | inl gone ↦ rw (e, gone) (kept-call es call)
       | inr left ↦ rw (e, left) (ap (λ xs. other ∷ xs) (kept-call es call))
     ]
+kept-call (_ ∷ es) call = kept-call es call
 
 -- a failure more keeps what it doesn't lose
 pub kept-fail : (es : List EntryValue) (n : ℕ) (losses : _) → kept (es ++ fails n losses ∷ []) ≡ filter (λ call. not (loses losses call)) (kept es)
 kept-fail [] n losses = refl
-kept-fail (opens c m u ∷ es) n losses = kept-fail es n losses
-kept-fail (crashes c ∷ es) n losses = kept-fail es n losses
-kept-fail (returns m ∷ es) n losses = kept-fail es n losses
-kept-fail (fails m others ∷ es) n losses = kept-fail es n losses
 kept-fail (calls other ∷ es) n losses =
     let e = is_lost-append es (fails n losses ∷ []) other in
     elim (cases_Bool (is_lost es other)) [
@@ -75,6 +46,7 @@ kept-fail (calls other ∷ es) n losses =
         | inr stays ↦ rw (e, left, stays) (ap (λ xs. other ∷ xs) (kept-fail es n losses))
       ]
     ]
+kept-fail (_ ∷ es) n losses = kept-fail es n losses
 
 -- a run, and a call more
 pub run-push : (t : Tree) (cs : List Call) (call : Call) → IsRun t cs → call.reply ≡ (answer (tree_after t cs) call.op).0 → IsRun t (cs ++ call ∷ [])
@@ -92,10 +64,8 @@ map-filter f p (x ∷ xs) =
 filter_short : {X : Type 0} (p : X → Bool) (xs : List X) → length (filter p xs) ≤ length xs
 filter_short p [] = omega arith
 filter_short p (x ∷ xs) =
-    elim (cases_Bool (p x)) [
-      | inl stays ↦ let rest = filter_short p xs in rw stays (omega (arith, rest))
-      | inr goes ↦ let rest = filter_short p xs in rw goes (omega (arith, rest))
-    ]
+    let rest = filter_short p xs in
+    elim (cases_Bool (p x)) [ inl stays ↦ rw stays (omega arith) | inr goes ↦ rw goes (omega arith) ]
 
 -- where a filter leaves as many, it leaves all
 pub filter_whole : {X : Type 0} (p : X → Bool) (xs : List X) → (length (filter p xs) < length xs → ⊥) → filter p xs ≡ xs
@@ -113,23 +83,16 @@ filter_mapped f p xs ys is long =
 -- an entry more that is no call and loses none
 kept-quiet : (es : List EntryValue) (e : EntryValue) → ((call : Call) → is_lost (e ∷ []) call ≡ false) → kept (e ∷ []) ≡ [] → kept (es ++ e ∷ []) ≡ kept es
 kept-quiet [] e h none = none
-kept-quiet (opens c n u ∷ es) e h none = kept-quiet es e h none
-kept-quiet (crashes c ∷ es) e h none = kept-quiet es e h none
-kept-quiet (returns n ∷ es) e h none = kept-quiet es e h none
-kept-quiet (fails n losses ∷ es) e h none = kept-quiet es e h none
 kept-quiet (calls other ∷ es) e h none =
     let same : is_lost (es ++ e ∷ []) other ≡ is_lost es other = is_lost-append es (e ∷ []) other ∙ rw (h other) (or_false (is_lost es other)) in
     elim (cases_Bool (is_lost es other)) [
       | inl gone ↦ rw (same, gone) (kept-quiet es e h none)
       | inr left ↦ rw (same, left) (ap (λ xs. other ∷ xs) (kept-quiet es e h none))
     ]
+kept-quiet (_ ∷ es) e h none = kept-quiet es e h none
 
 pub kept-push : (es : List EntryValue) (e : EntryValue) → kept (es ++ e ∷ []) ≡ kept_more (kept es) e
-kept-push es (calls call) = kept-call es call
-kept-push es (fails n losses) = kept-fail es n losses
-kept-push es (opens c n u) = kept-quiet es (opens c n u) (λ call. refl) refl
-kept-push es (crashes c) = kept-quiet es (crashes c) (λ call. refl) refl
-kept-push es (returns n) = kept-quiet es (returns n) (λ call. refl) refl
+kept-push es e = grind (arith, kept-call, kept-fail, kept-quiet)
 
 -- a run's prefix is a run
 pub run-prefix : (t : Tree) (cs ds : List Call) → IsRun t (cs ++ ds) → IsRun t cs
@@ -147,15 +110,11 @@ tree_after-push t (c ∷ cs) x = tree_after-push (answer t c.op).1 cs x
 
 -- one call more was played, and its reply is right
 pub played_right : (s : Tree) (cs : List Call) (t t' : Tree) (reply : _) (x : Call) → IsRun s cs → t ≡ tree_after s cs → (reply, t') ≡ answer t x.op → reply ≡ x.reply → IsRun s (cs ++ x ∷ []) × (t' ≡ tree_after s (cs ++ x ∷ []))
-played_right s cs t t' reply x run is step right =
-    let now : (reply, t') ≡ answer (tree_after s cs) x.op = step ∙ ap (λ u. answer u x.op) is in
-    (run-push s cs x run (sym right ∙ ap (λ p. p.0) now), ap (λ p. p.1) now ∙ sym (tree_after-push s cs x))
+played_right s cs t t' reply x run is step right = grind (arith, run-push, tree_after-push)
 
 -- its reply is wrong
 pub played_wrong : (s : Tree) (cs : List Call) (t t' : Tree) (reply : _) (x : Call) → t ≡ tree_after s cs → (reply, t') ≡ answer t x.op → (reply ≡ x.reply → ⊥) → IsRun s (cs ++ x ∷ []) → ⊥
-played_wrong s cs t t' reply x is step wrong run =
-    let now : (reply, t') ≡ answer (tree_after s cs) x.op = step ∙ ap (λ u. answer u x.op) is in
-    wrong (ap (λ p. p.0) now ∙ sym (run-last s cs x run))
+played_wrong s cs t t' reply x is step wrong run = grind (arith, run-last)
 
 -- one call more of a list of references
 pub calls_more : (cs : List (Bor Call)) (i : ℕ) (d : Bor Call) → i < length cs → map (λ x. x.now) (take (i + 1) cs) ≡ map (λ x. x.now) (take i cs) ++ (get_or cs i d).now ∷ []

@@ -1,5 +1,5 @@
 -- What each answer says.
-use Rattle.std.proofs.Common.{◌≡◌, ◌≢◌, ◌↔◌, ◌⊎◌, inl, inr, ℕ, zero, suc, ◌<◌, ◌≤◌, true, false, List, [], ◌∷◌, Contains, Some, None, refl, ap, sym, subst, ◌∙◌, arith}
+use Rattle.std.proofs.Common.{◌≡◌, ◌≢◌, ◌↔◌, ◌⊎◌, inl, inr, ℕ, zero, suc, ◌<◌, ◌≤◌, true, List, [], ◌∷◌, Contains, Some, None, refl, ap, sym, subst, ◌∙◌, arith}
 use Rattle.assise_names.specs.declared.call.Op.{Op}
 use Rattle.assise_names.specs.declared.call.Op.TheVariants.{Dsync}
 use Rattle.assise_names.specs.declared.refusal.Refusal.{Refusal}
@@ -10,8 +10,6 @@ use Rattle.assise_seq_tree.specs.Tree.{opening as opening_tree}
 use Rattle.assise_history.specs.declared.call.Loss.{Loss}
 use Rattle.assise_history.specs.Kept.{kept, tree_after}
 use Rattle.assise_inode_table.specs.Traces.{NumberedCall}
-use Rattle.assise_lease_table.specs.Leases.{lease_of}
-use Rattle.assise_lease_tree.specs.Levels.{is_revoked}
 use Rattle.std.proofs.lemmas.Bool.{cases_eq}
 use Rattle.assise_names.specs.declared.mode.Mode.{Mode}
 use Rattle.assise_record.specs.LogFrame.{LogFrame}
@@ -30,12 +28,12 @@ use Rattle.assise_model_history.specs.Lost.{IsFirstLost, losses_of}
 use Rattle.assise_model_history.proofs.FailureList.{exactly_lost}
 use Rattle.assise_model_history.proofs.RecordKeeps.{same_tree}
 use Rattle.assise_model_events.specs.ClientEvents.{Granted, Gets, Calling, Syncing, is_answered, is_awaited, is_spent, is_full, is_refused, lacks_memory, is_synced, is_replicating, last_leases, last_world, call_of_client, goal_of_sync}
-use Rattle.assise_model_events.specs.Dsyncs.{Coalescing, IsCoalescing, is_coalesced, is_refused, is_synced, lacks_memory}
+use Rattle.assise_model_events.specs.Dsyncs.{Coalescing, IsCoalescing, is_refused, is_synced, lacks_memory}
 use Rattle.assise_model_events.specs.Events.{Answer, digested, failed, joined, not_yet, received, refused, replied}
 use Rattle.assise_model_events.specs.Faults.{place_after}
 use Rattle.assise_model_events.specs.Machine.{Machine, MachineInvariant}
 use Rattle.assise_model_events.specs.MemberEvents.{Failing, Joining, is_failed, is_failed_again, is_joined, is_refused, lacks_memory}
-use Rattle.assise_model_events.specs.NodeEvents.{Delivering, Digesting, Releasing, is_delivered, is_stale, is_digested, is_released, is_refused, lacks_memory, is_ready, most_digested, undigested_to}
+use Rattle.assise_model_events.specs.NodeEvents.{Delivering, Digesting, Releasing, is_digested, is_released, is_refused, lacks_memory, is_ready, most_digested, undigested_to}
 use Rattle.assise_model_events.specs.Outcomes.{AwaitsLease}
 use Rattle.assise_model_events.proofs.LeaseSteps.{comes_to}
 use Rattle.assise_model_events.proofs.ReleaseKeeps.{freed_same}
@@ -44,17 +42,7 @@ use Rattle.assise_model_events.proofs.ReleaseKeeps.{freed_same}
 
 -- a grant revokes nothing
 grant_revokes : (w : World) (l : Leases) (c i : ℕ) (mode : Mode) (u : World) (k : Leases) → Grants w l c i mode u k → (d j : ℕ) → IsRevokedLease k d j → IsRevokedLease l d j
-grant_revokes w l c i mode u k g d j revoked =
-    elim (cases_eq d c) [
-      | inl own ↦
-          elim (cases_eq j i) [
-            | inl here ↦
-                let at : IsRevokedLease k c i = subst (λ y. IsRevokedLease k c y) here (subst (λ x. IsRevokedLease k x j) own revoked) in
-                absurd (let both : false ≡ true = sym (revoked_serves (client_lease k c i) mode at) ∙ g.granted.held in cc)
-            | inr away ↦ subst (λ o. is_revoked o ≡ true) (ap (λ ls. lease_of ls d) (g.granted.clients.elsewhere j away)) revoked
-          ]
-      | inr other ↦ subst (λ o. is_revoked o ≡ true) (g.granted.others j d other) revoked
-    ]
+grant_revokes w l c i mode u k g d j revoked = grind (arith, cases_eq, revoked_serves)
 
 grants_revoke : (x : NumberedCall) (w : World) (l : Leases) (gs : List Granted) → Gets x w l gs → (d j : ℕ) → IsRevokedLease (last_leases l gs) d j → IsRevokedLease l d j
 grants_revoke x w l [] gets d j revoked = revoked
@@ -69,27 +57,7 @@ grants_leave x w l (g ∷ gs) (missing, grant, others, more) d j other = grants_
 -- ---- calls
 
 pub awaits : (m m' : Machine) (c : ℕ) (op : Op) → Calling m c op not_yet m' → AwaitsLease m c op m'
-awaits m m' c op (is_answered reply granted is e) = absurd (let z : not_yet ≡ replied reply = is in cc)
-awaits m m' c op (is_awaited reply granted is e) =
-    let w : World = last_world m.world granted in
-    let l : Leases = last_leases m.leases granted in
-    record {
-      reply = reply;
-      granted = granted;
-      inode = e.inode;
-      mode = e.mode;
-      first = e.missing;
-      revoked = e.asks.asked.revoked;
-      revoked_before = grants_revoke (call_of_client m.world c op reply) m.world m.leases granted e.tried.gets;
-      held_before = grants_leave (call_of_client m.world c op reply) m.world m.leases granted e.tried.gets;
-      nothing_else = λ d i other. asked_elsewhere w m'.world l m'.leases c e.inode e.mode e.asks d i other;
-      of_others = λ d newly. asked_other w m'.world l m'.leases c e.inode e.mode e.asks d newly;
-      in_the_way = λ d a newly is_lease. asked_in_way w m'.world l m'.leases c e.inode e.mode e.asks d a newly is_lease;
-    }
-awaits m m' c op (is_spent reply granted is e keeps) = cc
-awaits m m' c op (is_full reply granted is e keeps) = cc
-awaits m m' c op (lacks_memory reply granted is e keeps) = cc
-awaits m m' c op (is_refused r fault is same) = cc
+awaits m m' c op h = grind (arith, grants_revoke, grants_leave, asked_elsewhere, asked_other, asked_in_way)
 
 -- ---- replies
 
@@ -121,51 +89,27 @@ sync_replies m m' c op reply h (is_refused r fault is same) = cc
 -- ---- a sync
 
 pub synced_all : (m m' : Machine) (c : ℕ) (op : Op) (reply : Reply) → Syncing m c op (replied reply) m' → received_by_all m.world c ≡ end_of_log m.world c
-synced_all m m' c op reply (is_synced own fine is e) = e.replicated
-synced_all m m' c op reply (is_replicating fine is e) = cc
-synced_all m m' c op reply (lacks_memory fine all is same) = all
-synced_all m m' c op reply (is_refused r fault is same) = cc
+synced_all m m' c op reply h = grind arith
 
 pub syncing_lacks : (m m' : Machine) (c : ℕ) (op : Op) → Syncing m c op not_yet m' → received_by_all m.world c < end_of_log m.world c
-syncing_lacks m m' c op (is_synced own fine is e) = cc
-syncing_lacks m m' c op (is_replicating fine is e) = e.lacking
-syncing_lacks m m' c op (lacks_memory fine all is same) = cc
-syncing_lacks m m' c op (is_refused r fault is same) = cc
+syncing_lacks m m' c op h = grind arith
 
 pub coalescing_replies : (m m' : Machine) (c : ℕ) (reply : Reply) → MachineInvariant m → Coalescing m c (replied reply) m' → reply ≡ (answer (tree_after opening_tree (kept m.history)) Dsync).0
-coalescing_replies m m' c reply h (is_synced own fine is e) = sync_replies m m' c Dsync reply h (is_synced own fine is e)
-coalescing_replies m m' c reply h (is_coalesced fine is e) = cc
-coalescing_replies m m' c reply h (lacks_memory fine is same) = cc
-coalescing_replies m m' c reply h (is_refused r fault is same) = cc
+coalescing_replies m m' c reply h s = grind (arith, sync_replies)
 
 pub coalescing_all : (m m' : Machine) (c : ℕ) (reply : Reply) → Coalescing m c (replied reply) m' → received_by_all m.world c ≡ end_of_log m.world c
-coalescing_all m m' c reply (is_synced own fine is e) = e.replicated
-coalescing_all m m' c reply (is_coalesced fine is e) = cc
-coalescing_all m m' c reply (lacks_memory fine is same) = cc
-coalescing_all m m' c reply (is_refused r fault is same) = cc
+coalescing_all m m' c reply h = grind arith
 
 pub coalescing_awaited : (m m' : Machine) (c : ℕ) → Coalescing m c not_yet m' → IsCoalescing m c m'
-coalescing_awaited m m' c (is_synced own fine is e) = cc
-coalescing_awaited m m' c (is_coalesced fine is e) = e
-coalescing_awaited m m' c (lacks_memory fine is same) = cc
-coalescing_awaited m m' c (is_refused r fault is same) = cc
+coalescing_awaited m m' c h = grind arith
 
 -- ---- a delivery
 
-same_place : (j k : ℕ) → received j ≡ received k → j ≡ k
-same_place j k is = cc
-
 pub delivered_place : (m m' : Machine) (f : LogFrame) (n k : ℕ) → Delivering m f n (received k) m' → k ≡ place_after m f n
-delivered_place m m' f n k (is_delivered fine is e) = same_place k (place_after m f n) is
-delivered_place m m' f n k (is_stale fine late is same) = cc
-delivered_place m m' f n k (lacks_memory fine timely is same) = cc
-delivered_place m m' f n k (is_refused r fault is same) = cc
+delivered_place m m' f n k h = grind arith
 
 pub delivered_stands : (m m' : Machine) (f : LogFrame) (n k : ℕ) → Delivering m f n (received k) m' → m'.world.received n f.client ≡ k
-delivered_stands m m' f n k (is_delivered fine is e) = e.delivers.received_here ∙ sym (same_place k (place_after m f n) is)
-delivered_stands m m' f n k (is_stale fine late is same) = cc
-delivered_stands m m' f n k (lacks_memory fine timely is same) = cc
-delivered_stands m m' f n k (is_refused r fault is same) = cc
+delivered_stands m m' f n k h = grind arith
 
 -- ---- a digest
 
@@ -187,9 +131,7 @@ digested_none m m' n (lacks_memory fine some is same) = cc
 digested_none m m' n (is_refused r fault is same) = cc
 
 pub digested_most : (m m' : Machine) (n count : ℕ) → Digesting m n (digested count) m' → count ≤ most_digested
-digested_most m m' n count (is_digested k fine is e) = (let own : count ≡ k = same_count count k is in omega (arith, own, e.few))
-digested_most m m' n count (lacks_memory fine some is same) = cc
-digested_most m m' n count (is_refused r fault is same) = cc
+digested_most m m' n count h = grind (arith, same_count)
 
 -- ---- leases that go
 
@@ -211,10 +153,7 @@ listed_exactly m m' n losses l h at (lacks_memory fine is same) = cc
 listed_exactly m m' n losses l h at (is_refused r fault is same) = cc
 
 pub again_none : (m m' : Machine) (n : ℕ) (losses : List Loss) → standing_of m.members.nodes n ≢ Some full → Failing m n (failed losses) m' → losses ≡ []
-again_none m m' n losses away (is_failed fine is e) = absurd (away e.was_full)
-again_none m m' n losses away (is_failed_again fine is e) = same_losses losses [] is
-again_none m m' n losses away (lacks_memory fine is same) = cc
-again_none m m' n losses away (is_refused r fault is same) = cc
+again_none m m' n losses away h = grind (arith, same_losses)
 
 pub join_busy : (m m' : Machine) (n : ℕ) → Joining m n (refused Busy) m' → join_fault m.members n ≡ Some Busy
 join_busy m m' n (is_joined fine is e) = cc
@@ -225,11 +164,7 @@ join_busy m m' n (is_refused r fault is same) = fault ∙ ap Some (refusal_of r 
     refusal_of r is = cc
 
 pub busy_same : (m m' : Machine) (n : ℕ) → Joining m n (refused Busy) m' → m' ≡ m
-busy_same m m' n (is_joined fine is e) = cc
-busy_same m m' n (lacks_memory fine is same) = same
-busy_same m m' n (is_refused r fault is same) = same
+busy_same m m' n h = grind arith
 
 pub join_fine : (m m' : Machine) (n : ℕ) → Joining m n joined m' → join_fault m.members n ≡ None
-join_fine m m' n (is_joined fine is e) = fine
-join_fine m m' n (lacks_memory fine is same) = fine
-join_fine m m' n (is_refused r fault is same) = cc
+join_fine m m' n h = grind arith

@@ -1,8 +1,6 @@
 -- What clients do can be answered where no fault stands: each outcome leads to a machine.
-use Rattle.std.proofs.Common.{◌≡◌, ℕ, suc, ◌<◌, ◌≤◌, max, nat_le, inl, inr, true, false, [], ◌∷◌, ◌++◌, length, Some, None, refl, sym, subst, arith, append-nil, eq-eqb}
-use Rattle.std.proofs.lemmas.Bool.{cases_eq, ne_eqb}
+use Rattle.std.proofs.Common.{◌≡◌, ℕ, suc, ◌<◌, max, nat_le, true, false, [], ◌∷◌, ◌++◌, length, Some, None, refl, sym, arith, append-nil}
 use Rattle.assise_names.specs.declared.call.Op.{Op}
-use Rattle.assise_names.specs.declared.call.Op.TheVariants.{Create, Mkdir, Read, Write, Truncate, Rename, Unlink, Rmdir, List as ListCall, Stat, Fsync, Dsync}
 use Rattle.assise_names.specs.declared.durability.Durability.{Durability}
 use Rattle.assise_history.specs.Legal.{is_sync}
 use Rattle.assise_names.specs.declared.mode.Mode.{Mode}
@@ -115,62 +113,11 @@ awaited_can m c i op reply mode h fine missing taken =
 abbrev raised_world : World → ℕ → World
 raised_world w c = record w { goal = λ d. max (w.goal d) (goal_of_sync w c d) }
 
-goal_there : (w : World) (c d : ℕ) → goal_of_sync w c d ≤ end_of_log w d
-goal_there w c d =
-    elim (cases_eq d c) [
-      | inl is ↦ rw (eq-eqb d c is) (subst (λ b. end_of_log w b ≤ end_of_log w d) is (omega arith))
-      | inr other ↦ rw (ne_eqb d c other) (omega arith)
-    ]
-
 raises_it : (w : World) (c : ℕ) → RaisesGoals w (goal_of_sync w c) (raised_world w c)
-raises_it w c = record {
-  there = goal_there w c;
-  logs = record { calls = refl; records = λ d. refl; first = λ d. refl; next = λ d. refl; border = λ d k. refl; made = λ d. refl };
-  clients = record { clients = refl; home = λ d. refl; lives = λ d. refl; crashed = λ d. refl };
-  nodes = record { full = refl; same = λ n f. record { area = λ i. refl; log = λ d. refl; received = λ d. refl; digested = λ d. refl } };
-  leases = record { holds = λ d i. refl; writes = λ d i. refl };
-  goals = λ d. refl;
-}
+raises_it w c = grind arith
 
 sync_may : (w : World) (l : Leases) (c : ℕ) (op : Op) (u : Durability) → is_sync op u ≡ true → w.lives c ≡ true → w.crashed c ≡ false → MayCallUnder (raised_world w c) l (call_of_client w c op Done)
-sync_may w l c Fsync u sync lives running = record {
-  may = record {
-    lives = lives;
-    running = running;
-    number = refl;
-    fresh = refl;
-    reply = refl;
-    held = λ i there. cc;
-    written = λ i there. cc;
-    room = λ makes. cc;
-  };
-  visited = λ i there. cc;
-  changed = λ i there. cc;
-}
-sync_may w l c Dsync u sync lives running = record {
-  may = record {
-    lives = lives;
-    running = running;
-    number = refl;
-    fresh = refl;
-    reply = refl;
-    held = λ i there. cc;
-    written = λ i there. cc;
-    room = λ makes. cc;
-  };
-  visited = λ i there. cc;
-  changed = λ i there. cc;
-}
-sync_may w l c (Create p) u sync lives running = cc
-sync_may w l c (Mkdir p) u sync lives running = cc
-sync_may w l c (Read p offset most) u sync lives running = cc
-sync_may w l c (Write p offset bytes) u sync lives running = cc
-sync_may w l c (Truncate p size) u sync lives running = cc
-sync_may w l c (Rename p q) u sync lives running = cc
-sync_may w l c (Unlink p) u sync lives running = cc
-sync_may w l c (Rmdir p) u sync lives running = cc
-sync_may w l c (ListCall p) u sync lives running = cc
-sync_may w l c (Stat p) u sync lives running = cc
+sync_may w l c op u sync lives running = grind arith
 
 pub synced_can : (m : Machine) (c : ℕ) (op : Op) (u : Durability) → is_sync op u ≡ true → MachineInvariant m → client_fault m c ≡ None → received_by_all m.world c ≡ end_of_log m.world c → (m' : Machine) × Syncing m c op (replied Done) m'
 synced_can m c op u sync h fine all =

@@ -1,11 +1,10 @@
 -- A call is answered: the step that its entry tells of, and the length of its client's log.
-use Rattle.std.proofs.Common.{◌≡◌, ℕ, ◌+◌, ◌<◌, ◌≤◌, true, List, [], ◌∷◌, ◌++◌, length, refl, ap, sym, subst, ◌∙◌, inl, inr, arith, length-append}
+use Rattle.std.proofs.Common.{◌≡◌, ℕ, ◌+◌, ◌<◌, ◌≤◌, true, [], ◌∷◌, ◌++◌, length, ap, sym, ◌∙◌, arith, length-append}
 use Rattle.std.proofs.lemmas.Bool.{cases_eq}
 use Rattle.assise_history.specs.Entries.{calls}
 use Rattle.assise_history.specs.Legal.{syncs}
-use Rattle.assise_record.specs.Records.{has_some, record_of}
+use Rattle.assise_record.specs.Records.{has_some}
 use Rattle.assise_inode_table.specs.Traces.{NumberedCall}
-use Rattle.assise_record.specs.declared.effect.Effect.{Effect}
 use Rattle.assise_model_world.specs.ClientSteps.{MakesCall}
 use Rattle.assise_model_world.specs.World.{World, end_of_log, received_by_all, step_at_home}
 use Rattle.assise_model_history.specs.Traces.{EntryHappens, call}
@@ -29,18 +28,7 @@ call_happens m m' w x h number e replicated adds members =
 
 -- ---- the client's log
 
--- with its record a log is no longer than its limit
-room_for : (n : ℕ) (es : List Effect) (size limit : ℕ) → size ≤ limit → (has_some es ≡ true → size < limit) → size + length (record_of n es) ≤ limit
-room_for n [] size limit few room = omega (arith, few)
-room_for n (e ∷ es) size limit few room = omega (arith, room refl)
-
 pub logs_answered : (m m' : Machine) (w : World) (x : NumberedCall) → MachineInvariant m → ((c : ℕ) → w.records c ≡ m.world.records c) → MakesCall w x m'.world →
     (has_some (step_at_home w x).effects ≡ true → length (m.world.records x.client) < m.limit) → m'.limit ≡ m.limit →
     (c : ℕ) → length (m'.world.records c) ≤ m'.limit
-logs_answered m m' w x h same e room limit c =
-    elim (cases_eq c x.client) [
-      | inl own ↦ subst (λ d. length (m'.world.records d) ≤ m'.limit) (sym own)
-          (rw (e.records_own, same x.client, limit, length-append (m.world.records x.client) (record_of x.number (step_at_home w x).effects))
-          (room_for x.number (step_at_home w x).effects (length (m.world.records x.client)) m.limit (h.logs x.client) room))
-      | inr other ↦ rw (e.records_else c other, same c, limit) (h.logs c)
-    ]
+logs_answered m m' w x h same e room limit c = grind (arith, cases_eq, length-append)

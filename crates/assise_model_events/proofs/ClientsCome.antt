@@ -6,7 +6,6 @@ use Rattle.assise_names.specs.declared.durability.Durability.TheVariants.{Optimi
 use Rattle.assise_names.specs.declared.mode.Mode.TheVariants.{Read, Write}
 use Rattle.assise_names.specs.declared.refusal.Refusal.TheVariants.{ClientGone, LogFull, NodeDown, OutOfMemory}
 use Rattle.assise_names.specs.declared.reply.Reply.TheVariants.{Done}
-use Rattle.assise_history.specs.Entries.{crashes}
 use Rattle.assise_history.specs.Legal.{durability_of}
 use Rattle.assise_history.proofs.ClientCounts.{durability-still}
 use Rattle.assise_record.specs.Groups.{AllHaveEffects}
@@ -235,9 +234,7 @@ not_coalesced_for_memory_comes =
     record { limit = 1; before = m; reached = f.reached; after = m; outcome = (was, lacks_memory (file_fine m f) refl refl) }
 
 crash_opened : (m m' : Machine) → Crashing m 1 crashed m' → durability_of 1 m'.history ≡ durability_of 1 m.history
-crash_opened m m' (is_crashed fine is e) = ap (durability_of 1) e.adds.history ∙ durability-still m.history (crashes 1) 1 refl
-crash_opened m m' (lacks_memory fine is same) = cc
-crash_opened m m' (is_refused r fault is same) = cc
+crash_opened m m' h = grind (arith, durability-still)
 
 pub not_coalesced_comes : Comes (CoalescesTo (refused ClientGone))
 not_coalesced_comes =

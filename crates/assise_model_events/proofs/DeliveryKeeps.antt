@@ -16,7 +16,6 @@ use Rattle.assise_model_events.specs.Faults.{place_after}
 use Rattle.assise_model_events.specs.Happenings.{Leads}
 use Rattle.assise_model_events.specs.Machine.{Machine, MachineInvariant, Adds}
 use Rattle.assise_model_events.specs.NodeEvents.{IsDelivered, Delivering}
-use Rattle.assise_model_events.specs.NodeEvents.Delivering.{is_delivered, is_stale, lacks_memory, is_refused}
 use Rattle.assise_model_events.proofs.EventTraces.{leads_sound, leads_recorded, same_leads, same_holds, with_world, quietly, ends_as}
 
 -- ---- where no entry is added
@@ -63,13 +62,7 @@ delivered_holds m m' f n h e =
     e.delivers.clients.clients
 
 pub delivery_leads : (m m' : Machine) (f : LogFrame) (n : ℕ) (a : Answer) → MachineInvariant m → Delivering m f n a m' → Leads m m'
-delivery_leads m m' f n a h (is_delivered fine is e) = delivered_leads m m' f n e
-delivery_leads m m' f n a h (is_stale fine late is same) = same_leads m m' same
-delivery_leads m m' f n a h (lacks_memory fine timely is same) = same_leads m m' same
-delivery_leads m m' f n a h (is_refused r why is same) = same_leads m m' same
+delivery_leads m m' f n a h s = grind (arith, delivered_leads, same_leads)
 
 pub delivery_keeps : (m m' : Machine) (f : LogFrame) (n : ℕ) (a : Answer) → MachineInvariant m → Delivering m f n a m' → MachineInvariant m'
-delivery_keeps m m' f n a h (is_delivered fine is e) = delivered_holds m m' f n h e
-delivery_keeps m m' f n a h (is_stale fine late is same) = same_holds m m' same h
-delivery_keeps m m' f n a h (lacks_memory fine timely is same) = same_holds m m' same h
-delivery_keeps m m' f n a h (is_refused r why is same) = same_holds m m' same h
+delivery_keeps m m' f n a h s = grind (arith, delivered_holds, same_holds)

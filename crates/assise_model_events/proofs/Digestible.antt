@@ -1,5 +1,5 @@
 -- A node can digest what all full nodes have.
-use Rattle.std.proofs.Common.{◌≡◌, ℕ, zero, suc, ◌+◌, ◌<◌, ◌≤◌, min, true, None, refl, ap, sym, ◌∙◌, arith, append-nil}
+use Rattle.std.proofs.Common.{◌≡◌, ℕ, zero, suc, ◌+◌, ◌<◌, ◌≤◌, min, true, None, refl, sym, ◌∙◌, arith, append-nil}
 use Rattle.assise_names.specs.declared.refusal.Refusal.TheVariants.{WrongPhase}
 use Rattle.assise_manager.specs.Membership.{Membership}
 use Rattle.assise_manager.specs.Standings.{standing_of}
@@ -53,20 +53,7 @@ record DigestedTo (m : Machine) (n count c : ℕ) : Type 0 where
 
 module _ (m : Machine) (n count : ℕ) (h : MachineInvariant m) (here : Full m.world n) (borders : (c : ℕ) → m.world.border c (m.world.digested n c + part_of m.world n count c) ≡ true) where
   may_next : (c : ℕ) (r : DigestedTo m n count c) → MayDigest r.world n (suc c) (r.world.digested n (suc c) + part_of m.world n count (suc c))
-  may_next c r =
-      let there : Full r.world n = full_after m.world r.world n r.same.full here in
-      let known : r.world.digested n (suc c) ≤ received_by_all r.world (suc c) = (r.same.sound.coherent.order n (suc c) there).replicated in
-      let now : r.world.digested n (suc c) ≡ m.world.digested n (suc c) = r.later (suc c) (omega arith) in
-      let all : received_by_all r.world (suc c) ≡ received_by_all m.world (suc c) = r.same.received (suc c) in
-      record {
-        full_node = there;
-        from = omega arith;
-        to = omega (arith, known, now, all);
-        border_to =
-            r.same.border (suc c) (r.world.digested n (suc c) + part_of m.world n count (suc c))
-            ∙ ap (λ k. m.world.border (suc c) (k + part_of m.world n count (suc c))) now
-            ∙ borders (suc c);
-      }
+  may_next c r = grind (arith, full_after)
 
   next_digested : (c : ℕ) → DigestedTo m n count c → DigestedTo m n count (suc c)
   next_digested c r =

@@ -1,5 +1,5 @@
 -- Each event, by what it is.
-use Rattle.std.proofs.Common.{◌≡◌, ◌++◌, ℕ, [], refl, ap, sym, subst}
+use Rattle.std.proofs.Common.{◌≡◌, ◌++◌, ℕ, refl, ap, arith}
 use Rattle.assise_names.specs.declared.call.Op.{Op}
 use Rattle.assise_names.specs.declared.call.Op.TheVariants.{Create, Mkdir, Read, Write, Truncate, Rename, Unlink, Rmdir, List as ListCall, Stat, Fsync, Dsync}
 use Rattle.assise_names.specs.declared.durability.Durability.{Durability}
@@ -7,8 +7,8 @@ use Rattle.assise_names.specs.declared.durability.Durability.TheVariants.{Pessim
 use Rattle.assise_history.specs.Legal.{durability_of, is_sync}
 use Rattle.assise_model_events.specs.Events.{Answer, ClusterEvent, open_client, try_call, try_fsync, outgoing, deliver, digest, release_ready, set_hot, crash, fail, back, refill, join, raise, entries_of}
 use Rattle.assise_model_events.specs.Happenings.{Dsyncing, Fsyncing, Happens, Leads, Trying}
-use Rattle.assise_model_events.specs.Machine.{Machine, MachineInvariant, state_of, with_hot}
-use Rattle.assise_model_events.specs.NodeEvents.{Sending, SettingHot, is_sent, is_set, is_refused, lacks_memory}
+use Rattle.assise_model_events.specs.Machine.{Machine, MachineInvariant}
+use Rattle.assise_model_events.specs.NodeEvents.{Sending, SettingHot}
 use Rattle.assise_model_events.proofs.CallKeeps.{calling_leads, calling_keeps}
 use Rattle.assise_model_events.proofs.OpenAndCrash.{opening_leads, opening_keeps, crashing_leads, crashing_keeps}
 use Rattle.assise_model_events.proofs.Digested.{digesting_leads, digesting_holds}
@@ -44,37 +44,16 @@ event_told m m' (raise n) a h = raising_told m m' n a h
 -- ---- frames that go out, what may be hot, and calls that are syncs
 
 sending_leads : (m m' : Machine) (n : ℕ) (a : Answer) → Sending m n a m' → Leads m m'
-sending_leads m m' n a (is_sent fine is same) = same_leads m m' same
-sending_leads m m' n a (lacks_memory fine some is same) = same_leads m m' same
-sending_leads m m' n a (is_refused r fault is same) = same_leads m m' same
+sending_leads m m' n a h = grind (arith, same_leads)
 
 sending_holds : (m m' : Machine) (n : ℕ) (a : Answer) → MachineInvariant m → Sending m n a m' → MachineInvariant m'
-sending_holds m m' n a h (is_sent fine is same) = same_holds m m' same h
-sending_holds m m' n a h (lacks_memory fine some is same) = same_holds m m' same h
-sending_holds m m' n a h (is_refused r fault is same) = same_holds m m' same h
+sending_holds m m' n a h s = grind (arith, same_holds)
 
 pub hot_leads : (m m' : Machine) (n capacity : ℕ) (a : Answer) → SettingHot m n capacity a m' → Leads m m'
-hot_leads m m' n capacity a (is_set fine is same) = record { states = []; trace = tt; last = ap state_of (sym same) }
-hot_leads m m' n capacity a (lacks_memory fine is same) = same_leads m m' same
-hot_leads m m' n capacity a (is_refused r fault is same) = same_leads m m' same
-
--- what holds speaks of no inode that may be hot
-with_hot_holds : (m : Machine) (n capacity : ℕ) → MachineInvariant m → MachineInvariant (with_hot m n capacity)
-with_hot_holds m n capacity h = record {
-  sound = h.sound;
-  dropped = h.dropped;
-  recorded = h.recorded;
-  leases = h.leases;
-  members = h.members;
-  epochs = h.epochs;
-  logs = h.logs;
-  clients = h.clients;
-}
+hot_leads m m' n capacity a h = grind (arith, same_leads)
 
 pub hot_holds : (m m' : Machine) (n capacity : ℕ) (a : Answer) → MachineInvariant m → SettingHot m n capacity a m' → MachineInvariant m'
-hot_holds m m' n capacity a h (is_set fine is same) = subst MachineInvariant (sym same) (with_hot_holds m n capacity h)
-hot_holds m m' n capacity a h (lacks_memory fine is same) = same_holds m m' same h
-hot_holds m m' n capacity a h (is_refused r fault is same) = same_holds m m' same h
+hot_holds m m' n capacity a h s = grind (arith, same_holds)
 
 fsyncing_leads : (m m' : Machine) (c : ℕ) (u : Durability) (a : Answer) → durability_of c m.history ≡ u → MachineInvariant m → Fsyncing u m c a m' → Leads m m'
 fsyncing_leads m m' c Pessimistic a is h s = syncing_leads m m' c Fsync Pessimistic a refl h s

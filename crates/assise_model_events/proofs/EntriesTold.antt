@@ -1,127 +1,71 @@
 -- An event's answer tells exactly the entries that the history gets.
-use Rattle.std.proofs.Common.{◌≡◌, ℕ, List, ◌++◌, refl, ap, sym, ◌∙◌, append-nil}
+use Rattle.std.proofs.Common.{◌≡◌, ℕ, List, ◌++◌, ap, ◌∙◌, append-nil, arith}
 use Rattle.assise_names.specs.declared.call.Op.{Op}
 use Rattle.assise_names.specs.declared.call.Op.TheVariants.{Create, Mkdir, Read, Write, Truncate, Rename, Unlink, Rmdir, List as ListCall, Stat, Fsync, Dsync}
 use Rattle.assise_names.specs.declared.durability.Durability.{Durability}
 use Rattle.assise_names.specs.declared.durability.Durability.TheVariants.{Pessimistic, Optimistic}
 use Rattle.assise_history.specs.Legal.{durability_of}
 use Rattle.assise_record.specs.LogFrame.{LogFrame}
-use Rattle.assise_model_events.specs.Events.{Answer, ClusterEvent, open_client, try_call, try_fsync, outgoing, deliver, digest, release_ready, set_hot, crash, fail, back, refill, join, raise, entries_of, refused, opened, replied, not_yet, sent, received, digested, released, hot_set, crashed, failed, began, left, joined, raised}
+use Rattle.assise_model_events.specs.Events.{Answer, open_client, try_call, try_fsync, outgoing, deliver, digest, release_ready, set_hot, crash, fail, back, refill, join, raise, entries_of}
 use Rattle.assise_history.specs.Entries.{EntryValue}
-use Rattle.assise_model_events.specs.Dsyncs.{Coalescing, is_coalesced, is_refused, is_synced, lacks_memory}
+use Rattle.assise_model_events.specs.Dsyncs.{Coalescing}
 use Rattle.assise_model_events.specs.Happenings.{Dsyncing, Fsyncing, Trying}
 use Rattle.assise_model_events.specs.Machine.{Machine}
-use Rattle.assise_model_events.specs.ClientEvents.{Opening, Calling, Syncing, Noting, Crashing, is_answered, is_awaited, is_crashed, is_full, is_noted, is_opened, is_refused, is_replicating, is_spent, is_synced, lacks_memory}
-use Rattle.assise_model_events.specs.NodeEvents.{Sending, Delivering, Digesting, Releasing, SettingHot, is_delivered, is_digested, is_refused, is_released, is_sent, is_set, is_stale, lacks_memory}
-use Rattle.assise_model_events.specs.MemberEvents.{Failing, Returning, Refilling, Joining, Raising, is_back, is_failed, is_failed_again, is_joined, is_raised, is_refilled, is_refused, is_whole, lacks_memory}
-use Rattle.assise_model_events.proofs.EventTraces.{same_told}
-
--- an answer by another name
-told_as : (m m' : Machine) (e : ClusterEvent) (a b : Answer) → a ≡ b → m'.history ≡ m.history ++ entries_of m.history e b → m'.history ≡ m.history ++ entries_of m.history e a
-told_as m m' e a b is told = told ∙ ap (λ x. m.history ++ entries_of m.history e x) (sym is)
+use Rattle.assise_model_events.specs.ClientEvents.{Opening, Calling, Syncing, Noting, Crashing}
+use Rattle.assise_model_events.specs.NodeEvents.{Sending, Delivering, Digesting, Releasing, SettingHot}
+use Rattle.assise_model_events.specs.MemberEvents.{Failing, Returning, Refilling, Joining, Raising}
 
 pub opening_told : (m m' : Machine) (n : ℕ) (u : Durability) (a : Answer) → Opening m n u a m' → m'.history ≡ m.history ++ entries_of m.history (open_client n u) a
-opening_told m m' n u a (is_opened fine is e) = told_as m m' (open_client n u) a _ is e.adds.history
-opening_told m m' n u a (is_refused r fault is same) = told_as m m' (open_client n u) a _ is (same_told m m' same)
-opening_told m m' n u a (lacks_memory fine is same) = told_as m m' (open_client n u) a _ is (same_told m m' same)
+opening_told m m' n u a h = grind (arith, append-nil)
 
 pub calling_told : (m m' : Machine) (c : ℕ) (op : Op) (a : Answer) → Calling m c op a m' → m'.history ≡ m.history ++ entries_of m.history (try_call c op) a
-calling_told m m' c op a (is_answered reply granted is e) = told_as m m' (try_call c op) a _ is e.adds.history
-calling_told m m' c op a (is_awaited reply granted is e) = told_as m m' (try_call c op) a _ is e.adds.history
-calling_told m m' c op a (is_spent reply granted is e keeps) = told_as m m' (try_call c op) a _ is keeps.adds.history
-calling_told m m' c op a (is_full reply granted is e keeps) = told_as m m' (try_call c op) a _ is keeps.adds.history
-calling_told m m' c op a (lacks_memory reply granted is e keeps) = told_as m m' (try_call c op) a _ is keeps.adds.history
-calling_told m m' c op a (is_refused r fault is same) = told_as m m' (try_call c op) a _ is (same_told m m' same)
+calling_told m m' c op a h = grind (arith, append-nil)
 
 pub syncing_told : (m m' : Machine) (c : ℕ) (op : Op) (a : Answer) → Syncing m c op a m' → m'.history ≡ m.history ++ entries_of m.history (try_call c op) a
-syncing_told m m' c op a (is_synced reply fine is e) = told_as m m' (try_call c op) a _ is e.adds.history
-syncing_told m m' c op a (is_replicating fine is e) = told_as m m' (try_call c op) a _ is e.adds.history
-syncing_told m m' c op a (lacks_memory fine all is same) = told_as m m' (try_call c op) a _ is (same_told m m' same)
-syncing_told m m' c op a (is_refused r fault is same) = told_as m m' (try_call c op) a _ is (same_told m m' same)
+syncing_told m m' c op a h = grind (arith, append-nil)
 
 pub noting_told : (m m' : Machine) (c : ℕ) (a : Answer) → Noting m c a m' → m'.history ≡ m.history ++ entries_of m.history (try_call c Fsync) a
-noting_told m m' c a (is_noted reply fine is e) = told_as m m' (try_call c Fsync) a _ is e.adds.history
-noting_told m m' c a (lacks_memory fine is same) = told_as m m' (try_call c Fsync) a _ is (same_told m m' same)
-noting_told m m' c a (is_refused r fault is same) = told_as m m' (try_call c Fsync) a _ is (same_told m m' same)
+noting_told m m' c a h = grind (arith, append-nil)
 
 pub coalescing_told : (m m' : Machine) (c : ℕ) (a : Answer) → Coalescing m c a m' → m'.history ≡ m.history ++ entries_of m.history (try_call c Dsync) a
-coalescing_told m m' c a (is_synced reply fine is e) = told_as m m' (try_call c Dsync) a _ is e.adds.history
-coalescing_told m m' c a (is_coalesced fine is e) = told_as m m' (try_call c Dsync) a _ is e.adds.history
-coalescing_told m m' c a (lacks_memory fine is same) = told_as m m' (try_call c Dsync) a _ is (same_told m m' same)
-coalescing_told m m' c a (is_refused r fault is same) = told_as m m' (try_call c Dsync) a _ is (same_told m m' same)
+coalescing_told m m' c a h = grind (arith, append-nil)
 
 pub crashing_told : (m m' : Machine) (c : ℕ) (a : Answer) → Crashing m c a m' → m'.history ≡ m.history ++ entries_of m.history (crash c) a
-crashing_told m m' c a (is_crashed fine is e) = told_as m m' (crash c) a _ is e.adds.history
-crashing_told m m' c a (lacks_memory fine is same) = told_as m m' (crash c) a _ is (same_told m m' same)
-crashing_told m m' c a (is_refused r fault is same) = told_as m m' (crash c) a _ is (same_told m m' same)
+crashing_told m m' c a h = grind (arith, append-nil)
 
 pub sending_told : (m m' : Machine) (n : ℕ) (a : Answer) → Sending m n a m' → m'.history ≡ m.history ++ entries_of m.history (outgoing n) a
-sending_told m m' n a (is_sent fine is same) = told_as m m' (outgoing n) a _ is (same_told m m' same)
-sending_told m m' n a (lacks_memory fine some is same) = told_as m m' (outgoing n) a _ is (same_told m m' same)
-sending_told m m' n a (is_refused r fault is same) = told_as m m' (outgoing n) a _ is (same_told m m' same)
+sending_told m m' n a h = grind (arith, append-nil)
 
 pub delivering_told : (m m' : Machine) (f : LogFrame) (n : ℕ) (a : Answer) → Delivering m f n a m' → m'.history ≡ m.history ++ entries_of m.history (deliver f n) a
-delivering_told m m' f n a (is_delivered fine is e) = told_as m m' (deliver f n) a _ is e.adds.history
-delivering_told m m' f n a (is_stale fine late is same) = told_as m m' (deliver f n) a _ is (same_told m m' same)
-delivering_told m m' f n a (lacks_memory fine timely is same) = told_as m m' (deliver f n) a _ is (same_told m m' same)
-delivering_told m m' f n a (is_refused r fault is same) = told_as m m' (deliver f n) a _ is (same_told m m' same)
+delivering_told m m' f n a h = grind (arith, append-nil)
 
 pub digesting_told : (m m' : Machine) (n : ℕ) (a : Answer) → Digesting m n a m' → m'.history ≡ m.history ++ entries_of m.history (digest n) a
-digesting_told m m' n a (is_digested count fine is e) = told_as m m' (digest n) a _ is e.adds.history
-digesting_told m m' n a (lacks_memory fine some is same) = told_as m m' (digest n) a _ is (same_told m m' same)
-digesting_told m m' n a (is_refused r fault is same) = told_as m m' (digest n) a _ is (same_told m m' same)
+digesting_told m m' n a h = grind (arith, append-nil)
 
 pub releasing_told : (m m' : Machine) (a : Answer) → Releasing m a m' → m'.history ≡ m.history ++ entries_of m.history release_ready a
-releasing_told m m' a (is_released gone freed is e) = told_as m m' release_ready a _ is e.adds.history
+releasing_told m m' a h = grind (arith, append-nil)
 
 pub hot_told : (m m' : Machine) (n capacity : ℕ) (a : Answer) → SettingHot m n capacity a m' → m'.history ≡ m.history ++ entries_of m.history (set_hot n capacity) a
-hot_told m m' n capacity a (is_set fine is same) = told_as m m' (set_hot n capacity) a _ is (ap (λ x. x.history) same ∙ sym (append-nil m.history))
-hot_told m m' n capacity a (lacks_memory fine is same) = told_as m m' (set_hot n capacity) a _ is (same_told m m' same)
-hot_told m m' n capacity a (is_refused r fault is same) = told_as m m' (set_hot n capacity) a _ is (same_told m m' same)
+hot_told m m' n capacity a h = grind (arith, append-nil)
 
 pub failing_told : (m m' : Machine) (n : ℕ) (a : Answer) → Failing m n a m' → m'.history ≡ m.history ++ entries_of m.history (fail n) a
-failing_told m m' n a (is_failed fine is e) = told_as m m' (fail n) a _ is e.adds.history
-failing_told m m' n a (is_failed_again fine is e) = told_as m m' (fail n) a _ is e.adds.history
-failing_told m m' n a (lacks_memory fine is same) = told_as m m' (fail n) a _ is (same_told m m' same)
-failing_told m m' n a (is_refused r fault is same) = told_as m m' (fail n) a _ is (same_told m m' same)
+failing_told m m' n a h = grind (arith, append-nil)
 
 pub returning_told : (m m' : Machine) (n : ℕ) (a : Answer) → Returning m n a m' → m'.history ≡ m.history ++ entries_of m.history (back n) a
-returning_told m m' n a (is_back fine is e) = told_as m m' (back n) a _ is e.adds.history
-returning_told m m' n a (lacks_memory fine is same) = told_as m m' (back n) a _ is (same_told m m' same)
-returning_told m m' n a (is_refused r fault is same) = told_as m m' (back n) a _ is (same_told m m' same)
+returning_told m m' n a h = grind (arith, append-nil)
 
 pub refilling_told : (m m' : Machine) (n : ℕ) (a : Answer) → Refilling m n a m' → m'.history ≡ m.history ++ entries_of m.history (refill n) a
-refilling_told m m' n a (is_refilled fine is e) = told_as m m' (refill n) a _ is e.adds.history
-refilling_told m m' n a (is_whole fine none is same) = told_as m m' (refill n) a _ is (same_told m m' same)
-refilling_told m m' n a (lacks_memory fine some is same) = told_as m m' (refill n) a _ is (same_told m m' same)
-refilling_told m m' n a (is_refused r fault is same) = told_as m m' (refill n) a _ is (same_told m m' same)
+refilling_told m m' n a h = grind (arith, append-nil)
 
 pub joining_told : (m m' : Machine) (n : ℕ) (a : Answer) → Joining m n a m' → m'.history ≡ m.history ++ entries_of m.history (join n) a
-joining_told m m' n a (is_joined fine is e) = told_as m m' (join n) a _ is e.adds.history
-joining_told m m' n a (lacks_memory fine is same) = told_as m m' (join n) a _ is (same_told m m' same)
-joining_told m m' n a (is_refused r fault is same) = told_as m m' (join n) a _ is (same_told m m' same)
+joining_told m m' n a h = grind (arith, append-nil)
 
 pub raising_told : (m m' : Machine) (n : ℕ) (a : Answer) → Raising m n a m' → m'.history ≡ m.history ++ entries_of m.history (raise n) a
-raising_told m m' n a (is_raised fine is e) = told_as m m' (raise n) a _ is e.adds.history
-raising_told m m' n a (is_refused r fault is same) = told_as m m' (raise n) a _ is (same_told m m' same)
+raising_told m m' n a h = grind (arith, append-nil)
 
 -- an fsync, which has two names
 by_either_name : (h : List EntryValue) (c : ℕ) (a : Answer) → entries_of h (try_call c Fsync) a ≡ entries_of h (try_fsync c) a
-by_either_name h c (refused r) = refl
-by_either_name h c (opened k) = refl
-by_either_name h c (replied reply) = refl
-by_either_name h c not_yet = refl
-by_either_name h c (sent frames) = refl
-by_either_name h c (received place) = refl
-by_either_name h c (digested count) = refl
-by_either_name h c (released count) = refl
-by_either_name h c hot_set = refl
-by_either_name h c crashed = refl
-by_either_name h c (failed losses) = refl
-by_either_name h c (began stale) = refl
-by_either_name h c (left stale) = refl
-by_either_name h c joined = refl
-by_either_name h c raised = refl
+by_either_name h c a = grind arith
 
 call_told : (m m' : Machine) (c : ℕ) (u : Durability) (a : Answer) → Fsyncing u m c a m' → m'.history ≡ m.history ++ entries_of m.history (try_call c Fsync) a
 call_told m m' c Pessimistic a h = syncing_told m m' c Fsync a h

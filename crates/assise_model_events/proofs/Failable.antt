@@ -1,5 +1,5 @@
 -- A node can fail: a full one beside others, and one that was coming back.
-use Rattle.std.proofs.Common.{◌≡◌, ◌≢◌, ℕ, zero, suc, ◌+◌, ◌-◌, ◌<◌, ◌≤◌, ◌==◌, inl, inr, cond, true, if◌then◌else◌, drop, List, [], ◌∷◌, ◌++◌, length, Option, Some, None, refl, ap, sym, ◌∙◌, subst, arith, eq-eqb}
+use Rattle.std.proofs.Common.{◌≡◌, ◌≢◌, ℕ, zero, suc, ◌+◌, ◌-◌, ◌<◌, ◌==◌, inl, inr, cond, true, if◌then◌else◌, drop, List, [], ◌∷◌, ◌++◌, length, Option, Some, None, refl, ap, sym, ◌∙◌, subst, arith, eq-eqb}
 use Rattle.std.specs.List.{slice_set}
 use Rattle.std.proofs.lemmas.Bool.{cases_eq, ne_eqb}
 use Rattle.std.proofs.lemmas.List.{nil_from_length}
@@ -7,7 +7,6 @@ use Rattle.std.proofs.lemmas.Option.{none-some, same_Some}
 use Rattle.assise_names.specs.declared.refusal.Refusal.TheVariants.{BadNode, LastNode, WrongPhase}
 use Rattle.assise_history.specs.declared.call.Loss.{Loss}
 use Rattle.assise_history.specs.Entries.{fails}
-use Rattle.assise_history.specs.Legal.{calls_made, clients_opened}
 use Rattle.assise_history.proofs.ClientCounts.{early}
 use Rattle.assise_lease_table.specs.Leases.{revoke}
 use Rattle.assise_lease_tree.specs.Levels.{lives}
@@ -59,12 +58,7 @@ beside o n at fine =
 
 no_records : (m : Machine) → MachineInvariant m → (c : ℕ) → m.world.clients < c → m.world.records c ≡ []
 unfolding end_of_log
-no_records m h c above =
-    let count : m.world.clients ≡ clients_opened m.history = h.recorded.count in
-    let none : calls_made c m.history ≡ 0 = early m.history h.recorded.legal c (omega (arith, count, above)) in
-    let next : m.world.next c ≡ calls_made c m.history = h.recorded.next c in
-    let few : m.world.first c + length (m.world.records c) ≤ m.world.next c = h.sound.few_records c in
-    nil_from_length (m.world.records c) (omega (arith, none, next, few))
+no_records m h c above = grind (arith, early, nil_from_length)
 
 -- ---- what a failure leads to
 
@@ -99,25 +93,7 @@ dropped_world w = record w {
 }
 
 pub drops_them : (w : World) → WorldInvariant w → Drops w (digested_by_all w) (dropped_world w)
-drops_them w s = record {
-  low = digested_by_all-first w s.coherent;
-  high = λ c. omega arith;
-  border_at = digested_border w s;
-  calls = refl;
-  records = λ c. refl;
-  first = λ c. refl;
-  border = λ c k low. refl;
-  next = λ c. refl;
-  made = λ c. refl;
-  clients = record { clients = refl; home = λ c. refl; lives = λ c. refl; crashed = λ c. refl };
-  goals = λ c. refl;
-  leases = record { holds = λ c i. refl; writes = λ c i. refl };
-  full = refl;
-  log = λ n c f. refl;
-  received = λ n c f. refl;
-  digested = λ n c f. refl;
-  area = λ n i f. refl;
-}
+drops_them w s = grind (arith, digested_by_all-first, digested_border)
 
 full_can : (m : Machine) (n : ℕ) → MachineInvariant m → failure_fault m.members n ≡ None → standing_of m.members.nodes n ≡ Some full → (m' : Machine) × ((losses : List Loss) × Failing m n (failed losses) m')
 full_can m n h fine at =

@@ -1,15 +1,15 @@
 -- Nodes fail: a full one, whose clients' logs are cut, and one that was coming back.
-use Rattle.std.proofs.Common.{◌≡◌, ℕ, ◌+◌, ◌-◌, ◌≤◌, Option, Some, None, [], ◌∷◌, ◌++◌, drop, length, refl, ap, sym, ◌∙◌, arith, length-append}
+use Rattle.std.proofs.Common.{◌≡◌, ℕ, ◌+◌, ◌-◌, ◌≤◌, Option, Some, None, [], ◌∷◌, ◌++◌, length, refl, ap, sym, ◌∙◌, arith, length-append}
 use Rattle.std.specs.FinSet as set
 use Rattle.std.specs.Ordering.{nat_cmp}
 use Rattle.std.proofs.lemmas.List.{length-map, length-take, length-drop}
 use Rattle.assise_history.specs.Entries.{fails}
-use Rattle.assise_manager.specs.Changes.{failed_as, with_epoch, refilled_from, is_returning}
-use Rattle.assise_manager.specs.Membership.{Membership, lowest_full, written_since}
+use Rattle.assise_manager.specs.Changes.{failed_as, is_returning}
+use Rattle.assise_manager.specs.Membership.{Membership}
 use Rattle.assise_manager.specs.Standings.{Standing, standing_of}
 use Rattle.assise_manager.specs.Standings.Standing.{full, down, returning}
 use Rattle.assise_manager.proofs.Nodes.{never}
-use Rattle.assise_model_world.specs.NodeSteps.{Rests, kept_at_failure}
+use Rattle.assise_model_world.specs.NodeSteps.{Rests}
 use Rattle.assise_model_world.specs.World.{World, digested_by_all, records_between}
 use Rattle.assise_model_world.proofs.DropKeeps.{drop_dropped}
 use Rattle.assise_model_world.proofs.FailureKeeps.{fail_sound}
@@ -37,9 +37,7 @@ use Rattle.assise_model_events.proofs.Rejoined.{stands_is_node}
 -- ---- the nodes stay as many, and an epoch begins where a full one fails
 
 full_many : (o : Membership) (n : ℕ) (inodes : set.FinSet nat_cmp) → length (failed_as o n inodes (Some full)).nodes ≡ length o.nodes
-full_many o n inodes =
-    let begun : Membership = with_epoch o n inodes in
-    length-map begun.nodes (refilled_from (written_since begun) (lowest_full begun.nodes) n) ∙ as_many o.nodes (n - 1) (down (o.epoch + 1))
+full_many o n inodes = grind (arith, length-map, as_many)
 
 failed_many : (o : Membership) (n : ℕ) (inodes : set.FinSet nat_cmp) (s : Option Standing) → length (failed_as o n inodes s).nodes ≡ length o.nodes
 failed_many o n inodes None = refl
@@ -48,10 +46,7 @@ failed_many o n inodes (Some (down since)) = refl
 failed_many o n inodes (Some (returning since donor stale)) = as_many o.nodes (n - 1) (down since)
 
 failed_epoch : (o : Membership) (n : ℕ) (inodes : set.FinSet nat_cmp) (s : Option Standing) → (failed_as o n inodes s).epoch ≤ o.epoch + 1
-failed_epoch o n inodes None = omega arith
-failed_epoch o n inodes (Some full) = omega arith
-failed_epoch o n inodes (Some (down since)) = omega arith
-failed_epoch o n inodes (Some (returning since donor stale)) = omega arith
+failed_epoch o n inodes s = grind arith
 
 -- ---- a full node fails
 
@@ -78,20 +73,10 @@ full_leads m m' n e =
 -- records are cut and dropped
 cut_short : (w : World) (c j k : ℕ) → length (records_between w c j k) ≤ length (w.records c)
 unfolding records_between
-cut_short w c j k =
-    let taken = length-take (k - j) (drop (j - w.first c) (w.records c)) in
-    let dropped = length-drop (j - w.first c) (w.records c) in
-    omega (arith, taken, dropped)
+cut_short w c j k = grind (arith, length-take, length-drop)
 
 full_short : (m m' : Machine) (n c : ℕ) → IsFailed m n m' → length (m'.world.records c) ≤ length (m.world.records c)
-full_short m m' n c e =
-    let after : length (m'.world.records c) ≡ length (e.refreshed.records c) - (digested_by_all e.refreshed c - e.refreshed.first c) =
-    ap length (e.drops.records c) ∙ length-drop (digested_by_all e.refreshed c - e.refreshed.first c) (e.refreshed.records c) in
-    let rested : length (e.refreshed.records c) ≡ length (e.cut.records c) = ap length (e.failure.rests.logs.records c) in
-    let kept : length (e.cut.records c) ≡ length (records_between m.world c (m.world.first c) (kept_at_failure m.world n c)) = ap length (e.failure.fails.records c) in
-    let short : length (records_between m.world c (m.world.first c) (kept_at_failure m.world n c)) ≤ length (m.world.records c) =
-    cut_short m.world c (m.world.first c) (kept_at_failure m.world n c) in
-    omega (arith, after, rested, kept, short)
+full_short m m' n c e = grind (arith, length-drop, cut_short)
 
 full_leases : (m m' : Machine) (n : ℕ) → MachineInvariant m → IsFailed m n m' → AreLeases m'.world m'.leases
 full_leases m m' n h e =

@@ -62,11 +62,7 @@ abbrev without_node : Leases → ℕ → Leases
 without_node l n = record { levels = record { home = l.levels.home; clients = l.levels.clients; nodes = λ i. without_holder n (l.levels.nodes i) }; cut = l.cut }
 
 still_none : (ls : List Lease) (n k : ℕ) → lease_of ls k ≡ None → lease_of (without_holder n ls) k ≡ None
-still_none ls n k is =
-    elim (cases_eq k n) [
-      | inl own ↦ subst (λ j. lease_of (without_holder n ls) j ≡ None) (sym own) (without_own ls n)
-      | inr other ↦ without_other ls n k other ∙ is
-    ]
+still_none ls n k is = grind (arith, cases_eq, without_own, without_other)
 
 frees_first : (w : World) (l : Leases) (n : ℕ) → (Full w (suc n) → ⊥) → IsIdle l.levels (suc n) → FreedAll w (without_node l (suc n)) n → FreedAll w l (suc n)
 frees_first w l n away idle r = record {
@@ -115,11 +111,7 @@ ready_client m c i h ready =
 
 none_left : (m : Machine) (top c i : ℕ) → MachineInvariant m → ((i : ℕ) → top < i → m.leases.levels.clients i ≡ []) → (r : LetOut m.world m.leases (pairs m.world.clients top)) →
     is_ready m.world m.leases c i ≡ true → client_lease (leases_after m.leases r.gone) c i ≡ None
-none_left m top c i h few r ready =
-    elim (cases_lt top i) [
-      | inl above ↦ r.none c i (ap (λ ls. lease_of ls c) (few i above))
-      | inr within ↦ r.out c i (in_pairs m.world.clients top c i (ready_client m c i h ready) (omega (arith, within))) ready
-    ]
+none_left m top c i h few r ready = grind (arith, cases_lt, in_pairs, ready_client)
 
 pub released_can : (m : Machine) (top : ℕ) → MachineInvariant m → ((i : ℕ) → top < i → m.leases.levels.clients i ≡ []) → (m' : Machine) × ((a : Answer) × Releasing m a m')
 released_can m top h few =

@@ -1,5 +1,5 @@
 -- The leases that a call takes, one after another: each is a step that no entry tells of, and leaves all but leases as it is.
-use Rattle.std.proofs.Common.{◌≡◌, ℕ, true, List, [], ◌∷◌, refl, sym, subst, ◌∙◌}
+use Rattle.std.proofs.Common.{◌≡◌, ℕ, true, List, [], ◌∷◌, refl, sym, subst, ◌∙◌, arith}
 use Rattle.assise_inode_table.specs.Effects.{contains}
 use Rattle.assise_inode_table.specs.Traces.{NumberedCall}
 use Rattle.assise_model_world.specs.ClientSteps.{Acquires}
@@ -24,14 +24,7 @@ use Rattle.assise_model_events.proofs.Members.{members_rest, epochs_stay, logs_s
 -- ---- what stays over two steps
 
 pub logs_after : (w v u : World) → SameLogs w v → SameLogs v u → SameLogs w u
-logs_after w v u a b = record {
-  calls = b.calls ∙ a.calls;
-  records = λ c. b.records c ∙ a.records c;
-  first = λ c. b.first c ∙ a.first c;
-  next = λ c. b.next c ∙ a.next c;
-  border = λ c k. b.border c k ∙ a.border c k;
-  made = λ c. b.made c ∙ a.made c;
-}
+logs_after w v u a b = grind arith
 
 pub clients_after : (w v u : World) → SameClients w v → SameClients v u → SameClients w u
 clients_after w v u a b = record {
@@ -45,12 +38,7 @@ pub full_after : (w v : World) (n : ℕ) → v.full ≡ w.full → Full w n → 
 full_after w v n same f = subst (λ ns. contains ns n ≡ true) (sym same) f
 
 node_after : (w v u : World) (n : ℕ) → SameNode w v n → SameNode v u n → SameNode w u n
-node_after w v u n a b = record {
-  area = λ i. b.area i ∙ a.area i;
-  log = λ c. b.log c ∙ a.log c;
-  received = λ c. b.received c ∙ a.received c;
-  digested = λ c. b.digested c ∙ a.digested c;
-}
+node_after w v u n a b = grind arith
 
 pub nodes_after : (w v u : World) → SameNodes w v → SameNodes v u → SameNodes w u
 nodes_after w v u a b = record { full = b.full ∙ a.full; same = λ n f. node_after w v u n (a.same n f) (b.same n (full_after w v n a.full f)) }
@@ -121,11 +109,7 @@ last_from m w (g ∷ gs) rest = last_from m g.world gs rest
 
 pub leads_with : (m m' : Machine) (x : NumberedCall) (gs : List Granted) (rest : List State) → MachineInvariant m → Gets x m.world m.leases gs →
     IsTrace (with_world m (last_world m.world gs)) rest → last_of (with_world m (last_world m.world gs)) rest ≡ state_of m' → Leads m m'
-leads_with m m' x gs rest h gets trace last = record {
-  states = states_of m gs rest;
-  trace = trace_from m x m.world m.leases gs rest (begins m h) gets trace;
-  last = last_from m m.world gs rest ∙ last;
-}
+leads_with m m' x gs rest h gets trace last = grind (arith, trace_from, begins, last_from)
 
 -- ---- what holds there
 

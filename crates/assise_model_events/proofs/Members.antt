@@ -1,5 +1,5 @@
 -- What an event of clients leaves as it is: the members, and what they hold of areas.
-use Rattle.std.proofs.Common.{◌≡◌, ℕ, suc, ◌≤◌, List, length, sym, subst, arith, length-append}
+use Rattle.std.proofs.Common.{◌≡◌, ℕ, suc, ◌≤◌, List, length, arith, length-append}
 use Rattle.assise_history.specs.Entries.{EntryValue}
 use Rattle.assise_model_world.specs.World.{Full}
 use Rattle.assise_model_world.specs.Staying.{SameNodes}
@@ -11,9 +11,7 @@ use Rattle.assise_model_events.specs.Machine.{Machine, MachineInvariant, Adds}
 -- the manager stays, and so do the areas of full nodes
 pub members_stay : (m m' : Machine) → MachineInvariant m → KeepsMembers m m' → m'.world.full ≡ m.world.full →
     ((k i : ℕ) → Full m.world k → m'.world.area k i ≡ m.world.area k i) → AreMembers m'.world m'.members
-members_stay m m' h keeps full areas =
-    subst (λ o. AreMembers m'.world o) (sym keeps.members)
-    (areas_keep m.world m'.world m.members h.members (keeps_areas m.world m'.world full areas keeps.others))
+members_stay m m' h keeps full areas = grind (arith, areas_keep, keeps_areas)
 
 pub members_rest : (m m' : Machine) → MachineInvariant m → KeepsMembers m m' → SameNodes m.world m'.world → AreMembers m'.world m'.members
 members_rest m m' h keeps nodes = members_stay m m' h keeps nodes.full (λ k i f. (nodes.same k f).area i)

@@ -146,10 +146,7 @@ may_join : (m : Machine) → IsReturning 0 set.empty m → join_fault m.members 
 may_join m b = rw (b.nodes, set.len-empty nat_cmp) refl
 
 fails_again : (limit : ℕ) (stale : Numbers) (m m' : Machine) (losses : List Loss) → IsReturning limit stale m → Failing m 2 (failed losses) m' → Failing m 2 (failed []) m'
-fails_again limit stale m m' losses b (is_refused why fault answer same) = cc
-fails_again limit stale m m' losses b (lacks_memory fine answer same) = cc
-fails_again limit stale m m' losses b (is_failed_again fine answer e) = is_failed_again fine refl e
-fails_again limit stale m m' losses b (is_failed fine answer e) = absurd (not_full limit stale m b e.was_full)
+fails_again limit stale m m' losses b h = grind (arith, not_full)
 
 pub failed_again_comes : Comes (λ m m'. (standing_of m.members.nodes 2 ≢ Some full) × Failing m 2 (failed []) m')
 failed_again_comes =

@@ -5,7 +5,7 @@ use Rattle.std.proofs.lemmas.Bool.{ne_eqb}
 use Rattle.assise_names.specs.declared.refusal.Refusal.TheVariants.{Busy}
 use Rattle.assise_history.specs.Entries.{returns}
 use Rattle.assise_manager.specs.Changes.{filling_fault, filling_fault_of, join_fault, join_fault_of, return_fault, stale_of}
-use Rattle.assise_manager.specs.Standings.{Standing, full, down, returning, standing_of}
+use Rattle.assise_manager.specs.Standings.{Standing, standing_of}
 use Rattle.assise_model_members.proofs.StepsPossible.{may_come_back, may_fill_one, may_refill, may_rejoin}
 use Rattle.assise_model_events.specs.Events.{began, joined, left}
 use Rattle.assise_model_events.specs.Machine.{MachineInvariant, Machine}
@@ -20,10 +20,7 @@ back_can m n h fine =
 
 -- a node that may lack inodes can't join yet
 is_busy : (s : Option Standing) → filling_fault_of s ≡ None → 0 < count_of (stale_of s) → join_fault_of s ≡ Some Busy
-is_busy None fine some = cc
-is_busy (Some full) fine some = cc
-is_busy (Some (down since)) fine some = cc
-is_busy (Some (returning since donor stale)) fine some = rw (ne_eqb (set.len stale) 0 (λ is. omega (arith, is, some))) refl
+is_busy s fine some = grind (arith, ne_eqb)
 
 pub refilled_can : (m : Machine) (n : ℕ) → MachineInvariant m → filling_fault m.members n ≡ None → 0 < stale_at m.members n → (m' : Machine) × Refilling m n (left (stale_at m'.members n)) m'
 refilled_can m n h fine some =

@@ -1,5 +1,5 @@
 -- Each outcome of what nodes do comes: frames and digests.
-use Rattle.std.proofs.Common.{◌≡◌, ℕ, zero, suc, ◌+◌, ◌<◌, ◌≤◌, length, true, [], ◌∷◌, None, refl, ap, sym, ◌∙◌, subst, arith}
+use Rattle.std.proofs.Common.{◌≡◌, ℕ, ◌+◌, ◌<◌, ◌≤◌, length, true, [], ◌∷◌, None, refl, ap, sym, ◌∙◌, subst, arith}
 use Rattle.assise_names.specs.declared.call.Op.TheVariants.{Dsync}
 use Rattle.assise_names.specs.declared.durability.Durability.TheVariants.{Pessimistic}
 use Rattle.assise_names.specs.declared.refusal.Refusal.TheVariants.{OutOfMemory, StaleMessage, WrongPhase}
@@ -7,8 +7,7 @@ use Rattle.assise_history.specs.Legal.{durability_of}
 use Rattle.assise_record.specs.LogFrame.{LogFrame}
 use Rattle.assise_private_log.specs.Borders.{whole_count}
 use Rattle.assise_manager.specs.Changes.{all_full}
-use Rattle.assise_manager.specs.Standings.{standing_of}
-use Rattle.assise_model_world.specs.World.{Full, World, end_of_log, received_by_all}
+use Rattle.assise_model_world.specs.World.{end_of_log, received_by_all}
 use Rattle.assise_model_world.proofs.WorldObserved.{received_by_all-below, received_by_all-end}
 use Rattle.assise_model_world.proofs.QuietSteps.{end-same}
 use Rattle.assise_model_events.specs.ClientEvents.{Syncing, is_refused, is_replicating, is_synced, lacks_memory}
@@ -78,14 +77,7 @@ module _ (m : Machine) (o : HasFile 1 m) where
   place = rw o.received_other refl
 
   timely : IsTimelyDelivery m (file_frame 1) 2
-  timely = record {
-    this_epoch = rw o.members refl;
-    known = rw o.members (omega arith);
-    no_gap = omega arith;
-    own = rw (o.received_other, o.first, o.records) refl;
-    whole = o.borders 1 (place_after m (file_frame 1) 2) (rw (place, file_end) (omega arith));
-    marks = λ is. cc;
-  }
+  timely = grind (arith, place, file_end)
 
   late : IsTimelyDelivery m (file_frame 0) 2 → ⊥
   late t = (let this : 0 ≡ m.members.epoch = t.this_epoch in let first : m.members.epoch ≡ 1 = ap (λ x. x.epoch) o.members in omega (arith, this, first))
@@ -124,21 +116,10 @@ pub record HasBoth (m : Machine) : Type 0 where
 
 all_have : (m m' : Machine) → HasFile 1 m → IsDelivered m (file_frame 1) 2 m' → received_by_all m'.world 1 ≡ 1
 unfolding received_by_all end_of_log
-all_have m m' o e =
-    let d = e.delivers in
-    let full : m'.world.full ≡ 2 ∷ 1 ∷ [] = d.full ∙ o.full in
-    let here : m'.world.received 2 1 ≡ 1 = d.received_here ∙ place m o in
-    let home : m'.world.received 1 1 ≡ 1 = d.received_else 1 1 (rw o.full refl) (λ is own. cc) ∙ o.received_home in
-    let ends : end_of_log m'.world 1 ≡ 1 = end-same m.world m'.world d.logs 1 ∙ file_end m o in
-    rw (full, here, home, ends) refl
+all_have m m' o e = grind (arith, place, end-same, file_end)
 
 one_undigested : (m m' : Machine) → HasFile 1 m → IsDelivered m (file_frame 1) 2 m' → undigested_to m'.world 1 m'.world.clients ≡ 1
-one_undigested m m' o e =
-    let d = e.delivers in
-    let all : received_by_all m'.world 1 ≡ 1 = all_have m m' o e in
-    let none : m'.world.digested 1 1 ≡ 0 = d.digested 1 1 (rw o.full refl) ∙ o.digested 1 1 (rw o.full refl) in
-    let one : undigested_to m'.world 1 1 ≡ 1 = omega (arith, all, none) in
-    ap (undigested_to m'.world 1) (d.clients.clients ∙ o.clients) ∙ one
+one_undigested m m' o e = grind (arith, all_have)
 
 of_delivery : (m m' : Machine) → HasFile 1 m → Delivering m (file_frame 1) 2 (received 1) m' → HasBoth m'
 of_delivery m m' o (is_stale fine not_timely is same) = cc
@@ -170,15 +151,8 @@ not_digested_for_memory =
     let some : undigested_to m.world 1 m.world.clients ≡ 1 = o.undigested in
     record { limit = 1; before = m; reached = o.reached; after = m; outcome = lacks_memory (full_fine m o) (omega (arith, some)) refl refl }
 
-part_low : (w : World) (n count c : ℕ) → part_of w n count c ≤ undigested w n c
-part_low w n count zero = omega arith
-part_low w n count (suc c) = omega arith
-
 part_border : (m : Machine) → HasBoth m → (c : ℕ) → m.world.border c (m.world.digested 1 c + part_of m.world 1 1 c) ≡ true
-part_border m o c =
-    let here : Full m.world 1 = o.holds.members.nodes_full 1 (stands_full WrongPhase (standing_of m.members.nodes 1) (full_fine m o)) in
-    let known : m.world.digested 1 c ≤ received_by_all m.world c = (o.holds.sound.coherent.order 1 c here).replicated in
-    o.borders c (m.world.digested 1 c + part_of m.world 1 1 c) (omega (arith, known, received_by_all-end m.world c, part_low m.world 1 1 c))
+part_border m o c = grind (arith, stands_full, full_fine, received_by_all-end)
 
 pub digested_one : Comes (λ m m'. Digesting m 1 (digested 1) m')
 digested_one =

@@ -1,13 +1,9 @@
 -- A client is opened, and a client crashes.
-use Rattle.std.proofs.Common.{◌≡◌, ℕ, suc, ◌<◌, nat_le, Bool, true, false, Option, Some, None, [], ◌∷◌, length, refl, ap, sym}
+use Rattle.std.proofs.Common.{◌≡◌, ℕ, suc, ◌<◌, None, [], ◌∷◌, length, refl, ap, arith}
 use Rattle.std.proofs.lemmas.Bool.{leb-false}
-use Rattle.std.proofs.lemmas.Option.{none-some}
 use Rattle.assise_names.specs.declared.durability.Durability.{Durability}
-use Rattle.assise_names.specs.declared.refusal.Refusal.{Refusal}
-use Rattle.assise_names.specs.declared.refusal.Refusal.TheVariants.{BadClient, NodeDown}
 use Rattle.assise_names.specs.declared.limits.TheConstants.{MOST_CLIENTS}
 use Rattle.assise_history.specs.Entries.{opens, crashes}
-use Rattle.assise_manager.specs.Standings.{standing_of}
 use Rattle.assise_model_world.proofs.ClientsStaying.{open_dropped}
 use Rattle.assise_model_world.proofs.QuietSteps.{still_dropped}
 use Rattle.assise_model_leases.proofs.QuietLeases.{open_keeps}
@@ -15,21 +11,13 @@ use Rattle.assise_model_leases.proofs.ClientEnds.{crash_keeps}
 use Rattle.assise_model_history.specs.Traces.{EntryHappens, opening, crash}
 use Rattle.assise_model_events.specs.ClientEvents.{Opening, is_opened, is_refused, lacks_memory, IsOpened, Crashing, is_crashed, IsCrashed}
 use Rattle.assise_model_events.specs.Events.{Answer}
-use Rattle.assise_model_events.specs.Faults.{or_else, fault_if, open_fault, unless_full}
+use Rattle.assise_model_events.specs.Faults.{open_fault}
 use Rattle.assise_model_events.specs.Happenings.{Leads}
 use Rattle.assise_model_events.specs.Machine.{Machine, MachineInvariant, state_of}
 use Rattle.assise_model_events.proofs.EventTraces.{leads_sound, leads_recorded, same_leads, same_holds}
 use Rattle.assise_model_events.proofs.Members.{members_rest, epochs_stay, logs_stay}
 
 -- ---- faults
-
-second_none : (a b : Option Refusal) → or_else a b ≡ None → b ≡ None
-second_none None b none = none
-second_none (Some r) b none = absurd (none-some r (sym none))
-
-stands_not : (b : Bool) (r : Refusal) → fault_if b r ≡ None → b ≡ false
-stands_not false r none = refl
-stands_not true r none = absurd (none-some r (sym none))
 
 -- one step is a trace
 pub one_step : (m m' : Machine) → EntryHappens (state_of m) (state_of m') → Leads m m'
@@ -38,19 +26,14 @@ one_step m m' step = record { states = state_of m' ∷ []; trace = (step, tt); l
 -- ---- a client is opened
 
 few_clients : (m : Machine) (n : ℕ) → open_fault m n ≡ None → m.world.clients < MOST_CLIENTS
-few_clients m n fine =
-    leb-false MOST_CLIENTS m.world.clients
-    (stands_not (nat_le MOST_CLIENTS m.world.clients) BadClient
-    (second_none (unless_full NodeDown (standing_of m.members.nodes n)) (fault_if (nat_le MOST_CLIENTS m.world.clients) BadClient) fine))
+few_clients m n fine = grind (arith, leb-false)
 
 opened_leads : (m m' : Machine) (n : ℕ) (u : Durability) → IsOpened m n u m' → Leads m m'
 opened_leads m m' n u e =
     one_step m m' (opening n u (record { adds = record { nodes = ap (λ o. length o.nodes) e.keeps.members; entry = e.adds.history }; world = e.opening.opens }))
 
 pub opening_leads : (m m' : Machine) (n : ℕ) (u : Durability) (a : Answer) → MachineInvariant m → Opening m n u a m' → Leads m m'
-opening_leads m m' n u a h (is_opened fine is e) = opened_leads m m' n u e
-opening_leads m m' n u a h (is_refused r fault is same) = same_leads m m' same
-opening_leads m m' n u a h (lacks_memory fine is same) = same_leads m m' same
+opening_leads m m' n u a h s = grind (arith, opened_leads, same_leads)
 
 pub opening_keeps : (m m' : Machine) (n : ℕ) (u : Durability) (a : Answer) → MachineInvariant m → Opening m n u a m' → MachineInvariant m'
 opening_keeps m m' n u a h (is_opened fine is e) = record {
@@ -73,9 +56,7 @@ crashed_leads m m' c e =
     one_step m m' (crash c (record { adds = record { nodes = ap (λ o. length o.nodes) e.keeps.members; entry = e.adds.history }; world = e.crash.crash }))
 
 pub crashing_leads : (m m' : Machine) (c : ℕ) (a : Answer) → MachineInvariant m → Crashing m c a m' → Leads m m'
-crashing_leads m m' c a h (is_crashed fine is e) = crashed_leads m m' c e
-crashing_leads m m' c a h (lacks_memory fine is same) = same_leads m m' same
-crashing_leads m m' c a h (is_refused r fault is same) = same_leads m m' same
+crashing_leads m m' c a h s = grind (arith, crashed_leads, same_leads)
 
 pub crashing_keeps : (m m' : Machine) (c : ℕ) (a : Answer) → MachineInvariant m → Crashing m c a m' → MachineInvariant m'
 crashing_keeps m m' c a h (is_crashed fine is e) = record {

@@ -1,21 +1,18 @@
 -- What happens at one node leaves the areas of all others.
-use Rattle.std.proofs.Common.{◌≡◌, ◌≢◌, ℕ, zero, suc, ap, ◌∙◌}
+use Rattle.std.proofs.Common.{◌≡◌, ◌≢◌, ℕ, zero, suc, ap, ◌∙◌, arith}
 use Rattle.assise_names.specs.declared.call.Op.{Op}
 use Rattle.assise_names.specs.declared.reply.Reply.{Reply}
 use Rattle.assise_record.specs.LogFrame.{LogFrame}
 use Rattle.assise_manager.specs.Membership.{Membership}
 use Rattle.assise_model_world.specs.World.{World, Full}
-use Rattle.assise_model_events.specs.ClientEvents.{Calling, is_answered, is_awaited, is_spent, is_full, is_refused, lacks_memory, call_of_client, last_world}
+use Rattle.assise_model_events.specs.ClientEvents.{Calling}
 use Rattle.assise_model_events.specs.Events.{digested, received, replied}
 use Rattle.assise_model_events.specs.Machine.{Machine, MachineInvariant}
-use Rattle.assise_model_events.specs.NodeEvents.{Delivering, is_delivered, is_stale, is_refused, lacks_memory, Digesting, is_digested, DigestsTo}
+use Rattle.assise_model_events.specs.NodeEvents.{Delivering, Digesting, DigestsTo}
 use Rattle.assise_model_events.proofs.LeaseSteps.{comes_to, full_after}
 
 pub delivered_areas : (m m' : Machine) (f : LogFrame) (n k : ℕ) → Delivering m f n (received k) m' → (j i : ℕ) → Full m.world j → m'.world.area j i ≡ m.world.area j i
-delivered_areas m m' f n k (is_delivered fine is e) j i there = e.delivers.area j i there
-delivered_areas m m' f n k (is_stale fine late is same) j i there = cc
-delivered_areas m m' f n k (lacks_memory fine timely is same) j i there = cc
-delivered_areas m m' f n k (is_refused r fault is same) j i there = cc
+delivered_areas m m' f n k h j i there = grind arith
 
 -- the same nodes are full after each client's part, and their areas stay
 digests_full : (n count : ℕ) (w₀ w : World) (o : Membership) (c : ℕ) (u : World) (p : Membership) → DigestsTo n count w₀ w o c u p → u.full ≡ w.full
@@ -29,18 +26,7 @@ digests_areas n count w₀ w o (suc c) u p (v, (q, (before, step))) j i there ot
     step.digests.digests.area_else j i (full_after w v j (digests_full n count w₀ w o c v q before) there) other ∙ digests_areas n count w₀ w o c v q before j i there other
 
 pub digested_areas : (m m' : Machine) (n count : ℕ) → Digesting m n (digested count) m' → (j i : ℕ) → Full m.world j → j ≢ n → m'.world.area j i ≡ m.world.area j i
-digested_areas m m' n count (is_digested k fine is e) j i there other =
-    e.drops.area j i (full_after m.world e.between j (digests_full n k m.world m.world m.members m.world.clients e.between m'.members e.digests) there) ∙
-    digests_areas n k m.world m.world m.members m.world.clients e.between m'.members e.digests j i there other
-digested_areas m m' n count (lacks_memory fine some is same) j i there other = cc
-digested_areas m m' n count (is_refused r fault is same) j i there other = cc
+digested_areas m m' n count h j i there other = grind (arith, full_after, digests_full, digests_areas)
 
 pub called_areas : (m m' : Machine) (c : ℕ) (op : Op) (reply : Reply) → MachineInvariant m → Calling m c op (replied reply) m' → (j i : ℕ) → Full m.world j → m'.world.area j i ≡ m.world.area j i
-called_areas m m' c op reply h (is_answered own granted is e) j i there =
-    let r = comes_to m (call_of_client m.world c op own) granted h e.tried.gets in
-    e.call.call.area j i (full_after m.world (last_world m.world granted) j r.nodes.full there) ∙ (r.nodes.same j there).area i
-called_areas m m' c op reply h (is_awaited own granted is e) j i there = cc
-called_areas m m' c op reply h (is_spent own granted is e keeps) j i there = cc
-called_areas m m' c op reply h (is_full own granted is e keeps) j i there = cc
-called_areas m m' c op reply h (lacks_memory own granted is e keeps) j i there = cc
-called_areas m m' c op reply h (is_refused r fault is same) j i there = cc
+called_areas m m' c op reply h s j i there = grind (arith, comes_to, full_after)

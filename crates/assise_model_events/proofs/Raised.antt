@@ -1,5 +1,5 @@
 -- A node is raised: nothing else changes.
-use Rattle.std.proofs.Common.{◌≡◌, ℕ, ◌++◌, length, [], refl, ap, ◌∙◌, arith, append-nil}
+use Rattle.std.proofs.Common.{ℕ, arith, append-nil}
 use Rattle.assise_manager.specs.Changes.{raised}
 use Rattle.assise_manager.specs.Membership.{Membership}
 use Rattle.assise_manager.proofs.Lawful.{raised_lawful}
@@ -13,21 +13,10 @@ use Rattle.assise_model_events.specs.MemberEvents.Raising.{is_raised, is_refused
 use Rattle.assise_model_events.proofs.EventTraces.{ends_as, leads_recorded, leads_sound, same_holds, same_leads}
 
 raised_members : (w : World) (o : Membership) (n : ℕ) → AreMembers w o → AreMembers w (raised o n)
-raised_members w o n h = record {
-  lawful = raised_lawful o n h.lawful;
-  full_nodes = h.full_nodes;
-  nodes_full = h.nodes_full;
-  due = h.due;
-  filling = h.filling;
-}
+raised_members w o n h = grind (arith, raised_lawful)
 
 pub raise_leads : (m m' : Machine) (n : ℕ) (a : Answer) → Raising m n a m' → Leads m m'
-raise_leads m m' n a (is_raised fine is e) = record {
-  states = [];
-  trace = tt;
-  last = ends_as m m' m.world (ap (λ o. length o.nodes) e.members) e.adds e.world;
-}
-raise_leads m m' n a (is_refused r fault is same) = same_leads m m' same
+raise_leads m m' n a h = grind (arith, ends_as, same_leads)
 
 pub raise_holds : (m m' : Machine) (n : ℕ) (a : Answer) → MachineInvariant m → Raising m n a m' → MachineInvariant m'
 raise_holds m m' n a h (is_raised fine is e) =

@@ -114,10 +114,7 @@ module _ (limit : ℕ) (m : Machine) (room : 0 < limit) (o : IsOpen limit m) (gs
   home_is = h.world.home
 
   log_at : with_file.world.log 1 1 ≡ file_record ∷ []
-  log_at =
-      subst (λ n. with_file.world.log n 1 ≡ w.log n 1 ++ record_of 0 (step_at_home w creation).effects) home_is made_call.log_home
-      ∙ ap (λ rs. rs ++ record_of 0 (step_at_home w creation).effects) h.world.log
-      ∙ ap (λ t. record_of 0 t.effects) (step_is w h.world)
+  log_at = grind (arith, creation, home_is, step_is)
 
   two_full : Full w 2
   two_full = rw h.world.full refl
@@ -133,10 +130,7 @@ module _ (limit : ℕ) (m : Machine) (room : 0 < limit) (o : IsOpen limit m) (gs
   end_else c other = rw (made_call.first c, made_call.records_else c other) refl
 
   below_one : (c k : ℕ) → c ≡ 1 → k ≤ end_of_log with_file.world c → k ≢ 1 → k ≤ end_of_log w c
-  below_one c k is low before =
-      let at : k ≤ end_of_log with_file.world 1 = subst (λ d. k ≤ end_of_log with_file.world d) is low in
-      let one : end_of_log with_file.world 1 ≡ 1 = file_end in
-      omega (arith, at, one, before)
+  below_one c k is low before = grind (arith, file_end)
 
   border_at : (c k : ℕ) → k ≤ end_of_log with_file.world c → with_file.world.border c k ≡ true
   border_at c k low = elim (cases_eq c 1) [

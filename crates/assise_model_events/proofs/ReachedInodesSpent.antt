@@ -1,5 +1,5 @@
 -- Client 1 of two nodes creates a file and unlinks it, again and again, until it has made as many inodes as it may.
-use Rattle.std.proofs.Common.{◌≡◌, ◌≢◌, ℕ, zero, suc, ◌+◌, ◌<◌, ◌≤◌, ◌==◌, ◌||◌, true, false, if◌then◌else◌, List, [], ◌∷◌, length, Some, refl, ap, sym, subst, ◌∙◌, arith, eq-eqb}
+use Rattle.std.proofs.Common.{◌≡◌, ◌≢◌, ℕ, zero, suc, ◌+◌, ◌<◌, ◌≤◌, true, false, if◌then◌else◌, List, [], ◌∷◌, length, Some, refl, ap, sym, subst, ◌∙◌, arith, eq-eqb}
 use Rattle.std.proofs.lemmas.Bool.{or_right}
 use Rattle.std.specs.List.{list_any}
 use Rattle.assise_names.specs.declared.call.Op.{Op}
@@ -20,7 +20,7 @@ use Rattle.assise_model_leases.specs.Leases.{Leases, client_lease}
 use Rattle.assise_model_leases.proofs.Possible.{may_grant}
 use Rattle.assise_model_members.specs.Returns.{OtherAreasStay}
 use Rattle.assise_model_history.proofs.LossReached.{create_op, create_step, creates, empty_root, no_links, of_either, sees_root}
-use Rattle.assise_model_events.specs.ClientEvents.{Calling, Granted, Gets, IsFirstMissing, IsMissing, HasServingLeases, is_spent, last_leases, last_world}
+use Rattle.assise_model_events.specs.ClientEvents.{Calling, Granted, Gets, IsMissing, HasServingLeases, is_spent, last_leases, last_world}
 use Rattle.assise_model_events.specs.Events.{refused}
 use Rattle.assise_model_events.specs.Machine.{Machine}
 use Rattle.assise_model_events.specs.Reached.{Comes}
@@ -130,10 +130,7 @@ module _ (limit made : ℕ) (m : Machine) (gs : List Granted) (h : MayCreate lim
   holds_both i there = of_either (λ j. l.levels.clients j ≡ new_lease 1 Write ∷ []) fresh 0 i h.file_held h.root_held there
 
   create_served : HasServingLeases w l creation
-  create_served = record {
-    visited = λ i there. serves_own l i Read (holds_both i (or_right (fresh == i) ((0 == i) || false) (subst (λ t. contains t.visits i ≡ true) creates_there there)));
-    changed = λ i there. serves_own l i Write (holds_both i (subst (λ t. contains (touched t.effects) i ≡ true) creates_there there));
-  }
+  create_served = grind (arith, serves_own, holds_both, or_right, creates_there)
 
   create_makes : call_makes_inode w creation ≡ true
   create_makes = subst (λ t. list_any (makes fresh) t.effects ≡ true) (sym creates_there) (rw (eq-eqb fresh fresh refl) refl)
@@ -184,9 +181,7 @@ module _ (limit made : ℕ) (m : Machine) (h : HasMade limit made m) where
   next_lease = record { inode = next; mode = Write; world = new.0; leases = new.1 } ∷ []
 
   lacks_next : IsMissing m.world m.leases (next_call m create_op) next Write
-  lacks_next =
-      let first : IsFirstMissing m.leases 1 (create_step next) next Write = rw (h.root_held, no_client) refl in
-      subst (λ t. IsFirstMissing m.leases 1 t next Write) (sym (creates_at m m.world h.stands.runs.home h.root)) first
+  lacks_next = grind (arith, create_step, no_client, creates_at)
 
   other : (j : ℕ) → suc made ≤ j → inode_number 1 j ≢ next
   other j low = files_differ j (m.world.made 1) (let is = h.made_is in omega (arith, low, is))

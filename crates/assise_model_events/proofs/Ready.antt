@@ -1,8 +1,8 @@
 -- Leases that are ready can go, where clients hold no inode above some number.
-use Rattle.std.proofs.Common.{◌≡◌, ◌⊎◌, ℕ, zero, suc, ◌≤◌, ◌&&◌, nat_le, inl, inr, true, false, List, [], ◌∷◌, None, refl, ap, sym, ◌∙◌, subst, arith, eq-eqb}
+use Rattle.std.proofs.Common.{◌≡◌, ◌⊎◌, ℕ, zero, suc, ◌≤◌, inl, inr, true, false, List, [], ◌∷◌, None, refl, ap, sym, ◌∙◌, subst, arith, eq-eqb}
 use Rattle.std.proofs.lemmas.Bool.{and_parts, both_ways, cases_Bool, cases_eq, leb-true, ne_eqb}
-use Rattle.assise_lease_table.specs.Leases.{Among, lease_of, without_holder}
-use Rattle.assise_lease_tree.specs.Levels.{is_revoked, nodes_released}
+use Rattle.assise_lease_table.specs.Leases.{Among, without_holder}
+use Rattle.assise_lease_tree.specs.Levels.{nodes_released}
 use Rattle.assise_lease_tree.proofs.Lookups.{without_other, without_own}
 use Rattle.assise_model_world.specs.World.{World, end_of_log, digested_by_all}
 use Rattle.assise_model_leases.specs.Handing.{ReleasesReady}
@@ -57,56 +57,26 @@ module _ (w : World) (l : Leases) (c i : ℕ) where
   after = let_go w l c i
 
   goes_now : is_ready w l c i ≡ true → ReleasesReady w l c i (holding w after) after
-  goes_now ready =
-      let both = and_parts (is_revoked (client_lease l c i)) (nat_le (l.cut c i) (digested_by_all w c)) ready in
-      record {
-        revoked = both.0;
-        ready = leb-true (l.cut c i) (digested_by_all w c) both.1;
-        released = record {
-          home = λ d. refl;
-          clients = becomes l.levels.clients i (without_holder c (l.levels.clients i));
-          nodes = becomes l.levels.nodes i (nodes_released l.levels.home (without_holder c (l.levels.clients i)) (w.home c) (l.levels.nodes i));
-        };
-        cuts = λ d j revoked. refl;
-        holds = holds_them w after;
-      }
+  goes_now ready = grind (arith, and_parts, leb-true, becomes, holds_them)
 
   one_gone : client_lease after c i ≡ None
   one_gone = rw (eq-eqb i i refl) (without_own (l.levels.clients i) c)
 
   others_same : (d j : ℕ) → (d ≡ c → j ≡ i → ⊥) → client_lease after d j ≡ client_lease l d j
-  others_same d j differs =
-      elim (cases_eq j i) [
-        | inl is ↦ rw (eq-eqb j i is) (without_other (l.levels.clients i) c d (λ e. differs e is) ∙ ap (λ k. lease_of (l.levels.clients k) d) (sym is))
-        | inr other ↦ rw (ne_eqb j i other) refl
-      ]
+  others_same d j differs = grind (arith, cases_eq, eq-eqb, without_other, ne_eqb)
 
   same_or_gone : (d j : ℕ) → (client_lease after d j ≡ client_lease l d j) ⊎ (client_lease after d j ≡ None)
-  same_or_gone d j =
-      elim (cases_eq d c) [
-        | inl own ↦ elim (cases_eq j i) [
-          | inl here ↦ inr (subst (λ e. client_lease after e j ≡ None) (sym own) (subst (λ k. client_lease after c k ≡ None) (sym here) one_gone))
-          | inr other ↦ inl (others_same d j (λ e o. other o))
-        ]
-        | inr other ↦ inl (others_same d j (λ e o. other e))
-      ]
+  same_or_gone d j = grind (arith, cases_eq, one_gone, others_same)
 
   still_empty : (j : ℕ) → l.levels.clients j ≡ [] → after.levels.clients j ≡ []
-  still_empty j none =
-      elim (cases_eq j i) [
-        | inl is ↦ rw (eq-eqb j i is) (ap (λ ls. without_holder c ls) (ap l.levels.clients (sym is) ∙ none))
-        | inr other ↦ rw (ne_eqb j i other) none
-      ]
+  still_empty j none = grind (arith, cases_eq, eq-eqb, ne_eqb)
 
   same_digested : (d : ℕ) → digested_by_all (holding w after) d ≡ digested_by_all w d
   unfolding digested_by_all end_of_log
   same_digested d = refl
 
   still_ready : (d j : ℕ) → client_lease after d j ≡ client_lease l d j → is_ready w l d j ≡ true → is_ready (holding w after) after d j ≡ true
-  still_ready d j same ready =
-      ap (λ o. is_revoked o && nat_le (l.cut d j) (digested_by_all (holding w after) d)) same
-      ∙ ap (λ k. is_revoked (client_lease l d j) && nat_le (l.cut d j) k) (same_digested d)
-      ∙ ready
+  still_ready d j same ready = grind (arith, holding, same_digested)
 
 -- ---- these go that are ready
 

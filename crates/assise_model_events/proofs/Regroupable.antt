@@ -18,7 +18,7 @@ use Rattle.assise_names.specs.declared.call.Op.TheVariants.{Dsync}
 use Rattle.assise_names.specs.declared.durability.Durability.TheVariants.{Pessimistic}
 use Rattle.assise_names.specs.declared.reply.Reply.TheVariants.{Done}
 use Rattle.assise_model_events.specs.ClientEvents.{Syncing, is_refused, is_replicating, is_synced, lacks_memory}
-use Rattle.assise_model_events.specs.Dsyncs.{Coalescing, IsCoalescing, coalesced_from, full_elsewhere, is_coalesced, is_synced, most_of, new_groups}
+use Rattle.assise_model_events.specs.Dsyncs.{Coalescing, IsCoalescing, coalesced_from, full_elsewhere, is_synced, most_of, new_groups}
 use Rattle.assise_model_events.specs.Events.{not_yet, replied}
 use Rattle.assise_model_events.specs.Faults.{client_fault}
 use Rattle.assise_model_events.proofs.Answerable.{synced_can}
@@ -97,36 +97,22 @@ module _ (w : World) (c : ℕ) (h : WorldInvariant w) (lives : w.lives c ≡ tru
   records_are = cond-true (c == c) records_now (w.records c) own
 
   end_now : end_of_log u c ≡ s + length (all_coalesced gs)
-  end_now =
-      end_is u c ∙ ap (λ l. w.first c + length l) records_are
-      ∙ omega (arith, length-both (take (s - w.first c) (w.records c)) (all_coalesced gs), length-take (s - w.first c) (w.records c), first_low, high, end_is w c)
+  end_now = grind (arith, end_is, records_are, length-both, length-take, first_low, high)
 
   border_then : (k : ℕ) → (b : Bool) → nat_le (s + k) s ≡ b → b ≡ false → u.border c (s + k) ≡ are_whole gs k
-  border_then k b is off =
-      (let back : (s + k) - s ≡ k = omega arith in
-      cond-true (c == c) _ _ own ∙ cond-false (nat_le (s + k) s) _ _ (is ∙ off) ∙ ap (are_whole gs) back)
+  border_then k b is off = grind (arith, cond-true, own, cond-false)
 
   border_first : (k : ℕ) → k ≡ 0 → u.border c (s + k) ≡ are_whole gs k
-  border_first k none =
-      (let at : s + k ≡ s = omega (arith, none) in
-      ap (u.border c) at ∙ cond-true (c == c) _ _ own ∙ cond-true (nat_le s s) _ _ (le-leb s s (omega arith))
-      ∙ h.single c s lives first_low (omega arith) high ∙ sym (ap (are_whole gs) none ∙ whole_none gs))
+  border_first k none = grind (arith, cond-true, own, le-leb, first_low, high, whole_none)
 
   at_home : GetsAll (w.home c) c u
-  at_home = record {
-    received = cond-true (here (w.home c) c) _ _ (and_from (c == c) (w.home c == w.home c) own (eq-eqb (w.home c) (w.home c) refl)) ∙ sym end_now;
-    log = cond-true (here (w.home c) c) _ _ (and_from (c == c) (w.home c == w.home c) own (eq-eqb (w.home c) (w.home c) refl)) ∙ sym records_are;
-  }
+  at_home = grind (arith, cond-true, and_from, own, eq-eqb, end_now, records_are)
 
   else_here : (n d : ℕ) → d ≢ c → here n d ≡ false
   else_here n d other = and_left (d == c) (n == w.home c) (ne_eqb d c other)
 
   elsewhere : (n : ℕ) → Full w n → n ≢ w.home c → HasNone w n c s u
-  elsewhere n f other = record {
-    before = coalesced_elsewhere w c h n f other;
-    received = cond-false (here n c) _ _ (and_right (c == c) (n == w.home c) (ne_eqb n (w.home c) other));
-    log = cond-false (here n c) _ _ (and_right (c == c) (n == w.home c) (ne_eqb n (w.home c) other));
-  }
+  elsewhere n f other = grind (arith, coalesced_elsewhere, cond-false, and_right, ne_eqb)
 
   regroups : Regroups w c (coalesced_from w c) (new_groups w c) u
   regroups = record {
@@ -185,9 +171,7 @@ can_coalesce m c h lives lacking some =
 
 pub coalesced_can : (m : Machine) (c : ℕ) → MachineInvariant m → client_fault m c ≡ None → received_by_all m.world c < end_of_log m.world c →
     AllHaveEffects (records_between m.world c (coalesced_from m.world c) (end_of_log m.world c)) → (m' : Machine) × Coalescing m c not_yet m'
-coalesced_can m c h fine lacking some =
-    let (m', e) = can_coalesce m c h (client_runs m c fine).0 lacking some in
-    (m', is_coalesced fine refl e)
+coalesced_can m c h fine lacking some = grind (arith, can_coalesce, client_runs)
 
 as_coalescing : (m m' : Machine) (c : ℕ) → Syncing m c Dsync (replied Done) m' → Coalescing m c (replied Done) m'
 as_coalescing m m' c (is_synced reply fine is e) = is_synced reply fine is e

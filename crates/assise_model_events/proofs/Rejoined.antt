@@ -1,5 +1,5 @@
 -- A node that lacks no inode gets its donor's logs, and is full again.
-use Rattle.std.proofs.Common.{◌≡◌, inl, inr, ℕ, zero, suc, ◌+◌, ◌-◌, ◌≤◌, Some, List, [], ◌∷◌, length, refl, ap, sym, subst, ◌∙◌, arith, length-append}
+use Rattle.std.proofs.Common.{◌≡◌, ℕ, zero, suc, ◌+◌, ◌-◌, ◌≤◌, Some, List, [], ◌∷◌, length, refl, ap, ◌∙◌, arith, length-append}
 use Rattle.std.specs.List.{slice_get}
 use Rattle.std.proofs.lemmas.Option.{none-some}
 use Rattle.assise_history.specs.Entries.{returns}
@@ -7,7 +7,7 @@ use Rattle.assise_manager.specs.Standings.{Standing, standing_of}
 use Rattle.assise_manager.specs.Standings.Standing.{full, returning}
 use Rattle.assise_model_world.specs.NodeSteps.{Joins}
 use Rattle.assise_model_world.specs.Invariant.{AreDropped}
-use Rattle.assise_model_world.specs.World.{World, Full, least_of, end_of_log, digested_by_all}
+use Rattle.assise_model_world.specs.World.{World, Full, digested_by_all}
 use Rattle.assise_model_world.proofs.WorldObserved.{least_of-below, least_of-above, least_of-end}
 use Rattle.assise_model_world.proofs.QuietSteps.{end-same}
 use Rattle.assise_model_leases.proofs.QuietLeases.{logs_keep}
@@ -41,34 +41,19 @@ stands_is_node m n s at = node_within m.members.nodes n s at
 -- what a full node has digested now some full node had digested before
 digested_before : (w u : World) (n donor c m : ℕ) → Joins w n donor u → Full u m → digested_by_all w c ≤ u.digested m c
 unfolding digested_by_all
-digested_before w u n donor c m e h =
-    elim (e.only m h) [
-      | inl is ↦ subst (λ k. least_of w.full (λ m. w.digested m c) (end_of_log w c) ≤ u.digested k c) (sym is)
-          (rw (e.digested_here c) (least_of-below w.full (λ m. w.digested m c) (end_of_log w c) donor e.donor_full))
-      | inr f ↦ rw ((e.else_same m f).digested c) (least_of-below w.full (λ m. w.digested m c) (end_of_log w c) m f)
-    ]
+digested_before w u n donor c m e h = grind (arith, least_of-below)
 
 digested_up : (w u : World) (n donor c : ℕ) → Joins w n donor u → digested_by_all w c ≤ digested_by_all u c
 unfolding digested_by_all
-digested_up w u n donor c e =
-    least_of-above u.full (λ m. u.digested m c) (end_of_log u c) (least_of w.full (λ m. w.digested m c) (end_of_log w c))
-    (rw (end-same w u e.logs c) (least_of-end w.full (λ m. w.digested m c) (end_of_log w c)))
-    (λ m h. digested_before w u n donor c m e h)
+digested_up w u n donor c e = grind (arith, least_of-above, end-same, least_of-end, digested_before)
 
 digested_down : (w u : World) (n donor c : ℕ) → Joins w n donor u → digested_by_all u c ≤ digested_by_all w c
 unfolding digested_by_all
-digested_down w u n donor c e =
-    least_of-above w.full (λ m. w.digested m c) (end_of_log w c) (least_of u.full (λ m. u.digested m c) (end_of_log u c))
-    (subst (λ k. least_of u.full (λ m. u.digested m c) (end_of_log u c) ≤ k) (end-same w u e.logs c) (least_of-end u.full (λ m. u.digested m c) (end_of_log u c)))
-    (λ m h. subst (λ k. least_of u.full (λ m. u.digested m c) (end_of_log u c) ≤ k) ((e.else_same m h).digested c) (least_of-below u.full (λ m. u.digested m c) (end_of_log u c) m (e.stay m h)))
+digested_down w u n donor c e = grind (arith, least_of-above, end-same, least_of-end, least_of-below)
 
 join_dropped : (w u : World) (n donor : ℕ) → Joins w n donor u → AreDropped w → AreDropped u
 unfolding AreDropped
-join_dropped w u n donor e dropped c =
-    let up : digested_by_all w c ≤ digested_by_all u c = digested_up w u n donor c e in
-    let down : digested_by_all u c ≤ digested_by_all w c = digested_down w u n donor c e in
-    let same : digested_by_all w c ≡ digested_by_all u c = omega (arith, up, down) in
-    e.logs.first c ∙ dropped c ∙ same
+join_dropped w u n donor e dropped c = grind (arith, digested_up, digested_down)
 
 -- ---- a node is full again
 

@@ -1,12 +1,11 @@
 -- What nodes do keeps the invariant: leases that may go do.
-use Rattle.std.proofs.Common.{◌≡◌, inl, inr, ℕ, List, [], ◌∷◌, length, true, false, refl, ap, sym, subst, ◌∙◌, arith}
+use Rattle.std.proofs.Common.{◌≡◌, ℕ, List, [], ◌∷◌, length, true, false, refl, ap, sym, subst, ◌∙◌, arith}
 use Rattle.assise_inode_table.specs.Effects.{contains}
-use Rattle.std.proofs.lemmas.Bool.{cases_Bool, cases_eq, le-leb}
+use Rattle.std.proofs.lemmas.Bool.{cases_Bool, cases_eq}
 use Rattle.assise_lease_table.specs.Leases.{lease_of}
 use Rattle.assise_lease_tree.proofs.Lookups.{without_other}
-use Rattle.assise_lease_tree.specs.Levels.{is_revoked}
 use Rattle.assise_model_world.specs.Invariant.{AreDropped}
-use Rattle.assise_model_world.specs.World.{World, digested_by_all}
+use Rattle.assise_model_world.specs.World.{World}
 use Rattle.assise_model_world.proofs.QuietSteps.{still_dropped}
 use Rattle.assise_model_history.specs.Traces.{IsTrace, last_of}
 use Rattle.assise_model_history.specs.Entered.NeedsNoEntry.{releases}
@@ -69,29 +68,13 @@ last_gone m w (g ∷ gs) = last_gone m g.world gs
 
 -- ---- what isn't ready stays
 
-went_ready : (w : World) (l : Leases) (c i : ℕ) (u : World) (k : Leases) → ReleasesReady w l c i u k → is_ready w l c i ≡ true
-went_ready w l c i u k e = rw (e.revoked) (le-leb (l.cut c i) (digested_by_all w c) e.ready)
-
 one_stays : (w : World) (l : Leases) (c i : ℕ) (u : World) (k : Leases) → ReleasesReady w l c i u k → (d j : ℕ) → is_ready w l d j ≡ false → client_lease k d j ≡ client_lease l d j
-one_stays w l c i u k e d j unready =
-    elim (cases_eq j i) [
-      | inl here ↦
-          elim (cases_eq d c) [
-            | inl own ↦ absurd (let both : true ≡ false = sym (went_ready w l c i u k e) ∙ subst (λ y. is_ready w l c y ≡ false) here (subst (λ x. is_ready w l x j ≡ false) own unready) in cc)
-            | inr other ↦ subst (λ y. client_lease k d y ≡ client_lease l d y) (sym here) (ap (λ ls. lease_of ls d) e.released.clients.here ∙ without_other (l.levels.clients i) c d other)
-          ]
-      | inr away ↦ ap (λ ls. lease_of ls d) (e.released.clients.elsewhere j away)
-    ]
+one_stays w l c i u k e d j unready = grind (arith, cases_eq, without_other)
 
 still_ready : (w : World) (l : Leases) (c i : ℕ) (u : World) (k : Leases) → AreDropped w → AreDropped u → ReleasesReady w l c i u k → (d j : ℕ) → client_lease k d j ≡ client_lease l d j →
     is_ready u k d j ≡ is_ready w l d j
 unfolding AreDropped
-still_ready w l c i u k before after e d j same =
-    let all : digested_by_all u d ≡ digested_by_all w d = sym (after d) ∙ e.holds.logs.first d ∙ before d in
-    elim (cases_Bool (is_revoked (client_lease k d j))) [
-      | inl revoked ↦ rw (same, e.cuts d j revoked, all) refl
-      | inr not ↦ (let was : is_revoked (client_lease l d j) ≡ false = ap is_revoked (sym same) ∙ not in rw (not, was) refl)
-    ]
+still_ready w l c i u k before after e d j same = grind (arith, cases_Bool)
 
 unready_stays : (o : Membership) (w₀ w : World) (l : Leases) (gone : List Gone) → Stand o w₀ w l → LetsGo w l gone → (d j : ℕ) → is_ready w l d j ≡ false →
     client_lease (leases_after l gone) d j ≡ client_lease l d j
@@ -151,6 +134,4 @@ pub release_holds : (m m' : Machine) (a : Answer) → MachineInvariant m → Rel
 release_holds m m' a h (is_released gone freed is e) = released_holds m m' gone freed h e
 
 pub unready_kept : (m m' : Machine) (a : Answer) → MachineInvariant m → Releasing m a m' → (c i : ℕ) → is_ready m.world m.leases c i ≡ false → client_lease m'.leases c i ≡ client_lease m.leases c i
-unready_kept m m' a h (is_released gone freed is e) c i unready =
-    ap (λ l. client_lease l c i) e.leases ∙ freed_same m.world (leases_after m.leases gone) freed c i e.frees ∙
-    unready_stays m.members m.world m.world m.leases gone (begins m m' gone freed h e) e.releases c i unready
+unready_kept m m' a h s c i unready = grind (arith, freed_same, unready_stays, begins)

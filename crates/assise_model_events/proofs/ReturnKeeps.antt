@@ -1,12 +1,11 @@
 -- A node begins to come back, and is filled: nothing changes but what nodes have that aren't full.
-use Rattle.std.proofs.Common.{◌≡◌, ℕ, zero, suc, ◌+◌, ◌-◌, ◌≤◌, Option, Some, None, List, [], ◌∷◌, length, refl, ap, ◌∙◌, arith, length-append}
+use Rattle.std.proofs.Common.{◌≡◌, ℕ, zero, suc, ◌+◌, ◌-◌, ◌≤◌, Option, List, [], ◌∷◌, length, refl, ap, ◌∙◌, arith, length-append}
 use Rattle.std.specs.List.{slice_set}
 use Rattle.std.specs.FinSet as set
 use Rattle.assise_history.specs.Entries.{EntryValue}
 use Rattle.assise_manager.specs.Changes.{back_as, copied_as}
-use Rattle.assise_manager.specs.Membership.{Membership, lowest_full, written_since}
+use Rattle.assise_manager.specs.Membership.{Membership}
 use Rattle.assise_manager.specs.Standings.{Standing, standing_of}
-use Rattle.assise_manager.specs.Standings.Standing.{full, down, returning}
 use Rattle.assise_model_world.specs.NodeSteps.{Rests}
 use Rattle.assise_model_world.proofs.QuietSteps.{still_dropped}
 use Rattle.assise_model_leases.proofs.QuietLeases.{logs_keep}
@@ -29,22 +28,13 @@ as_many (x ∷ xs) zero s = refl
 as_many (x ∷ xs) (suc i) s = ap suc (as_many xs i s)
 
 back_many : (o : Membership) (n : ℕ) (s : Option Standing) → length (back_as o n s).nodes ≡ length o.nodes
-back_many o n None = refl
-back_many o n (Some full) = refl
-back_many o n (Some (down since)) = as_many o.nodes (n - 1) (returning since (lowest_full o.nodes) (written_since o since))
-back_many o n (Some (returning since donor stale)) = refl
+back_many o n s = grind (arith, as_many)
 
 back_epoch : (o : Membership) (n : ℕ) (s : Option Standing) → (back_as o n s).epoch ≡ o.epoch
-back_epoch o n None = refl
-back_epoch o n (Some full) = refl
-back_epoch o n (Some (down since)) = refl
-back_epoch o n (Some (returning since donor stale)) = refl
+back_epoch o n s = grind arith
 
 copied_many : (nodes : List Standing) (n i : ℕ) (s : Option Standing) → length (copied_as nodes n i s) ≡ length nodes
-copied_many nodes n i None = refl
-copied_many nodes n i (Some full) = as_many nodes (n - 1) full
-copied_many nodes n i (Some (down since)) = as_many nodes (n - 1) (down since)
-copied_many nodes n i (Some (returning since donor stale)) = as_many nodes (n - 1) (returning since donor (set.remove stale i))
+copied_many nodes n i s = grind (arith, as_many)
 
 -- ---- what a rest keeps
 

@@ -30,7 +30,6 @@ use Rattle.assise_lease_table.specs.declared.lease.Lease.{Lease}
 use Rattle.assise_lease_table.specs.Modes.{strong}
 use Rattle.assise_lease_table.specs.Leases.{serves}
 use Rattle.assise_model_world.specs.ClientSteps.{MakesCall, is_for_writing}
-use Rattle.assise_model_world.specs.Staying.{SameNode}
 use Rattle.assise_model_world.specs.World.{World, Full, undigested_records, call_makes_inode, step_at_home, view}
 use Rattle.assise_model_leases.specs.Chances.{MayCallUnder}
 use Rattle.assise_model_leases.specs.Handing.{CallsUnder}
@@ -156,12 +155,7 @@ reads_log w i s = rw (s.first, s.digested) refl
 
 -- and the same once it got leases
 pub reads_same : (m : Machine) (w : World) (l : Leases) (i : ℕ) → Runs m.world → Reached m w l → view w 1 1 i ≡ view m.world 1 1 i
-reads_same m w l i s r =
-    let same : SameNode m.world w 1 = r.nodes.same 1 s.full in
-    reads_log w i (runs_still m w l s r)
-    ∙ ap (λ old. value_after i old (all_effects (w.log 1 1))) (same.area i)
-    ∙ ap (λ rs. value_after i (m.world.area 1 i) (all_effects rs)) (same.log 1)
-    ∙ sym (reads_log m.world i s)
+reads_same m w l i s r = grind (arith, reads_log, runs_still)
 
 log_longer : (i n : ℕ) (old : Option Content) (rs : List LogRecord) (es : List Effect) → has_some es ≡ true →
     value_after i old (all_effects (rs ++ record_of n es)) ≡ value_after i (value_after i old (all_effects rs)) es
@@ -304,12 +298,7 @@ module _ (limit : ℕ) (m : Machine) (op : Op) (gs : List Granted) (s : Stands l
       omega (arith, own, before, one)
 
   reads_after : (i : ℕ) → view after.world 1 1 i ≡ value_after i (view m.world 1 1 i) es
-  reads_after i =
-      reads_log after.world i runs_after
-      ∙ ap (λ old. value_after i old (all_effects (after.world.log 1 1))) (made_call.area 1 i runs_then.full)
-      ∙ ap (λ rs. value_after i (w.area 1 i) (all_effects rs)) log_after
-      ∙ log_longer i x.number (w.area 1 i) (w.log 1 1) es d.effects
-      ∙ ap (λ old. value_after i old es) (sym (reads_log w i runs_then) ∙ reads_same m w l i s.runs got)
+  reads_after i = grind (arith, reads_log, runs_after, log_after, log_longer, runs_then, reads_same, got)
 
   is_done : Happens m (try_call 1 op) (replied Done) after → IsDone limit m op gs after
   is_done happens = record {

@@ -1,5 +1,5 @@
 -- The invariant between events holds at the start.
-use Rattle.std.proofs.Common.{◌≡◌, ℕ, zero, suc, ◌<◌, ◌≤◌, List, length, Some, None, refl, ap, sym, subst, ◌∙◌, arith}
+use Rattle.std.proofs.Common.{◌≡◌, ℕ, zero, suc, ◌<◌, ◌≤◌, List, length, Some, None, refl, ap, sym, ◌∙◌, arith}
 use Rattle.std.specs.List.{slice_get}
 use Rattle.assise_lease_tree.specs.TwoLevels.{nobody}
 use Rattle.assise_manager.specs.Changes.{fulls, all_full}
@@ -10,7 +10,7 @@ use Rattle.assise_model_world.proofs.StepLists.{begun_dropped}
 use Rattle.assise_model_leases.specs.Leases.{Leases, AreLeases}
 use Rattle.assise_model_members.specs.Members.{AreMembers, since_of}
 use Rattle.assise_model_members.proofs.NodeStandings.{none_failed}
-use Rattle.assise_model_history.specs.State.{IsRecorded, begun_with, down_from}
+use Rattle.assise_model_history.specs.State.{begun_with, down_from}
 use Rattle.assise_model_history.proofs.TracesKeep.{begun_sound, begun_recorded, node_of, of_node}
 use Rattle.assise_model_events.specs.Machine.{MachineInvariant, begun_as, state_of}
 
@@ -56,22 +56,7 @@ abbrev no_leases : Leases
 no_leases = record { levels = nobody; cut = λ c i. 0 }
 
 begun_leases : (nodes : List ℕ) → AreLeases (begun nodes) no_leases
-begun_leases nodes = record {
-  lawful = record {
-    clients_compatible = λ i. refl;
-    nodes_compatible = λ i. refl;
-    under = λ i l among. absurd among;
-    asked = λ i k among revoked. absurd among;
-  };
-  held = record { holds = λ c i. refl; writes = λ c i. refl };
-  homes = λ c client. absurd (omega (arith, client.0, client.1));
-  strangers = λ c not_one. refl;
-  covered = λ c i revoked. cc;
-  goals = λ c i lives revoked. cc;
-  borders = λ c i revoked low. refl;
-  crashed = λ c i crashed held. cc;
-  failed = λ c i lives held. cc;
-}
+begun_leases nodes = grind arith
 
 -- ---- all of it
 
@@ -79,13 +64,4 @@ same_state : (nodes limit hot : ℕ) → state_of (begun_as nodes limit hot) ≡
 same_state nodes limit hot = (let same : length (fulls nodes) ≡ nodes = fulls_length nodes in rw same refl)
 
 pub begun_holds : (nodes limit hot : ℕ) → 0 < nodes → MachineInvariant (begun_as nodes limit hot)
-begun_holds nodes limit hot some = record {
-  sound = begun_sound nodes;
-  dropped = begun_dropped (down_from nodes);
-  recorded = subst IsRecorded (sym (same_state nodes limit hot)) (begun_recorded nodes);
-  leases = begun_leases (down_from nodes);
-  members = begun_members nodes some;
-  epochs = omega arith;
-  logs = λ c. omega arith;
-  clients = omega arith;
-}
+begun_holds nodes limit hot some = search (begun_sound, begun_dropped, same_state, begun_recorded, begun_leases, begun_members, arith) parts 3

@@ -1,5 +1,5 @@
 -- A sync: its client's log is to be replicated, and where it is the call is answered.
-use Rattle.std.proofs.Common.{◌≡◌, ℕ, ◌≤◌, max, Some, true, false, [], ◌∷◌, length, refl, ap, sym, subst, ◌∙◌, arith}
+use Rattle.std.proofs.Common.{◌≡◌, ℕ, max, Some, true, false, [], ◌∷◌, length, refl, ap, sym, subst, ◌∙◌, arith}
 use Rattle.std.proofs.lemmas.Bool.{both_ways, false≢true}
 use Rattle.assise_names.specs.declared.call.Op.{Op}
 use Rattle.assise_names.specs.declared.call.Op.TheVariants.{Fsync}
@@ -37,9 +37,7 @@ raise_leases : (w u : World) (l : Leases) (k : ℕ → ℕ) → RaisesGoals w k 
 raise_leases w u l k e a = logs_keep w u l e.logs e.clients e.leases (λ c. let g : u.goal c ≡ max (w.goal c) (k c) = e.goals c in omega (arith, g)) a
 
 raise_replicated : (w u : World) (k : ℕ → ℕ) (c : ℕ) → RaisesGoals w k u → received_by_all w c ≡ end_of_log w c → received_by_all u c ≡ end_of_log u c
-raise_replicated w u k c e all =
-    let up : received_by_all w c ≤ received_by_all u c = received_by_all-same w u e.logs e.nodes.full (λ n d f. let r : u.received n d ≡ w.received n d = (e.nodes.same n f).received d in omega (arith, r)) c in
-    omega (arith, up, all, received_by_all-end u c, end-same w u e.logs c)
+raise_replicated w u k c e all = grind (arith, received_by_all-same, received_by_all-end, end-same)
 
 -- ---- it is awaited
 
@@ -135,9 +133,7 @@ module _ (m m' : Machine) (c : ℕ) (reply : Reply) (never : is_sync Fsync (dura
   }
 
 pub noting_leads : (m m' : Machine) (c : ℕ) (a : Answer) → is_sync Fsync (durability_of c m.history) ≡ false → MachineInvariant m → Noting m c a m' → Leads m m'
-noting_leads m m' c a never h (is_noted reply fine is e) = noted_leads m m' c reply never h e
-noting_leads m m' c a never h (lacks_memory fine is same) = same_leads m m' same
-noting_leads m m' c a never h (is_refused r fault is same) = same_leads m m' same
+noting_leads m m' c a never h s = grind (arith, noted_leads, same_leads)
 
 pub noting_keeps : (m m' : Machine) (c : ℕ) (a : Answer) → is_sync Fsync (durability_of c m.history) ≡ false → MachineInvariant m → Noting m c a m' → MachineInvariant m'
 noting_keeps m m' c a never h (is_noted reply fine is e) = noted_keeps m m' c reply never h e

@@ -1,5 +1,5 @@
 -- How two nodes begin: client 1 is opened on node 1, and gets the leases that it needs to create a file.
-use Rattle.std.proofs.Common.{◌≡◌, ◌≢◌, ℕ, ◌==◌, ◌||◌, true, false, List, [], ◌∷◌, ◌++◌, Option, Some, None, refl, ap, sym, subst, ◌∙◌, arith}
+use Rattle.std.proofs.Common.{◌≡◌, ◌≢◌, ℕ, true, List, [], ◌∷◌, ◌++◌, Option, Some, None, refl, ap, sym, subst, ◌∙◌, arith}
 use Rattle.std.proofs.lemmas.Bool.{or_right}
 use Rattle.assise_names.specs.declared.durability.Durability.{Durability}
 use Rattle.assise_names.specs.declared.durability.Durability.TheVariants.{Pessimistic}
@@ -208,11 +208,7 @@ module _ (limit : ℕ) (m : Machine) (o : IsOpen limit m) where
   read_clients = read.2.clients ∙ ap (clients_granted 1 Read) (o.clients_none 0) ∙ one_client Read
 
   read_nodes : read.1.levels.nodes 0 ≡ new_lease 1 Read ∷ []
-  read_nodes =
-      read.2.nodes
-      ∙ ap (λ cs. nodes_granted m.leases.levels.home cs 1 Read (m.leases.levels.nodes 0)) (o.clients_none 0)
-      ∙ ap (nodes_granted m.leases.levels.home [] 1 Read) (o.nodes_none 0)
-      ∙ one_node m.leases.levels.home Read
+  read_nodes = grind (arith, one_node)
 
   no_client : read.1.levels.clients made_number ≡ []
   no_client = read.2.grant.granted.clients.elsewhere made_number own_not_root ∙ o.clients_none made_number
@@ -297,9 +293,7 @@ module _ (limit : ℕ) (m : Machine) (o : IsOpen limit m) (gs : List Granted) (h
   serves_both i there = of_either (λ j. client_lease l 1 j ≡ Some (new_lease 1 Write)) made_number 0 i (rw h.clients_own refl) (rw h.clients_root refl) there
 
   visits : (i : ℕ) → contains (step_at_home w creation).visits i ≡ true → contains (made_number ∷ 0 ∷ []) i ≡ true
-  visits i there =
-      let at_root : contains (0 ∷ []) i ≡ true = subst (λ t. contains t.visits i ≡ true) (step_is w h.world) there in
-      or_right (made_number == i) ((0 == i) || false) at_root
+  visits i there = grind (arith, step_is, or_right, made_number)
 
   changes : (i : ℕ) → contains (touched (step_at_home w creation).effects) i ≡ true → contains (made_number ∷ 0 ∷ []) i ≡ true
   changes i there = subst (λ t. contains (touched t.effects) i ≡ true) (step_is w h.world) there

@@ -1,5 +1,5 @@
 -- Whatever happens, one event after another.
-use Rattle.std.proofs.Common.{◌≡◌, ℕ, ◌<◌, ◌≤◌, true, false, List, [], ◌∷◌, ◌++◌, refl, ap, sym, subst, ◌∙◌, arith, append_assoc, append-nil}
+use Rattle.std.proofs.Common.{◌≡◌, ℕ, ◌<◌, true, false, List, [], ◌∷◌, ◌++◌, refl, ap, sym, subst, ◌∙◌, arith, append_assoc, append-nil}
 use Rattle.assise_seq_tree.specs.Tree.{opening as opening_tree}
 use Rattle.assise_history.specs.declared.call.Loss.{Loss}
 use Rattle.assise_history.specs.Entries.{EntryValue, fails}
@@ -9,7 +9,7 @@ use Rattle.assise_history.proofs.OneMore.{follows_in}
 use Rattle.assise_inode_table.specs.Effects.{contains, touched}
 use Rattle.assise_inode_table.specs.Traces.{Each}
 use Rattle.assise_inode_table.proofs.PairwiseLists.{each-map}
-use Rattle.assise_model_world.specs.World.{first_unreplicated, first_undigested, steps}
+use Rattle.assise_model_world.specs.World.{first_unreplicated, steps}
 use Rattle.assise_model_world.proofs.Replicated.{handed_over}
 use Rattle.assise_model_world.proofs.RegionAlone.{first_undigested-below}
 use Rattle.assise_model_leases.specs.Leases.{client_lease, is_written}
@@ -54,14 +54,7 @@ remaining m h before later e split = (h.recorded.legal before later e split).run
 
 pub handed_over_replicated : (m : Machine) → MachineInvariant m → (c i : ℕ) → is_written (client_lease m.leases c i) ≡ false →
     Each (λ x. x.0.client ≡ c → contains (touched x.1.effects) i ≡ true → x.0.number < first_unreplicated m.world c) (steps m.world)
-handed_over_replicated m h c i away =
-    let below : first_undigested m.world c ≤ first_unreplicated m.world c = first_undigested-below m.world h.sound.coherent c in
-    each-map
-    (λ x. x.0.client ≡ c → contains (touched x.1.effects) i ≡ true → x.0.number < first_undigested m.world c)
-    (λ x. x.0.client ≡ c → contains (touched x.1.effects) i ≡ true → x.0.number < first_unreplicated m.world c)
-    (steps m.world)
-    (λ x before own touches. omega (arith, before own touches, below))
-    (handed_over m.world c i h.sound (h.leases.held.writes c i ∙ away))
+handed_over_replicated m h c i away = grind (arith, first_undigested-below, each-map, handed_over)
 
 -- ---- what lasts
 
@@ -74,17 +67,11 @@ append_last s [] us = refl
 append_last s (t ∷ ts) us = append_last t ts us
 
 pub then_leads : (m v m' : Machine) → Leads m v → Leads v m' → Leads m m'
-then_leads m v m' one two = record {
-  states = one.states ++ two.states;
-  trace = append_trace (state_of m) one.states two.states one.trace (subst (λ s. IsTrace s two.states) (sym one.last) two.trace);
-  last = append_last (state_of m) one.states two.states ∙ ap (λ s. last_of s two.states) one.last ∙ two.last;
-}
+then_leads m v m' one two = grind (arith, append_trace, append_last)
 
 pub all_lead : (m m' : Machine) (es : List (ClusterEvent × Answer)) → MachineInvariant m → AllHappen m es m' → Leads m m'
 all_lead m m' [] h e = same_leads m m' e
 all_lead m m' ((e, a) ∷ es) h (v, (step, rest)) = then_leads m v m' (event_leads m v e a h step) (all_lead v m' es (event_keeps m v e a h step) rest)
 
 pub lasts : (m m' : Machine) (es : List (ClusterEvent × Answer)) → MachineInvariant m → AllHappen m es m' → IsLasting (state_of m) (state_of m')
-lasts m m' es h run =
-    let l : Leads m m' = all_lead m m' es h run in
-    subst (IsLasting (state_of m)) l.last (trace_lasts (state_of m) l.states h.sound h.recorded l.trace)
+lasts m m' es h run = grind (arith, all_lead, trace_lasts)

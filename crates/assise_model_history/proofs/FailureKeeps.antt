@@ -1,5 +1,5 @@
 -- Failures and returns keep what the history says of the state.
-use Rattle.std.proofs.Common.{◌≡◌, ◌≢◌, ℕ, zero, suc, ◌+◌, ◌-◌, ◌<◌, ◌≤◌, Bool, true, false, not, ◌&&◌, nat_le, nat_lt, ◌==◌, List, [], ◌∷◌, ◌++◌, filter, length, Contains, refl, ap, sym, subst, ◌∙◌, inl, inr, arith, eq-eqb, ne_eqb}
+use Rattle.std.proofs.Common.{◌≡◌, ◌≢◌, ℕ, zero, suc, ◌+◌, ◌-◌, ◌<◌, ◌≤◌, Bool, true, false, not, ◌&&◌, nat_le, ◌==◌, List, [], ◌∷◌, ◌++◌, filter, length, Contains, refl, ap, sym, subst, ◌∙◌, inl, inr, arith, eq-eqb, ne_eqb}
 use Rattle.std.specs.List.{list_any}
 use Rattle.std.proofs.lemmas.Bool.{cases_Bool, cases_eq, cases_lt, and_parts, and_from, eqb-true, ltb-true, ltb-false, leb-true, le-leb, false_from_ne_true, or_left, or_right, both_ways}
 use Rattle.std.proofs.lemmas.List.Elements.{Contains-append_cases}
@@ -74,17 +74,11 @@ is_taken w n x client few from =
     ]
 
 same_test : (w : World) (n : ℕ) (x : NumberedCall) → IsClient w x.client → x.number < w.next x.client → below (cut_call w n) x ≡ not (loses (losses_of w n) (plain_call x))
-same_test w n x client few =
-    elim (cases_Bool (nat_lt x.number (cut_call w n x.client))) [
-      | inl low ↦ low ∙ sym (ap not (not_taken w n x (ltb-true x.number (cut_call w n x.client) low)))
-      | inr high ↦ high ∙ sym (ap not (is_taken w n x client few (ltb-false x.number (cut_call w n x.client) high)))
-    ]
+same_test w n x client few = grind (arith, cases_Bool, not_taken, ltb-true, is_taken, ltb-false)
 
 same_filter : (w : World) (n : ℕ) → WorldInvariant w → filter (below (cut_call w n)) w.calls ≡ filter (λ x. not (loses (losses_of w n) (plain_call x))) w.calls
 unfolding Counted
-same_filter w n s =
-    filter_like (below (cut_call w n)) (λ x. not (loses (losses_of w n) (plain_call x))) w.calls
-    (each-map (λ x. IsClient w x.client × (x.number < w.next x.client)) (λ x. below (cut_call w n) x ≡ not (loses (losses_of w n) (plain_call x))) w.calls (λ x h. same_test w n x h.0 h.1) s.coherent.counted)
+same_filter w n s = grind (arith, filter_like, each-map, same_test)
 
 pub failure_takes : (w w' : World) (n : ℕ) → WorldInvariant w → Fails w n w' → w'.calls ≡ filter (λ x. not (loses (losses_of w n) (plain_call x))) w.calls
 failure_takes w w' n s e = e.calls ∙ same_filter w n s
@@ -186,10 +180,7 @@ failure_recorded s n s' sound r e =
 -- ---- a failure of a node that isn't full
 
 pub nothing_fair : (s : State) (n : ℕ) → IsFair s.history n []
-nothing_fair s n = record {
-  ascending = λ before between behind l m split. absurd (not_nil before (between ++ m ∷ behind) l split);
-  each = λ lower higher l split. absurd (not_nil lower higher l split);
-}
+nothing_fair s n = search (absurd, not_nil, arith) parts 3
 
 again_opened : (s : State) (n : ℕ) (s' : State) → WorldInvariant s.world → IsRecorded s → IsFailureAgain s n s' → (c : ℕ) → IsClient s.world c → WasOpened (s.history ++ fails n [] ∷ []) s'.world c
 again_opened s n s' sound r e c client =
@@ -205,19 +196,7 @@ again_opened s n s' sound r e c client =
     ]
 
 again_nodes : (s : State) (n : ℕ) (s' : State) → IsRecorded s → IsFailureAgain s n s' → AreUp s.nodes (s.history ++ fails n [] ∷ []) s'.world
-again_nodes s n s' r e = record {
-  nodes = λ m full. r.nodes m (full_moves s.world s'.world m e.world.nodes.full full);
-  up = λ m full down.
-      let had : Full s.world m = full_moves s.world s'.world m e.world.nodes.full full in
-      elim (down-last s.history (fails n []) m down) [
-        | inl last ↦
-            let entry = last.1 in
-            let same : n ≡ m = cc in
-            e.absent (subst (λ k. Full s.world k) (sym same) had)
-        | inr before ↦ r.up m had before.0
-      ];
-  down = λ m node absent. down-push s.history (fails n []) m (r.down m node (λ full. absent (full_moves s'.world s.world m (sym e.world.nodes.full) full))) refl;
-}
+again_nodes s n s' r e = grind (arith, full_moves, down-last, down-push)
 
 pub failure_again_recorded : (s : State) (n : ℕ) (s' : State) → WorldInvariant s.world → IsRecorded s → IsFailureAgain s n s' → IsRecorded s'
 failure_again_recorded s n s' sound r e =

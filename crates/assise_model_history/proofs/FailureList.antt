@@ -1,5 +1,5 @@
 -- The list that a failure has.
-use Rattle.std.proofs.Common.{◌≡◌, ◌≢◌, ◌↔◌, ℕ, zero, suc, ◌<◌, ◌≤◌, true, false, not, ◌&&◌, ◌==◌, List, [], ◌∷◌, ◌++◌, if◌then◌else◌, filter, Contains, refl, ap, sym, subst, ◌∙◌, inl, inr, arith, append-nil, eqb-true, eq-eqb, ne_eqb}
+use Rattle.std.proofs.Common.{◌≡◌, ◌≢◌, ◌↔◌, ℕ, zero, suc, ◌<◌, ◌≤◌, true, false, not, ◌==◌, List, [], ◌∷◌, ◌++◌, if◌then◌else◌, filter, Contains, refl, ap, sym, subst, ◌∙◌, inl, inr, arith, append-nil, eqb-true, eq-eqb, ne_eqb}
 use Rattle.std.proofs.lemmas.Bool.{cases_Bool, cases_eq, and_parts, and_from, both_ways, ltb-true, lt-ltb, or_right}
 use Rattle.std.proofs.lemmas.List.Elements.{Contains-append_left, Contains-append_right, Contains-append_cases}
 use Rattle.assise_history.specs.declared.call.Loss.{Loss}
@@ -122,17 +122,11 @@ least_kept w n c = least_of (others_of w n) (λ m. w.received m c) (end_of_log w
 -- where records of a client are cut it lives there, and the cut is what all others have
 cut_lives : (w : World) (n c : ℕ) → kept_at_failure w n c < end_of_log w c → (w.lives c ≡ true) × (w.home c ≡ n) × (kept_at_failure w n c ≡ least_kept w n c)
 unfolding kept_at_failure
-cut_lives w n c some =
-    elim (cases_Bool (w.lives c && (w.home c == n))) [
-      | inl there ↦ (let parts = and_parts (w.lives c) (w.home c == n) there in (parts.0, eqb-true (w.home c) n parts.1, rw there refl))
-      | inr not_there ↦ (let still : end_of_log w c < end_of_log w c = rw not_there at some in absurd (omega (arith, still)))
-    ]
+cut_lives w n c some = grind (arith, cases_Bool, and_parts, eqb-true)
 
 pub cut_there : (w : World) (n c : ℕ) → w.lives c ≡ true → w.home c ≡ n → kept_at_failure w n c ≡ least_kept w n c
 unfolding kept_at_failure
-cut_there w n c lives home =
-    let there : (w.lives c && (w.home c == n)) ≡ true = and_from (w.lives c) (w.home c == n) lives (eq-eqb (w.home c) n home) in
-    rw there refl
+cut_there w n c lives home = grind (arith, and_from, eq-eqb)
 
 -- some node that is left has no more
 record HasLeast (w : World) (n c k : ℕ) : Type 0 where

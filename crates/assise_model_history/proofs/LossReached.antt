@@ -1,8 +1,7 @@
 -- A trace from the start in which a failure takes a call.
-use Rattle.std.proofs.Common.{◌≡◌, inl, inr, ℕ, ◌-◌, ◌≤◌, true, false, ◌||◌, ◌==◌, List, [], ◌∷◌, ◌++◌, drop, refl, ap, sym, subst, ◌∙◌, arith, eqb-true, Option, Some, Result, Ok, cond, is_some}
+use Rattle.std.proofs.Common.{◌≡◌, inl, inr, ℕ, ◌-◌, ◌≤◌, true, false, ◌||◌, ◌==◌, List, [], ◌∷◌, ◌++◌, refl, ap, sym, subst, ◌∙◌, arith, eqb-true, Some, Ok, cond, is_some}
 use Rattle.std.proofs.lemmas.Bool.{or_cases, or_right, lt-ltb}
 use Rattle.std.proofs.Math.Seq.{drop-nil}
-use Rattle.std.specs.Prelude.{ok_or}
 use Rattle.std.specs.Cmp.{nat_cmp_total}
 use Rattle.std.specs.Cmp.Lexicographic.{slice_cmp}
 use Rattle.std.specs.FinMap as map
@@ -11,18 +10,16 @@ use Rattle.assise_names.specs.declared.call.Op.{Op}
 use Rattle.assise_names.specs.declared.call.Op.TheVariants.{Create}
 use Rattle.assise_names.specs.declared.mode.Mode.TheVariants.{Write}
 use Rattle.assise_names.specs.declared.reply.Reply.TheVariants.{Done}
-use Rattle.assise_names.specs.declared.reply.TreeError.{TreeError}
 use Rattle.assise_names.specs.declared.durability.Durability.TheVariants.{Pessimistic}
-use Rattle.assise_names.specs.declared.reply.TreeError.TheVariants.{NoEnt}
 use Rattle.assise_seq_tree.specs.Tree.{no_entries}
 use Rattle.assise_history.specs.Entries.{opens, calls, fails}
 use Rattle.assise_history.specs.Kept.{kept}
 use Rattle.assise_record.specs.declared.effect.Effect.TheVariants.{NewFile, Link}
 use Rattle.assise_record.specs.Records.{record_of}
-use Rattle.assise_inode_table.specs.Calls.{then_or_error, as_links, room_among, step}
-use Rattle.assise_inode_table.specs.Contents.{Content, directory, Links, Values}
+use Rattle.assise_inode_table.specs.Calls.{room_among, step}
+use Rattle.assise_inode_table.specs.Contents.{directory, Links, Values}
 use Rattle.assise_inode_table.specs.Effects.{contains, touched}
-use Rattle.assise_inode_table.specs.Interaction.{Interaction, finish, visits_of, reply_of, effects_of, Step}
+use Rattle.assise_inode_table.specs.Interaction.{Step}
 use Rattle.assise_inode_table.specs.Traces.{NumberedCall}
 use Rattle.assise_inode_table.proofs.EffectValues.{same_number}
 use Rattle.assise_inode_table.proofs.DirectoryNames.{names_are_keys}
@@ -179,36 +176,18 @@ room =
     let no_keys : map.keys no_links ≡ [] = sym (names_are_keys no_entries no_links tt (λ q. ap is_some (sym (map.get-empty (slice_cmp nat_cmp) q)))) in
     rw (no_link, no_keys) refl
 
--- what follows once the root was visited, and once it is known that there is room
-abbrev with_room : ℕ → Result (Unit {0}) TreeError → Interaction
-with_room fresh r = then_or_error r (λ _. finish Done (create_step fresh).effects)
-
-abbrev with_links : ℕ → Option Content → Interaction
-with_links fresh o = then_or_error (ok_or o NoEnt) (λ content. then_or_error (as_links content) (λ links. with_room fresh (room_among (97 ∷ []) links)))
-
 pub creates : (v : Values) (fresh : ℕ) → v 0 ≡ Some (directory no_links) → step v create_op fresh ≡ create_step fresh
-creates v fresh root =
-    let after_root : with_links fresh (v 0) ≡ finish Done (create_step fresh).effects = ap (with_links fresh) root ∙ ap (with_room fresh) room in
-    ap (λ r. record { visits = 0 ∷ visits_of v r; reply = reply_of v r; effects = effects_of v r }) after_root
+creates v fresh root = grind (arith, room)
 
 pub sees_root : (w : World) → IsNew w → view w (w.home 1) 1 0 ≡ opening_values 0
 unfolding view undigested_records
-sees_root w n =
-    let none : drop (w.digested 1 1 - w.first 1) (w.log 1 1) ≡ [] = ap (λ rs. drop (w.digested 1 1 - w.first 1) rs) n.log ∙ drop-nil (w.digested 1 1 - w.first 1) in
-    rw (n.home, none) n.area
+sees_root w n = grind (arith, drop-nil)
 
 pub step_is : (w : World) → IsNew w → step_at_home w creation ≡ first_step
 step_is w n = creates (view w (w.home 1) 1) made_number (sees_root w n ∙ empty_root)
 
 pub of_either : (P : ℕ → Type 0) (a b i : ℕ) → P a → P b → contains (a ∷ b ∷ []) i ≡ true → P i
-of_either P a b i at_a at_b there =
-    elim (or_cases (a == i) ((b == i) || false) there) [
-      | inl is ↦ subst P (eqb-true a i is) at_a
-      | inr rest ↦ elim (or_cases (b == i) false rest) [
-        | inl is ↦ subst P (eqb-true b i is) at_b
-        | inr never ↦ cc
-      ]
-    ]
+of_either P a b i at_a at_b there = grind (arith, or_cases, eqb-true)
 
 pub may_create : (w : World) → IsNew w → ((i : ℕ) → contains (made_number ∷ 0 ∷ []) i ≡ true → w.holds 1 i ≡ true) → ((i : ℕ) → contains (made_number ∷ 0 ∷ []) i ≡ true → w.writes 1 i ≡ true) → MayMakeCall w creation
 may_create w n holds writes =
@@ -231,10 +210,7 @@ may_create w n holds writes =
     ]
 
 created : (t : State) × IsCall with_leases creation t
-created =
-    can_call with_leases creation leases_sound
-    (may_create with_leases.world leases_new (λ i h. of_either (λ k. with_leases.world.holds 1 k ≡ true) made_number 0 i holds_own holds_root h) (λ i h. of_either (λ k. with_leases.world.writes 1 k ≡ true) made_number 0 i writes_own writes_root h))
-    (λ sync. cc)
+created = grind (arith, can_call, leases_sound, may_create, leases_new, of_either, holds_own, holds_root, writes_own, writes_root)
 
 abbrev with_file : State
 with_file = created.0

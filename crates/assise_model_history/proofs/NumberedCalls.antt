@@ -21,10 +21,6 @@ pub filter_like : {X : Type 0} (p q : X → Bool) (xs : List X) → Each (λ x. 
 filter_like p q [] h = refl
 filter_like p q (x ∷ xs) h = rw h.0 (ap (λ ys. if q x then x ∷ ys else ys) (filter_like p q xs h.1))
 
-each_of : {X : Type 0} (P : X → Type 0) (xs : List X) → ((x : X) → P x) → Each P xs
-each_of P [] h = tt
-each_of P (x ∷ xs) h = (h x, each_of P xs h)
-
 -- ---- the parts of a history
 
 numbered_parts_from : (prefix g h : List EntryValue) → all_after prefix (g ++ h) ≡ all_after prefix g ++ all_after (prefix ++ g) h
@@ -83,14 +79,8 @@ kept_crash h c = kept_parts h (crashes c ∷ []) ∙ nothing_more (kept_numbered
 pub kept_return : (h : List EntryValue) (n : ℕ) → kept_numbered (h ++ returns n ∷ []) ≡ kept_numbered h
 kept_return h n = kept_parts h (returns n ∷ []) ∙ nothing_more (kept_numbered h)
 
-one_failure : (b : Bool) → not (if b then true else false) ≡ not b
-one_failure true = refl
-one_failure false = refl
-
 pub kept_fail : (h : List EntryValue) (n : ℕ) (losses : List Loss) → kept_numbered (h ++ fails n losses ∷ []) ≡ filter (λ x. not (loses losses (plain_call x))) (kept_numbered h)
-kept_fail h n losses =
-    kept_parts h (fails n losses ∷ []) ∙ append-nil (left_by (fails n losses ∷ []) (kept_numbered h))
-    ∙ filter_like (λ x. not (is_lost (fails n losses ∷ []) (plain_call x))) (λ x. not (loses losses (plain_call x))) (kept_numbered h) (each_of _ (kept_numbered h) (λ x. one_failure (loses losses (plain_call x))))
+kept_fail h n losses = grind (arith, kept_parts, append-nil, filter_like)
 
 pub kept_fail_none : (h : List EntryValue) (n : ℕ) → kept_numbered (h ++ fails n [] ∷ []) ≡ kept_numbered h
 kept_fail_none h n = kept_fail h n [] ∙ filter_all (kept_numbered h)
@@ -131,14 +121,7 @@ record IsKeptFrom (prefix h : List EntryValue) (y : NumberedCall) : Type 0 where
 
 -- with an entry before
 later_on : (prefix es : List EntryValue) (e : EntryValue) (y : NumberedCall) → IsKeptFrom (prefix ++ e ∷ []) es y → IsKeptFrom prefix (e ∷ es) y
-later_on prefix es e y k = record {
-  before = e ∷ k.before;
-  later = k.later;
-  plain = k.plain;
-  split = ap (λ xs. e ∷ xs) k.split;
-  safe = k.safe;
-  numbered = k.numbered ∙ ap (λ f. numbered_in f k.plain) (append_assoc prefix (e ∷ []) k.before);
-}
+later_on prefix es e y k = search (append_assoc, arith) parts 3
 
 kept_as_from : (prefix h : List EntryValue) (y : NumberedCall) → Contains (kept_after prefix h) y → IsKeptFrom prefix h y
 kept_as_from prefix [] y h = absurd (omega (arith, h.1))

@@ -1,5 +1,5 @@
 -- What is said of a history, one entry more.
-use Rattle.std.proofs.Common.{◌≡◌, ℕ, suc, ◌+◌, ◌<◌, ◌≤◌, Bool, true, false, not, ◌&&◌, ◌||◌, List, [], ◌∷◌, ◌++◌, filter, length, refl, ap, sym, subst, ◌∙◌, inl, inr, arith, append_assoc}
+use Rattle.std.proofs.Common.{◌≡◌, ℕ, suc, ◌+◌, ◌<◌, ◌≤◌, Bool, true, false, not, ◌&&◌, ◌||◌, List, [], ◌∷◌, ◌++◌, filter, length, refl, ap, sym, subst, ◌∙◌, arith, append_assoc}
 use Rattle.std.specs.List.{list_any}
 use Rattle.std.proofs.lemmas.List.{length-append}
 use Rattle.std.proofs.lemmas.List.Elements.{filter-append}
@@ -37,25 +37,13 @@ IsAside (fails n losses) = Unit {0}
 IsAside (returns n) = Unit {0}
 
 pub aside_opening : (e : EntryValue) → IsAside e → is_opening e ≡ false
-aside_opening (opens c n u) a = absurd a
-aside_opening (calls x) a = absurd a
-aside_opening (crashes c) a = refl
-aside_opening (fails n losses) a = refl
-aside_opening (returns n) a = refl
+aside_opening e a = grind arith
 
 pub aside_call : (e : EntryValue) (c : ℕ) → IsAside e → is_call_of c e ≡ false
-aside_call (opens d n u) c a = absurd a
-aside_call (calls x) c a = absurd a
-aside_call (crashes d) c a = refl
-aside_call (fails n losses) c a = refl
-aside_call (returns n) c a = refl
+aside_call e c a = grind arith
 
 pub aside_making : (e : EntryValue) (c : ℕ) → IsAside e → is_making_of c e ≡ false
-aside_making (opens d n u) c a = absurd a
-aside_making (calls x) c a = absurd a
-aside_making (crashes d) c a = refl
-aside_making (fails n losses) c a = refl
-aside_making (returns n) c a = refl
+aside_making e c a = grind arith
 
 pub aside_no_call : (e : EntryValue) (x : Call) → IsAside e → e ≡ calls x → ⊥
 aside_no_call e x a is = subst IsAside is a
@@ -69,11 +57,7 @@ IsOfClient (fails n losses) = ⊥
 IsOfClient (returns n) = ⊥
 
 of_client_return : (e : EntryValue) (n : ℕ) → IsOfClient e → is_return_of n e ≡ false
-of_client_return (opens c m u) n o = refl
-of_client_return (calls x) n o = refl
-of_client_return (crashes c) n o = refl
-of_client_return (fails m losses) n o = absurd o
-of_client_return (returns m) n o = absurd o
+of_client_return e n o = grind arith
 
 -- ---- clients
 
@@ -95,12 +79,7 @@ any_push p h e = list_any-append p h (e ∷ []) ∙ ap (λ b. list_any p h || b)
 -- the entry may be the client's crash or its node's failure
 pub opened_more : (h : List EntryValue) (e : EntryValue) (w w' : World) (c : ℕ) → w'.home c ≡ w.home c → w'.crashed c ≡ (w.crashed c || is_crash_of c e) → w'.lives c ≡ (w.lives c && not (is_failure_of (w.home c) e)) → WasOpened h w c → WasOpened (h ++ e ∷ []) w' c
 opened_more h e w w' c home crashed lives was = let o = was.opened in record {
-  opened = record {
-    durability = o.durability;
-    before = o.before;
-    since = o.since ++ e ∷ [];
-    split = subst (λ n. h ++ e ∷ [] ≡ o.before ++ opens c n o.durability ∷ (o.since ++ e ∷ [])) (sym home) (ap (λ g. g ++ e ∷ []) o.split ∙ append_assoc o.before (opens c (w.home c) o.durability ∷ o.since) (e ∷ []));
-  };
+  opened = search (append_assoc, arith) parts 3;
   crashed = crashed ∙ ap (λ b. b || is_crash_of c e) was.crashed ∙ sym (any_push (is_crash_of c) o.since e);
   lives = subst (λ n. w'.lives c ≡ not (list_any (is_failure_of n) (o.since ++ e ∷ []))) (sym home)
       (lives ∙ ap (λ b. b && not (is_failure_of (w.home c) e)) was.lives ∙ sym (not_or (list_any (is_failure_of (w.home c)) o.since) (is_failure_of (w.home c) e)) ∙ ap not (sym (any_push (is_failure_of (w.home c)) o.since e)));
@@ -140,18 +119,10 @@ full_moves w w' n same full = subst (λ ns. contains ns n ≡ true) same full
 
 -- the same nodes are full, and down
 pub up_same : (k : ℕ) (h h' : List EntryValue) (w w' : World) → w'.full ≡ w.full → ((n : ℕ) → IsDown h' n → IsDown h n) → ((n : ℕ) → IsDown h n → IsDown h' n) → AreUp k h w → AreUp k h' w'
-up_same k h h' w w' same back forth a = record {
-  nodes = λ n full. a.nodes n (full_moves w w' n same full);
-  up = λ n full down. a.up n (full_moves w w' n same full) (back n down);
-  down = λ n node absent. forth n (a.down n node (λ full. absent (full_moves w' w n (sym same) full)));
-}
+up_same k h h' w w' same back forth a = search (full_moves, arith) parts 3
 
 down_before : (h : List EntryValue) (e : EntryValue) (n : ℕ) → IsOfClient e → IsDown (h ++ e ∷ []) n → IsDown h n
-down_before h e n o d =
-    elim (down-last h e n d) [
-      | inl last ↦ absurd (subst IsOfClient last.1 o)
-      | inr earlier ↦ earlier.0
-    ]
+down_before h e n o d = grind (arith, down-last)
 
 -- an entry of a client leaves them
 pub up_client : (k : ℕ) (h : List EntryValue) (e : EntryValue) (w w' : World) → IsOfClient e → w'.full ≡ w.full → AreUp k h w → AreUp k (h ++ e ∷ []) w'

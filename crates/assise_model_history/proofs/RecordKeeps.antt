@@ -11,15 +11,13 @@ use Rattle.assise_history.specs.Entries.{EntryValue, opens, calls, crashes}
 use Rattle.assise_history.specs.Kept.{kept, IsRun, exchange, tree_after}
 use Rattle.assise_history.specs.Legal.{IsAlive, IsLegal, IsNextCall, MayOpen, calls_made, clients_opened, is_call_of, is_failure_of, is_opening, is_sync, durability_of, syncs}
 use Rattle.assise_history.proofs.OneMore.{legal-open, legal-call, legal-crash}
-use Rattle.assise_record.specs.Records.{record_of}
-use Rattle.assise_inode_table.specs.Effects.{contains}
 use Rattle.assise_inode_table.specs.Numbers.{inode_number, makes_inode}
 use Rattle.assise_inode_table.specs.Traces.{NumberedCall, exchanges, ops}
 use Rattle.assise_model_world.specs.ClientSteps.{MakesCall}
 use Rattle.assise_model_world.specs.Runs.{Moves, NoneFalls, opens as opens_client, makes_call, crashes as crashes_client, raises_goals, acquires, releases, delivers, digests, drops, coalesces, rests}
 use Rattle.assise_model_world.specs.Invariant.{WorldInvariant}
 use Rattle.assise_model_world.specs.Staying.{SameLogs, SameClients}
-use Rattle.assise_model_world.specs.World.{World, Full, IsClient, least_of, end_of_log, received_by_all, first_unreplicated, view, tree, step_at_home, call_makes_inode}
+use Rattle.assise_model_world.specs.World.{World, Full, IsClient, end_of_log, received_by_all, first_unreplicated, view, tree, call_makes_inode}
 use Rattle.assise_model_world.proofs.CallKeeps.{call_reply}
 use Rattle.assise_model_world.proofs.Replicated.{next_unreplicated}
 use Rattle.assise_model_world.proofs.WorldObserved.{received_by_all-below, received_by_all-end, least_of-above}
@@ -36,9 +34,7 @@ use Rattle.assise_model_history.proofs.NumberedCalls.{kept_call, kept_open, kept
 
 -- with the nodes and the history that it has
 with_history : (s : State) (k : ℕ) (h : List EntryValue) → s.nodes ≡ k → s.history ≡ h → IsRecorded (record { nodes = k; history = h; world = s.world }) → IsRecorded s
-with_history s k h nodes same r =
-    subst (λ j. IsRecorded (record { nodes = j; history = s.history; world = s.world })) (sym nodes)
-    (subst (λ g. IsRecorded (record { nodes = k; history = g; world = s.world })) (sym same) r)
+with_history s k h nodes same r = grind arith
 
 nodes_of : (s : State) → IsRecorded s → AreUp s.nodes s.history s.world
 nodes_of s r = record { nodes = r.nodes; up = r.up; down = r.down }
@@ -78,16 +74,7 @@ pub opening_fits : (s : State) (n : ℕ) (u : Durability) (s' : State) → IsRec
 opening_fits s n u s' r e = record { next = (let count : s.world.clients ≡ clients_opened s.history = r.count in omega (arith, count)); up = r.up n e.world.full_node }
 
 opening_of : (s : State) (n : ℕ) (u : Durability) (s' : State) → IsRecorded s → IsOpening s n u s' → (c : ℕ) → IsClient s'.world c → WasOpened (s.history ++ opens (suc s.world.clients) n u ∷ []) s'.world c
-opening_of s n u s' r e c client =
-    let d : ℕ = suc s.world.clients in
-    elim (cases_eq d c) [
-      | inl own ↦ subst (λ b. WasOpened (s.history ++ opens d n u ∷ []) s'.world b) own (opened_now s.history s'.world d n u e.world.home_new e.world.crashed_new e.world.lives_new)
-      | inr other ↦
-          let all : s'.world.clients ≡ suc s.world.clients = e.world.clients in
-          let most : c ≤ s'.world.clients = client.1 in
-          let old : (c ≡ d) → ⊥ = λ is. other (sym is) in
-          opened_more s.history (opens d n u) s.world s'.world c (e.world.home_else c old) (e.world.crashed_else c old ∙ sym (or_false (s.world.crashed c))) (e.world.lives_else c old ∙ sym (and_true (s.world.lives c))) (r.opened c (client.0, omega (arith, most, all, other)))
-    ]
+opening_of s n u s' r e c client = grind (arith, cases_eq, opened_now, opened_more, or_false, and_true)
 
 pub opening_recorded : (s : State) (n : ℕ) (u : Durability) (s' : State) → WorldInvariant s.world → IsRecorded s → IsOpening s n u s' → IsRecorded s'
 opening_recorded s n u s' sound r e =
@@ -149,80 +136,34 @@ same_number : (s : State) (x : NumberedCall) (s' : State) → IsRecorded s → I
 same_number s x s' r e = ap (λ f. record x { fresh = f }) (sym (e.world.fresh ∙ ap (inode_number x.client) (r.made x.client)))
 
 call_next : (s : State) (x : NumberedCall) (s' : State) → IsRecorded s → IsCall s x s' → (c : ℕ) → s'.world.next c ≡ calls_made c (s.history ++ calls (plain_call x) ∷ [])
-call_next s x s' r e c =
-    elim (cases_eq c x.client) [
-      | inl own ↦
-          let is = e.world.next_own in
-          subst (λ d. s'.world.next d ≡ calls_made d (s.history ++ calls (plain_call x) ∷ [])) (sym own)
-          (is ∙ ap suc (e.world.number ∙ r.next x.client) ∙ sym (count_more (is_call_of x.client) s.history (calls (plain_call x)) (eq-eqb x.client x.client refl)))
-      | inr other ↦ e.world.next_else c other ∙ r.next c ∙ sym (count_same (is_call_of c) s.history (calls (plain_call x)) (ne_eqb c x.client other))
-    ]
+call_next s x s' r e c = grind (arith, cases_eq, calls, count_more, eq-eqb, count_same, ne_eqb)
 
 -- whether it made an inode is seen from its reply
 made_seen : (w w' : World) (x : NumberedCall) → MakesCall w x w' → makes_inode x.op x.reply ≡ call_makes_inode w x
 made_seen w w' x e = ap (makes_inode x.op) e.reply ∙ sym (makes_where_done (view w (w.home x.client) x.client) x.op x.fresh)
 
 call_made : (s : State) (x : NumberedCall) (s' : State) → IsRecorded s → IsCall s x s' → (c : ℕ) → s'.world.made c ≡ made_in c (s.history ++ calls (plain_call x) ∷ [])
-call_made s x s' r e c =
-    let entry : EntryValue = calls (plain_call x) in
-    elim (cases_eq c x.client) [
-      | inl own ↦
-          subst (λ d. s'.world.made d ≡ made_in d (s.history ++ entry ∷ [])) (sym own)
-          (elim (cases_Bool (call_makes_inode s.world x)) [
-            | inl some ↦
-                let grown : s'.world.made x.client ≡ suc (s.world.made x.client) = e.world.made_own ∙ rw some refl in
-                let making : is_making_of x.client entry ≡ true = rw (eq-eqb x.client x.client refl) (made_seen s.world s'.world x e.world ∙ some) in
-                grown ∙ ap suc (r.made x.client) ∙ sym (count_more (is_making_of x.client) s.history entry making)
-            | inr none ↦
-                let same : s'.world.made x.client ≡ s.world.made x.client = e.world.made_own ∙ rw none refl in
-                let making : is_making_of x.client entry ≡ false = rw (eq-eqb x.client x.client refl) (made_seen s.world s'.world x e.world ∙ none) in
-                same ∙ r.made x.client ∙ sym (count_same (is_making_of x.client) s.history entry making)
-          ])
-      | inr other ↦ e.world.made_else c other ∙ r.made c ∙ sym (count_same (is_making_of c) s.history entry (rw (ne_eqb c x.client other) refl))
-    ]
+call_made s x s' r e c = grind (arith, calls, cases_eq, cases_Bool, eq-eqb, made_seen, count_more, count_same, ne_eqb)
 
 -- a sync has no record
 sync_end : (w w' : World) (x : NumberedCall) (u : Durability) → MakesCall w x w' → is_sync x.op u ≡ true → end_of_log w' x.client ≡ end_of_log w x.client
 unfolding end_of_log
-sync_end w w' x u e sync =
-    let none : (step_at_home w x).effects ≡ [] = sync_still (view w (w.home x.client) x.client) x.op x.fresh u sync in
-    let same : w'.records x.client ≡ w.records x.client = e.records_own ∙ ap (λ es. w.records x.client ++ record_of x.number es) none ∙ append-nil (w.records x.client) in
-    rw (e.first x.client, same) refl
+sync_end w w' x u e sync = grind (arith, sync_still, append-nil)
 
 -- what a full node has of the client grows
 call_receives : (w w' : World) (x : NumberedCall) (n : ℕ) → MakesCall w x w' → Full w n → end_of_log w x.client ≤ w.received n x.client → end_of_log w' x.client ≡ end_of_log w x.client → end_of_log w' x.client ≤ w'.received n x.client
-call_receives w w' x n e full had same =
-    elim (cases_eq n (w.home x.client)) [
-      | inl home ↦ subst (λ m. end_of_log w' x.client ≤ w'.received m x.client) (sym home) (let all : w'.received (w.home x.client) x.client ≡ end_of_log w' x.client = e.received_home in omega (arith, all))
-      | inr other ↦ (let as_before : w'.received n x.client ≡ w.received n x.client = e.received_else n x.client full (λ is own. other is) in omega (arith, as_before, had, same))
-    ]
+call_receives w w' x n e full had same = grind (arith, cases_eq)
 
 -- and all full nodes still have the others
 sync_received : (w w' : World) (x : NumberedCall) (u : Durability) → MakesCall w x w' → is_sync x.op u ≡ true → received_by_all w x.client ≡ end_of_log w x.client → received_by_all w' x.client ≡ end_of_log w' x.client
 unfolding received_by_all
-sync_received w w' x u e sync all =
-    let c : ℕ = x.client in
-    let same : end_of_log w' c ≡ end_of_log w c = sync_end w w' x u e sync in
-    let most : least_of w'.full (λ m. w'.received m c) (end_of_log w' c) ≤ end_of_log w' c = received_by_all-end w' c in
-    let least : end_of_log w' c ≤ least_of w'.full (λ m. w'.received m c) (end_of_log w' c) =
-    least_of-above w'.full (λ m. w'.received m c) (end_of_log w' c) (end_of_log w' c) (omega arith)
-    (λ m full. let was : Full w m = subst (λ ns. contains ns m ≡ true) e.full full in
-    let had : least_of w.full (λ k. w.received k c) (end_of_log w c) ≤ w.received m c = received_by_all-below w m c was in
-    call_receives w w' x m e was (omega (arith, had, all)) same) in
-    omega (arith, most, least)
+sync_received w w' x u e sync all = grind (arith, sync_end, received_by_all-end, least_of-above, received_by_all-below, call_receives)
 
 pub sync_replicated : (s : State) (x : NumberedCall) (s' : State) → IsCall s x s' → syncs s.history (plain_call x) ≡ true → first_unreplicated s'.world x.client ≡ s'.world.next x.client
 sync_replicated s x s' e sync = next_unreplicated s'.world x.client (sync_received s.world s'.world x (durability_of x.client s.history) e.world sync (e.replicated sync))
 
 call_synced : (s : State) (x : NumberedCall) (s' : State) → IsCall s x s' → (c : ℕ) (y : Call) → calls (plain_call x) ≡ calls y → y.client ≡ c → syncs s.history y ≡ true → y.number < first_unreplicated s'.world c
-call_synced s x s' e c y is client sync =
-    let same : plain_call x ≡ y = cc in
-    let own : x.client ≡ c = ap (λ z. z.client) same ∙ client in
-    let number : x.number ≡ y.number = ap (λ z. z.number) same in
-    let is_one : syncs s.history (plain_call x) ≡ true = ap (λ z. syncs s.history z) same ∙ sync in
-    let all : first_unreplicated s'.world x.client ≡ s'.world.next x.client = sync_replicated s x s' e is_one in
-    let next : s'.world.next x.client ≡ suc x.number = e.world.next_own in
-    subst (λ d. y.number < first_unreplicated s'.world d) own (omega (arith, all, next, number))
+call_synced s x s' e c y is client sync = grind (arith, sync_replicated)
 
 pub call_recorded : (s : State) (x : NumberedCall) (s' : State) → WorldInvariant s.world → IsRecorded s → IsCall s x s' → IsRecorded s'
 call_recorded s x s' sound r e =

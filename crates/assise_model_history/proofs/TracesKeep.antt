@@ -5,7 +5,7 @@ use Rattle.std.proofs.lemmas.List.Elements.{Contains-append_right, Contains-appe
 use Rattle.assise_seq_tree.specs.Tree.{opening as opening_tree}
 use Rattle.assise_seq_tree.specs.Runs.{AreAnswered, tree_after_calls}
 use Rattle.assise_history.specs.declared.call.Call.{Call}
-use Rattle.assise_history.specs.Entries.{EntryValue, opens, calls, crashes, fails, returns}
+use Rattle.assise_history.specs.Entries.{EntryValue, calls, fails}
 use Rattle.assise_history.specs.Legal.{IsFair}
 use Rattle.assise_history.proofs.Legality.{legal-nil}
 use Rattle.assise_history.proofs.OneMore.{follows_in}
@@ -20,7 +20,6 @@ use Rattle.assise_model_world.specs.World.{World, first_unreplicated, calls_repl
 use Rattle.assise_model_world.proofs.RegionAlone.{rebuilds_tree, rebuilds_run}
 use Rattle.assise_model_world.proofs.StepLists.{every_run, step_sound, run_falls, run_stays}
 use Rattle.assise_model_history.specs.Traces.{EntryHappens, opening, call, crash, failure, failure_again, comeback, quiet, IsTrace, last_of, numbered_replicated, WasSynced, IsSafe, IsLasting}
-use Rattle.assise_model_history.specs.Lost.{losses_of}
 use Rattle.assise_model_history.specs.Numbered.{plain_call, kept_numbered}
 use Rattle.assise_model_history.specs.State.{State, IsRecorded, down_from, begun_with}
 use Rattle.assise_model_history.proofs.FailureKeeps.{failure_recorded, failure_again_recorded, return_recorded}
@@ -45,23 +44,11 @@ happens_sound s s' sound m = step_sound s.world s'.world sound (happens_moves s 
 
 -- the nodes stay
 happens_nodes : (s s' : State) → EntryHappens s s' → s'.nodes ≡ s.nodes
-happens_nodes s s' (opening n u e) = e.adds.nodes
-happens_nodes s s' (call x e) = e.adds.nodes
-happens_nodes s s' (crash c e) = e.adds.nodes
-happens_nodes s s' (failure n e) = e.adds.nodes
-happens_nodes s s' (failure_again n e) = e.adds.nodes
-happens_nodes s s' (comeback n donor e) = e.adds.nodes
-happens_nodes s s' (quiet e) = e.nodes
+happens_nodes s s' h = grind arith
 
 -- the history grows
 happens_grows : (s s' : State) → EntryHappens s s' → (more : List EntryValue) × (s'.history ≡ s.history ++ more)
-happens_grows s s' (opening n u e) = (opens (suc s.world.clients) n u ∷ [], e.adds.entry)
-happens_grows s s' (call x e) = (calls (plain_call x) ∷ [], e.adds.entry)
-happens_grows s s' (crash c e) = (crashes c ∷ [], e.adds.entry)
-happens_grows s s' (failure n e) = (fails n (losses_of s.world n) ∷ [], e.adds.entry)
-happens_grows s s' (failure_again n e) = (fails n [] ∷ [], e.adds.entry)
-happens_grows s s' (comeback n donor e) = (returns n ∷ [], e.adds.entry)
-happens_grows s s' (quiet e) = ([], e.entries ∙ sym (append-nil s.history))
+happens_grows s s' h = grind (arith, append-nil)
 
 pub happens_recorded : (s s' : State) → WorldInvariant s.world → IsRecorded s → EntryHappens s s' → IsRecorded s'
 happens_recorded s s' sound r (opening n u e) = opening_recorded s n u s' sound r e
@@ -143,9 +130,7 @@ among_low a (x ∷ xs) y low h =
     ]
 
 synced_replicated : (s : State) (before since : List EntryValue) (y : Call) → IsRecorded s → s.history ≡ before ++ calls y ∷ since → WasSynced s.history y → Contains (map plain_call (numbered_replicated s)) y
-synced_replicated s before since y r split f =
-    let low : f.sync.number < first_unreplicated s.world y.client = r.synced y.client f.before f.since f.sync f.split f.client f.is_one in
-    among_low (first_unreplicated s.world) (kept_numbered s.history) y (omega (arith, low, f.number)) (subst (λ cs. Contains cs y) (sym (kept_plain s.history)) (synced_kept s.history before since y r.legal split f))
+synced_replicated s before since y r split f = grind (arith, among_low, kept_plain, synced_kept)
 
 pub kept_of : (s : State) → WorldInvariant s.world → IsRecorded s → IsSafe s
 kept_of s sound r = record {
@@ -163,15 +148,7 @@ unfolding StayReplicated
 stays_replicated s t r q stay = ap (λ xs. filter (below (first_unreplicated s.world)) xs) (sym q.calls) ∙ stay ∙ replicated_same s r
 
 pub trace_lasts : (s : State) (ts : List State) → WorldInvariant s.world → IsRecorded s → IsTrace s ts → IsLasting s (last_of s ts)
-trace_lasts s ts sound r m =
-    let grows = trace_grows s ts m in
-    record {
-      nodes = trace_nodes s ts m;
-      more = grows.0;
-      grown = grows.1;
-      stay = stays_replicated s (last_of s ts) r (trace_recorded s ts sound r m) (trace_stays s ts sound m);
-      none_falls = trace_falls s ts sound m;
-    }
+trace_lasts s ts sound r m = grind (arith, trace_grows, trace_nodes, stays_replicated, trace_recorded, trace_stays, trace_falls)
 
 -- ---- the start
 
@@ -195,18 +172,7 @@ of_node (suc k) n low high =
     ]
 
 pub begun_recorded : (nodes : ℕ) → IsRecorded (begun_with nodes)
-begun_recorded nodes = record {
-  legal = legal-nil;
-  calls = refl;
-  count = refl;
-  opened = λ c client. absurd (omega (arith, client.0, client.1));
-  next = λ c. refl;
-  made = λ c. refl;
-  nodes = λ n full. node_of nodes n full;
-  up = λ n full down. down-nil n down;
-  down = λ n node absent. absurd (absent (of_node nodes n node.0 node.1));
-  synced = λ c before since x split client sync. absurd (not_nil before since (calls x) split);
-}
+begun_recorded nodes = grind (arith, legal-nil, node_of, down-nil, of_node, not_nil)
 
 pub whatever_recorded : (nodes : ℕ) (ts : List State) → IsTrace (begun_with nodes) ts → IsRecorded (last_of (begun_with nodes) ts)
 whatever_recorded nodes ts m = trace_recorded (begun_with nodes) ts (begun_sound nodes) (begun_recorded nodes) m

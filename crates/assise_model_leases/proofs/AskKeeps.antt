@@ -1,5 +1,5 @@
 -- Those who stand against a client are asked for their leases.
-use Rattle.std.proofs.Common.{◌≡◌, ℕ, ◌≤◌, ◌⊎◌, inl, inr, Bool, true, false, not, ◌&&◌, max, Option, Some, refl, ap, sym, ◌∙◌, subst, arith}
+use Rattle.std.proofs.Common.{◌≡◌, ℕ, ◌≤◌, ◌⊎◌, inl, inr, Bool, true, Option, Some, refl, ap, sym, ◌∙◌, subst, arith}
 use Rattle.std.proofs.lemmas.Bool.{both_ways, cases_eq, cases_Bool}
 use Rattle.assise_names.specs.declared.mode.Mode.{Mode}
 use Rattle.assise_lease_table.specs.declared.lease.Lease.{Lease}
@@ -34,42 +34,24 @@ module _ (w u : World) (l k : Leases) (c i : ℕ) (mode : Mode) (a : AreLeases w
 
   -- a lease that is revoked now was so before, with the same cut, or was asked for
   newly_or_was : (d j : ℕ) → IsRevokedLease k d j → ((j ≡ i) × (is_newly_revoked l k d i ≡ true)) ⊎ (IsRevokedLease l d j × (k.cut d j ≡ l.cut d j))
-  newly_or_was d j h = elim (cases_Bool (is_revoked (client_lease l d j))) [
-    | inl was ↦ inr (was, e.cuts_else d j (λ is new. both_ways (is_newly_revoked l k d i) (subst (λ j. (not (is_revoked (client_lease l d j)) && is_revoked (client_lease k d j)) ≡ false) is (rw was refl)) new))
-    | inr fresh ↦ elim (cases_eq j i) [
-      | inl is ↦ inl (is, subst (λ j. (not (is_revoked (client_lease l d j)) && is_revoked (client_lease k d j)) ≡ true) is (rw (fresh, h) refl))
-      | inr other ↦ absurd (both_ways (is_revoked (client_lease l d j)) fresh (ap is_revoked (sym (asked_elsewhere w u l k c i mode e d j other)) ∙ h))
-    ]
-  ]
+  newly_or_was d j h = grind (arith, cases_Bool, both_ways, cases_eq, asked_elsewhere)
 
   asked_cut : (d : ℕ) → is_newly_revoked l k d i ≡ true → asked_goal l k i d ≡ k.cut d i
   asked_cut d h = rw h refl
 
   ask_covered : (d j : ℕ) → IsRevokedLease k d j → CoversFrom w d j (k.cut d j)
-  ask_covered d j h = elim (newly_or_was d j h) [
-    | inl new ↦ subst (λ j. CoversFrom w d j (k.cut d j)) (sym new.0) (e.answered d new.1)
-    | inr old ↦ subst (λ m. CoversFrom w d j m) (sym old.1) (a.covered d j old.0)
-  ]
+  ask_covered d j h = grind (arith, newly_or_was)
 
   ask_goals : (d j : ℕ) → w.lives d ≡ true → IsRevokedLease k d j → k.cut d j ≤ u.goal d
-  ask_goals d j lives h = rw (e.goals.goals d) (elim (newly_or_was d j h) [
-    | inl new ↦ subst (λ j. k.cut d j ≤ max (w.goal d) (asked_goal l k i d)) (sym new.0) (let is : asked_goal l k i d ≡ k.cut d i = asked_cut d new.1 in omega (arith, is))
-    | inr old ↦ (let low : l.cut d j ≤ w.goal d = a.goals d j lives old.0 in omega (arith, low, old.1))
-  ])
+  ask_goals d j lives h = grind (arith, newly_or_was, asked_cut)
 
   ask_borders : (d j : ℕ) → IsRevokedLease k d j → w.first d ≤ k.cut d j → w.border d (k.cut d j) ≡ true
-  ask_borders d j h low = elim (newly_or_was d j h) [
-    | inl new ↦ subst (λ j. w.border d (k.cut d j) ≡ true) (sym new.0) (e.border d new.1)
-    | inr old ↦ subst (λ m. w.border d m ≡ true) (sym old.1) (a.borders d j old.0 (subst (λ m. w.first d ≤ m) old.1 low))
-  ]
+  ask_borders d j h low = grind (arith, newly_or_was)
 
   pub ask_keeps : WorldInvariant w → AreLeases u k
   ask_keeps s = record {
     lawful = asked_lawful l.levels a.lawful k.levels c (w.home c) i mode (a.homes c (s.opened c e.lives_on)) e.asked;
-    held = record {
-      holds = λ d j. e.goals.leases.holds d j ∙ a.held.holds d j ∙ sym (same_held d j);
-      writes = λ d j. e.goals.leases.writes d j ∙ a.held.writes d j ∙ sym (same_written d j);
-    };
+    held = search (same_held, same_written, arith) parts 3;
     homes = λ d o. e.asked.home d ∙ a.homes d (still_client w u l a e.goals.clients d o) ∙ ap (λ m. Some m) (sym (e.goals.clients.home d));
     strangers = λ d no. e.asked.home d ∙ a.strangers d (λ o. no (was_client w u l a e.goals.clients d o));
     covered = λ d j h. covers_same w u d j (k.cut d j) (e.goals.logs.records d) (e.goals.logs.first d) (ask_covered d j h);

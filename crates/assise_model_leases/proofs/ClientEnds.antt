@@ -1,13 +1,12 @@
 -- A client that crashes, or whose node fails, has only revoked leases from then on.
 use Rattle.std.proofs.Common.{◌≡◌, ◌≢◌, ℕ, ◌==◌, ◌≤◌, inl, inr, Bool, true, List, Some, refl, ap, sym, ◌∙◌, subst, arith, eq-eqb, ne_eqb}
-use Rattle.std.specs.List.{list_any}
 use Rattle.std.proofs.lemmas.Bool.{and_right, both_ways, cases_eq}
 use Rattle.assise_lease_table.specs.declared.lease.Lease.{Lease}
 use Rattle.assise_lease_table.specs.LeaseMaps.{SameLeases}
 use Rattle.assise_lease_table.specs.Leases.{lease_of, revoke, revoked_if, is_own, compatible}
 use Rattle.assise_lease_table.proofs.LeaseChanges.{revoke_fits}
 use Rattle.assise_lease_table.proofs.Elements.{among_map, map_among, any_among, among_any}
-use Rattle.assise_lease_tree.specs.Levels.{Homes, Under, AskedBelow, carries, is_revoked, is_node, lives}
+use Rattle.assise_lease_tree.specs.Levels.{Homes, Under, AskedBelow, is_revoked, is_node, lives}
 use Rattle.assise_lease_tree.specs.TwoLevels.{TwoLevels, LevelsInvariant}
 use Rattle.assise_lease_tree.proofs.Steps.{revoked_lawful}
 use Rattle.assise_model_world.specs.NodeSteps.{kept_at_failure}
@@ -15,7 +14,7 @@ use Rattle.assise_model_world.specs.Invariant.{WorldInvariant}
 use Rattle.assise_model_world.specs.World.{World, end_of_log}
 use Rattle.assise_model_world.proofs.WorldObserved.{part-whole}
 use Rattle.assise_model_leases.specs.Handing.{CrashesWith, FailsWithLeases}
-use Rattle.assise_model_leases.specs.Leases.{Leases, client_lease, IsRevokedLease, CoversFrom, AreLeases, is_held, is_written}
+use Rattle.assise_model_leases.specs.Leases.{Leases, client_lease, IsRevokedLease, CoversFrom, AreLeases, is_held}
 use Rattle.assise_lease_tree.proofs.ClientHomes.{lease_among}
 use Rattle.assise_model_leases.proofs.LookUps.{revoked_one, revoke_of, held_one, written_one, still_revoked, now_revoked, was_revoked}
 use Rattle.assise_model_leases.proofs.CutsCover.{covers_same, covers_end}
@@ -44,10 +43,7 @@ module _ (w u : World) (l k : Leases) (c : ℕ) (a : AreLeases w l) (e : Crashes
   pub crash_keeps : WorldInvariant w → AreLeases u k
   crash_keeps s = record {
     lawful = revoked_lawful l.levels a.lawful k.levels c e.revoked;
-    held = record {
-      holds = λ d j. e.crash.leases.holds d j ∙ a.held.holds d j ∙ sym (same_held d j);
-      writes = λ d j. e.crash.leases.writes d j ∙ a.held.writes d j ∙ sym (ap is_written (lease d j) ∙ written_one (is_own c) (client_lease l d j));
-    };
+    held = search (same_held, lease, written_one, arith) parts 3;
     homes = λ d o. e.revoked.home d ∙ a.homes d (o.0, (let n : u.clients ≡ w.clients = e.crash.clients in omega (arith, o.1, n))) ∙ ap (λ m. Some m) (sym (e.crash.home d));
     strangers = λ d no. e.revoked.home d ∙ a.strangers d (λ o. no (o.0, (let n : u.clients ≡ w.clients = e.crash.clients in omega (arith, o.1, n))));
     covered = λ d j h. covers_same w u d j (k.cut d j) (e.crash.logs.records d) (e.crash.logs.first d) (elim (cases_eq d c) [
@@ -76,9 +72,7 @@ module _ (w u : World) (l k : Leases) (c : ℕ) (a : AreLeases w l) (e : Crashes
 
 module _ (home : Homes) (choice : Lease → Bool) (cs ns : List Lease) where
   chosen_under : Under home cs ns → Under home (revoke choice cs) ns
-  chosen_under under b in_b =
-      let was = among_map (λ z. revoked_if (choice z) z) cs b in_b in
-      subst (λ (z : Lease). list_any (carries home z) ns ≡ true) (sym was.2) (under was.0 was.1)
+  chosen_under under b in_b = grind (arith, among_map)
 
   chosen_asked : AskedBelow home cs ns → AskedBelow home (revoke choice cs) ns
   chosen_asked asked m in_m revoked =
@@ -138,10 +132,7 @@ module _ (w u : World) (l k : Leases) (n : ℕ) (a : AreLeases w l) (e : FailsWi
   pub fail_keeps : WorldInvariant u → AreLeases u k
   fail_keeps s = record {
     lawful = chosen_lawful l.levels k.levels there a.lawful e.home e.clients e.nodes;
-    held = record {
-      holds = λ d j. e.fails.leases.holds d j ∙ a.held.holds d j ∙ sym (held_now d j);
-      writes = λ d j. e.fails.leases.writes d j ∙ a.held.writes d j ∙ sym (ap is_written (lease_now d j) ∙ written_one there (client_lease l d j));
-    };
+    held = search (held_now, lease_now, written_one, there, arith) parts 3;
     homes = λ d o. e.home d ∙ a.homes d (o.0, (let m : u.clients ≡ w.clients = e.fails.clients in omega (arith, o.1, m))) ∙ ap (λ m. Some m) (sym (e.fails.home d));
     strangers = λ d no. e.home d ∙ a.strangers d (λ o. no (o.0, (let m : u.clients ≡ w.clients = e.fails.clients in omega (arith, o.1, m))));
     covered = λ d j h. elim (cases_eq (w.home d) n) [

@@ -23,17 +23,11 @@ Spare rs i = contains (touched (all_effects rs)) i ≡ false
 
 pub covers_same : (w u : World) (c i k : ℕ) → u.records c ≡ w.records c → u.first c ≡ w.first c → CoversFrom w c i k → CoversFrom u c i k
 unfolding client_records_from
-covers_same w u c i k records first v = record {
-  to_end = rw (end-else w u c first records) v.to_end;
-  untouched = rw (first, records) v.untouched;
-}
+covers_same w u c i k records first v = search (end-else, arith) parts 3
 
 pub covers_end : (w : World) (c i : ℕ) → CoversFrom w c i (end_of_log w c)
 unfolding client_records_from end_of_log
-covers_end w c i = record {
-  to_end = omega arith;
-  untouched = ap (λ l. contains (touched (all_effects l)) i) (drop_of_length-le (w.records c) (omega arith));
-}
+covers_end w c i = search (drop_of_length-le, arith) parts 3
 
 -- ---- parts of a log
 
@@ -66,28 +60,13 @@ drop_taken rs k n le = ap (λ m. drop k (take m rs)) (omega (arith, le)) ∙ dro
 -- the record of a call that doesn't change the inode
 pub covers_call : (w u : World) (c i k : ℕ) (l : List LogRecord) → u.first c ≡ w.first c → u.records c ≡ w.records c ++ l → Spare l i → CoversFrom w c i k → CoversFrom u c i k
 unfolding client_records_from end_of_log
-covers_call w u c i k l first records none v =
-    let low : k ≤ w.first c + length (w.records c) = v.to_end in
-    record {
-      to_end = rw (first, records) (let n : length (w.records c ++ l) ≡ length (w.records c) + length l = length-both (w.records c) l in omega (arith, low, n));
-      untouched = rw (first, records, drop_append (w.records c) l (k - w.first c) (omega (arith, low))) (spare_both (drop (k - w.first c) (w.records c)) l i v.untouched none);
-    }
+covers_call w u c i k l first records none v = grind (arith, length-both, drop_append, spare_both)
 
 -- ---- dropped prefixes
 
 pub covers_drop : (w u : World) (f : ℕ → ℕ) (c i k : ℕ) → Drops w f u → CoversFrom w c i k → CoversFrom u c i k
 unfolding client_records_from end_of_log digested_by_all
-covers_drop w u f c i k e v =
-    let low : k ≤ w.first c + length (w.records c) = v.to_end in
-    let up : w.first c ≤ f c = e.low c in
-    let high : f c ≤ digested_by_all w c = e.high c in
-    let top : digested_by_all w c ≤ w.first c + length (w.records c) = least_of-end w.full (λ n. w.digested n c) (w.first c + length (w.records c)) in
-    let n : length (drop (f c - w.first c) (w.records c)) ≡ length (w.records c) - (f c - w.first c) = length-drop (f c - w.first c) (w.records c) in
-    record {
-      to_end = rw (e.first c, e.records c) (omega (arith, low, up, high, top, n));
-      untouched = rw (e.first c, e.records c, drop-of_drop (w.records c) (f c - w.first c) (k - f c))
-          (spare_later (w.records c) (k - w.first c) ((f c - w.first c) + (k - f c)) i (omega (arith, up)) v.untouched);
-    }
+covers_drop w u f c i k e v = grind (arith, least_of-end, length-drop, drop-of_drop, spare_later)
 
 -- ---- records that give way to others
 

@@ -6,7 +6,7 @@ use Rattle.assise_names.specs.declared.mode.Mode.{Mode}
 use Rattle.assise_names.specs.declared.mode.Mode.TheVariants.{Read, Write}
 use Rattle.assise_lease_table.specs.declared.lease.Lease.{Lease}
 use Rattle.assise_lease_table.specs.Leases.{Among, lease_of, new_lease, is_rival}
-use Rattle.assise_lease_table.specs.Modes.{against, strong, stronger}
+use Rattle.assise_lease_table.specs.Modes.{against, strong}
 use Rattle.assise_lease_table.proofs.Elements.{any_among, none_among, both_true}
 use Rattle.assise_lease_tree.specs.Levels.{Homes, Under, carries, in_way, is_revoked, lives, raised_mode, clients_granted}
 use Rattle.assise_lease_tree.proofs.Steps.{nobody_in_way, granted_lawful}
@@ -22,14 +22,6 @@ use Rattle.assise_model_leases.proofs.CutsCover.{covers_same}
 use Rattle.assise_model_leases.proofs.QuietLeases.{still_client, was_client}
 
 -- ---- modes
-
-writing_raised : (m : Mode) (o : Option Lease) → is_for_writing (raised_mode m o) ≡ (is_written o || is_for_writing m)
-writing_raised m None = refl
-writing_raised m (Some a) = of_modes a.mode
-  where
-    of_modes : (k : Mode) → is_for_writing (stronger k m) ≡ (is_for_writing k || is_for_writing m)
-    of_modes Read = refl
-    of_modes Write = refl
 
 -- ---- nobody stands against it
 
@@ -76,10 +68,7 @@ not_held (Some b) f = f b refl
 
 module _ (w u : World) (l k : Leases) (c i : ℕ) (mode : Mode) (a : AreLeases w l) (e : Grants w l c i mode u k) where
   others_free : (d : ℕ) (b : Lease) → d ≢ c → client_lease l d i ≡ Some b → against mode b.mode ≡ false
-  others_free d b other is =
-      let found = lease_among (l.levels.clients i) d b is in
-      others_agree l.levels.home (l.levels.clients i) (l.levels.nodes i) c (w.home c) mode (a.lawful.under i)
-      (nobody_in_way l.levels.home (l.levels.clients i) (l.levels.nodes i) c (w.home c) mode e.free) b found.0 (λ same. other (sym found.1 ∙ same))
+  others_free d b other is = grind (arith, lease_among, others_agree, nobody_in_way)
 
   granted_free : (m : Mode) → mode ≡ m → IsModeFree w c i m
   granted_free Read is = λ d other. a.held.writes d i ∙ not_written (client_lease l d i) (λ b h. subst (λ m. against m b.mode ≡ false) is (others_free d b other h))
@@ -94,24 +83,10 @@ module _ (w u : World) (l k : Leases) (c i : ℕ) (mode : Mode) (a : AreLeases w
 
   elsewhere : (d j : ℕ) → (d ≡ c → j ≡ i → ⊥) → client_lease k d j ≡ client_lease l d j
   unfolding clients_granted
-  elsewhere d j differs = elim (cases_eq j i) [
-    | inl same ↦ subst (λ j. client_lease k d j ≡ client_lease l d j) (sym same)
-        (ap (λ ls. lease_of ls d) e.granted.clients.here ∙ with_other given (l.levels.clients i) d (λ own. differs own same))
-    | inr other ↦ ap (λ ls. lease_of ls d) (e.granted.clients.elsewhere j other)
-  ]
+  elsewhere d j differs = grind (arith, cases_eq, with_other)
 
   pub grant_acquires : Acquires w c i mode u
-  grant_acquires = record {
-    free = granted_free mode refl;
-    logs = e.holds.logs;
-    clients = e.holds.clients;
-    goals = e.holds.goals;
-    nodes = e.holds.nodes;
-    holds_here = e.holds.held.holds c i ∙ ap is_held here;
-    writes_here = e.holds.held.writes c i ∙ ap is_written here ∙ writing_raised mode (client_lease l c i) ∙ ap (λ b. b || is_for_writing mode) (sym (a.held.writes c i));
-    holds_else = λ d j differs. e.holds.held.holds d j ∙ ap is_held (elsewhere d j differs) ∙ sym (a.held.holds d j);
-    writes_else = λ d j differs. e.holds.held.writes d j ∙ ap is_written (elsewhere d j differs) ∙ sym (a.held.writes d j);
-  }
+  grant_acquires = search (granted_free mode refl, here, elsewhere, arith) parts 3
 
   -- the lease that is granted isn't revoked
   was_revoked : (d j : ℕ) → IsRevokedLease k d j → IsRevokedLease l d j

@@ -1,5 +1,5 @@
 -- Leases go: a client's, once what lies before its cut is digested everywhere, and those of a node without clients that hold.
-use Rattle.std.proofs.Common.{◌≡◌, ℕ, ◌-◌, inl, inr, true, false, Some, None, ap, sym, ◌∙◌, subst, arith}
+use Rattle.std.proofs.Common.{◌≡◌, ℕ, ◌-◌, true, false, Some, None, ap, sym, ◌∙◌, subst, arith}
 use Rattle.std.proofs.lemmas.Bool.{cases_eq}
 use Rattle.assise_record.specs.Records.{all_effects}
 use Rattle.assise_inode_table.specs.Effects.{touched, contains}
@@ -20,11 +20,7 @@ module _ (w u : World) (l k : Leases) (c i : ℕ) (a : AreLeases w l) (e : Relea
   gone = ap (λ ls. lease_of ls c) e.released.clients.here ∙ without_own (l.levels.clients i) c
 
   elsewhere : (d j : ℕ) → (d ≡ c → j ≡ i → ⊥) → client_lease k d j ≡ client_lease l d j
-  elsewhere d j differs = elim (cases_eq j i) [
-    | inl same ↦ subst (λ j. client_lease k d j ≡ client_lease l d j) (sym same)
-        (ap (λ ls. lease_of ls d) e.released.clients.here ∙ without_other (l.levels.clients i) c d (λ own. differs own same))
-    | inr other ↦ ap (λ ls. lease_of ls d) (e.released.clients.elsewhere j other)
-  ]
+  elsewhere d j differs = grind (arith, cases_eq, without_other)
 
   -- where the client's log begins behind the cut, none of its records touches the inode
   nothing_left : AreDropped w → contains (touched (all_effects (w.records c))) i ≡ false
@@ -32,17 +28,7 @@ module _ (w u : World) (l k : Leases) (c i : ℕ) (a : AreLeases w l) (e : Relea
   nothing_left dropped = (let z : l.cut c i - w.first c ≡ 0 = omega (arith, e.ready, dropped c) in rw z at (a.covered c i e.revoked).untouched)
 
   pub goes : AreDropped w → Releases w c i u
-  goes dropped = record {
-    untouched = nothing_left dropped;
-    logs = e.holds.logs;
-    clients = e.holds.clients;
-    goals = e.holds.goals;
-    nodes = e.holds.nodes;
-    holds_here = e.holds.held.holds c i ∙ ap is_held gone;
-    writes_here = e.holds.held.writes c i ∙ ap is_written gone;
-    holds_else = λ d j differs. e.holds.held.holds d j ∙ ap is_held (elsewhere d j differs) ∙ sym (a.held.holds d j);
-    writes_else = λ d j differs. e.holds.held.writes d j ∙ ap is_written (elsewhere d j differs) ∙ sym (a.held.writes d j);
-  }
+  goes dropped = search (nothing_left dropped, gone, elsewhere, arith) parts 3
 
   -- a lease that is left was there
   was_there : (d j : ℕ) → is_held (client_lease k d j) ≡ true → client_lease k d j ≡ client_lease l d j

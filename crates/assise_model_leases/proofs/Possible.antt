@@ -1,5 +1,5 @@
 -- Each step of leases can be made: the state to which it leads.
-use Rattle.std.proofs.Common.{◌≡◌, ◌≢◌, ℕ, suc, ◌≤◌, ◌==◌, ◌&&◌, not, inl, inr, Bool, true, false, if◌then◌else◌, List, Option, Some, None, refl, ap, sym, ◌∙◌, arith, eq-eqb, ne_eqb}
+use Rattle.std.proofs.Common.{◌≡◌, ℕ, suc, ◌≤◌, ◌==◌, ◌&&◌, not, inl, inr, Bool, true, false, if◌then◌else◌, List, Option, Some, None, refl, ap, sym, ◌∙◌, arith, eq-eqb}
 use Rattle.std.specs.List.{list_any}
 use Rattle.std.proofs.lemmas.Bool.{and_from, and_parts, both_ways, cases_Bool, eqb-true, false_from_ne_true}
 use Rattle.assise_names.specs.declared.mode.Mode.{Mode}
@@ -14,7 +14,7 @@ use Rattle.assise_lease_tree.proofs.ClientHomes.{strong_raised}
 use Rattle.assise_model_world.specs.Chances.{MayFail}
 use Rattle.assise_model_world.specs.Invariant.{WorldInvariant}
 use Rattle.assise_model_world.specs.World.{World, Full, end_of_log}
-use Rattle.assise_model_world.proofs.Possible.{may_open, may_call, may_raise, may_crash, may_fail}
+use Rattle.assise_model_world.proofs.Possible.{chosen, passed, may_open, may_call, may_raise, may_crash, may_fail}
 use Rattle.assise_model_leases.specs.Chances.{MayAsk, MayCallUnder, MayGrant, MayRelease}
 use Rattle.assise_model_leases.specs.Handing.{HoldsAsLeased, Asks, CallsUnder, CrashesWith, FailsWithLeases, FreesNode, Grants, OpensAt, ReleasesReady, asked_goal}
 use Rattle.assise_model_leases.specs.Leases.{AreLeases, Leases, is_held, is_written, client_lease}
@@ -23,33 +23,19 @@ use Rattle.assise_lease_tree.proofs.Lookups.{with_own, with_other}
 use Rattle.assise_model_leases.proofs.LookUps.{still_revoked}
 use Rattle.assise_model_leases.proofs.CutsCover.{covers_end}
 
--- ---- one of many
-
-chosen : {A : Type 0} (d c : ℕ) (x y : A) → d ≡ c → (if d == c then x else y) ≡ x
-chosen d c x y e = rw (eq-eqb d c e) refl
-
-passed : {A : Type 0} (d c : ℕ) (x y : A) → d ≢ c → (if d == c then x else y) ≡ y
-passed d c x y e = rw (ne_eqb d c e) refl
-
 -- one inode has other leases
 abbrev pub with_at : (ℕ → List Lease) → ℕ → List Lease → ℕ → List Lease
 with_at f i ls j = if j == i then ls else f j
 
 pub becomes : (f : ℕ → List Lease) (i : ℕ) (ls : List Lease) → Becomes f (with_at f i ls) i ls
-becomes f i ls = record { here = chosen i i ls (f i) refl; elsewhere = λ j other. passed j i ls (f j) other }
+becomes f i ls = search (chosen, passed) parts 1
 
 -- the world whose clients hold what the leases say
 abbrev pub holding : World → Leases → World
 holding w l = record w { holds = λ c i. is_held (client_lease l c i); writes = λ c i. is_written (client_lease l c i) }
 
 pub holds_them : (w : World) (l : Leases) → HoldsAsLeased w (holding w l) l
-holds_them w l = record {
-  logs = record { calls = refl; records = λ c. refl; first = λ c. refl; next = λ c. refl; border = λ c k. refl; made = λ c. refl };
-  clients = record { clients = refl; home = λ c. refl; lives = λ c. refl; crashed = λ c. refl };
-  goals = λ c. refl;
-  nodes = record { full = refl; same = λ n f. record { area = λ i. refl; log = λ c. refl; received = λ c. refl; digested = λ c. refl } };
-  held = record { holds = λ c i. refl; writes = λ c i. refl };
-}
+holds_them w l = search parts 3
 
 -- ---- opening and calls
 
@@ -57,29 +43,17 @@ pub may_open_at : (w : World) (l : Leases) (n : ℕ) → Full w n → (u : World
 may_open_at w l n f =
     let (u, e) = may_open w n f in
     let c : ℕ = suc w.clients in
-    let home : ℕ → Option ℕ = λ d. if d == c then Some n else l.levels.home d in (
-      u,
-      record { levels = record { home = home; clients = l.levels.clients; nodes = l.levels.nodes }; cut = l.cut },
-      record {
-        opens = e;
-        enrols = record {
-          home = record { here = chosen c c (Some n) (l.levels.home c) refl; elsewhere = λ d other. passed d c (Some n) (l.levels.home d) other };
-          clients = λ i. refl;
-          nodes = λ i. refl;
-        };
-        cuts = λ d i. refl;
-      },
-    )
+    let home : ℕ → Option ℕ = λ d. if d == c then Some n else l.levels.home d in
+    (u, record l { levels = record l.levels { home = home } }, search (e, chosen, passed) parts 3)
 
 pub may_call_under : (w : World) (l : Leases) (x : NumberedCall) → WorldInvariant w → MayCallUnder w l x → (u : World) × CallsUnder w l x u
-may_call_under w l x s m = (let (u, e) = may_call w x s m.may in (u, record { call = e; visited = m.visited; changed = m.changed }))
+may_call_under w l x s m = (let (u, e) = may_call w x s m.may in (u, search e parts 1))
 
 -- ---- granting
 
 module _ (t : TwoLevels) (c n i : ℕ) (mode : Mode) where
   granted : TwoLevels
-  granted = record {
-    home = t.home;
+  granted = record t {
     clients = with_at t.clients i (clients_granted c mode (t.clients i));
     nodes = with_at t.nodes i (nodes_granted t.home (t.clients i) n mode (t.nodes i));
   }
@@ -103,18 +77,7 @@ module _ (t : TwoLevels) (c n i : ℕ) (mode : Mode) where
 
 pub may_grant : (w : World) (l : Leases) (c i : ℕ) (mode : Mode) → MayGrant w l c i mode → (u : World) × (k : Leases) × Grants w l c i mode u k
 may_grant w l c i mode m =
-    let k : Leases = record { levels = granted l.levels c (w.home c) i mode; cut = l.cut } in (
-      holding w k,
-      k,
-      record {
-        lives_on = m.lives_on;
-        running = m.running;
-        free = m.free;
-        granted = is_granted l.levels c (w.home c) i mode;
-        cuts = λ d j. refl;
-        holds = holds_them w k;
-      },
-    )
+    let k : Leases = record l { levels = granted l.levels c (w.home c) i mode } in (holding w k, k, search (is_granted, holds_them) parts 1)
 
 -- ---- asking
 
@@ -141,16 +104,7 @@ module _ (home : Homes) (cs ns : List Lease) (c n : ℕ) (mode : Mode) (below : 
       was_found b.0 b.1 (held.1 b.0 b.1 b.2)
 
   some_revoked : is_free home cs ns c n mode ≡ false → SomeRevoked
-  some_revoked refused = elim (cases_Bool (list_any (in_way home ns c n mode) cs)) [
-    | inl way ↦ (let b = any_among (in_way home ns c n mode) cs way in found_revoked b.0 b.1 (rw b.2 refl))
-    | inr none ↦ elim (cases_Bool (is_revoked (lease_of cs c))) [
-      | inl own ↦ own_revoked (lease_of cs c) refl own
-      | inr free ↦ elim (cases_Bool (is_revoked (lease_of ns n))) [
-        | inl node ↦ node_revoked (lease_of ns n) refl node
-        | inr unasked ↦ absurd (both_ways (is_free home cs ns c n mode) refused (rw (none, free, unasked) refl))
-      ]
-    ]
-  ]
+  some_revoked refused = grind (arith, cases_Bool, any_among, found_revoked, own_revoked, node_revoked, both_ways)
 
 first_end : (w : World) (c : ℕ) → w.first c ≤ end_of_log w c
 unfolding end_of_log
@@ -161,8 +115,7 @@ module _ (w : World) (l : Leases) (c i : ℕ) (mode : Mode) (a : AreLeases w l) 
   asked_clients = revoke (in_way l.levels.home (l.levels.nodes i) c (w.home c) mode) (l.levels.clients i)
 
   abbrev asked : TwoLevels
-  asked = record {
-    home = l.levels.home;
+  asked = record l.levels {
     clients = with_at l.levels.clients i asked_clients;
     nodes = with_at l.levels.nodes i (nodes_asked l.levels.home (l.levels.clients i) (w.home c) mode (l.levels.nodes i));
   }
@@ -179,21 +132,11 @@ module _ (w : World) (l : Leases) (c i : ℕ) (mode : Mode) (a : AreLeases w l) 
   cut_now d h = rw (and_from (i == i) (now d) (eq-eqb i i refl) h) refl
 
   goal_there : (d : ℕ) → asked_goal l answers i d ≤ end_of_log w d
-  goal_there d =
-      elim (cases_Bool (now d)) [
-        | inl h ↦ (let is : asked_goal l answers i d ≡ end_of_log w d = rw (h, and_from (i == i) true (eq-eqb i i refl) refl) refl in omega (arith, is))
-        | inr h ↦ (let is : asked_goal l answers i d ≡ 0 = rw h refl in omega (arith, is))
-      ]
+  goal_there d = grind (arith, cases_Bool, and_from, eq-eqb)
 
   is_asked_for : IsAskedFor l.levels asked c (w.home c) i mode
   unfolding asked_clients
-  is_asked_for = record {
-    home = λ d. refl;
-    clients = becomes l.levels.clients i asked_clients;
-    nodes = becomes l.levels.nodes i (nodes_asked l.levels.home (l.levels.clients i) (w.home c) mode (l.levels.nodes i));
-    revoked = ap (λ ls. list_any (λ (b : Lease). b.revoked) ls) (chosen i i asked_clients (l.levels.clients i) refl)
-        ∙ some_revoked l.levels.home (l.levels.clients i) (l.levels.nodes i) c (w.home c) mode (a.lawful.asked i) m.not_free;
-  }
+  is_asked_for = search (becomes l.levels.clients i asked_clients, becomes, chosen, asked_clients, some_revoked, arith) parts 3
 
   pub may_ask : WorldInvariant w → (u : World) × (k : Leases) × Asks w l c i mode u k
   may_ask s =
@@ -219,61 +162,29 @@ pub may_release : (w : World) (l : Leases) (c i : ℕ) → MayRelease w l c i �
 may_release w l c i m =
     let left : List Lease = without_holder c (l.levels.clients i) in
     let above : List Lease = nodes_released l.levels.home left (w.home c) (l.levels.nodes i) in
-    let k : Leases = record { levels = record { home = l.levels.home; clients = with_at l.levels.clients i left; nodes = with_at l.levels.nodes i above }; cut = l.cut } in (
-      holding w k,
-      k,
-      record {
-        revoked = m.revoked;
-        ready = m.ready;
-        released = record { home = λ d. refl; clients = becomes l.levels.clients i left; nodes = becomes l.levels.nodes i above };
-        cuts = λ d j revoked. refl;
-        holds = holds_them w k;
-      },
-    )
+    let k : Leases = record l { levels = record l.levels { clients = with_at l.levels.clients i left; nodes = with_at l.levels.nodes i above } } in
+    (holding w k, k, search (becomes, holds_them) parts 3)
 
 pub may_free : (w : World) (l : Leases) (n : ℕ) → (Full w n → ⊥) → IsIdle l.levels n → (k : Leases) × FreesNode w l n k
-may_free w l n away idle = (
-  record { levels = record { home = l.levels.home; clients = l.levels.clients; nodes = λ i. without_holder n (l.levels.nodes i) }; cut = l.cut },
-  record {
-    away = away;
-    idle = idle;
-    freed = record { home = λ d. refl; clients = λ i. refl; nodes = λ i. refl };
-    cuts = λ d i. refl;
-  },
-)
+may_free w l n away idle =
+    let k : Leases = record l { levels = record l.levels { nodes = λ i. without_holder n (l.levels.nodes i) } } in (k, search (away, idle) parts 3)
 
 -- ---- clients that are over
 
 pub may_crash_with : (w : World) (l : Leases) (c : ℕ) → w.lives c ≡ true → w.crashed c ≡ false → (u : World) × (k : Leases) × CrashesWith w l c u k
 may_crash_with w l c alive running =
-    let (u, e) = may_crash w c alive running in (
-      u,
-      record {
-        levels = record { home = l.levels.home; clients = λ i. revoke (is_own c) (l.levels.clients i); nodes = l.levels.nodes };
-        cut = λ d i. if d == c then end_of_log w d else l.cut d i;
-      },
-      record {
-        crash = e;
-        revoked = record { home = λ d. refl; clients = λ i. refl; nodes = λ i. refl };
-        cut_here = λ i. chosen c c (end_of_log w c) (l.cut c i) refl;
-        cut_else = λ d i other. passed d c (end_of_log w d) (l.cut d i) other;
-      },
-    )
+    let (u, e) = may_crash w c alive running in
+    let k : Leases = record {
+      levels = record l.levels { clients = λ i. revoke (is_own c) (l.levels.clients i) };
+      cut = λ d i. if d == c then end_of_log w d else l.cut d i;
+    } in
+    (u, k, search (e, chosen, passed) parts 3)
 
 pub may_fail_with : (w : World) (l : Leases) (n : ℕ) → MayFail w n → (u : World) × (k : Leases) × FailsWithLeases w l n u k
 may_fail_with w l n m =
-    let (u, e) = may_fail w n m in (
-      u,
-      record {
-        levels = record { home = l.levels.home; clients = λ i. revoke (λ b. lives l.levels.home b.holder n) (l.levels.clients i); nodes = l.levels.nodes };
-        cut = λ d i. if w.home d == n then end_of_log u d else l.cut d i;
-      },
-      record {
-        fails = e;
-        home = λ d. refl;
-        clients = λ i. refl;
-        nodes = λ i. refl;
-        cut_here = λ d i is. chosen (w.home d) n (end_of_log u d) (l.cut d i) is;
-        cut_else = λ d i other. passed (w.home d) n (end_of_log u d) (l.cut d i) other;
-      },
-    )
+    let (u, e) = may_fail w n m in
+    let k : Leases = record {
+      levels = record l.levels { clients = λ i. revoke (λ b. lives l.levels.home b.holder n) (l.levels.clients i) };
+      cut = λ d i. if w.home d == n then end_of_log u d else l.cut d i;
+    } in
+    (u, k, search (e, chosen, passed) parts 3)

@@ -17,7 +17,7 @@ use Rattle.assise_model_world.specs.Staying.{SameLogs, SameClients, KeepsLeases}
 use Rattle.assise_model_world.specs.World.{World, IsClient, step_at_home}
 use Rattle.assise_model_world.proofs.Logs.{of_fresh}
 use Rattle.assise_model_leases.specs.Handing.{OpensAt, CallsUnder, CoalescesUnder}
-use Rattle.assise_model_leases.specs.Leases.{Leases, client_lease, IsRevokedLease, CoversFrom, AreLeases, is_held, is_written}
+use Rattle.assise_model_leases.specs.Leases.{Leases, client_lease, IsRevokedLease, CoversFrom, AreLeases, is_held}
 use Rattle.assise_lease_tree.proofs.ClientHomes.{lease_among, home_of}
 use Rattle.assise_model_leases.proofs.LookUps.{held_some, revoked_held, revoked_serves}
 use Rattle.assise_model_leases.proofs.CutsCover.{covers_same, covers_call, covers_drop, covers_coalesced}
@@ -25,14 +25,7 @@ use Rattle.assise_model_leases.proofs.CutsCover.{covers_same, covers_call, cover
 -- ---- who holds
 
 is_client : (w : World) (c : ℕ) → (IsClient w c → ⊥) ⊎ IsClient w c
-is_client w c =
-    elim (cases_lt c 1) [
-      | inl low ↦ inl (λ o. omega (arith, o.0, low))
-      | inr up ↦ elim (cases_lt w.clients c) [
-        | inl past ↦ inl (λ o. omega (arith, o.1, past))
-        | inr within ↦ inr (omega (arith, up), omega (arith, within))
-      ]
-    ]
+is_client w c = grind (arith, cases_lt)
 
 -- who holds a lease is a client, and lives where it was opened
 holder_client : (w : World) (l : Leases) (c i : ℕ) → AreLeases w l → is_held (client_lease l c i) ≡ true → IsClient w c
@@ -68,17 +61,7 @@ module _ (w u : World) (l : Leases) (a : AreLeases w l) (same : SameClients w u)
   -- and leases do, and cuts cover
   still_leases : KeepsLeases w u → ((c i : ℕ) → IsRevokedLease l c i → CoversFrom u c i (l.cut c i)) → ((c i : ℕ) → w.lives c ≡ true → IsRevokedLease l c i → l.cut c i ≤ u.goal c) →
       ((c i : ℕ) → IsRevokedLease l c i → u.first c ≤ l.cut c i → u.border c (l.cut c i) ≡ true) → AreLeases u l
-  still_leases leases covered goals borders = record {
-    lawful = a.lawful;
-    held = record { holds = λ c i. leases.holds c i ∙ a.held.holds c i; writes = λ c i. leases.writes c i ∙ a.held.writes c i };
-    homes = λ c o. a.homes c (still_client c o) ∙ ap (λ n. Some n) (sym (same.home c));
-    strangers = λ c no. a.strangers c (λ o. no (was_client c o));
-    covered = covered;
-    goals = λ c i lives h. goals c i (sym (same.lives c) ∙ lives) h;
-    borders = borders;
-    crashed = λ c i over h. a.crashed c i (sym (same.crashed c) ∙ over) h;
-    failed = λ c i over h. a.failed c i (sym (same.lives c) ∙ over) h;
-  }
+  still_leases leases covered goals borders = grind (arith, still_client, was_client)
 
 -- ---- steps that leave leases
 
@@ -144,10 +127,7 @@ coalesced_keeps w u l c s new was so a e =
 pub open_keeps : (w u : World) (l k : Leases) (n : ℕ) → AreLeases w l → OpensAt w l n u k → AreLeases u k
 open_keeps w u l k n a e = record {
   lawful = enrolled_lawful l.levels a.lawful k.levels (suc w.clients) n (a.strangers (suc w.clients) new_stranger) e.enrols;
-  held = record {
-    holds = λ c i. e.opens.leases.holds c i ∙ a.held.holds c i ∙ sym (ap is_held (lease c i));
-    writes = λ c i. e.opens.leases.writes c i ∙ a.held.writes c i ∙ sym (ap is_written (lease c i));
-  };
+  held = search (lease, arith) parts 3;
   homes = λ c o. elim (cases_eq c (suc w.clients)) [
     | inl new ↦ subst (λ d. k.levels.home d ≡ Some (u.home d)) (sym new) (e.enrols.home.here ∙ ap (λ m. Some m) (sym e.opens.home_new))
     | inr old ↦ e.enrols.home.elsewhere c old ∙ a.homes c (older c o old) ∙ ap (λ m. Some m) (sym (e.opens.home_else c old))

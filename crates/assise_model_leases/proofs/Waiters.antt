@@ -7,7 +7,7 @@ use Rattle.assise_lease_table.specs.Leases.{lease_of}
 use Rattle.assise_lease_table.proofs.Elements.{both_true, not_true}
 use Rattle.assise_lease_tree.specs.Levels.{in_way, is_revoked}
 use Rattle.assise_model_world.specs.Invariant.{WorldInvariant}
-use Rattle.assise_model_world.specs.World.{World, end_of_log, digested_by_all, received_by_all}
+use Rattle.assise_model_world.specs.World.{World, digested_by_all, received_by_all}
 use Rattle.assise_model_world.proofs.WorldObserved.{least_of-above}
 use Rattle.assise_model_leases.specs.Handing.{Asks, is_newly_revoked}
 use Rattle.assise_model_leases.specs.Leases.{AreLeases, IsRevokedLease, Leases, client_lease}
@@ -60,6 +60,4 @@ ready_alive w l c i a revoked lives done = omega (arith, a.goals c i lives revok
 pub ready_left : (w : World) (l : Leases) (c i : ℕ) → WorldInvariant w → AreLeases w l → IsRevokedLease l c i → w.lives c ≡ false → received_by_all w c ≤ digested_by_all w c →
     l.cut c i ≤ digested_by_all w c
 unfolding received_by_all
-ready_left w l c i s a revoked dead done =
-    let all : end_of_log w c ≤ received_by_all w c = least_of-above w.full (λ n. w.received n c) (end_of_log w c) (end_of_log w c) (omega arith) (λ n f. (let e : w.received n c ≡ end_of_log w c = s.left n c dead f in omega (arith, e))) in
-    omega (arith, (a.covered c i revoked).to_end, all, done)
+ready_left w l c i s a revoked dead done = grind (arith, least_of-above)

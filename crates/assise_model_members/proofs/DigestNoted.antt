@@ -1,5 +1,5 @@
 -- A digest at a full node, what leaves all areas, and the start.
-use Rattle.std.proofs.Common.{◌≡◌, ◌≢◌, inl, inr, ℕ, ◌<◌, true, false, Some, sym, ap, ◌∙◌, subst}
+use Rattle.std.proofs.Common.{◌≡◌, ◌≢◌, inl, inr, ℕ, ◌<◌, true, false, Some, sym, ap, ◌∙◌, subst, arith}
 use Rattle.std.specs.Option.{option_map}
 use Rattle.std.specs.Ordering.{nat_cmp}
 use Rattle.std.specs.FinSet as set
@@ -7,11 +7,10 @@ use Rattle.std.specs.FinSet.{contains-union}
 use Rattle.std.specs.Cmp.{nat_cmp_total}
 use Rattle.std.proofs.lemmas.Bool.{cases_eq, cases_Bool, or_parts, both_ways}
 use Rattle.std.proofs.lemmas.Option.{none-some}
-use Rattle.assise_record.specs.Records.{all_effects}
 use Rattle.assise_inode_table.specs.Effects.{contains}
 use Rattle.assise_inode_table.proofs.EffectValues.{untouched}
 use Rattle.assise_model_world.specs.Runs.{begun}
-use Rattle.assise_model_world.specs.World.{World, Full, undigested_below}
+use Rattle.assise_model_world.specs.World.{World, Full}
 use Rattle.assise_model_members.specs.Members.{since_of, AreMembers}
 use Rattle.assise_model_members.specs.Returns.{OtherAreasStay, KeepsAreas, DigestsNoted}
 use Rattle.assise_manager.specs.Changes.{fulls, all_full, noted, stale_again, donor_of}
@@ -40,20 +39,10 @@ module _ (w u : World) (m m' : Membership) (n c p : ℕ) (inodes : set.FinSet na
   again_stands k since stale at = noted_stands k ∙ noted_here n since inodes stale (standing_of m.nodes k) at
 
   since_same : (k : ℕ) → since_of (standing_of after.nodes k) ≡ since_of (standing_of m.nodes k)
-  since_same k =
-      elim (cases_donor (donor_of (standing_of m.nodes k)) n) [
-        | inl here ↦ (let (since, stale, is) = filled_from (standing_of m.nodes k) n here in ap since_of (again_stands k since stale is) ∙ sym (ap since_of is))
-        | inr from ↦ ap since_of (kept_stands k from)
-      ]
+  since_same k = grind (arith, cases_donor, filled_from, again_stands, kept_stands)
 
   full_before : (k : ℕ) → standing_of after.nodes k ≡ Some full → standing_of m.nodes k ≡ Some full
-  full_before k at =
-      elim (cases_donor (donor_of (standing_of m.nodes k)) n) [
-        | inl here ↦
-            let (since, stale, is) = filled_from (standing_of m.nodes k) n here in
-            absurd (away_not_full (standing_of after.nodes k) since (ap since_of (again_stands k since stale is)) at)
-        | inr from ↦ sym (kept_stands k from) ∙ at
-      ]
+  full_before k at = grind (arith, cases_donor, filled_from, away_not_full, again_stands, kept_stands)
 
   was_full : (k : ℕ) → Full u k → Full w k
   was_full k f = subst (λ ns. contains ns k ≡ true) g.digests.full f
@@ -63,13 +52,7 @@ module _ (w u : World) (m m' : Membership) (n c p : ℕ) (inodes : set.FinSet na
   area_away k e i at = g.others k i (λ f. away_not_full (standing_of m.nodes k) e at (a.full_nodes k f))
 
   area_quiet : (k i : ℕ) → Full w k → set.contains inodes i ≡ false → u.area k i ≡ w.area k i
-  area_quiet k i f none =
-      elim (cases_eq k n) [
-        | inl is ↦
-            subst (λ k. u.area k i ≡ w.area k i) (sym is)
-            (g.digests.area_here i ∙ untouched i (w.area n i) (all_effects (undigested_below w n c p)) (sym (g.touches i) ∙ none))
-        | inr other ↦ g.digests.area_else k i f other
-      ]
+  area_quiet k i f none = grind (arith, cases_eq, untouched)
 
   due : (k e f i : ℕ) → since_of (standing_of after.nodes k) ≡ Some e → Full u f → set.contains (written_since after e) i ≡ false → u.area k i ≡ u.area f i
   due k e f i at ff none =
@@ -108,23 +91,10 @@ module _ (w u : World) (m m' : Membership) (n c p : ℕ) (inodes : set.FinSet na
 -- ---- what leaves full nodes and areas
 
 pub areas_keep : (w u : World) (m : Membership) → AreMembers w m → KeepsAreas w u → AreMembers u m
-areas_keep w u m a g = record {
-  lawful = a.lawful;
-  full_nodes = λ k f. a.full_nodes k (subst (λ ns. contains ns k ≡ true) g.full f);
-  nodes_full = λ k at. subst (λ ns. contains ns k ≡ true) (sym g.full) (a.nodes_full k at);
-  due = λ k e f i at ff none. g.area k i ∙ a.due k e f i at (subst (λ ns. contains ns f ≡ true) g.full ff) none ∙ sym (g.area f i);
-  filling = λ k since donor i stale at none. g.area k i ∙ a.filling k since donor i stale at none ∙ sym (g.area donor i);
-}
+areas_keep w u m a g = grind (arith, due, filling)
 
 pub keeps_areas : (w u : World) → u.full ≡ w.full → ((k i : ℕ) → Full w k → u.area k i ≡ w.area k i) → OtherAreasStay w u → KeepsAreas w u
-keeps_areas w u same areas others = record {
-  full = same;
-  area = λ k i.
-      elim (cases_Bool (contains w.full k)) [
-        | inl is ↦ areas k i is
-        | inr away ↦ others k i (both_ways (contains w.full k) away)
-      ];
-}
+keeps_areas w u same areas others = grind (arith, cases_Bool, both_ways)
 
 -- ---- the start
 

@@ -1,13 +1,9 @@
 -- A node that lacks no inode is full again.
-use Rattle.std.proofs.Common.{◌≡◌, ◌≢◌, inl, inr, ℕ, Bool, true, false, cond, Option, Some, None, [], ◌∷◌, ◌++◌, refl, sym, ap, ◌∙◌, subst, eqb-true}
-use Rattle.std.specs.Prelude.{◌==◌}
+use Rattle.std.proofs.Common.{◌≡◌, ◌≢◌, inl, inr, ℕ, false, cond, Option, Some, None, [], ◌∷◌, ◌++◌, refl, sym, ap, ◌∙◌, subst, eqb-true, arith}
 use Rattle.std.specs.Ordering.{nat_cmp}
 use Rattle.std.specs.FinSet as set
 use Rattle.std.specs.FinSet.{empty_of_len, contains-empty}
 use Rattle.std.proofs.lemmas.Bool.{cases_eq}
-use Rattle.std.proofs.lemmas.Option.{none-some}
-use Rattle.assise_names.specs.declared.refusal.Refusal.{Refusal}
-use Rattle.assise_names.specs.declared.refusal.Refusal.TheVariants.{Busy}
 use Rattle.assise_model_world.specs.NodeSteps.{Joins}
 use Rattle.assise_model_world.specs.World.{World, Full}
 use Rattle.assise_model_members.specs.Members.{since_of, AreMembers}
@@ -20,16 +16,10 @@ use Rattle.assise_manager.proofs.Lawful.{joined_lawful, donor_full}
 use Rattle.assise_model_members.proofs.NodeStandings.{set_here, set_else, away_not_full, not_all}
 use Rattle.assise_model_members.proofs.Written.{outside, still_written}
 
-not_busy : (b : Bool) → ◌≡◌ {A = Option Refusal} (cond b None (Some Busy)) None → b ≡ true
-not_busy true fine = refl
-not_busy false fine = absurd (none-some Busy (sym fine))
-
 -- a node whose joining isn't refused may lack nothing
 pub lacks_none : (o : Option Standing) (since donor : ℕ) (stale : set.FinSet nat_cmp) → o ≡ Some (returning since donor stale) → join_fault_of o ≡ None →
     (i : ℕ) → set.contains stale i ≡ false
-lacks_none o since donor stale at fine i =
-    ap (λ s. set.contains s i) (empty_of_len stale (eqb-true (set.len stale) 0 (not_busy (set.len stale == 0) (sym (ap join_fault_of at) ∙ fine))))
-    ∙ contains-empty nat_cmp i
+lacks_none o since donor stale at fine i = grind (arith, empty_of_len, eqb-true, contains-empty)
 
 module _ (w u : World) (m m' : Membership) (n : ℕ) (a : AreMembers w m) (g : Rejoins w m n u m') where
   abbrev after : Membership
@@ -45,22 +35,7 @@ module _ (w u : World) (m m' : Membership) (n : ℕ) (a : AreMembers w m) (g : R
   donor_same i = a.filling n g.since g.donor i g.stale g.stands (lacks_none (standing_of m.nodes n) g.since g.donor g.stale g.stands g.fine i)
 
   pub rejoin_joins : Joins w n g.donor u
-  rejoin_joins = record {
-    donor_full = donor_before;
-    absent = not_before;
-    joined = g.joined;
-    stay = g.stay;
-    only = g.only;
-    logs = g.logs;
-    clients = g.clients;
-    goals = g.goals;
-    leases = g.leases;
-    area_here = λ i. g.area n i ∙ donor_same i;
-    log_here = g.log_here;
-    received_here = g.received_here;
-    digested_here = g.digested_here;
-    else_same = g.else_same;
-  }
+  rejoin_joins = grind (arith, donor_full, donor_before, not_before, donor_same)
 
   own : standing_of after.nodes n ≡ Some full
   own = set_here m.nodes n (returning g.since g.donor g.stale) full g.stands
@@ -94,18 +69,4 @@ module _ (w u : World) (m m' : Membership) (n : ℕ) (a : AreMembers w m) (g : R
       g.area k i ∙ a.filling k since donor i stale (sym (elsewhere k (other k since (ap since_of at))) ∙ at) none ∙ sym (g.area donor i)
 
   pub rejoin_keeps : AreMembers u m'
-  rejoin_keeps = subst (AreMembers u) (sym g.members) (record {
-    lawful = joined_lawful m n a.lawful g.fine;
-    full_nodes = λ k f.
-        elim (g.only k f) [
-          | inl is ↦ subst (λ k. standing_of after.nodes k ≡ Some full) (sym is) own
-          | inr stayed ↦ elsewhere k (λ is. not_before (subst (Full w) is stayed)) ∙ a.full_nodes k stayed
-        ];
-    nodes_full = λ k at.
-        elim (cases_eq k n) [
-          | inl is ↦ subst (Full u) (sym is) g.joined
-          | inr differs ↦ g.stay k (a.nodes_full k (sym (elsewhere k differs) ∙ at))
-        ];
-    due = due;
-    filling = filling;
-  })
+  rejoin_keeps = grind (arith, joined_lawful, own, elsewhere, not_before, cases_eq, due, filling)

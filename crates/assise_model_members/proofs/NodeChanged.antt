@@ -1,5 +1,5 @@
 -- One node that isn't full is changed: it fails again, begins to come back, or is filled.
-use Rattle.std.proofs.Common.{◌≡◌, ◌≢◌, inl, inr, ℕ, false, true, not, cond, Some, None, refl, sym, ap, ◌∙◌, subst}
+use Rattle.std.proofs.Common.{◌≡◌, ◌≢◌, inl, inr, ℕ, false, true, not, cond, Some, None, refl, sym, ap, ◌∙◌, subst, arith}
 use Rattle.std.specs.Prelude.{◌&&◌}
 use Rattle.std.specs.Ordering.{nat_cmp}
 use Rattle.std.specs.FinSet as set
@@ -51,16 +51,7 @@ module _ (w u : World) (m : Membership) (n since : ℕ) (old s : Standing) (a : 
   other_full k f = full_other w m n k since old a g.stood g.was_away f
 
   due : (k e f i : ℕ) → since_of (standing_of (with_node m n s).nodes k) ≡ Some e → Full u f → set.contains (written_since m e) i ≡ false → u.area k i ≡ u.area f i
-  due k e f i at ff none =
-      let before : Full w f = was_full f ff in
-      let stays : u.area f i ≡ w.area f i = g.area_else f i (other_full f before) in
-      elim (cases_eq k n) [
-        | inl is ↦
-            let same : since ≡ e = same_Some since e (sym g.is_away ∙ sym (ap since_of here) ∙ subst (λ k. since_of (standing_of (with_node m n s).nodes k) ≡ Some e) is at) in
-            let unwritten : set.contains (written_since m since) i ≡ false = subst (λ e. set.contains (written_since m e) i ≡ false) (sym same) none in
-            subst (λ k. u.area k i ≡ u.area f i) (sym is) (g.unwritten i unwritten ∙ a.due n since f i (ap since_of g.stood ∙ g.was_away) before unwritten ∙ sym stays)
-        | inr differs ↦ g.area_else k i differs ∙ a.due k e f i (sym (ap since_of (elsewhere k differs)) ∙ at) before none ∙ sym stays
-      ]
+  due k e f i at ff none = grind (arith, was_full, other_full, cases_eq, same_Some, here, elsewhere)
 
   filling : (k first donor i : ℕ) (stale : set.FinSet nat_cmp) → standing_of (with_node m n s).nodes k ≡ Some (returning first donor stale) →
       set.contains stale i ≡ false → u.area k i ≡ u.area donor i

@@ -1,5 +1,5 @@
 -- How nodes stand before and after a change.
-use Rattle.std.proofs.Common.{Bool, ◌≡◌, ◌≢◌, ◌⊎◌, inl, inr, ℕ, zero, suc, ◌+◌, ◌-◌, ◌<◌, true, false, cond, Option, Some, None, List, [], ◌∷◌, map, length, refl, sym, ap, ◌∙◌, subst, arith, eq-eqb}
+use Rattle.std.proofs.Common.{Bool, ◌≡◌, ◌≢◌, ◌⊎◌, inl, inr, ℕ, zero, suc, ◌+◌, ◌-◌, ◌<◌, true, false, cond, Option, Some, None, List, [], ◌∷◌, map, length, refl, sym, ap, ◌∙◌, arith, eq-eqb}
 use Rattle.std.specs.Prelude.{◌==◌}
 use Rattle.std.specs.List.{list_all, list_any, slice_get, slice_set, slice_index_or}
 use Rattle.std.specs.Option.{option_map}
@@ -43,10 +43,7 @@ set_here nodes (suc place) old s at = ap (λ i. slice_get (slice_set nodes i s) 
 
 pub set_else : (nodes : List Standing) (n k : ℕ) (old s : Standing) → standing_of nodes n ≡ Some old → k ≢ n →
     standing_of (with_standing nodes n s) k ≡ standing_of nodes k
-set_else nodes zero k old s at other = absurd (none-some old at)
-set_else nodes (suc place) zero old s at other = refl
-set_else nodes (suc place) (suc i) old s at other =
-    ap (λ j. slice_get (slice_set nodes j s) i) (less_one place) ∙ get_else nodes place i s (λ e. other (ap suc e))
+set_else nodes n k old s at other = grind (arith, none-some, less_one, get_else)
 
 -- ---- full nodes
 
@@ -65,11 +62,7 @@ full_listed nodes zero at = absurd (none-some full at)
 full_listed nodes (suc place) at = full_in 1 nodes place (suc place) at (omega arith)
 
 pub listed_full : (nodes : List Standing) (n : ℕ) → contains (full_nodes nodes) n ≡ true → standing_of nodes n ≡ Some full
-listed_full nodes n there =
-    let found = full_there 1 n nodes there in
-    let is : n ≡ 1 + found.0 = found.1 in
-    let next : n ≡ suc found.0 = omega arith in
-    subst (λ k. standing_of nodes k ≡ Some full) (sym next) found.2
+listed_full nodes n there = grind (arith, full_there)
 
 pub lowest_stands : (nodes : List Standing) → 0 < length (full_nodes nodes) → standing_of nodes (lowest_full nodes) ≡ Some full
 lowest_stands nodes some = listed_full nodes (lowest_full nodes) (first_there (full_nodes nodes) some)
@@ -121,17 +114,11 @@ returning_is (Some (down since)) e = never e
 returning_is (Some (returning since donor stale)) e = (since, donor, stale, refl)
 
 pub lacks_is : (o : Option Standing) (stale : set.FinSet nat_cmp) → stale_of o ≡ Some stale → (since donor : ℕ) × (o ≡ Some (returning since donor stale))
-lacks_is None stale e = absurd (none-some stale e)
-lacks_is (Some full) stale e = absurd (none-some stale e)
-lacks_is (Some (down since)) stale e = absurd (none-some stale e)
-lacks_is (Some (returning since donor old)) stale e = (since, donor, ap (λ s. Some (returning since donor s)) (same_Some old stale e))
+lacks_is o stale e = grind (arith, none-some, same_Some)
 
 -- a node that was down, whose return isn't refused
 pub down_is : (o : Option Standing) → return_fault_of o ≡ None → (since : ℕ) × (o ≡ Some (down since))
-down_is None e = absurd (none-some BadNode (sym e))
-down_is (Some full) e = absurd (none-some WrongPhase (sym e))
-down_is (Some (down since)) e = (since, refl)
-down_is (Some (returning since donor stale)) e = absurd (none-some WrongPhase (sym e))
+down_is o e = grind (arith, none-some)
 
 -- a node whose joining isn't refused
 pub returning_may_join : (o : Option Standing) → join_fault_of o ≡ None → (since donor : ℕ) × (stale : set.FinSet nat_cmp) × (o ≡ Some (returning since donor stale))
@@ -157,24 +144,11 @@ since_is (Some (returning since donor stale)) e at = inr (donor, stale, ap (λ s
 
 -- its first failure's epoch has a list
 pub since_listed : (m : Membership) (k e : ℕ) → IsMembership m → since_of (standing_of m.nodes k) ≡ Some e → e - first_listed m < length m.written
-since_listed m k e lawful at =
-    elim (since_is (standing_of m.nodes k) e at) [
-      | inl is ↦ (let both = down_listed m k e lawful is in list_there m e lawful both.0 both.1)
-      | inr (donor, stale, is) ↦ (let both = return_listed m k e donor stale lawful is in list_there m e lawful both.0 both.1)
-    ]
-
-away_at : (o : Option Standing) (e : ℕ) → since_of o ≡ Some e → (s : Standing) × (o ≡ Some s) × (is_full s ≡ false)
-away_at None e at = absurd (none-some e at)
-away_at (Some full) e at = absurd (none-some e at)
-away_at (Some (down since)) e at = (down since, refl, refl)
-away_at (Some (returning since donor stale)) e at = (returning since donor stale, refl, refl)
+since_listed m k e lawful at = grind (arith, since_is, down_listed, list_there, return_listed)
 
 -- where a node isn't full, not all are
 pub not_all : (nodes : List Standing) (k e : ℕ) → since_of (standing_of nodes k) ≡ Some e → list_all is_full nodes ≡ false
-not_all nodes zero e at = absurd (none-some e at)
-not_all nodes (suc place) e at =
-    let (s, is, away) = away_at (slice_get nodes place) e at in
-    false_from_ne_true (list_all is_full nodes) (λ all. both_ways (is_full s) away (list_all_place is_full nodes place s all is))
+not_all nodes k e at = grind (arith, none-some, false_from_ne_true, both_ways, list_all_place)
 
 fulls_at : (count place : ℕ) → since_of (slice_get (fulls count) place) ≡ None
 fulls_at zero place = refl
@@ -190,22 +164,13 @@ none_failed count (suc place) = fulls_at count place
 
 pub refilled_here : (written : ℕ → set.FinSet nat_cmp) (low n since : ℕ) (stale : set.FinSet nat_cmp) (o : Option Standing) → o ≡ Some (returning since n stale) →
     option_map (refilled_from written low n) o ≡ Some (returning since low (written since))
-refilled_here written low n since stale o at =
-    ap (option_map (refilled_from written low n)) at
-    ∙ ap (λ b. Some (cond b (returning since low (written since)) (returning since n stale))) (eq-eqb n n refl)
+refilled_here written low n since stale o at = grind (arith, eq-eqb)
 
 pub refilled_else : (written : ℕ → set.FinSet nat_cmp) (low n : ℕ) (o : Option Standing) → donor_of o ≢ Some n → option_map (refilled_from written low n) o ≡ o
-refilled_else written low n None other = refl
-refilled_else written low n (Some full) other = refl
-refilled_else written low n (Some (down since)) other = refl
-refilled_else written low n (Some (returning since from stale)) other =
-    ap (λ b. Some (cond b (returning since low (written since)) (returning since from stale))) (ne_eqb from n (λ e. other (ap Some e)))
+refilled_else written low n o other = grind (arith, ne_eqb)
 
 pub refilled_full : (written : ℕ → set.FinSet nat_cmp) (low n : ℕ) (s : Standing) → is_full (refilled_from written low n s) ≡ is_full s
-refilled_full written low n full = refl
-refilled_full written low n (down since) = refl
-refilled_full written low n (returning since from stale) =
-    cond_both (from == n) (returning since low (written since)) (returning since from stale) (λ s. is_full s ≡ false) (λ _. refl) (λ _. refl)
+refilled_full written low n s = grind (arith, cond_both)
 
 -- the same nodes are full, so the same is the lowest
 pub same_lowest : (written : ℕ → set.FinSet nat_cmp) (low n : ℕ) (nodes : List Standing) → lowest_full (map (refilled_from written low n) nodes) ≡ lowest_full nodes
@@ -219,11 +184,7 @@ noted_here n since inodes stale o at =
     ap (option_map (stale_again n inodes)) at ∙ ap (λ b. Some (returning since n (cond b (set.union stale inodes) stale))) (eq-eqb n n refl)
 
 pub noted_else : (n : ℕ) (inodes : set.FinSet nat_cmp) (o : Option Standing) → donor_of o ≢ Some n → option_map (stale_again n inodes) o ≡ o
-noted_else n inodes None other = refl
-noted_else n inodes (Some full) other = refl
-noted_else n inodes (Some (down since)) other = refl
-noted_else n inodes (Some (returning since from stale)) other =
-    ap (λ b. Some (returning since from (cond b (set.union stale inodes) stale))) (ne_eqb from n (λ e. other (ap Some e)))
+noted_else n inodes o other = grind (arith, ne_eqb)
 
 -- ---- two ways to say that a node comes back
 

@@ -1,6 +1,6 @@
 -- Nodes fail.
-use Rattle.std.proofs.Common.{◌≡◌, ◌≢◌, inl, inr, ℕ, ◌+◌, ◌-◌, ◌≤◌, true, false, not, cond, Some, None, refl, sym, ap, ◌∙◌, subst, take, drop, arith}
-use Rattle.std.specs.Prelude.{◌==◌, Bool, List, ◌∷◌, [], filter, ◌&&◌}
+use Rattle.std.proofs.Common.{◌≡◌, ◌≢◌, inl, inr, ℕ, ◌+◌, ◌-◌, ◌≤◌, true, false, cond, Some, None, refl, sym, ap, ◌∙◌, subst, take, drop, arith}
+use Rattle.std.specs.Prelude.{◌==◌, Bool, List, ◌∷◌, [], filter}
 use Rattle.std.specs.Option.{option_map}
 use Rattle.std.specs.FinSet as set
 use Rattle.std.specs.Ordering.{nat_cmp}
@@ -10,7 +10,7 @@ use Rattle.assise_record.specs.Records.{all_effects}
 use Rattle.assise_inode_table.specs.Effects.{touched, contains}
 use Rattle.assise_model_world.specs.NodeSteps.{Fails, kept_at_failure}
 use Rattle.assise_model_world.specs.Invariant.{WorldInvariant}
-use Rattle.assise_model_world.specs.World.{World, Full, least_of, end_of_log, received_by_all, records_between}
+use Rattle.assise_model_world.specs.World.{World, Full, received_by_all, records_between}
 use Rattle.assise_model_world.proofs.AreasAgree.{same_areas}
 use Rattle.assise_model_world.proofs.Logs.{contains-take, take-of_take}
 use Rattle.assise_model_world.proofs.WorldObserved.{least_of-above, received_by_all-below, received_by_all-end}
@@ -43,16 +43,7 @@ contains-filter p (n ∷ ns) k h =
 -- no record that all full nodes have is cut
 kept_is_high : (w : World) (n c : ℕ) → received_by_all w c ≤ kept_at_failure w n c
 unfolding kept_at_failure
-kept_is_high w n c =
-    elim (cases_Bool (w.lives c && (w.home c == n))) [
-      | inl here ↦
-          subst (λ b. received_by_all w c ≤ cond b (least_of (filter (λ m. not (m == n)) w.full) (λ m. w.received m c) (end_of_log w c)) (end_of_log w c)) (sym here)
-          (least_of-above (filter (λ m. not (m == n)) w.full) (λ m. w.received m c) (end_of_log w c) (received_by_all w c) (received_by_all-end w c)
-          (λ m there. received_by_all-below w m c (contains-filter (λ k. not (k == n)) w.full m there)))
-      | inr there ↦
-          subst (λ b. received_by_all w c ≤ cond b (least_of (filter (λ m. not (m == n)) w.full) (λ m. w.received m c) (end_of_log w c)) (end_of_log w c)) (sym there)
-          (received_by_all-end w c)
-    ]
+kept_is_high w n c = grind (arith, cases_Bool, least_of-above, received_by_all-end, received_by_all-below, contains-filter)
 
 -- what no record touches that is kept, none touches that all full nodes have
 untouched : (w v : World) (n i : ℕ) → Fails w n v → ((c : ℕ) → contains (touched (all_effects (v.records c))) i ≡ false) →
@@ -117,33 +108,13 @@ module _ (w v u : World) (m m' : Membership) (n : ℕ) (inodes : set.FinSet nat_
   not_own k since stale at is = away_not_full (standing_of m.nodes k) since (ap since_of at) (subst (λ k. standing_of m.nodes k ≡ Some full) (sym is) stood)
 
   since_before : (k e : ℕ) → k ≢ n → since_of (standing_of after.nodes k) ≡ Some e → since_of (standing_of m.nodes k) ≡ Some e
-  since_before k e differs at =
-      elim (cases_donor (donor_of (standing_of m.nodes k)) n) [
-        | inl lost ↦
-            let (since, stale, is) = filled_from (standing_of m.nodes k) n lost in
-            ap since_of is ∙ sym (ap since_of (over_stands k since stale differs is)) ∙ at
-        | inr from ↦ sym (ap since_of (kept_stands k differs from)) ∙ at
-      ]
+  since_before k e differs at = grind (arith, cases_donor, filled_from, over_stands, kept_stands)
 
   full_before : (k : ℕ) → standing_of after.nodes k ≡ Some full → (k ≢ n) × (standing_of m.nodes k ≡ Some full)
-  full_before k at =
-      elim (cases_eq k n) [
-        | inl is ↦ absurd (away_not_full (standing_of after.nodes n) (m.epoch + 1) (ap since_of own) (subst (λ k. standing_of after.nodes k ≡ Some full) is at))
-        | inr differs ↦ (
-          differs,
-          elim (cases_donor (donor_of (standing_of m.nodes k)) n) [
-            | inl lost ↦
-                let (since, stale, is) = filled_from (standing_of m.nodes k) n lost in
-                absurd (away_not_full (standing_of after.nodes k) since (ap since_of (over_stands k since stale differs is)) at)
-            | inr from ↦ sym (kept_stands k differs from) ∙ at
-          ],
-        )
-      ]
+  full_before k at = grind (arith, cases_eq, away_not_full, own, cases_donor, filled_from, over_stands, kept_stands)
 
   full_world : (k : ℕ) → Full u k → Full w k × (k ≢ n)
-  full_world k f =
-      (let h : Full v k = subst (λ ns. contains ns k ≡ true) g.rests.nodes.full f in
-      (g.fails.only k h, λ is. g.fails.gone (subst (Full v) is h)))
+  full_world k f = grind arith
 
   world_full : (k : ℕ) → Full w k → k ≢ n → Full u k
   world_full k f differs = subst (λ ns. contains ns k ≡ true) (sym g.rests.nodes.full) (g.fails.others k f differs)
@@ -212,16 +183,7 @@ module _ (w v u : World) (m m' : Membership) (n : ℕ) (inodes : set.FinSet nat_
       ]
 
   keeps_after : AreMembers u after
-  keeps_after = record {
-    lawful = lawful_after;
-    full_nodes = λ k f.
-        (let b : Full w k × (k ≢ n) = full_world k f in
-        let at : standing_of m.nodes k ≡ Some full = a.full_nodes k b.0 in
-        kept_stands k b.1 (full_no_donor (standing_of m.nodes k) n at) ∙ at);
-    nodes_full = λ k at. (let b = full_before k at in world_full k (a.nodes_full k b.1) b.0);
-    due = due;
-    filling = filling;
-  }
+  keeps_after = grind (arith, lawful_after, full_world, kept_stands, full_no_donor, full_before, world_full, due, filling)
 
   pub fail_keeps : AreMembers u m'
   fail_keeps = subst (AreMembers u) (sym is_after) keeps_after
@@ -229,6 +191,4 @@ module _ (w v u : World) (m m' : Membership) (n : ℕ) (inodes : set.FinSet nat_
   -- who was filled from the failed node
   pub fail_over : (k since : ℕ) (stale : set.FinSet nat_cmp) → standing_of m.nodes k ≡ Some (returning since n stale) →
       standing_of m'.nodes k ≡ Some (returning since (lowest_full m'.nodes) (written_since m' since))
-  fail_over k since stale at =
-      subst (λ o. standing_of o.nodes k ≡ Some (returning since (lowest_full o.nodes) (written_since o since))) (sym is_after)
-      (over_stands k since stale (not_own k since stale at) at ∙ ap (λ d. Some (returning since d (written_since after since))) (sym same_low))
+  fail_over k since stale at = grind (arith, is_after, over_stands, not_own, same_low)

@@ -1,5 +1,5 @@
 -- What was written since an epoch, before and after a change.
-use Rattle.std.proofs.Common.{◌≡◌, ℕ, zero, suc, ◌+◌, ◌-◌, ◌<◌, ◌≤◌, false, List, [], ◌∷◌, ◌++◌, drop, length, refl, ap, ◌∙◌, arith}
+use Rattle.std.proofs.Common.{◌≡◌, ℕ, zero, suc, ◌+◌, ◌-◌, ◌<◌, ◌≤◌, false, List, [], ◌∷◌, ◌++◌, drop, length, ap, ◌∙◌, arith}
 use Rattle.std.specs.FinSet as set
 use Rattle.std.proofs.lemmas.Bool.{both_ways, false_from_ne_true}
 use Rattle.std.proofs.lemmas.List.{length-append}
@@ -19,18 +19,13 @@ last_within zero ls l few q inside = ap (λ s. set.contains s q) (all_push ls l)
 last_within (suc k) [] l few q inside = absurd (omega arith)
 last_within (suc k) (x ∷ ls) l few q inside = last_within k ls l (omega arith) q inside
 
-less_by : (epoch few more : ℕ) → more ≡ few + 1 → (epoch + 1 + 1) - more ≡ (epoch + 1) - few
-less_by epoch few more e = omega arith
-
 since_few : (epoch few first : ℕ) → first ≡ (epoch + 1) - few → few ≤ epoch → (epoch + 1) - first ≤ few
 since_few epoch few first e low = omega arith
 
 -- an epoch more, with a list
 module _ (m m' : Membership) (l : Numbers) (epoch : m'.epoch ≡ m.epoch + 1) (written : m'.written ≡ m.written ++ l ∷ []) where
   same_first : first_listed m' ≡ first_listed m
-  same_first =
-      ap (λ e. (e + 1) - length m'.written) epoch ∙ ap (λ ls. (m.epoch + 1 + 1) - length ls) written
-      ∙ less_by m.epoch (length m.written) (length (m.written ++ l ∷ [])) (length-append m.written (l ∷ []))
+  same_first = grind (arith, length-append)
 
   as_listed : (since : ℕ) → written_since m' since ≡ all_inodes (drop (since - first_listed m) (m.written ++ l ∷ []))
   as_listed since = ap (λ k. all_inodes (drop (since - k) m'.written)) same_first ∙ ap (λ ls. all_inodes (drop (since - first_listed m) ls)) written
@@ -41,9 +36,7 @@ module _ (m m' : Membership) (l : Numbers) (epoch : m'.epoch ≡ m.epoch + 1) (w
 
   -- what is on the new list was written since the new epoch
   pub now_written : length m.written ≤ m.epoch → Within l (written_since m' (m.epoch + 1))
-  now_written few q inside =
-      ap (λ s. set.contains s q) (as_listed (m.epoch + 1))
-      ∙ last_within ((m.epoch + 1) - first_listed m) m.written l (since_few m.epoch (length m.written) (first_listed m) refl few) q inside
+  now_written few q inside = grind (arith, as_listed, last_within, since_few)
 
 -- ---- more on the last list
 

@@ -1,5 +1,5 @@
 -- Where areas agree.
-use Rattle.std.proofs.Common.{◌≡◌, ℕ, ◌<◌, ◌≤◌, ◌⊎◌, inl, inr, true, false, refl, sym, ◌∙◌, arith}
+use Rattle.std.proofs.Common.{◌≡◌, ℕ, ◌<◌, ◌≤◌, ◌⊎◌, inl, inr, true, false, sym, ◌∙◌, arith}
 use Rattle.std.proofs.lemmas.Bool.{cases_Bool, ltb-true, ltb-false}
 use Rattle.assise_record.specs.Records.{all_effects}
 use Rattle.assise_inode_table.specs.Effects.{touched, contains}
@@ -13,10 +13,7 @@ use Rattle.assise_model_world.proofs.WorldObserved.{part_of, received_by_all-end
 
 between_both : (w : World) (n m : ℕ) → CallsInvariant w → Full w n → Full w m → (x : NumberedCall) →
     x.number < first_undigested_at w n x.client → first_undigested_at w m x.client ≤ x.number → window x.client (call_at w x.client (w.first x.client)) (first_unreplicated w x.client) x ≡ true
-between_both w n m s fn fm x high low =
-    in_window_from x.client (call_at w x.client (w.first x.client)) (first_unreplicated w x.client) x refl
-    (omega (arith, oldest w s x.client, first_undigested-low w m s fm x.client, low))
-    (omega (arith, high, first_undigested-received_by_all w n s fn x.client))
+between_both w n m s fn fm x high low = grind (arith, in_window_from, oldest, first_undigested-low, first_undigested-received_by_all)
 
 -- steps that stand in a log and are replicated
 of_acked : (w : World) (i : ℕ) → CallsInvariant w → (c : ℕ) → contains (touched (all_effects (records_between w c (w.first c) (received_by_all w c)))) i ≡ false →

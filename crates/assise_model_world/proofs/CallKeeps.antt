@@ -1,5 +1,5 @@
 -- A call keeps the invariant.
-use Rattle.std.proofs.Common.{◌≡◌, ℕ, suc, ◌+◌, ◌-◌, ◌<◌, ◌≤◌, ◌≢◌, inl, inr, Bool, true, false, List, [], ◌∷◌, ◌++◌, if◌then◌else◌, Option, Some, None, IsSome, refl, ap, sym, ◌∙◌, subst, ◌||◌, nat_lt, nat_le, arith, take, length, filter}
+use Rattle.std.proofs.Common.{◌≡◌, ℕ, suc, ◌+◌, ◌-◌, ◌<◌, ◌≤◌, ◌≢◌, inl, inr, Bool, true, false, List, [], ◌∷◌, ◌++◌, if◌then◌else◌, Option, Some, None, IsSome, refl, ap, sym, ◌∙◌, subst, ◌||◌, nat_lt, nat_le, arith, take, length}
 use Rattle.std.specs.List.{list_any}
 use Rattle.std.proofs.lemmas.Bool.{both_ways, le-ltb, cases_Bool, ltb-true, leb-true, lt-ltb, le-leb, ne_eqb, cases_eq, or_left, or_cases, or_parts, false_from_ne_true, cases_lt}
 use Rattle.std.proofs.lemmas.Bool.Decides.{nat_tests}
@@ -8,7 +8,7 @@ use Rattle.assise_seq_tree.specs.Answer.{answer}
 use Rattle.assise_seq_tree.specs.Runs.{AreAnswered, tree_after_calls}
 use Rattle.assise_record.specs.declared.effect.Effect.{Effect}
 use Rattle.assise_record.specs.LogRecord.{LogRecord}
-use Rattle.assise_record.specs.Records.{all_effects, has_some, record_of, call_of, Ascending}
+use Rattle.assise_record.specs.Records.{all_effects, has_some, record_of, Ascending}
 use Rattle.assise_record.proofs.Records.{all_effects-append, all_effects-one, ascending-append}
 use Rattle.assise_inode_table.specs.Contents.{Content}
 use Rattle.assise_inode_table.specs.Effects.{value_after, touched, contains, after, makes}
@@ -78,12 +78,7 @@ module _ (w w' : World) (y : NumberedCall) (sound : WorldInvariant w) (e : Makes
 
   -- the next number of the client is that of no inode
   number_free : IsMade w y.fresh → ⊥
-  number_free (inl root) = omega (arith, root, e.fresh, client.0)
-  number_free (inr (c, (client, (k, (low, is))))) =
-      elim (cases_eq c y.client) [
-        | inl own ↦ (let l : k < w.made y.client = subst (λ d. k < w.made d) own low in omega (arith, l, is, e.fresh, own))
-        | inr other ↦ other (omega (arith, low, is, e.fresh, s.fewer c, s.fewer y.client))
-      ]
+  number_free h = grind (arith, cases_eq)
 
   none_of : (o : Option Content) → (IsSome o → ⊥) → o ≡ None
   none_of None h = refl
@@ -107,21 +102,13 @@ module _ (w w' : World) (y : NumberedCall) (sound : WorldInvariant w) (e : Makes
   -- ---- numbers of inodes
 
   made-up : (c : ℕ) → w.made c ≤ w'.made c
-  made-up c =
-      elim (cases_eq c y.client) [
-        | inl own ↦ subst (λ c. w.made c ≤ w'.made c) (sym own) (rw made_own (elim (list_any (makes y.fresh) planned.effects) as (λ b. w.made y.client ≤ (if b then suc (w.made y.client) else w.made y.client)) [ true ↦ omega arith | false ↦ omega arith ]))
-        | inr other ↦ rw (e.made_else c other) (omega arith)
-      ]
+  made-up c = grind (arith, cases_eq, made_own)
 
   made_now : list_any (makes y.fresh) planned.effects ≡ true → IsMadeBy w' y.client y.fresh
   made_now t = (w.made y.client, (rw (made_own, t) (omega arith), e.fresh))
 
   fewer-commit : (c : ℕ) → w'.made c ≤ 1048576
-  fewer-commit c =
-      elim (cases_eq c y.client) [
-        | inl own ↦ subst (λ c. w'.made c ≤ 1048576) (sym own) e.made_few
-        | inr other ↦ rw (e.made_else c other) (s.fewer c)
-      ]
+  fewer-commit c = grind (arith, cases_eq)
 
   numbered-commit : Numbered w'
   unfolding Numbered
@@ -142,47 +129,22 @@ module _ (w w' : World) (y : NumberedCall) (sound : WorldInvariant w) (e : Makes
   -- ---- the logs
 
   next-up : (d : ℕ) → w.next d ≤ w'.next d
-  next-up d =
-      elim (cases_eq d y.client) [
-        | inl own ↦ subst (λ d. w.next d ≤ w'.next d) (sym own) (omega (arith, e.number, e.next_own))
-        | inr other ↦ rw (e.next_else d other) (omega arith)
-      ]
+  next-up d = grind (arith, cases_eq)
 
   counted-commit : Counted w'
   unfolding Counted
-  counted-commit =
-      subst (Each (IsCounted w')) (sym e.calls)
-      (each-snoc (IsCounted w') w.calls y
-      (each-map (IsCounted w) (IsCounted w') w.calls (λ x h. ((h.0.0, rw e.clients.clients h.0.1), omega (arith, h.1, next-up x.client))) s.counted)
-      ((client.0, rw e.clients.clients client.1), omega (arith, e.next_own)))
+  counted-commit = grind (arith, IsCounted, each-snoc, each-map, next-up)
 
   counted_calls : Each (IsCounted w) w.calls
   unfolding Counted
   counted_calls = s.counted
 
   ascends-commit : NumbersAscend w'.calls
-  ascends-commit =
-      subst NumbersAscend (sym e.calls)
-      (pairs-snoc (λ x z. z.client ≡ x.client → x.number < z.number) w.calls y s.ascends
-      (each-map (IsCounted w) (λ x. y.client ≡ x.client → x.number < y.number) w.calls
-      (λ x h same. rw e.number (subst (λ d. x.number < w.next d) (sym same) h.1)) counted_calls))
+  ascends-commit = grind (arith, pairs-snoc, each-map, IsCounted, counted_calls)
 
   guarded-commit : Guarded w'
   unfolding Guarded
-  guarded-commit d i h =
-      elim (cases_eq d y.client) [
-        | inl own ↦ subst (λ d. contains (touched (all_effects (w'.records d))) i ≡ true → w'.writes d i ≡ true) (sym own) (λ h.
-            e.leases.writes y.client i ∙
-            (let split : (contains (touched (all_effects (w.records y.client))) i || contains (touched (all_effects (record_of y.number planned.effects))) i) ≡ true =
-            sym (contains-both (all_effects (w.records y.client)) (all_effects (record_of y.number planned.effects)) i)
-            ∙ ap (λ es. contains (touched es) i) (sym (all_effects-append (w.records y.client) (record_of y.number planned.effects)))
-            ∙ ap (λ rs. contains (touched (all_effects rs)) i) (sym records_own) ∙ h in
-            elim (or_cases (contains (touched (all_effects (w.records y.client))) i) (contains (touched (all_effects (record_of y.number planned.effects))) i) split) [
-              | inl t ↦ s.guarded y.client i t
-              | inr t ↦ written i (of_fresh y.number planned.effects i t)
-            ])) h
-        | inr other ↦ e.leases.writes d i ∙ s.guarded d i (rw (e.records_else d other) at h)
-      ]
+  guarded-commit d i h = grind (arith, cases_eq, contains-both, all_effects-append, records_own, or_cases, written, of_fresh)
 
   compatible-commit : Compatible w'
   unfolding Compatible
@@ -206,14 +168,7 @@ module _ (w w' : World) (y : NumberedCall) (sound : WorldInvariant w) (e : Makes
 
   -- what full nodes received: at home all, elsewhere what they had
   received-is : (P : ℕ → ℕ → ℕ → Type 0) → P (w.home y.client) y.client (end_of_log w' y.client) → ((n d : ℕ) → Full w n → P n d (w.received n d)) → (n d : ℕ) → Full w n → P n d (w'.received n d)
-  received-is P here others n d f =
-      elim (cases_eq n (w.home y.client)) [
-        | inl a ↦ elim (cases_eq d y.client) [
-          | inl b ↦ subst (λ n. P n d (w'.received n d)) (sym a) (subst (λ d. P (w.home y.client) d (w'.received (w.home y.client) d)) (sym b) (subst (P (w.home y.client) y.client) (sym e.received_home) here))
-          | inr b ↦ subst (P n d) (sym (e.received_else n d f (λ _ t. b t))) (others n d f)
-        ]
-        | inr a ↦ subst (P n d) (sym (e.received_else n d f (λ t _. a t))) (others n d f)
-      ]
+  received-is P here others n d f = grind (arith, cases_eq)
 
   known-commit : (n d : ℕ) → Full w n → w'.received n d ≤ end_of_log w' d
   known-commit = received-is (λ n d k. k ≤ end_of_log w' d) (omega arith) (λ n d f. omega (arith, (s.order n d f).known, end-commit d))
@@ -222,51 +177,22 @@ module _ (w w' : World) (y : NumberedCall) (sound : WorldInvariant w) (e : Makes
   border-commit = received-is (λ n d k. w'.border d k ≡ true) e.border_new (λ n d f. e.border_old d (w.received n d) (s.order n d f).known ∙ (s.order n d f).received_border)
 
   received-up : (n d : ℕ) → Full w n → w.received n d ≤ w'.received n d
-  received-up n d f =
-      elim (cases_eq n (w.home y.client)) [
-        | inl a ↦ elim (cases_eq d y.client) [
-          | inl b ↦ subst (λ n. w.received n d ≤ w'.received n d) (sym a) (subst (λ d. w.received (w.home y.client) d ≤ w'.received (w.home y.client) d) (sym b)
-              (rw e.received_home (omega (arith, sound.whole y.client e.lives, end-commit y.client))))
-          | inr b ↦ rw (e.received_else n d f (λ _ t. b t)) (omega arith)
-        ]
-        | inr a ↦ rw (e.received_else n d f (λ t _. a t)) (omega arith)
-      ]
+  received-up n d f = grind (arith, cases_eq, end-commit)
 
   received_by_all-commit : (d : ℕ) → received_by_all w d ≤ received_by_all w' d
   unfolding received_by_all
-  received_by_all-commit d =
-      least_of-above w'.full (λ n. w'.received n d) (end_of_log w' d) (least_of w.full (λ n. w.received n d) (end_of_log w d))
-      (omega (arith, least_of-end w.full (λ n. w.received n d) (end_of_log w d), end-commit d))
-      (λ n h. let a : least_of w.full (λ n. w.received n d) (end_of_log w d) ≤ w.received n d = least_of-below w.full (λ n. w.received n d) (end_of_log w d) n (full-commit n h) in
-      omega (arith, a, received-up n d (full-commit n h)))
+  received_by_all-commit d = grind (arith, least_of-above, least_of-end, end-commit, least_of-below, full-commit, received-up)
 
   digested_by_all-commit : (d : ℕ) → digested_by_all w d ≤ digested_by_all w' d
   unfolding digested_by_all
-  digested_by_all-commit d =
-      least_of-above w'.full (λ n. w'.digested n d) (end_of_log w' d) (least_of w.full (λ n. w.digested n d) (end_of_log w d))
-      (omega (arith, least_of-end w.full (λ n. w.digested n d) (end_of_log w d), end-commit d))
-      (λ n h. rw (e.digested n d (full-commit n h)) (least_of-below w.full (λ n. w.digested n d) (end_of_log w d) n (full-commit n h)))
+  digested_by_all-commit d = grind (arith, least_of-above, least_of-end, end-commit, full-commit, least_of-below)
 
   order-commit : (n d : ℕ) → Full w' n → IsOrdered w' n d
-  order-commit n d full =
-      let f : Full w n = full-commit n full in
-      let o : IsOrdered w n d = s.order n d f in
-      record {
-        begun = rw (e.first d, e.digested n d f) o.begun;
-        replicated = rw (e.digested n d f) (omega (arith, o.replicated, received_by_all-commit d));
-        known = known-commit n d f;
-        digested_border = ap (λ k. w'.border d k) (e.digested n d f) ∙ e.border_old d (w.digested n d) (omega (arith, o.replicated, received_by_all-end w d)) ∙ o.digested_border;
-        received_border = border-commit n d f;
-      }
+  order-commit n d full = grind (arith, full-commit, known-commit, border-commit, received_by_all-commit, received_by_all-end)
 
   call_at-commit : (d k : ℕ) → call_at w d k ≤ call_at w' d k
   unfolding call_at
-  call_at-commit d k =
-      elim (cases_eq d y.client) [
-        | inl own ↦ subst (λ d. call_of (w.records d) (k - w.first d) (w.next d) ≤ call_of (w'.records d) (k - w'.first d) (w'.next d)) (sym own)
-            (rw (e.first y.client, records_own, e.next_own, sym e.number) (at-grows (w.records y.client) (k - w.first y.client) y.number planned.effects))
-        | inr other ↦ rw (e.first d, e.records_else d other, e.next_else d other) (omega arith)
-      ]
+  call_at-commit d k = grind (arith, cases_eq, records_own, at-grows)
 
   -- the first call that some node has not digested doesn't fall
   first_undigested-commit : (d : ℕ) → first_undigested w d ≤ first_undigested w' d
@@ -283,31 +209,13 @@ module _ (w w' : World) (y : NumberedCall) (sound : WorldInvariant w) (e : Makes
 
   before-same : (d k n : ℕ) → n < w.next d → nat_lt n (call_at w' d k) ≡ nat_lt n (call_at w d k)
   unfolding call_at
-  before-same d k n h =
-      elim (cases_eq d y.client) [
-        | inl own ↦
-            let j : ℕ = k - w.first y.client in
-            let l : n < y.number = rw e.number (subst (λ d. n < w.next d) own h) in
-            subst (λ d. nat_lt n (call_of (w'.records d) (k - w'.first d) (w'.next d)) ≡ nat_lt n (call_of (w.records d) (k - w.first d) (w.next d))) (sym own)
-            (rw (e.first y.client, records_own, e.next_own, sym e.number) (at-same (w.records y.client) j y.number n planned.effects l))
-        | inr other ↦ rw (e.first d, e.records_else d other, e.next_else d other)
-      ]
+  before-same d k n h = grind (arith, cases_eq, records_own, at-same)
 
   -- the new call is digested nowhere, unless it changes nothing
   new_call : (k : ℕ) → k ≤ end_of_log w y.client →
       nat_lt y.number (call_at w' y.client k) ≡ true → has_some planned.effects ≡ false
   unfolding call_at end_of_log
-  new_call k le h =
-      let c : ℕ = y.client in
-      let j : ℕ = k - w.first c in
-      false_from_ne_true (has_some planned.effects) (λ has.
-      let new : w'.records c ≡ w.records c ++ record { call = y.number; effects = planned.effects } ∷ [] = records_own ∙ rw has in
-      let is : call_of (w'.records c) (k - w'.first c) (w'.next c) ≡ call_of (w.records c) j y.number =
-      (rw (e.first c, new) (at-push (w.records c) (record { call = y.number; effects = planned.effects }) j (w'.next c) (omega arith))) in
-      let top : call_of (w.records c) j (w.next c) ≤ w.next c = next-top w c k s in
-      let top_y : call_of (w.records c) j y.number ≤ y.number = subst (λ n. call_of (w.records c) j n ≤ n) (sym e.number) top in
-      let below_it : y.number < call_of (w'.records c) (k - w'.first c) (w'.next c) = ltb-true y.number (call_of (w'.records c) (k - w'.first c) (w'.next c)) h in
-      absurd (omega (arith, is, top_y, below_it)))
+  new_call k le h = grind (arith, false_from_ne_true, records_own, at-push, next-top, ltb-true)
 
   areas-commit : Areas w'
   unfolding Areas value_below first_undigested_at
@@ -342,11 +250,7 @@ module _ (w w' : World) (y : NumberedCall) (sound : WorldInvariant w) (e : Makes
       turn n a b t = grind (arith, nat_tests)
 
   old_window : (c j k : ℕ) (x : NumberedCall) → x.number < w.next x.client → window c (call_at w' c j) (call_at w' c k) x ≡ window c (call_at w c j) (call_at w c k) x
-  old_window c j k x h =
-      elim (cases_eq x.client c) [
-        | inl own ↦ (let l : x.number < w.next c = subst (λ d. x.number < w.next d) own h in rw (after-same c j x.number l, before-same c k x.number l))
-        | inr other ↦ rw (ne_eqb x.client c other)
-      ]
+  old_window c j k x h = grind (arith, cases_eq, after-same, before-same, ne_eqb)
 
   part-commit : (j k : ℕ) → w.first y.client ≤ j → j ≤ k → k ≤ end_of_log w y.client → records_between w' y.client j k ≡ records_between w y.client j k
   unfolding records_between end_of_log
@@ -386,15 +290,11 @@ module _ (w w' : World) (y : NumberedCall) (sound : WorldInvariant w) (e : Makes
 
   end-grown : has_some planned.effects ≡ true → end_of_log w' y.client ≡ suc (end_of_log w y.client)
   unfolding end_of_log
-  end-grown has =
-      rw (e.first y.client, records_own, has)
-      (let l : length (w.records y.client ++ record { call = y.number; effects = planned.effects } ∷ []) ≡ length (w.records y.client) + 1 = length-both (w.records y.client) (record { call = y.number; effects = planned.effects } ∷ []) in omega (arith, l))
+  end-grown has = grind (arith, records_own, length-both)
 
   end-stays : has_some planned.effects ≡ false → end_of_log w' y.client ≡ end_of_log w y.client
   unfolding end_of_log
-  end-stays none =
-      rw (e.first y.client, records_own, none)
-      (let l : length (w.records y.client ++ []) ≡ length (w.records y.client) + 0 = length-both (w.records y.client) [] in omega (arith, l))
+  end-stays none = grind (arith, records_own, length-both)
 
   part-last : has_some planned.effects ≡ true →
       records_between w' y.client (end_of_log w y.client) (suc (end_of_log w y.client)) ≡ record { call = y.number; effects = planned.effects } ∷ []
@@ -518,11 +418,7 @@ module _ (w w' : World) (y : NumberedCall) (sound : WorldInvariant w) (e : Makes
       ascending-up (q ∷ (q' ∷ qs)) a b h r = (r.0, ascending-up (q' ∷ qs) a b h r.1)
 
   end_good : (d : ℕ) → w'.border d (end_of_log w' d) ≡ true
-  end_good d =
-      elim (cases_eq d y.client) [
-        | inl own ↦ subst (λ d. w'.border d (end_of_log w' d) ≡ true) (sym own) e.border_new
-        | inr other ↦ ap (λ k. w'.border d k) (end-else w w' d (e.first d) (e.records_else d other)) ∙ e.border_old d (end_of_log w d) (omega arith) ∙ s.end_border d
-      ]
+  end_good d = grind (arith, cases_eq, end-else)
 
   unseen-commit : Unseen (first_undigested w') (steps w')
   unseen-commit =
@@ -564,24 +460,13 @@ module _ (w w' : World) (y : NumberedCall) (sound : WorldInvariant w) (e : Makes
   -- the calls that were replicated are replicated, and the new one is not among those before their thresholds
   pub call_stays : StayReplicated w w'
   unfolding StayReplicated calls_replicated first_unreplicated
-  call_stays =
-      let top : call_at w y.client (received_by_all w y.client) ≤ w.next y.client = next-top w y.client (received_by_all w y.client) s in
-      let out : below (λ c. call_at w c (received_by_all w c)) y ≡ false = le-ltb y.number (call_at w y.client (received_by_all w y.client)) (omega (arith, top, e.number)) in
-      ap (λ xs. filter (below (λ c. call_at w c (received_by_all w c))) xs) e.calls ∙ filter-append (below (λ c. call_at w c (received_by_all w c))) w.calls (y ∷ [])
-      ∙ ap (λ b. filter (below (λ c. call_at w c (received_by_all w c))) w.calls ++ (if b then y ∷ [] else [])) out ∙ append-nil (filter (below (λ c. call_at w c (received_by_all w c))) w.calls)
+  call_stays = grind (arith, next-top, le-ltb, filter-append, append-nil)
 
   -- ---- nodes' logs
 
   -- one record for a call, or none
   few-commit : (d : ℕ) → end_of_log w' d ≤ w'.next d
-  few-commit d =
-      elim (cases_eq d y.client) [
-        | inl own ↦ subst (λ d. end_of_log w' d ≤ w'.next d) (sym own) (elim (cases_Bool (has_some planned.effects)) [
-          | inl has ↦ omega (arith, end-grown has, e.next_own, e.number, sound.few_records y.client)
-          | inr none ↦ omega (arith, end-stays none, e.next_own, e.number, sound.few_records y.client)
-        ])
-        | inr other ↦ rw (end-else w w' d (e.first d) (e.records_else d other), e.next_else d other) (sound.few_records d)
-      ]
+  few-commit d = grind (arith, cases_eq, cases_Bool, end-grown, end-stays, end-else)
 
   log_now : w'.log (w.home y.client) y.client ≡ w'.records y.client
   log_now = e.log_home ∙ ap (λ l. l ++ record_of y.number (step_at_home w y).effects) (sym (log_of_home w y.client sound e.lives)) ∙ sym e.records_own
@@ -592,24 +477,10 @@ module _ (w w' : World) (y : NumberedCall) (sound : WorldInvariant w) (e : Makes
 
   prefix_else : (n : ℕ) → Full w n → n ≢ w.home y.client → w'.log n y.client ≡ take (w'.received n y.client - w'.first y.client) (w'.records y.client)
   unfolding end_of_log
-  prefix_else n f a =
-      let o : IsOrdered w n y.client = s.order n y.client f in
-      let top : w.received n y.client ≤ w.first y.client + length (w.records y.client) = o.known in
-      e.log_else n y.client f (λ t _. a t) ∙ sound.prefixes n y.client f
-      ∙ sym (rw (e.received_else n y.client f (λ t _. a t), e.first y.client, records_own)
-      (take-append-le (w.received n y.client - w.first y.client) (w.records y.client) (record_of y.number planned.effects) (omega (arith, top))))
+  prefix_else n f a = grind (arith, records_own, take-append-le)
 
   prefix_now : (n d : ℕ) → Full w n → w'.log n d ≡ take (w'.received n d - w'.first d) (w'.records d)
-  prefix_now n d f =
-      elim (cases_eq d y.client) [
-        | inr b ↦ rw (e.log_else n d f (λ _ t. b t), e.received_else n d f (λ _ t. b t), e.first d, e.records_else d b) (sound.prefixes n d f)
-        | inl b ↦ elim (cases_eq n (w.home y.client)) [
-          | inl a ↦ subst (λ n. w'.log n d ≡ take (w'.received n d - w'.first d) (w'.records d)) (sym a)
-              (subst (λ d. w'.log (w.home y.client) d ≡ take (w'.received (w.home y.client) d - w'.first d) (w'.records d)) (sym b)
-              (log_now ∙ sym (ap (λ k. take (k - w'.first y.client) (w'.records y.client)) e.received_home ∙ whole-prefix)))
-          | inr a ↦ subst (λ d. w'.log n d ≡ take (w'.received n d - w'.first d) (w'.records d)) (sym b) (prefix_else n f a)
-        ]
-      ]
+  prefix_now n d f = grind (arith, cases_eq, log_now, whole-prefix, prefix_else)
 
   one_more : end_of_log w' y.client ≤ suc (end_of_log w y.client)
   unfolding end_of_log

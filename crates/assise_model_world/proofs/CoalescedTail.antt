@@ -115,13 +115,8 @@ part_becomes w w' c j k j' k' b t = record {
 stands-behind : (w w' : World) (c s : ℕ) (new : List LogRecord) (was : ℕ → ℕ) → CallsInvariant w → Coalesces w c s new was w' → (j k : ℕ) → w'.border c j ≡ true → w'.border c k ≡ true →
     s ≤ j → j ≤ k → k ≤ end_of_log w' c → StandFor w' c j k
 stands-behind w w' c s new was so e j k bj bk low le high =
-    part_becomes w w' c j k (was j) (was k) (record {
-      net = e.net j k bj bk low le high;
-      touch = λ i. e.touch i j k bj bk low le high;
-      from = e.same_call j low (omega arith) bj;
-      to = e.same_call k (omega arith) high bk;
-      same = steps-same w w' e.calls;
-    })
+    part_becomes w w' c j k (was j) (was k)
+    (search (e.net j k bj bk low le high, e.same_call j low (omega arith) bj, e.same_call k (omega arith) high bk, steps-same w w' e.calls, low, arith) parts 3)
     (part_of w c (was j) (was k) so (e.was_border j low (omega arith) bj) (e.was_border k (omega arith) high bk)
     (omega (arith, first-received_by_all w so c, e.low, was_low w w' c s new was e j low)) (e.was_ascends j k le) (was_high w w' c s new was e k high))
 
@@ -245,14 +240,7 @@ call_at-stays w w' c s new was so e d k low high =
 
 ascending-coalesce : (w w' : World) (c s : ℕ) (new : List LogRecord) (was : ℕ → ℕ) → CallsInvariant w → Coalesces w c s new was w' → (d : ℕ) → Ascending (w'.records d) (w'.next d)
 unfolding call_at
-ascending-coalesce w w' c s new was so e d =
-    elim (cases_eq d c) [
-      | inl own ↦ subst (λ d. Ascending (w'.records d) (w'.next d)) (sym own)
-          (rw (e.records_own, e.next c)
-          (ascending-append (take (s - w.first c) (w.records c)) new (w.next c)
-          (subst (λ k. Ascending (take (s - w.first c) (w.records c)) k) (sym e.begins) (ascending-cut (w.records c) (s - w.first c) (w.next c) (so.ascending c))) e.ascending))
-      | inr other ↦ rw (e.records_else d other, e.next d) (so.ascending d)
-    ]
+ascending-coalesce w w' c s new was so e d = grind (arith, cases_eq, ascending-append, ascending-cut)
 
 places : (w : World) (c j k : ℕ) → Ascending (w.records c) (w.next c) → j ≤ k → call_at w c j ≤ call_at w c k
 unfolding call_at
@@ -303,11 +291,7 @@ areas-coalesce w w' c s new was so e m h i =
 
 -- a border among what all have, or of another client, stays one
 border-stays : (w w' : World) (c s : ℕ) (new : List LogRecord) (was : ℕ → ℕ) → CallsInvariant w → Coalesces w c s new was w' → (d k : ℕ) → k ≤ received_by_all w d → w'.border d k ≡ w.border d k
-border-stays w w' c s new was so e d k high =
-    elim (cases_eq d c) [
-      | inl own ↦ subst (λ d. k ≤ received_by_all w d → w'.border d k ≡ w.border d k) (sym own) (λ h. e.border_old k (omega (arith, h, e.low))) high
-      | inr other ↦ e.border_else d k other
-    ]
+border-stays w w' c s new was so e d k high = grind (arith, cases_eq)
 
 received_good : (w w' : World) (c s : ℕ) (new : List LogRecord) (was : ℕ → ℕ) → CallsInvariant w → Coalesces w c s new was w' → (m d : ℕ) → Full w m →
     (w'.received m d ≤ end_of_log w' d) × (w'.border d (w'.received m d) ≡ true)

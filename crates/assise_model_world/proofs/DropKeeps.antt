@@ -1,17 +1,16 @@
 -- Prefixes of logs are dropped.
-use Rattle.std.proofs.Common.{◌≡◌, ℕ, ◌+◌, ◌-◌, ◌≤◌, true, ap, sym, ◌∙◌, subst, arith, take, drop, length, length-drop, filter}
+use Rattle.std.proofs.Common.{◌≡◌, ℕ, ◌+◌, ◌-◌, ◌≤◌, true, ap, sym, ◌∙◌, subst, arith, take, drop, length, length-drop}
 use Rattle.std.proofs.lemmas.List.{drop-take}
 use Rattle.assise_seq_tree.specs.Tree.{opening as opening_tree}
 use Rattle.assise_seq_tree.specs.Runs.{AreAnswered}
-use Rattle.assise_record.specs.Records.{call_of}
 use Rattle.assise_inode_table.specs.Effects.{contains}
 use Rattle.assise_inode_table.specs.Late.{late_value}
 use Rattle.assise_inode_table.specs.Traces.{AllMakeNew, exchanges, NumbersAscend, below}
 use Rattle.assise_inode_table.specs.Unseen.{Unseen}
 use Rattle.assise_model_world.specs.NodeSteps.{Drops}
-use Rattle.assise_model_world.specs.Runs.{NoneFalls, StayReplicated}
+use Rattle.assise_model_world.specs.Runs.{NoneFalls}
 use Rattle.assise_model_world.specs.Invariant.{Stands, Guarded, IsOrdered, Areas, CallsInvariant, WorldInvariant, AreDropped}
-use Rattle.assise_model_world.specs.World.{World, Full, opening_values, end_of_log, digested_by_all, received_by_all, records_between, call_at, first_undigested_at, first_undigested, first_unreplicated, steps, value_below, calls_replicated}
+use Rattle.assise_model_world.specs.World.{World, Full, opening_values, end_of_log, digested_by_all, received_by_all, records_between, call_at, first_undigested_at, first_undigested, first_unreplicated, steps, value_below}
 use Rattle.assise_model_world.proofs.Lists.{unseen-raise, below-same}
 use Rattle.assise_model_world.proofs.Logs.{at-drop, ascending-drop, drop-of_drop, contains-drop}
 use Rattle.assise_model_world.proofs.WorldObserved.{least_of-end, least_of-same, part_of, digested_by_all-below, received_by_all-below, received_by_all-end, part_moves, steps-same, area_at}
@@ -25,9 +24,7 @@ full_before w w' f m e h = subst (λ ns. contains ns m ≡ true) e.full h
 
 call_at-drop : (w w' : World) (f : ℕ → ℕ) → Drops w f w' → (c k : ℕ) → f c ≤ k → call_at w' c k ≡ call_at w c k
 unfolding call_at
-call_at-drop w w' f e c k h =
-    let up : (f c - w.first c) + (k - f c) ≡ k - w.first c = omega (arith, e.low c, h) in
-    rw (e.first c, e.records c, e.next c) (at-drop (w.records c) (f c - w.first c) (k - f c) (w.next c) ∙ ap (λ j. call_of (w.records c) j (w.next c)) up)
+call_at-drop w w' f e c k h = grind (arith, at-drop)
 
 digested_by_all-end : (w : World) (c : ℕ) → digested_by_all w c ≤ end_of_log w c
 unfolding digested_by_all
@@ -43,9 +40,7 @@ end-drop w w' f e c =
 
 part-drop : (w w' : World) (f : ℕ → ℕ) → Drops w f w' → (c j k : ℕ) → f c ≤ j → records_between w' c j k ≡ records_between w c j k
 unfolding records_between
-part-drop w w' f e c j k low =
-    (let up : (f c - w.first c) + (j - f c) ≡ j - w.first c = omega (arith, e.low c, low) in
-    rw (e.first c, e.records c) (ap (λ l. take (k - j) l) (drop-of_drop (w.records c) (f c - w.first c) (j - f c) ∙ ap (λ n. drop n (w.records c)) up)))
+part-drop w w' f e c j k low = grind (arith, drop-of_drop)
 
 stands-drop : (w w' : World) (f : ℕ → ℕ) → CallsInvariant w → Drops w f w' → (c : ℕ) → Stands w' c
 unfolding Stands
@@ -163,10 +158,6 @@ drop_falls w w' f s e = record {
   unreplicated = λ c. rw (first_unreplicated-drop w w' f s.coherent e c) (omega arith);
   undigested = λ c. rw (first_undigested-drop w w' f e c) (omega arith);
 }
-
-pub drop_stays : (w w' : World) (f : ℕ → ℕ) → WorldInvariant w → Drops w f w' → StayReplicated w w'
-unfolding StayReplicated calls_replicated
-drop_stays w w' f s e = ap (filter (below (first_unreplicated w))) e.calls
 
 -- once all that may go has gone, each log begins where some full node has not digested it
 pub drop_dropped : (w w' : World) → Drops w (digested_by_all w) w' → AreDropped w'

@@ -1,21 +1,20 @@
 -- A failure of a node takes only records that some full node lacks.
-use Rattle.std.proofs.Common.{◌≡◌, ℕ, zero, suc, ◌+◌, ◌-◌, ◌<◌, ◌≤◌, ◌≢◌, inl, inr, min, Bool, true, false, not, List, [], ◌∷◌, ◌++◌, if◌then◌else◌, refl, ap, sym, ◌∙◌, subst, ◌&&◌, ◌||◌, ◌==◌, arith, take, length, length-take, filter}
-use Rattle.std.specs.List.{list_any}
+use Rattle.std.proofs.Common.{◌≡◌, ℕ, zero, suc, ◌-◌, ◌<◌, ◌≤◌, ◌≢◌, inl, inr, min, Bool, true, false, not, List, [], ◌∷◌, if◌then◌else◌, refl, ap, sym, ◌∙◌, subst, ◌&&◌, ◌||◌, ◌==◌, arith, take, length-take, filter}
 use Rattle.std.proofs.lemmas.Bool.{and_from, and_right, both_ways, cases_Bool, cases_eq, cases_lt, eq-eqb, eqb-true, le-ltb, ltb-false, ne_eqb, or_cases, or_left, or_right}
 use Rattle.std.proofs.lemmas.Bool.Decides.{nat_tests}
 use Rattle.assise_seq_tree.specs.Tree.{opening as opening_tree}
 use Rattle.assise_seq_tree.specs.Runs.{AreAnswered, tree_after_calls}
 use Rattle.assise_record.specs.LogRecord.{LogRecord}
 use Rattle.assise_record.specs.Records.{all_effects, call_of}
-use Rattle.assise_inode_table.specs.Effects.{value_after, touched, contains, makes}
+use Rattle.assise_inode_table.specs.Effects.{value_after, touched, contains}
 use Rattle.assise_inode_table.specs.Late.{late_value}
 use Rattle.assise_inode_table.specs.Spelled.{Spells}
 use Rattle.assise_inode_table.specs.Traces.{NumberedCall, trace, values_after_calls, AllMakeNew, exchanges, ops, Each, NumbersAscend, below, window}
-use Rattle.assise_inode_table.specs.Unseen.{Clear, Unseen}
+use Rattle.assise_inode_table.specs.Unseen.{Unseen}
 use Rattle.assise_model_world.specs.NodeSteps.{kept_at_failure, Fails}
 use Rattle.assise_model_world.specs.Runs.{NoneFalls, StayReplicated}
-use Rattle.assise_model_world.specs.Invariant.{IsMadeBy, StandFor, Stands, Counted, Numbered, Guarded, IsOrdered, Areas, CallsInvariant, WorldInvariant}
-use Rattle.assise_model_world.specs.World.{World, Full, opening_values, least_of, end_of_log, digested_by_all, received_by_all, records_between, call_at, first_undigested_at, first_undigested, first_unreplicated, steps, now, tree, value_below, calls_replicated}
+use Rattle.assise_model_world.specs.Invariant.{StandFor, Stands, Counted, Numbered, Guarded, IsOrdered, Areas, CallsInvariant, WorldInvariant}
+use Rattle.assise_model_world.specs.World.{World, Full, opening_values, end_of_log, digested_by_all, received_by_all, records_between, call_at, first_undigested_at, first_undigested, first_unreplicated, steps, now, tree, value_below, calls_replicated}
 use Rattle.assise_inode_table.proofs.PairwiseLists.{each-map, each-always}
 use Rattle.assise_model_world.proofs.Lists.{each-filter, each-filter_if, pairs-filter, unseen-raise, value-cong, value-filter}
 use Rattle.assise_model_world.proofs.Logs.{ascending-take, take-of_take, contains-take, at-take, at-take_past, inside, at_cut, nothing}
@@ -69,10 +68,7 @@ either P false x y p q = q
 -- what all full nodes have is kept
 pub kept_low : (w : World) (n c : ℕ) → received_by_all w c ≤ kept_at_failure w n c
 unfolding kept_at_failure
-kept_low w n c =
-    either (λ k. received_by_all w c ≤ k) (w.lives c && (w.home c == n)) _ _
-    (least_of-above (survivors w n) _ (end_of_log w c) (received_by_all w c) (received_by_all-end w c) (λ m h. received_by_all-below w m c (was_full w n m h)))
-    (received_by_all-end w c)
+kept_low w n c = grind (arith, either, least_of-above, received_by_all-end, received_by_all-below, was_full)
 
 pub kept_high : (w : World) (n c : ℕ) → kept_at_failure w n c ≤ end_of_log w c
 unfolding kept_at_failure
@@ -93,23 +89,12 @@ kept_elsewhere w n c other = rw (and_right (w.lives c) (w.home c == n) (ne_eqb (
 -- of one that lives there, no more than each other full node has
 kept_there : (w : World) (n m c : ℕ) → w.lives c ≡ true → w.home c ≡ n → contains (survivors w n) m ≡ true → kept_at_failure w n c ≤ w.received m c
 unfolding kept_at_failure
-kept_there w n m c lives here h =
-    rw (and_from (w.lives c) (w.home c == n) lives (eq-eqb (w.home c) n here))
-    (least_of-below (survivors w n) (λ m. w.received m c) (end_of_log w c) m h)
+kept_there w n m c lives here h = grind (arith, and_from, eq-eqb, least_of-below)
 
 -- ---- the calls and the logs after a failure
 
-lesser : (w : World) (c a b : ℕ) → w.border c a ≡ true → w.border c b ≡ true → w.border c (min a b) ≡ true
-lesser w c a b h g =
-    elim (cases_lt a b) [
-      | inl l ↦ (let e : min a b ≡ a = omega arith in rw e h)
-      | inr l ↦ (let e : min a b ≡ b = omega arith in rw e g)
-    ]
-
 min_below : (a b d : ℕ → ℕ) (x : NumberedCall) → ((c : ℕ) → min (a c) (b c) ≡ d c) → (below a x && below b x) ≡ below d x
-min_below a b d x h =
-    let e : min (a x.client) (b x.client) ≡ d x.client = h x.client in
-    rw (sym e) (grind (arith, nat_tests))
+min_below a b d x h = grind (arith, nat_tests)
 
 part_first : (w : World) (c k : ℕ) → records_between w c (w.first c) k ≡ take (k - w.first c) (w.records c)
 unfolding records_between
@@ -131,10 +116,7 @@ module _ (w w' : World) (n : ℕ) (s : CallsInvariant w) (f : Fails w n w') wher
 
   end-cut : (c : ℕ) → end_of_log w' c ≡ cut c
   unfolding end_of_log
-  end-cut c =
-      let top : cut c ≤ w.first c + length (w.records c) = kept_high w n c in
-      let l : length (take (cut c - w.first c) (w.records c)) ≡ min (cut c - w.first c) (length (w.records c)) = length-take (cut c - w.first c) (w.records c) in
-      rw (f.first c, cut-records c) (omega (arith, l, top, above-first c))
+  end-cut c = grind (arith, kept_high, length-take, cut-records, above-first)
 
   call_at-as : (c k : ℕ) → call_at w' c k ≡ call_of (take (cut c - w.first c) (w.records c)) (k - w.first c) (w.next c)
   unfolding call_at
@@ -149,11 +131,7 @@ module _ (w w' : World) (n : ℕ) (s : CallsInvariant w) (f : Fails w n w') wher
 
   -- call numbers of places don't fall
   call_at-ascends : (c k : ℕ) → w.first c ≤ k → call_at w c k ≤ call_at w' c k
-  call_at-ascends c k low =
-      elim (cases_lt k (cut c)) [
-        | inl h ↦ rw (call_at-kept c k low h) (omega arith)
-        | inr h ↦ rw (call_at-lost c k h) (next-top w c k s)
-      ]
+  call_at-ascends c k low = grind (arith, cases_lt, call_at-kept, call_at-lost, next-top)
 
   -- no call goes that all full nodes have digested
   reach : (c : ℕ) → first_undigested w c ≤ lost c
@@ -166,18 +144,11 @@ module _ (w w' : World) (n : ℕ) (s : CallsInvariant w) (f : Fails w n w') wher
 
   counted-fail : Counted w'
   unfolding Counted
-  counted-fail =
-      subst (Each (IsCounted w')) (sym f.calls)
-      (each-filter (IsCounted w') (below lost) w.calls
-      (each-map (IsCounted w) (IsCounted w') w.calls (λ x h. ((h.0.0, rw f.clients h.0.1), rw (f.next x.client) h.1)) s.counted))
+  counted-fail = grind (arith, IsCounted, each-filter, each-map)
 
   numbered-fail : Numbered w'
   unfolding Numbered
-  numbered-fail =
-      subst (Each (λ x. list_any (makes x.0.fresh) x.1.effects ≡ true → IsMadeBy w' x.0.client x.0.fresh)) (sym steps-fail)
-      (each-filter (λ x. list_any (makes x.0.fresh) x.1.effects ≡ true → IsMadeBy w' x.0.client x.0.fresh) (λ x. below lost x.0) (steps w)
-      (each-map (λ x. list_any (makes x.0.fresh) x.1.effects ≡ true → IsMadeBy w x.0.client x.0.fresh) (λ x. list_any (makes x.0.fresh) x.1.effects ≡ true → IsMadeBy w' x.0.client x.0.fresh) (steps w)
-      (λ x g t. made_by_more w w' x.0.client x.0.fresh (λ c. rw (f.made c) (omega arith)) (g t)) s.fresh_calls))
+  numbered-fail = grind (arith, steps-fail, each-filter, each-map, made_by_more)
 
   spelled-fail : Spells (now w') (tree w')
   unfolding now tree
@@ -190,18 +161,7 @@ module _ (w w' : World) (n : ℕ) (s : CallsInvariant w) (f : Fails w n w') wher
   -- the kept calls between two places of the cut log
   kept_window : (c j k : ℕ) → w.first c ≤ j → j ≤ k → k ≤ cut c → (x : NumberedCall) →
       (below lost x && window c (call_at w' c j) (call_at w' c k) x) ≡ window c (call_at w c j) (call_at w c k) x
-  kept_window c j k low le high x =
-      elim (cases_lt k (cut c)) [
-        | inl h ↦ rw (call_at-kept c k (omega (arith, low, le)) h, call_at-kept c j low (omega (arith, le, h))) (inside lost c (call_at w c j) (call_at w c k) x (call_at-mono w c k (cut c) s high))
-        | inr h ↦
-            let is : k ≡ cut c = omega (arith, high, h) in
-            elim (cases_lt j (cut c)) [
-              | inl g ↦ rw (call_at-lost c k h, call_at-kept c j low g) (at_cut lost c (call_at w c j) (call_at w c k) (w.next c) x (ap (call_at w c) (sym is)) (next-top w c k s))
-              | inr g ↦
-                  let same : j ≡ k = omega (arith, le, is, g) in
-                  rw (call_at-lost c k h, call_at-lost c j g, same) (nothing (below lost x) c (w.next c) (call_at w c k) x)
-            ]
-      ]
+  kept_window c j k low le high x = grind (arith, cases_lt, call_at-kept, inside, call_at-mono, call_at-lost, at_cut, next-top, nothing)
 
   stands-fail : (c : ℕ) → Stands w' c
   unfolding Stands
@@ -234,20 +194,11 @@ module _ (w w' : World) (n : ℕ) (s : CallsInvariant w) (f : Fails w n w') wher
 
   digested_by_all-fail : (c : ℕ) → digested_by_all w c ≤ digested_by_all w' c
   unfolding digested_by_all
-  digested_by_all-fail c =
-      let low : least_of w.full (λ n. w.digested n c) (end_of_log w c) ≤ received_by_all w c = digested_by_all-received_by_all w s c in
-      least_of-above w'.full (λ m. w'.digested m c) (end_of_log w' c) (least_of w.full (λ n. w.digested n c) (end_of_log w c))
-      (rw (end-cut c) (omega (arith, low, kept_low w n c)))
-      (λ m h. rw (f.digested m c h) (least_of-below w.full (λ n. w.digested n c) (end_of_log w c) m (f.only m h)))
+  digested_by_all-fail c = grind (arith, digested_by_all-received_by_all, least_of-above, end-cut, kept_low, least_of-below)
 
   received_by_all-fail : (c : ℕ) → received_by_all w c ≤ received_by_all w' c
   unfolding received_by_all
-  received_by_all-fail c =
-      let low : least_of w.full (λ n. w.received n c) (end_of_log w c) ≤ cut c = kept_low w n c in
-      least_of-above w'.full (λ m. w'.received m c) (end_of_log w' c) (least_of w.full (λ n. w.received n c) (end_of_log w c))
-      (rw (end-cut c) low)
-      (λ m h. let had : least_of w.full (λ n. w.received n c) (end_of_log w c) ≤ w.received m c = least_of-below w.full (λ n. w.received n c) (end_of_log w c) m (f.only m h) in
-      rw (f.received m c h) (omega (arith, had, low)))
+  received_by_all-fail c = grind (arith, kept_low, least_of-above, end-cut, least_of-below)
 
   first_undigested-fail : (c : ℕ) → first_undigested w c ≤ first_undigested w' c
   unfolding first_undigested
@@ -264,39 +215,15 @@ module _ (w w' : World) (n : ℕ) (s : CallsInvariant w) (f : Fails w n w') wher
       omega (arith, a, b)
 
   unseen-fail : Unseen (first_undigested w') (steps w')
-  unseen-fail =
-      subst (λ xs. Unseen (first_undigested w') xs) (sym steps-fail)
-      (unseen-raise (first_undigested w) (first_undigested w') (filter (λ x. below lost x.0) (steps w)) first_undigested-fail
-      (pairs-filter (λ x z. first_undigested w x.0.client ≤ x.0.number → z.0.client ≢ x.0.client → Clear (touched x.1.effects) (z.1.visits ++ touched z.1.effects))
-      (λ x. below lost x.0) (steps w) s.unseen))
+  unseen-fail = grind (arith, steps-fail, unseen-raise, first_undigested-fail, pairs-filter)
 
   order-fail : (m c : ℕ) → Full w' m → IsOrdered w' m c
-  order-fail m c h =
-      let o : IsOrdered w m c = s.order m c (f.only m h) in
-      record {
-        begun = rw (f.first c, f.digested m c h) o.begun;
-        replicated = rw (f.digested m c h) (omega (arith, o.replicated, received_by_all-fail c));
-        known = (let l : min (w.received m c) (cut c) ≤ cut c = omega arith in rw (f.received m c h, end-cut c) l);
-        digested_border = f.border c (w'.digested m c) (rw (f.digested m c h) (omega (arith, o.replicated, kept_low w n c))) ∙ ap (λ k. w.border c k) (f.digested m c h) ∙ o.digested_border;
-        received_border = f.border c (w'.received m c) (let l : min (w.received m c) (cut c) ≤ cut c = omega arith in rw (f.received m c h) l) ∙ ap (λ k. w.border c k) (f.received m c h) ∙ lesser w c (w.received m c) (cut c) o.received_border (kept_border w n c s);
-      }
+  order-fail m c h = grind (arith, received_by_all-fail, end-cut, kept_low, kept_border)
 
   -- of the kept calls a node that stays has digested those that it had
   same-digested : (m : ℕ) → Full w' m → (c : ℕ) → min (lost c) (first_undigested_at w' m c) ≡ first_undigested_at w m c
   unfolding first_undigested_at
-  same-digested m h c =
-      let o : IsOrdered w m c = s.order m c (f.only m h) in
-      let k : ℕ = w.digested m c in
-      subst (λ j. min (lost c) (call_at w' c j) ≡ call_at w c k) (sym (f.digested m c h))
-      (elim (cases_lt k (cut c)) [
-        | inl g ↦
-            let u : call_at w c k ≤ call_at w c (cut c) = call_at-mono w c k (cut c) s (omega (arith, g)) in
-            rw (call_at-kept c k o.begun g) (omega (arith, u))
-        | inr g ↦
-            let is : k ≡ cut c = omega (arith, o.replicated, kept_low w n c, g) in
-            let t : call_at w c (cut c) ≤ w.next c = next-top w c (cut c) s in
-            rw (call_at-lost c k g, is) (omega (arith, t))
-      ])
+  same-digested m h c = grind (arith, cases_lt, call_at-mono, call_at-kept, kept_low, next-top, call_at-lost)
 
   areas-fail : Areas w'
   unfolding Areas value_below
@@ -358,22 +285,11 @@ module _ (w w' : World) (n : ℕ) (s : WorldInvariant w) (f : Fails w n w') wher
 
   -- a client that lives afterwards lived before, on another node
   lived : (c : ℕ) → w'.lives c ≡ true → (w.home c ≢ n) × (w.lives c ≡ true)
-  lived c t =
-      elim (cases_eq (w.home c) n) [
-        | inl here ↦ absurd (both_ways (w'.lives c) (f.lives_there c here) t)
-        | inr other ↦ (other, sym (f.lives_else c other) ∙ t)
-      ]
+  lived c t = grind (arith, cases_eq, both_ways)
 
   -- of one that doesn't, each node that stays has all that is kept
   had_kept : (m c : ℕ) → w'.lives c ≡ false → Full w' m → kept_at_failure w n c ≤ w.received m c
-  had_kept m c t h =
-      elim (cases_Bool (w.lives c)) [
-        | inl lives ↦ elim (cases_eq (w.home c) n) [
-          | inl here ↦ kept_there w n m c lives here (is_survivor w n m (f.only m h) (stays_other m h))
-          | inr other ↦ absurd (both_ways (w.lives c) (sym (f.lives_else c other) ∙ t) lives)
-        ]
-        | inr dead ↦ omega (arith, kept_high w n c, s.left m c dead (f.only m h))
-      ]
+  had_kept m c t h = grind (arith, cases_Bool, cases_eq, kept_there, is_survivor, stays_other, both_ways, kept_high)
 
   prefixes-fail : (m c : ℕ) → Full w' m → w'.log m c ≡ take (w'.received m c - w'.first c) (w'.records c)
   prefixes-fail m c h =
@@ -408,7 +324,4 @@ module _ (w w' : World) (n : ℕ) (s : WorldInvariant w) (f : Fails w n w') wher
 
   pub fail_stays : StayReplicated w w'
   unfolding StayReplicated calls_replicated first_unreplicated
-  fail_stays =
-      ap (filter (below (λ c. call_at w c (received_by_all w c)))) f.calls
-      ∙ filter-lower (λ c. call_at w c (received_by_all w c)) (λ c. call_at w c (kept_at_failure w n c)) w.calls
-      (λ c. call_at-mono w c (received_by_all w c) (kept_at_failure w n c) s.coherent (kept_low w n c))
+  fail_stays = grind (arith, filter-lower, call_at-mono, kept_low)

@@ -1,12 +1,10 @@
 -- A node gets all that a full one has.
-use Rattle.std.proofs.Common.{◌≡◌, ℕ, ◌≤◌, inl, inr, true, ap, sym, ◌∙◌, subst, arith}
-use Rattle.assise_inode_table.specs.Late.{late_value}
-use Rattle.assise_inode_table.specs.Traces.{below}
+use Rattle.std.proofs.Common.{◌≡◌, ℕ, ◌≤◌, inl, inr, true, sym, ◌∙◌, subst, arith}
 use Rattle.assise_model_world.specs.NodeSteps.{Joins}
 use Rattle.assise_model_world.specs.Runs.{NoneFalls}
 use Rattle.assise_model_world.specs.Invariant.{IsOrdered, Areas, CallsInvariant, WorldInvariant}
 use Rattle.assise_model_world.specs.Staying.{SameNode}
-use Rattle.assise_model_world.specs.World.{World, Full, opening_values, least_of, end_of_log, digested_by_all, received_by_all, call_at, first_undigested_at, steps, value_below}
+use Rattle.assise_model_world.specs.World.{World, Full, least_of, end_of_log, digested_by_all, received_by_all, first_undigested_at, value_below}
 use Rattle.assise_model_world.proofs.Lists.{below-same}
 use Rattle.assise_model_world.proofs.WorldObserved.{least_of-below, least_of-above, least_of-end, call_at-same, steps-same, area_at}
 use Rattle.assise_model_world.proofs.QuietSteps.{end-same, calm_coherent, calm_falls, guarded-same, compatible-same, held-same}
@@ -44,25 +42,14 @@ module _ (w w' : World) (n donor : ℕ) (e : Joins w n donor w') where
 
   areas-join : CallsInvariant w → Areas w'
   unfolding Areas value_below first_undigested_at
-  areas-join s m h i =
-      let (b, q) = as_before m h in
-      q.area i ∙ area_at w b i s q.full_before
-      ∙ below-same (first_undigested_at w b) (λ d. call_at w' d (w'.digested m d)) i (opening_values i) (steps w)
-      (λ d. sym (call_at-same w w' d (w'.digested m d) (e.logs.records d) (e.logs.first d) (e.logs.next d) ∙ ap (λ k. call_at w d k) (q.digested d)))
-      ∙ ap (λ xs. late_value (below (λ d. call_at w' d (w'.digested m d))) i (opening_values i) xs) (sym (steps-same w w' e.logs.calls))
+  areas-join s m h i = grind (arith, as_before, area_at, below-same, call_at-same, steps-same)
 
   join_coherent : CallsInvariant w → CallsInvariant w'
   join_coherent s =
       calm_coherent w w' s e.logs (rw e.clients.clients (omega arith)) digested_up
       (λ m d h. let (b, q) = as_before m h in
       let o : IsOrdered w b d = s.order b d q.full_before in
-      record {
-        begun = rw (e.logs.first d, q.digested d) o.begun;
-        replicated = rw (q.digested d) (omega (arith, o.replicated, received_up d));
-        known = rw (end-same w w' e.logs d, q.received d) o.known;
-        digested_border = e.logs.border d (w'.digested m d) ∙ ap (λ k. w.border d k) (q.digested d) ∙ o.digested_border;
-        received_border = e.logs.border d (w'.received m d) ∙ ap (λ k. w.border d k) (q.received d) ∙ o.received_border;
-      })
+      (search (received_up, end-same, arith) parts 3))
       (guarded-same w w' s e.logs.records e.leases) (compatible-same w w' s e.leases)
       (areas-join s)
 

@@ -1,5 +1,5 @@
 -- What holds of each call or step of a list, and of each two.
-use Rattle.std.proofs.Common.{◌≡◌, ℕ, ◌≤◌, ◌≢◌, ◌⊎◌, inl, inr, Bool, true, false, List, [], ◌∷◌, ◌++◌, if◌then◌else◌, Option, None, refl, ap, sym, ◌∙◌, ◌&&◌, nat_lt, arith, filter}
+use Rattle.std.proofs.Common.{◌≡◌, ℕ, ◌≤◌, ◌⊎◌, inl, inr, Bool, true, false, List, [], ◌∷◌, ◌++◌, if◌then◌else◌, Option, None, refl, ap, sym, ◌∙◌, ◌&&◌, nat_lt, arith, filter}
 use Rattle.std.specs.List.{list_any}
 use Rattle.assise_seq_tree.specs.Tree.{Tree}
 use Rattle.assise_seq_tree.specs.Answer.{answer}
@@ -11,7 +11,7 @@ use Rattle.assise_inode_table.specs.Effects.{value_after, touched, contains, aft
 use Rattle.assise_inode_table.specs.Interaction.{Step}
 use Rattle.assise_inode_table.specs.Late.{late_value}
 use Rattle.assise_inode_table.specs.Traces.{NumberedCall, trace, step_of, values_after_calls, AllMakeNew, exchanges, ops, Each, Pairs, below}
-use Rattle.assise_inode_table.specs.Unseen.{Clear, Unseen}
+use Rattle.assise_inode_table.specs.Unseen.{Unseen}
 use Rattle.assise_inode_table.proofs.EffectValues.{untouched}
 use Rattle.assise_inode_table.proofs.PairwiseLists.{each-map}
 
@@ -71,11 +71,7 @@ each-along P v (x ∷ xs) h = (h.0, each-along P (after v (step_of v x).effects)
 
 -- thresholds up
 pub unseen-raise : (a b : ℕ → ℕ) (xs : List (NumberedCall × Step)) → ((c : ℕ) → a c ≤ b c) → Unseen a xs → Unseen b xs
-unseen-raise a b xs up =
-    pairs-map
-    (λ x y. a x.0.client ≤ x.0.number → y.0.client ≢ x.0.client → Clear (touched x.1.effects) (y.1.visits ++ touched y.1.effects))
-    (λ x y. b x.0.client ≤ x.0.number → y.0.client ≢ x.0.client → Clear (touched x.1.effects) (y.1.visits ++ touched y.1.effects))
-    xs (λ x y h le. h (omega (arith, up x.0.client)))
+unseen-raise a b xs up = grind (arith, pairs-map)
 
 -- ---- values
 

@@ -1,5 +1,5 @@
 -- Lists of log records, and windows of calls.
-use Rattle.std.proofs.Common.{◌≡◌, ℕ, zero, suc, ◌+◌, ◌<◌, ◌≤◌, inl, inr, Bool, true, false, List, [], ◌∷◌, ◌++◌, if◌then◌else◌, refl, ap, sym, ◌∙◌, ◌&&◌, ◌||◌, nat_lt, nat_le, ◌==◌, arith, take, drop, length}
+use Rattle.std.proofs.Common.{◌≡◌, ℕ, zero, suc, ◌+◌, ◌<◌, ◌≤◌, inl, inr, Bool, true, false, List, [], ◌∷◌, ◌++◌, if◌then◌else◌, refl, ap, sym, ◌∙◌, ◌&&◌, ◌||◌, nat_lt, arith, take, drop, length}
 use Rattle.std.proofs.lemmas.Bool.{cases_Bool, eqb-true, ltb-true, leb-true, lt-ltb, and_parts, or_right, or_left, or_cases}
 use Rattle.std.proofs.lemmas.Bool.Decides.{nat_tests}
 use Rattle.assise_record.specs.declared.effect.Effect.{Effect}
@@ -12,10 +12,7 @@ use Rattle.assise_inode_table.proofs.EffectValues.{contains-both}
 
 -- what it is to pass a window
 pub in_window : (c a b : ℕ) (x : NumberedCall) → window c a b x ≡ true → (x.client ≡ c) × (a ≤ x.number) × (x.number < b)
-in_window c a b x h =
-    let p : ((x.client == c) ≡ true) × ((nat_le a x.number && nat_lt x.number b) ≡ true) = and_parts (x.client == c) (nat_le a x.number && nat_lt x.number b) h in
-    let q : (nat_le a x.number ≡ true) × (nat_lt x.number b ≡ true) = and_parts (nat_le a x.number) (nat_lt x.number b) p.1 in
-    (eqb-true x.client c p.0, leb-true a x.number q.0, ltb-true x.number b q.1)
+in_window c a b x h = grind (arith, and_parts, eqb-true, leb-true, ltb-true)
 
 pub in_window_from : (c a b : ℕ) (x : NumberedCall) → x.client ≡ c → a ≤ x.number → x.number < b → window c a b x ≡ true
 in_window_from c a b x e f g = grind (arith, nat_tests)

@@ -1,17 +1,14 @@
 -- Steps that leave the calls and the logs.
-use Rattle.std.proofs.Common.{◌≡◌, ℕ, ◌+◌, ◌≤◌, inl, inr, true, IsSome, refl, ap, sym, ◌∙◌, subst, arith, length}
-use Rattle.std.specs.List.{list_any}
+use Rattle.std.proofs.Common.{◌≡◌, ℕ, ◌≤◌, inl, inr, true, IsSome, ap, sym, ◌∙◌, subst, arith}
 use Rattle.assise_seq_tree.specs.Tree.{opening as opening_tree}
 use Rattle.assise_seq_tree.specs.Runs.{AreAnswered, tree_after_calls}
-use Rattle.assise_inode_table.specs.Effects.{contains, makes}
-use Rattle.assise_inode_table.specs.Late.{late_value}
 use Rattle.assise_inode_table.specs.Spelled.{Spells}
-use Rattle.assise_inode_table.specs.Traces.{values_after_calls, AllMakeNew, exchanges, ops, NumbersAscend, below}
+use Rattle.assise_inode_table.specs.Traces.{values_after_calls, AllMakeNew, exchanges, ops, NumbersAscend}
 use Rattle.assise_inode_table.specs.Unseen.{Unseen}
 use Rattle.assise_model_world.specs.Runs.{NoneFalls}
 use Rattle.assise_model_world.specs.Invariant.{IsMadeBy, IsMade, Stands, Counted, Numbered, AreMade, Guarded, Compatible, IsOrdered, Areas, CallsInvariant, WritesAreHeld, WorldInvariant, AreDropped}
-use Rattle.assise_model_world.specs.Staying.{SameLogs, KeepsLeases, SameNode, SameNodes}
-use Rattle.assise_model_world.specs.World.{World, Full, IsClient, opening_values, least_of, end_of_log, digested_by_all, received_by_all, records_between, call_at, first_undigested_at, first_undigested, first_unreplicated, steps, now, tree, value_below}
+use Rattle.assise_model_world.specs.Staying.{SameLogs, KeepsLeases, SameNodes}
+use Rattle.assise_model_world.specs.World.{World, Full, opening_values, end_of_log, digested_by_all, received_by_all, records_between, first_undigested_at, first_undigested, first_unreplicated, steps, now, tree, value_below}
 use Rattle.assise_inode_table.proofs.PairwiseLists.{each-map}
 use Rattle.assise_model_world.proofs.Lists.{unseen-raise, below-same}
 use Rattle.assise_model_world.proofs.WorldObserved.{least_of-below, least_of-above, least_of-end, least_of-same, call_at-mono, part_of, IsCounted, part_moves, call_at-same, steps-same, area_at}
@@ -36,10 +33,7 @@ are_made-same w w' e g more s i h =
 
 pub numbered-same : (w w' : World) → w'.calls ≡ w.calls → ((c : ℕ) → w'.made c ≡ w.made c) → CallsInvariant w → Numbered w'
 unfolding Numbered
-numbered-same w w' e g s =
-    rw (steps-same w w' e)
-    (each-map (λ x. list_any (makes x.0.fresh) x.1.effects ≡ true → IsMadeBy w x.0.client x.0.fresh) (λ x. list_any (makes x.0.fresh) x.1.effects ≡ true → IsMadeBy w' x.0.client x.0.fresh) (steps w)
-    (λ x f t. made_by_more w w' x.0.client x.0.fresh (λ c. rw (g c) (omega arith)) (f t)) s.fresh_calls)
+numbered-same w w' e g s = grind (arith, steps-same, each-map, made_by_more)
 
 pub counted-same : (w w' : World) → w'.calls ≡ w.calls → ((c : ℕ) → w'.next c ≡ w.next c) → w.clients ≤ w'.clients → CallsInvariant w → Counted w'
 unfolding Counted
@@ -114,29 +108,15 @@ compatible-same w w' s l = compatible-less w w' s (λ d j h. sym (l.holds d j) �
 pub areas-same : (w w' : World) → CallsInvariant w → SameLogs w w' → (m : ℕ) → Full w m → ((i : ℕ) → w'.area m i ≡ w.area m i) → ((d : ℕ) → w'.digested m d ≡ w.digested m d) →
     (i : ℕ) → w'.area m i ≡ value_below w' (first_undigested_at w' m) i
 unfolding value_below first_undigested_at
-areas-same w w' s l m f a g i =
-    a i ∙ area_at w m i s f
-    ∙ below-same (λ d. call_at w d (w.digested m d)) (λ d. call_at w' d (w'.digested m d)) i (opening_values i) (steps w)
-    (λ d. sym (call_at-same w w' d (w'.digested m d) (l.records d) (l.first d) (l.next d) ∙ ap (λ k. call_at w d k) (g d)))
-    ∙ ap (λ xs. late_value (below (λ d. call_at w' d (w'.digested m d))) i (opening_values i) xs) (sym (steps-same w w' l.calls))
+areas-same w w' s l m f a g i = grind (arith, area_at, below-same, call_at-same, steps-same)
 
 pub digested_by_all-same : (w w' : World) → SameLogs w w' → w'.full ≡ w.full → ((m d : ℕ) → Full w m → w.digested m d ≤ w'.digested m d) → (c : ℕ) → digested_by_all w c ≤ digested_by_all w' c
 unfolding digested_by_all
-digested_by_all-same w w' l f g c =
-    least_of-above w'.full (λ m. w'.digested m c) (end_of_log w' c) (least_of w.full (λ m. w.digested m c) (end_of_log w c))
-    (rw (end-same w w' l c) (least_of-end w.full (λ m. w.digested m c) (end_of_log w c)))
-    (λ m h. let h_w : Full w m = subst (λ ns. contains ns m ≡ true) f h in
-    let a : least_of w.full (λ m. w.digested m c) (end_of_log w c) ≤ w.digested m c = least_of-below w.full (λ m. w.digested m c) (end_of_log w c) m h_w in
-    omega (arith, a, g m c h_w))
+digested_by_all-same w w' l f g c = grind (arith, least_of-above, end-same, least_of-end, least_of-below)
 
 pub received_by_all-same : (w w' : World) → SameLogs w w' → w'.full ≡ w.full → ((m d : ℕ) → Full w m → w.received m d ≤ w'.received m d) → (c : ℕ) → received_by_all w c ≤ received_by_all w' c
 unfolding received_by_all
-received_by_all-same w w' l f g c =
-    least_of-above w'.full (λ m. w'.received m c) (end_of_log w' c) (least_of w.full (λ m. w.received m c) (end_of_log w c))
-    (rw (end-same w w' l c) (least_of-end w.full (λ m. w.received m c) (end_of_log w c)))
-    (λ m h. let h_w : Full w m = subst (λ ns. contains ns m ≡ true) f h in
-    let a : least_of w.full (λ m. w.received m c) (end_of_log w c) ≤ w.received m c = least_of-below w.full (λ m. w.received m c) (end_of_log w c) m h_w in
-    omega (arith, a, g m c h_w))
+received_by_all-same w w' l f g c = grind (arith, least_of-above, end-same, least_of-end, least_of-below)
 
 -- ---- what nodes have stays too
 
@@ -147,23 +127,11 @@ received_by_all-still : (w w' : World) → SameLogs w w' → SameNodes w w' → 
 received_by_all-still w w' l e = received_by_all-same w w' l e.full (λ m d h. rw ((e.same m h).received d) (omega arith))
 
 order-still : (w w' : World) → CallsInvariant w → SameLogs w w' → SameNodes w w' → (n c : ℕ) → Full w' n → IsOrdered w' n c
-order-still w w' s l e m d h =
-    let f : Full w m = subst (λ ns. contains ns m ≡ true) e.full h in
-    let o : IsOrdered w m d = s.order m d f in
-    let q : SameNode w w' m = e.same m f in
-    record {
-      begun = rw (l.first d, q.digested d) o.begun;
-      replicated = rw (q.digested d) (omega (arith, o.replicated, received_by_all-still w w' l e d));
-      known = rw (end-same w w' l d, q.received d) o.known;
-      digested_border = l.border d (w'.digested m d) ∙ ap (λ k. w.border d k) (q.digested d) ∙ o.digested_border;
-      received_border = l.border d (w'.received m d) ∙ ap (λ k. w.border d k) (q.received d) ∙ o.received_border;
-    }
+order-still w w' s l e m d h = grind (arith, received_by_all-still, end-same)
 
 pub still_coherent : (w w' : World) → CallsInvariant w → SameLogs w w' → SameNodes w w' → w.clients ≤ w'.clients → Guarded w' → Compatible w' → CallsInvariant w'
 unfolding Areas
-still_coherent w w' s l e more guarded compatible =
-    calm_coherent w w' s l more (digested_by_all-still w w' l e) (order-still w w' s l e) guarded compatible
-    (λ m h. let f : Full w m = subst (λ ns. contains ns m ≡ true) e.full h in areas-same w w' s l m f (e.same m f).area (e.same m f).digested)
+still_coherent w w' s l e more guarded compatible = grind (arith, calm_coherent, digested_by_all-still, order-still, areas-same)
 
 pub still_falls : (w w' : World) → CallsInvariant w → SameLogs w w' → SameNodes w w' → NoneFalls w w'
 still_falls w w' s l e = calm_falls w w' s l (digested_by_all-still w w' l e) (received_by_all-still w w' l e)
@@ -171,22 +139,7 @@ still_falls w w' s l e = calm_falls w w' s l (digested_by_all-still w w' l e) (r
 -- with clients that live where they did all holds
 pub still_sound : (w w' : World) → WorldInvariant w → CallsInvariant w' → SameLogs w w' → SameNodes w w' → w.clients ≤ w'.clients →
     ((c : ℕ) → w'.home c ≡ w.home c) → ((c : ℕ) → w'.lives c ≡ w.lives c) → ((c : ℕ) → w'.goal c ≤ end_of_log w c) → ((c : ℕ) → w.goal c ≤ w'.goal c) → WritesAreHeld w' → WorldInvariant w'
-still_sound w w' s coherent l e more home lives goals ascend held = record {
-  coherent = coherent;
-  few_records = λ c. rw (end-same w w' l c, l.next c) (s.few_records c);
-  goals = λ c. rw (end-same w w' l c) (goals c);
-  single = λ c k t low from to. l.border c k ∙ s.single c k (sym (lives c) ∙ t) (rw (l.first c) at low) (omega (arith, from, ascend c)) (rw (end-same w w' l c) at to);
-  unused = λ c h. l.next c ∙ s.unused c (omega (arith, more, h));
-  held = held;
-  prefixes = λ n c h. let q : SameNode w w' n = e.same n (subst (λ ns. contains ns n ≡ true) e.full h) in
-      rw (q.log c, q.received c, l.first c, l.records c) (s.prefixes n c (subst (λ ns. contains ns n ≡ true) e.full h));
-  opened = λ c t. let o : IsClient w c = s.opened c (sym (lives c) ∙ t) in (o.0, omega (arith, o.1, more));
-  homes = λ c t. rw (home c, e.full) (s.homes c (sym (lives c) ∙ t));
-  whole = λ c t. let u : w.lives c ≡ true = sym (lives c) ∙ t in
-      rw (home c, end-same w w' l c) ((e.same (w.home c) (s.homes c u)).received c ∙ s.whole c u);
-  left = λ n c t h. let f : Full w n = subst (λ ns. contains ns n ≡ true) e.full h in
-      rw (end-same w w' l c) ((e.same n f).received c ∙ s.left n c (sym (lives c) ∙ t) f);
-}
+still_sound w w' s coherent l e more home lives goals ascend held = grind (arith, end-same)
 
 pub held-same : (w w' : World) → WorldInvariant w → KeepsLeases w w' → WritesAreHeld w'
 unfolding WritesAreHeld
@@ -195,7 +148,4 @@ held-same w w' s l c i h = l.holds c i ∙ s.held c i (sym (l.writes c i) ∙ h)
 -- logs begin where they did, and all full nodes have digested what they had
 pub still_dropped : (w w' : World) → SameLogs w w' → SameNodes w w' → AreDropped w → AreDropped w'
 unfolding AreDropped digested_by_all end_of_log
-still_dropped w w' l e d c =
-    l.first c ∙ d c
-    ∙ least_of-same w.full (λ n. w.digested n c) (λ n. w'.digested n c) (w.first c + length (w.records c)) (λ n h. sym ((e.same n h).digested c))
-    ∙ (rw (e.full, l.first c, l.records c) refl)
+still_dropped w w' l e d c = grind (arith, least_of-same)

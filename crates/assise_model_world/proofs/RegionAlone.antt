@@ -1,5 +1,5 @@
 -- What a full node's region alone says is what the calls that all full nodes have made.
-use Rattle.std.proofs.Common.{◌≡◌, ℕ, zero, suc, ◌<◌, ◌≤◌, inl, inr, Bool, true, false, Option, refl, ap, sym, ◌∙◌, subst, ◌&&◌, nat_lt, arith, filter}
+use Rattle.std.proofs.Common.{◌≡◌, ℕ, zero, suc, ◌<◌, ◌≤◌, inl, inr, Bool, true, false, Option, refl, ap, sym, ◌∙◌, subst, ◌&&◌, arith, filter}
 use Rattle.std.proofs.lemmas.Bool.{cases_eq}
 use Rattle.assise_seq_tree.specs.Tree.{opening as opening_tree}
 use Rattle.assise_seq_tree.specs.Runs.{AreAnswered, tree_after_calls}
@@ -67,11 +67,7 @@ alone_mixed w n (suc m) i s f =
 
 alone_value : (w : World) (n i : ℕ) → WorldInvariant w → Full w n → alone_at w n i ≡ late_value (below (first_unreplicated w)) i (opening_values i) (steps w)
 unfolding alone_at
-alone_value w n i s f =
-    alone_mixed w n w.clients i s f
-    ∙ value-cong (below (mixed w n w.clients)) (below (first_unreplicated w)) i (opening_values i) (steps w)
-    (each-map (λ x. IsCounted w x.0) (λ x. below (mixed w n w.clients) x.0 ≡ below (first_unreplicated w) x.0) (steps w)
-    (λ x h. ap (λ k. nat_lt x.0.number k) (mixed-before w n w.clients x.0.client h.0.0 h.0.1)) (all_counted w s.coherent))
+alone_value w n i s f = grind (arith, alone_mixed, value-cong, mixed, each-map, IsCounted, mixed-before, all_counted)
 
 pub first_undigested-below : (w : World) → CallsInvariant w → (c : ℕ) → first_undigested w c ≤ first_unreplicated w c
 unfolding first_undigested first_unreplicated

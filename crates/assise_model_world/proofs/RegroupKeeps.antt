@@ -4,8 +4,9 @@ use Rattle.std.proofs.lemmas.List.{length-take}
 use Rattle.std.proofs.Math.Seq.{drop-append-add}
 use Rattle.assise_record.specs.Groups.{all_records, all_coalesced, are_whole, were}
 use Rattle.assise_record.specs.LogRecord.{LogRecord}
-use Rattle.assise_record.specs.Records.{call_of, Ascending}
+use Rattle.assise_record.specs.Records.{all_effects, call_of, Ascending}
 use Rattle.assise_record.proofs.WholeGroups.{whole_none, whole-all, were-none, were-ascends, were-all, calls_same, at-past, all-ascending, all-shorter}
+use Rattle.assise_inode_table.specs.Effects.{touched, contains, SameNetEffect}
 use Rattle.assise_inode_table.proofs.Grouped.{ComeToSame, parts_same}
 use Rattle.assise_model_world.specs.Coalescing.{Coalesces}
 use Rattle.assise_model_world.specs.Regrouped.{Regroups}
@@ -49,9 +50,7 @@ module _ (w u : World) (c s : ℕ) (gs : List (List LogRecord)) (h : WorldInvari
 
   end_new : end_of_log u c ≡ s + length new
   unfolding n rs new
-  end_new =
-      end_is u c ∙ ap (λ l. u.first c + length l) e.records_own ∙ ap (λ k. k + length (take (s - w.first c) (w.records c) ++ all_coalesced gs)) (e.first c)
-      ∙ omega (arith, length-both (take (s - w.first c) (w.records c)) (all_coalesced gs), prefix, low)
+  end_new = grind (arith, end_is, length-both, prefix, low)
 
   -- the old records from s on are those of the groups
   olds : all_records gs ≡ drop n rs
@@ -83,29 +82,15 @@ module _ (w u : World) (c s : ℕ) (gs : List (List LogRecord)) (h : WorldInvari
   -- a border is one of whole groups
   whole : (k : ℕ) → s ≤ k → k ≤ end_of_log u c → u.border c k ≡ true → are_whole gs (k - s) ≡ true
   unfolding new
-  whole k from to bk =
-      (let is : s + (k - s) ≡ k = omega (arith, from) in
-      sym (e.border_new (k - s) (omega (arith, end_new, to))) ∙ ap (u.border c) is ∙ bk)
+  whole k from to bk = grind (arith, end_new)
 
   new_part : (j k : ℕ) → s ≤ j → records_between u c j k ≡ take ((k - s) - (j - s)) (drop (j - s) new)
   unfolding n rs new
-  new_part j k from =
-      (let at : j - w.first c ≡ length (take (s - w.first c) (w.records c)) + (j - s) = omega (arith, from, low, prefix) in
-      let size : k - j ≡ (k - s) - (j - s) = omega (arith, from) in
-      between_is u c j k ∙ ap (λ f. take (k - j) (drop (j - f) (u.records c))) (e.first c) ∙ ap (λ l. take (k - j) (drop (j - w.first c) l)) e.records_own
-      ∙ ap (λ x. take (k - j) (drop x (take (s - w.first c) (w.records c) ++ all_coalesced gs))) at
-      ∙ ap (take (k - j)) (drop-append-add (take (s - w.first c) (w.records c)) (all_coalesced gs) (j - s))
-      ∙ ap (λ x. take x (drop (j - s) (all_coalesced gs))) size)
+  new_part j k from = grind (arith, low, prefix, between_is, drop-append-add)
 
   old_part : (j k : ℕ) → records_between w c (was j) (was k) ≡ take (were gs (k - s) - were gs (j - s)) (drop (were gs (j - s)) (all_records gs))
   unfolding n rs was
-  old_part j k =
-      (let size : (s + were gs (k - s)) - (s + were gs (j - s)) ≡ were gs (k - s) - were gs (j - s) = omega arith in
-      let at : (s + were gs (j - s)) - w.first c ≡ (s - w.first c) + were gs (j - s) = omega (arith, low) in
-      between_is w c (s + were gs (j - s)) (s + were gs (k - s)) ∙ ap (λ x. take x (drop ((s + were gs (j - s)) - w.first c) (w.records c))) size
-      ∙ ap (λ x. take (were gs (k - s) - were gs (j - s)) (drop x (w.records c))) at
-      ∙ ap (take (were gs (k - s) - were gs (j - s))) (sym (drop-of_drop (w.records c) (s - w.first c) (were gs (j - s))))
-      ∙ ap (λ l. take (were gs (k - s) - were gs (j - s)) (drop (were gs (j - s)) l)) (sym olds))
+  old_part j k = grind (arith, low, between_is, drop-of_drop, olds)
 
   same : (j k : ℕ) → u.border c j ≡ true → u.border c k ≡ true → s ≤ j → j ≤ k → k ≤ end_of_log u c → ComeToSame (records_between u c j k) (records_between w c (was j) (was k))
   unfolding new
@@ -131,10 +116,7 @@ module _ (w u : World) (c s : ℕ) (gs : List (List LogRecord)) (h : WorldInvari
 
   begins : call_of new 0 (w.next c) ≡ call_at w c s
   unfolding n rs new
-  begins =
-      (let still : (s - w.first c) + 0 ≡ s - w.first c = omega arith in
-      calls_same gs 0 (w.next c) e.groups (whole_none gs) ∙ ap (λ k. call_of (all_records gs) k (w.next c)) (were-none gs e.groups)
-      ∙ ap (λ l. call_of l 0 (w.next c)) olds ∙ at-drop (w.records c) (s - w.first c) 0 (w.next c) ∙ ap (λ x. call_of (w.records c) x (w.next c)) still ∙ sym (call_is w c s))
+  begins = grind (arith, calls_same, whole_none, were-none, olds, at-drop, call_is)
 
   ascending : Ascending new (w.next c)
   unfolding n rs new
@@ -150,42 +132,17 @@ module _ (w u : World) (c s : ℕ) (gs : List (List LogRecord)) (h : WorldInvari
 
   regrouped : Coalesces w c s new was u
   unfolding new
-  regrouped = record {
-    lives = e.lives;
-    at_border = single s (omega arith) e.high;
-    low = e.low;
-    high = e.high;
-    records_own = e.records_own;
-    records_else = e.records_else;
-    was_here = was_here;
-    was_end = was_end;
-    was_ascends = was_ascends;
-    was_border = λ k from to bk. single (was k) (was_from k) (omega (arith, was_ascends k (end_of_log u c) to, was_end));
-    same_call = same_call;
-    net = λ j k bj bk from le to. (same j k bj bk from le to).net;
-    touch = λ i j k bj bk from le to. (same j k bj bk from le to).touch i;
-    begins = begins;
-    ascending = ascending;
-    no_more = no_more;
-    border_old = e.border_old;
-    border_end = border_end;
-    border_else = e.border_else;
-    here = e.here;
-    at_home = e.at_home;
-    received_else = e.received_else;
-    log_else = e.log_else;
-    full = e.full;
-    area = e.area;
-    digested = e.digested;
-    calls = e.calls;
-    first = e.first;
-    next = e.next;
-    made = e.made;
-    clients = e.clients;
-    goal_here = e.goal_here;
-    goal_else = e.goal_else;
-    leases = e.leases;
-  }
+  regrouped =
+      let here : w.border c s ≡ true = single s (omega arith) e.high in
+      let border : (k : ℕ) → s ≤ k → k ≤ end_of_log u c → u.border c k ≡ true → w.border c (was k) ≡ true =
+      λ k from to bk. single (was k) (was_from k) (omega (arith, was_ascends k (end_of_log u c) to, was_end)) in
+      let net : (j k : ℕ) → u.border c j ≡ true → u.border c k ≡ true → s ≤ j → j ≤ k → k ≤ end_of_log u c →
+      SameNetEffect (all_effects (records_between u c j k)) (all_effects (records_between w c (was j) (was k))) =
+      λ j k bj bk from le to. (same j k bj bk from le to).net in
+      let touch : (i j k : ℕ) → u.border c j ≡ true → u.border c k ≡ true → s ≤ j → j ≤ k → k ≤ end_of_log u c →
+      contains (touched (all_effects (records_between u c j k))) i ≡ contains (touched (all_effects (records_between w c (was j) (was k)))) i =
+      λ i j k bj bk from le to. (same j k bj bk from le to).touch i in
+      search (here, border, net, touch, was_here, was_end, was_ascends, same_call, begins, ascending, no_more, border_end) parts 1
 
   pub regroups_to : (f : ℕ → ℕ) × Coalesces w c s (all_coalesced gs) f u
   unfolding new

@@ -1,5 +1,5 @@
 -- What all full nodes have, and what others have seen.
-use Rattle.std.proofs.Common.{◌≡◌, ◌≢◌, ℕ, List, [], ◌∷◌, if◌then◌else◌, ◌-◌, ◌<◌, ◌≤◌, inl, inr, true, false, refl, ap, sym, ◌∙◌, subst, ◌==◌, arith, drop, length, filter}
+use Rattle.std.proofs.Common.{◌≡◌, ◌≢◌, ℕ, List, [], ◌∷◌, if◌then◌else◌, ◌-◌, ◌<◌, ◌≤◌, inl, inr, true, false, refl, ap, sym, ◌∙◌, subst, ◌==◌, arith, drop, filter}
 use Rattle.std.proofs.lemmas.List.{take_all}
 use Rattle.std.proofs.lemmas.Bool.{both_ways, false_from_ne_true, cases_lt, cases_eq, lt-ltb, eq-eqb, ne_eqb}
 use Rattle.assise_record.specs.Records.{all_effects}
@@ -19,9 +19,7 @@ use Rattle.assise_model_world.proofs.RegionAlone.{first_undigested-below}
 -- a full node that received all of a log has it
 had_whole : (w : World) (n c : ℕ) → WorldInvariant w → Full w n → w.received n c ≡ end_of_log w c → w.records c ≡ w.log n c
 unfolding end_of_log
-had_whole w n c s f h =
-    let e : w.received n c - w.first c ≡ length (w.records c) = omega (arith, h) in
-    sym (s.prefixes n c f ∙ take_all (w.received n c - w.first c) (w.records c) (omega (arith, e)))
+had_whole w n c s f h = grind (arith, take_all)
 
 pub log_of_home : (w : World) (c : ℕ) → WorldInvariant w → w.lives c ≡ true → w.records c ≡ w.log (w.home c) c
 log_of_home w c s t = had_whole w (w.home c) c s (s.homes c t) (s.whole c t)
@@ -81,9 +79,7 @@ guarded_between w c j k i s h =
 pub touch_disjoint : (w : World) (c d i : ℕ) → WorldInvariant w → c ≢ d →
     contains (touched (all_effects (w.records c))) i ≡ true → contains (touched (all_effects (w.records d))) i ≡ false
 unfolding Guarded WritesAreHeld
-touch_disjoint w c d i s other h =
-    false_from_ne_true (contains (touched (all_effects (w.records d))) i)
-    (λ t. disjoint w s.coherent.compatible c d i other (s.coherent.guarded c i h) (s.held d i (s.coherent.guarded d i t)))
+touch_disjoint w c d i s other h = grind (arith, false_from_ne_true, disjoint)
 
 pub unseen_unreplicated : (w : World) → WorldInvariant w → Unseen (first_unreplicated w) (steps w)
 unseen_unreplicated w s = unseen-raise (first_undigested w) (first_unreplicated w) (steps w) (first_undigested-below w s.coherent) s.coherent.unseen

@@ -1,9 +1,5 @@
 -- Steps, one after another.
-use Rattle.std.proofs.Common.{◌≡◌, ℕ, ◌-◌, inl, List, [], ◌∷◌, refl, ap, sym, ◌∙◌, arith, take, drop, filter}
-use Rattle.std.proofs.Math.Seq.{take-nil, drop-nil}
-use Rattle.assise_record.specs.LogRecord.{LogRecord}
-use Rattle.assise_record.specs.Records.{all_effects}
-use Rattle.assise_inode_table.specs.Effects.{value_after}
+use Rattle.std.proofs.Common.{◌≡◌, ℕ, ◌-◌, List, [], ◌∷◌, refl, ap, sym, ◌∙◌, arith, filter}
 use Rattle.assise_inode_table.specs.Traces.{below}
 use Rattle.assise_model_world.specs.Runs.{Moves, opens, makes_call, raises_goals, crashes, acquires, releases, delivers, digests, drops, coalesces, fails, joins, rests, Runs, last, begun, NoneFalls, StayReplicated}
 use Rattle.assise_model_world.specs.Invariant.{Stands, Counted, Numbered, AreMade, Guarded, Compatible, WritesAreHeld, Areas, CallsInvariant, WorldInvariant, AreDropped}
@@ -57,19 +53,7 @@ unfolding StayReplicated calls_replicated
 stay-same w w' e = ap (λ xs. filter (below (first_unreplicated w)) xs) e
 
 pub step_stays : (w w' : World) → WorldInvariant w → Moves w w' → StayReplicated w w'
-step_stays w w' s (opens n e) = stay-same w w' e.logs.calls
-step_stays w w' s (makes_call x e) = call_stays w w' x s e
-step_stays w w' s (raises_goals k e) = stay-same w w' e.logs.calls
-step_stays w w' s (crashes c e) = stay-same w w' e.logs.calls
-step_stays w w' s (acquires c i mode e) = stay-same w w' e.logs.calls
-step_stays w w' s (releases c i e) = stay-same w w' e.logs.calls
-step_stays w w' s (delivers n c k e) = stay-same w w' e.logs.calls
-step_stays w w' s (digests n c k e) = stay-same w w' e.logs.calls
-step_stays w w' s (drops f e) = stay-same w w' e.calls
-step_stays w w' s (coalesces c k new was e) = stay-same w w' e.calls
-step_stays w w' s (fails n e) = fail_stays w w' n s e
-step_stays w w' s (joins n donor e) = stay-same w w' e.logs.calls
-step_stays w w' s (rests e) = stay-same w w' e.logs.calls
+step_stays w w' s h = grind (arith, stay-same, call_stays, fail_stays)
 
 -- ---- runs
 
@@ -95,30 +79,9 @@ run_stays w (u ∷ us) s r = stays-on w u (last u us) (step_falls w u s r.0) (st
 
 -- ---- the start
 
-nothing_there : (m n : ℕ) → take m (drop {A = LogRecord} n []) ≡ []
-nothing_there m n = ap (take m) (drop-nil n) ∙ take-nil m
-
 begun_coherent : (nodes : List ℕ) → CallsInvariant (begun nodes)
 unfolding now tree AreMade Numbered Counted Stands Guarded Compatible Areas value_below first_undigested_at first_undigested steps records_between call_at end_of_log received_by_all digested_by_all
-begun_coherent nodes = record {
-  answered = tt;
-  make_new = tt;
-  spelled = opening_spells;
-  fresh_numbers = λ i h. inl (root_alone i h);
-  fresh_calls = tt;
-  fewer = λ c. omega arith;
-  counted = tt;
-  ascends = tt;
-  stands = λ c j k bj bk low le high. record { value = λ i v. ap (λ rs. value_after i v (all_effects rs)) (nothing_there (k - j) (j - 0)); touch = λ i h. tt };
-  ascending = λ c. tt;
-  first_border = λ c. refl;
-  end_border = λ c. refl;
-  order = λ n c f. record { begun = omega arith; replicated = omega arith; known = omega arith; digested_border = refl; received_border = refl };
-  areas = λ n f i. refl;
-  guarded = λ c i h. cc;
-  compatible = λ c d i other h g. cc;
-  unseen = tt;
-}
+begun_coherent nodes = grind (arith, opening_spells, root_alone)
 
 begun_sound : (nodes : List ℕ) → WorldInvariant (begun nodes)
 unfolding end_of_log WritesAreHeld

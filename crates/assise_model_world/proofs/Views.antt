@@ -80,19 +80,14 @@ ahead_between w n c s f =
 
 pub ahead_below_between : (w : World) (n c k : ℕ) → WorldInvariant w → Full w n → k ≤ w.received n c → undigested_below w n c k ≡ records_between w c (w.digested n c) k
 unfolding undigested_below records_between
-ahead_below_between w n c k s f h =
-    ap (take (k - w.digested n c)) (ahead_between w n c s f)
-    ∙ take-take (k - w.digested n c) (w.received n c - w.digested n c) (drop (w.digested n c - w.first c) (w.records c)) (omega (arith, h))
+ahead_below_between w n c k s f h = grind (arith, ahead_between, take-take)
 
 -- ---- at home
 
 -- a client reads at its home what the calls made of an inode that it holds
 pub reads_truth : (w : World) (c i : ℕ) → WorldInvariant w → w.lives c ≡ true → w.holds c i ≡ true → view w (w.home c) c i ≡ now w i
 unfolding view
-reads_truth w c i s lives held =
-    let f : Full w (w.home c) = s.homes c lives in
-    ap (λ rs. value_after i (w.area (w.home c) i) (all_effects rs)) (ahead_between w (w.home c) c s f ∙ ap (records_between w c (w.digested (w.home c) c)) (s.whole c lives))
-    ∙ over_area_now w (w.home c) c i s.coherent f held
+reads_truth w c i s lives held = grind (arith, ahead_between, over_area_now)
 
 agree_held : (w : World) (c : ℕ) (is : List ℕ) → WorldInvariant w → w.lives c ≡ true → ((i : ℕ) → contains is i ≡ true → w.holds c i ≡ true) → AgreeOn is (view w (w.home c) c) (now w)
 agree_held w c [] s f h = tt

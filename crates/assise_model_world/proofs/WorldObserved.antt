@@ -8,7 +8,7 @@ use Rattle.assise_inode_table.specs.Effects.{value_after, touched, contains}
 use Rattle.assise_inode_table.specs.Interaction.{Step}
 use Rattle.assise_inode_table.specs.Late.{late_value, raised_at}
 use Rattle.assise_inode_table.specs.Traces.{NumberedCall, Each, below, window}
-use Rattle.assise_model_world.specs.Invariant.{StandFor, Stands, Counted, Guarded, Compatible, IsOrdered, Areas, CallsInvariant}
+use Rattle.assise_model_world.specs.Invariant.{StandFor, Stands, Counted, Guarded, Compatible, Areas, CallsInvariant}
 use Rattle.assise_model_world.specs.World.{World, Full, IsClient, opening_values, least_of, end_of_log, digested_by_all, received_by_all, records_between, call_at, first_undigested_at, first_undigested, first_unreplicated, steps, value_below}
 use Rattle.assise_inode_table.proofs.Lateness.{in_window, late_client}
 use Rattle.assise_inode_table.proofs.PairwiseLists.{each-always, each-both}
@@ -123,11 +123,7 @@ digested_by_all-first w s c = least_of-above w.full (λ m. w.digested m c) (end_
 
 pub first-received_by_all : (w : World) → CallsInvariant w → (c : ℕ) → w.first c ≤ received_by_all w c
 unfolding received_by_all end_of_log
-first-received_by_all w s c =
-    least_of-above w.full (λ m. w.received m c) (end_of_log w c) (w.first c) (omega arith)
-    (λ n f. let o : IsOrdered w n c = s.order n c f in
-    let a : least_of w.full (λ m. w.received m c) (end_of_log w c) ≤ w.received n c = least_of-below w.full (λ m. w.received m c) (end_of_log w c) n f in
-    omega (arith, o.begun, o.replicated, a))
+first-received_by_all w s c = grind (arith, least_of-above, least_of-below)
 
 -- thresholds in order
 pub first_undigested-low : (w : World) (n : ℕ) → CallsInvariant w → Full w n → (c : ℕ) → first_undigested w c ≤ first_undigested_at w n c
@@ -235,10 +231,7 @@ part_none w c k h =
     let z : k - k ≡ 0 = omega arith in
     let none : (x : NumberedCall × Step) → window c (call_at w c k) (call_at w c k) x.0 ≡ true → ⊥ =
     λ x m. (let q : (x.0.client ≡ c) × (call_at w c k ≤ x.0.number) × (x.0.number < call_at w c k) = in_window c (call_at w c k) (call_at w c k) x.0 m in absurd (omega (arith, q.1, q.2))) in
-    record {
-      value = λ i v. rw z (sym (value-none (window c (call_at w c k) (call_at w c k)) i v (steps w) (each-always _ (steps w) (λ x. off (window c (call_at w c k) (call_at w c k) x.0) (none x)))));
-      touch = λ i q. each-always _ (steps w) (λ x m. absurd (none x m));
-    }
+    search (value-none, each-always, off, arith) parts 3
   where
     off : (b : Bool) → (b ≡ true → ⊥) → b ≡ false
     off true f = absurd (f refl)

@@ -1,8 +1,5 @@
 use Rattle.assise_model_history.proofs.RecordKeeps.{opening_fits, opening_recorded}
 use Rattle.assise_model_history.proofs.entries.an_opening_is_recorded.Goals as goal
 
-pub returns-clause-fits : goal.returns-clause-fits
-returns-clause-fits c = λ s t n u r e. opening_fits s n u t r e
-
-pub returns-clause-recorded : goal.returns-clause-recorded
-returns-clause-recorded c = λ s t n u sound r e. opening_recorded s n u t sound r e
+pub returns : goal.returns
+returns c = record { fits = λ s t n u r e. opening_fits s n u t r e; recorded = λ s t n u sound r e. opening_recorded s n u t sound r e }

@@ -2,8 +2,5 @@ use Rattle.assise_model_world.proofs.ClientsStaying.{acquire_sound}
 use Rattle.assise_model_world.proofs.QuietSteps.{still_dropped}
 use Rattle.assise_model_world.proofs.steps.an_acquisition_keeps_the_invariant.Goals as goal
 
-pub returns-clause-keeps : goal.returns-clause-keeps
-returns-clause-keeps c = λ w u d i mode s e. acquire_sound w u d i mode s e
-
-pub returns-clause-dropped : goal.returns-clause-dropped
-returns-clause-dropped c = λ w u d i mode t e. still_dropped w u e.logs e.nodes t
+pub returns : goal.returns
+returns c = record { keeps = acquire_sound; dropped = λ w u d i mode t e. still_dropped w u e.logs e.nodes t }
