@@ -15,7 +15,7 @@ use Rattle.assise_model_events.specs.Faults.{node_fault}
 use Rattle.assise_model_events.specs.Machine.{MachineInvariant, state_of}
 use Rattle.assise_model_events.proofs.Whatever.{safe}
 use Rattle.assise_machine_state.specs.Observed.{observed, world_of}
-use Rattle.assise_machine_state.specs.NodeValues.{region_seen}
+use Rattle.assise_machine_state.specs.NodeValues.{region_in}
 use Rattle.assise_machine_state.specs.Invariant.{ShapeInvariant}
 use Rattle.assise_machine_state.specs.StateValues.{StateValue}
 use Rattle.assise_machine_state.proofs.Fullness.{seen_full}
@@ -30,13 +30,13 @@ fine_full s n fine = seen_full s n (fine_node s n fine)
 
 -- the region alone gives what is observed
 module _ (s : StateValue) (n : ℕ) (shape : ShapeInvariant s) (holds : ∥ MachineInvariant (observed s) ∥₁) (fine : node_fault (observed s) n ≡ None) (acked : List ℕ) (all : AreAcked (observed s).world acked) where
-  pub same_alone : (i : ℕ) → alone (region_seen s.nodes n) acked i ≡ alone_observed (observed s).world n i
+  pub same_alone : (i : ℕ) → alone (region_in s.nodes n) acked i ≡ alone_observed (observed s).world n i
   unfolding observed world_of
   same_alone i =
-      ∥∥₁_elim holds (Coded-set (coded_option coded_content) (alone (region_seen s.nodes n) acked i) (alone_observed (world_of s) n i))
+      ∥∥₁_elim holds (Coded-set (coded_option coded_content) (alone (region_in s.nodes n) acked i) (alone_observed (world_of s) n i))
       (λ h. alone_same s n acked shape h.sound (fine_full s n fine) all.count all.each i)
 
-  pub gives_alone : Spells (alone (region_seen s.nodes n) acked) (tree_after_calls opening (ops (numbered_replicated (state_of (observed s)))))
+  pub gives_alone : Spells (alone (region_in s.nodes n) acked) (tree_after_calls opening (ops (numbered_replicated (state_of (observed s)))))
   gives_alone =
       subst (λ v. Spells v (tree_after_calls opening (ops (numbered_replicated (state_of (observed s)))))) (λ i j. sym (same_alone j) i)
       (spells_known (alone_observed (observed s).world n) (tree_after_calls opening (ops (numbered_replicated (state_of (observed s)))))

@@ -3,12 +3,12 @@ use Rattle.std.proofs.Common.{◌≡◌, ◌≢◌, ℕ, Bool, ◌+◌, ◌-◌,
 use Rattle.std.proofs.Math.Logic.{∥∥₁_elim, ∥∥₁_map}
 use Rattle.std.proofs.Props.{props}
 use Rattle.std.proofs.lemmas.Bool.{and_parts, cases_lt, eqb-true, false_from_ne_true, not-true}
-use Rattle.std.proofs.lemmas.List.{drop_all, length-drop, length-take, set-get_or}
+use Rattle.std.proofs.lemmas.List.{drop_all, length-drop, length-take}
 use Rattle.assise_record.specs.LogFrame.{LogFrame}
 use Rattle.assise_record.specs.LogRecord.{LogRecord}
 use Rattle.assise_private_log.specs.NumberedLog.{NumberedLog, end as log_end, is_border, records_from}
 use Rattle.assise_private_log.proofs.Borders.{border_first}
-use Rattle.assise_digest.specs.Region.{AreWhole, RegionValue, log_of, no_log, with_log}
+use Rattle.assise_digest.specs.Region.{AreWhole, RegionValue, log_of}
 use Rattle.assise_manager.specs.Standings.{full_nodes}
 use Rattle.assise_model_world.specs.Chances.{MayDeliver}
 use Rattle.assise_model_world.specs.World.{World, end_of_log, records_between}
@@ -18,31 +18,22 @@ use Rattle.assise_model_events.specs.Machine.{MachineInvariant}
 use Rattle.assise_model_events.specs.NodeEvents.{Delivering, is_delivered}
 use Rattle.assise_model_events.proofs.EachEvent.{event_keeps}
 use Rattle.assise_machine_state.specs.Changes.{after_delivery}
-use Rattle.assise_machine_state.specs.ClientValues.{client_in, client_seen}
-use Rattle.assise_machine_state.specs.NodeValues.{HasGroupsOf, HasLog, log_in, log_seen, no_region, region_in, with_log_in, with_records, with_region}
+use Rattle.assise_machine_state.specs.ClientValues.{client_in}
+use Rattle.assise_machine_state.specs.NodeValues.{HasGroupsOf, HasLog, log_in, log_seen, region_in, with_log_in, with_records}
 use Rattle.assise_machine_state.specs.Observed.{is_full_in, observed, own_node, own_seen, world_of}
 use Rattle.assise_machine_state.specs.Places.{IsNumber}
 use Rattle.assise_machine_state.specs.Invariant.{CutsInvariant, ShapeInvariant}
 use Rattle.assise_machine_state.specs.StateValues.{StateValue, leases_of, standings}
 use Rattle.assise_machine_state.proofs.Fullness.{has_log, log_is, seen_full}
-use Rattle.assise_machine_state.proofs.LogChanges.{none_more}
 use Rattle.assise_machine_state.proofs.Marks.{border_inside, so_many_marks}
 use Rattle.assise_machine_state.proofs.Noted.{still_noted}
 use Rattle.assise_machine_state.proofs.OwnLogs.{own_log as has_own_log}
 use Rattle.assise_machine_state.proofs.ReceiptObserved.{HasPrefix, delivered_prefix, delivery_shaped, has_prefix, other_areas}
-use Rattle.assise_machine_state.proofs.ItemSeen.{client_is}
 use Rattle.assise_machine_state.proofs.HotCapacities.{log_keeps}
+use Rattle.assise_machine_state.proofs.RecordsTaken.{none_taken}
 use Rattle.assise_manager.specs.NodeLevels.{level_of, newest}
 use Rattle.assise_machine.specs.Taking.{HasRoomFor, IsNext, IsNextOf, lacking, own_log}
 use Rattle.assise_machine.proofs.DeliveryFaults.{fine_client, fine_full}
-
--- ---- nothing is changed where nothing comes
-
-log_kept : (border : ℕ → Bool) (r : RegionValue) (c : ℕ) → with_log r c (with_records border (log_of r c) []) ≡ r
-log_kept border r c = ap (with_log r c) (none_more border (log_of r c)) ∙ (λ i. record r { logs = set-get_or r.logs (c - 1) no_log i })
-
-nodes_kept : (border : ℕ → Bool) (rs : List RegionValue) (n c : ℕ) → with_log_in rs n c (with_records border (log_in rs n c) []) ≡ rs
-nodes_kept border rs n c = ap (with_region rs n) (log_kept border (region_in rs n) c) ∙ set-get_or rs (n - 1) no_region
 
 -- a delivery with its answer, and the invariant after it
 pub record Gives (s : StateValue) (f : LogFrame) (n p : ℕ) (u : StateValue) : Type 0 where
@@ -87,8 +78,7 @@ module _ (s : StateValue) (f : LogFrame) (n : ℕ) (shape : ShapeInvariant s) (h
     own_is : (own_seen s c).log ≡ own_log s c
     unfolding own_seen
     own_is =
-        ap (λ x. (log_seen s.nodes (own_node (standings s) x) c).log) (client_is s.clients c client)
-        ∙ ap (λ l. l.log) (log_is s (own_node (standings s) (client_in s.clients c)) c has_own)
+        ap (λ l. l.log) (log_is s (own_node (standings s) (client_in s.clients c)) c has_own)
 
     -- where the client's groups lie
     abbrev own_border : ℕ → Bool
@@ -206,7 +196,7 @@ module _ (s : StateValue) (f : LogFrame) (n : ℕ) (shape : ShapeInvariant s) (h
       nothing_new old =
           let none : records_between w c (w.received n c) place ≡ [] = more_is ∙ drop_all (r - f.first) f.records (omega (arith, old, next.no_gap)) in
           let same : t ≡ s =
-          ap (λ more. record s { nodes = with_log_in s.nodes n c (with_records own_border (log_in s.nodes n c) more) }) none ∙ (λ i. record s { nodes = nodes_kept own_border s.nodes n c i })
+          ap (λ more. record s { nodes = with_log_in s.nodes n c (with_records own_border (log_in s.nodes n c) more) }) none ∙ (λ i. record s { nodes = none_taken own_border s.nodes n c i })
           in
           let here : place ≡ r = omega (arith, old, is) in
           subst (λ u. Delivering (observed s) f n (told r) (observed u)) same (subst (λ k. Delivering (observed s) f n (told k) (observed t)) here delivered_now)
@@ -221,9 +211,9 @@ module _ (s : StateValue) (f : LogFrame) (n : ℕ) (shape : ShapeInvariant s) (h
         lives_elsewhere =
             false_from_ne_true (log_in s.nodes n c).at_home (λ here.
             let known_there = sym (shape.at_home n c) ∙ ap (λ l. l.at_home) (log_is s n c has) ∙ here in
-            let parts = and_parts (n == (client_seen s.clients c).home) (not (client_seen s.clients c).failed) known_there in
-            let unfailed : (client_seen s.clients c).failed ≡ false = not-true (client_seen s.clients c).failed parts.1 in
-            let own : own_node (standings s) (client_seen s.clients c) ≡ n = rw unfailed (sym (eqb-true n (client_seen s.clients c).home parts.0)) in
+            let parts = and_parts (n == (client_in s.clients c).home) (not (client_in s.clients c).failed) known_there in
+            let unfailed : (client_in s.clients c).failed ≡ false = not-true (client_in s.clients c).failed parts.1 in
+            let own : own_node (standings s) (client_in s.clients c) ≡ n = rw unfailed (sym (eqb-true n (client_in s.clients c).home parts.0)) in
             let all : w.received n c ≡ end_of_log w c = prefix.all_there own in
             omega (arith, all, some_new, so_many, high))
 
@@ -244,7 +234,7 @@ module _ (s : StateValue) (f : LogFrame) (n : ℕ) (shape : ShapeInvariant s) (h
         keeps_shape = delivery_shaped s n c place shape prefix client may
 
         -- the client's own log is another node's
-        own_other : own_node (standings s) (client_seen s.clients c) ≢ n
+        own_other : own_node (standings s) (client_in s.clients c) ≢ n
         own_other own = (let all : w.received n c ≡ end_of_log w c = prefix.all_there own in omega (arith, all, some_new, so_many, high))
 
         -- and its borders are those of this node's log, as far as that goes
@@ -287,7 +277,7 @@ module _ (s : StateValue) (f : LogFrame) (n : ℕ) (shape : ShapeInvariant s) (h
             own_there = (λ i. (log_in s.nodes (own_place i) (of_client i)).log)
 
             pub other_as : own ≢ n
-            other_as same = own_other (ap (own_node (standings s)) (client_is s.clients c client) ∙ sym own_place ∙ same)
+            other_as same = own_other (sym own_place ∙ same)
 
             pub groups_as : HasGroupsOf (log_in s.nodes own k).log (log_in s.nodes n k).log
             groups_as =

@@ -26,15 +26,17 @@ use Rattle.assise_model_world.proofs.Logs.{contains-drop, contains-take}
 use Rattle.assise_model_world.proofs.WorldObserved.{received_by_all-below, received_by_all-border}
 use Rattle.assise_model_members.specs.Returns.{DigestsNoted}
 use Rattle.assise_model_events.specs.NodeEvents.{undigested}
-use Rattle.assise_machine_state.specs.NodeValues.{HasLog, log_in, log_seen, no_region, region_in, with_region}
+use Rattle.assise_machine_state.specs.NodeValues.{HasLog, log_in, log_seen, region_in, with_region}
 use Rattle.assise_machine_state.specs.Observed.{is_full_in, own_seen, world_of}
 use Rattle.assise_machine_state.specs.Places.{IsNumber, item_at}
 use Rattle.assise_machine_state.specs.Invariant.{ShapeInvariant}
 use Rattle.assise_machine_state.specs.StateValues.{StateValue, standings}
 use Rattle.assise_machine_state.proofs.DigestSeen.{digest_shaped, noted_prefix}
-use Rattle.assise_machine_state.proofs.Fullness.{has_log, log_is, region_is, same_first, seen_full}
+use Rattle.assise_machine_state.proofs.Fullness.{has_log, log_is, same_first, seen_full}
 use Rattle.assise_machine_state.proofs.Marks.{border_inside, so_many_marks}
 use Rattle.assise_machine_state.proofs.ReadObserved.{ahead_first}
+use Rattle.assise_machine_state.proofs.LogChanges.{region_back, region_here}
+use Rattle.assise_machine_state.proofs.ItemSeen.{length-with}
 use Rattle.assise_machine.specs.Digesting.{EndsWithGroup, NoneListed, digests_some}
 use Rattle.assise_machine.proofs.Unlisted.{nothing_noted}
 
@@ -81,7 +83,7 @@ none_digested s n c has =
     let nodes : with_region s.nodes n (digested_by (region_in s.nodes n) c ((log_seen s.nodes n c).digested + 0 - (log_in s.nodes n c).digested)) ≡ s.nodes =
     ap (λ k. with_region s.nodes n (digested_by (region_in s.nodes n) c k)) none
     ∙ ap (with_region s.nodes n) (none_made (region_in s.nodes n) c)
-    ∙ set-get_or s.nodes (n - 1) no_region in
+    ∙ region_back s.nodes n in
     (λ i. record s { nodes = nodes i; members = none_noted s.members n i })
 
 -- ---- one client's records
@@ -110,12 +112,12 @@ digests_unlisted s n c count has many none rs nodes =
 
 pub has_after : (rs : List RegionValue) (n c count : ℕ) → HasLog rs n c → HasLog (with_region rs n (digested_by (region_in rs n) c count)) n c
 has_after rs n c count has =
-    let nodes : length (with_region rs n (digested_by (region_in rs n) c count)) ≡ length rs = length-set rs (n - 1) (digested_by (region_in rs n) c count) in
+    let nodes : length (with_region rs n (digested_by (region_in rs n) c count)) ≡ length rs = length-with rs n (digested_by (region_in rs n) c count) in
     let logs : length (slice_set (region_in rs n).logs (c - 1) (digested_further (log_in rs n c) count)) ≡ length (region_in rs n).logs =
     length-set (region_in rs n).logs (c - 1) (digested_further (log_in rs n c) count) in
     let there = has.client.there in
     let region : region_in (with_region rs n (digested_by (region_in rs n) c count)) n ≡ digested_by (region_in rs n) c count =
-    get_or-set_same rs (n - 1) (digested_by (region_in rs n) c count) no_region (omega (arith, has.node.some, has.node.there)) in
+    region_here rs n (digested_by (region_in rs n) c count) has.node in
     record {
       node = record { some = has.node.some; there = omega (arith, nodes, has.node.there) };
       client = subst (λ r. HasClient r c) (sym region) (record { some = has.client.some; there = omega (arith, logs, there) });
@@ -124,7 +126,7 @@ has_after rs n c count has =
 pub log_after : (rs : List RegionValue) (n c count : ℕ) → HasLog rs n c → log_in (with_region rs n (digested_by (region_in rs n) c count)) n c ≡ digested_further (log_in rs n c) count
 log_after rs n c count has =
     let there = has.client.there in
-    ap (λ r. log_of r c) (get_or-set_same rs (n - 1) (digested_by (region_in rs n) c count) no_region (omega (arith, has.node.some, has.node.there)))
+    ap (λ r. log_of r c) (region_here rs n (digested_by (region_in rs n) c count) has.node)
     ∙ get_or-set_same (region_in rs n).logs (c - 1) (digested_further (log_in rs n c) count) no_log (omega (arith, has.client.some, there))
 
 module _ (s : StateValue) (n c : ℕ) (shape : ShapeInvariant s) (sound : ∥ WorldInvariant (world_of s) ∥₁) (here : is_full_in (standings s) n ≡ true) (client : IsNumber s.clients c) where
@@ -178,8 +180,7 @@ module _ (s : StateValue) (n c : ℕ) (shape : ShapeInvariant s) (sound : ∥ Wo
   written h j i touches =
       let l = log_at (region_in s.nodes n) j in
       let log : contains (touched (all_effects l.log.records)) i ≡ true = contains-drop l.log.records (l.digested - l.log.first) i touches in
-      let seen : l.log.records ≡ w.log n (suc j) = ap (λ r. (log_at r j).log.records) (sym (region_is s n has_here.node)) in
-      let prefix : l.log.records ≡ take (w.received n (suc j) - w.first (suc j)) (w.records (suc j)) = seen ∙ h.prefixes n (suc j) full_here in
+      let prefix : l.log.records ≡ take (w.received n (suc j) - w.first (suc j)) (w.records (suc j)) = h.prefixes n (suc j) full_here in
       h.coherent.guarded (suc j) i
       (contains-take (w.records (suc j)) (w.received n (suc j) - w.first (suc j)) i (ap (λ rs. contains (touched (all_effects rs)) i) (sym prefix) ∙ log))
 

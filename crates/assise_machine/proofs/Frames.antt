@@ -26,7 +26,6 @@ use Rattle.assise_machine_state.specs.Places.{IsNumber}
 use Rattle.assise_machine_state.specs.Invariant.{IsMarked, ShapeInvariant}
 use Rattle.assise_machine_state.specs.StateValues.{StateValue, standings}
 use Rattle.assise_machine_state.proofs.Fullness.{has_log, log_is, same_first, seen_full}
-use Rattle.assise_machine_state.proofs.ItemSeen.{client_is}
 use Rattle.assise_machine_state.proofs.Standings.{listed_is_full}
 
 -- ---- a node at which nothing is wrong is full
@@ -85,14 +84,14 @@ module _ (s : StateValue) (n c : ℕ) (shape : ShapeInvariant s) (holds : ∥ Ma
 
     next_is : next_node (observed s) n c ≡ next
     unfolding observed world_of
-    next_is = ap (λ x. behind n (chain (full_nodes (standings s)) x.home)) (client_is s.clients c client)
+    next_is = refl
 
     pub none_sent : None ≡ next → [] ≡ frame_for (observed s) n c (next_node (observed s) n c)
     none_sent is = sym (ap (frame_for (observed s) n c) (next_is ∙ sym is))
 
     goal_is : (observed s).world.goal c ≡ (client_in s.clients c).goal
     unfolding observed world_of
-    goal_is = ap (λ x. x.goal) (client_is s.clients c client)
+    goal_is = refl
 
     received_is : (k : ℕ) → HasLog s.nodes k c → (observed s).world.received k c ≡ log_end (log_in s.nodes k c).log
     unfolding observed world_of

@@ -1,6 +1,6 @@
 -- How many inodes may be hot at a node is another number, or stays: the invariant between events stays.
 use Rattle.std.specs.Prelude.{⊤}
-use Rattle.std.proofs.Common.{◌≡◌, ◌<◌, ℕ, List, None, Result, Ok, Err, OnErr, OnOk, IsOkUnless, refl, ap, sym, subst}
+use Rattle.std.proofs.Common.{◌≡◌, ℕ, List, None, Result, Ok, Err, OnErr, OnOk, IsOkUnless, refl, ap, sym, subst}
 use Rattle.std.proofs.Math.Logic.{∥∥₁_map}
 use Rattle.assise_names.specs.declared.refusal.Refusal.{Refusal}
 use Rattle.assise_names.specs.declared.refusal.Refusal.TheVariants.{OutOfMemory}
@@ -11,12 +11,12 @@ use Rattle.assise_model_events.specs.Machine.{MachineInvariant}
 use Rattle.assise_model_events.specs.NodeEvents.{SettingHot, is_set, lacks_memory}
 use Rattle.assise_model_events.proofs.EachEvent.{hot_holds}
 use Rattle.assise_machine_state.specs.Changes.{after_hot}
-use Rattle.assise_machine_state.specs.NodeValues.{region_in, region_seen, with_hot_in}
+use Rattle.assise_machine_state.specs.NodeValues.{with_hot_in}
 use Rattle.assise_machine_state.specs.Observed.{observed}
 use Rattle.assise_machine_state.specs.Places.{IsNumber}
 use Rattle.assise_machine_state.specs.Invariant.{CutsInvariant, ShapeInvariant}
 use Rattle.assise_machine_state.specs.StateValues.{StateValue}
-use Rattle.assise_machine_state.proofs.Fullness.{full_number, region_is}
+use Rattle.assise_machine_state.proofs.Fullness.{full_number}
 use Rattle.assise_machine_state.proofs.HotSeen.{machine_set, notes_kept, shape_kept}
 use Rattle.assise_machine.specs.Answers.{setting_answer}
 use Rattle.assise_machine.proofs.Frames.{fine_node}
@@ -48,7 +48,3 @@ module _ (s : StateValue) (n capacity : ℕ) (shape : ShapeInvariant s) (fine : 
   sets holds noted (Err e) rs set kept only =
       let same : record s { nodes = rs } ≡ s = ap (λ x. record s { nodes = x }) kept in
       subst (Sets s n capacity (Err e)) (sym same) (record { holds = holds; shape = shape; noted = noted; happens = lacks_memory fine (ap refused only) refl })
-
-  pub asked_seen : (r : Result ⊤ Refusal) → r ≡ Err OutOfMemory → OnErr r (capacity < (region_in s.nodes n).capacity) → capacity < (region_seen s.nodes n).capacity
-  asked_seen r is asked =
-      subst (λ region. capacity < region.capacity) (sym (region_is s n node_there)) (subst (λ x. OnErr x (capacity < (region_in s.nodes n).capacity)) is asked)

@@ -5,11 +5,9 @@ use Rattle.assise_history.specs.Entries.{opens}
 use Rattle.assise_history.specs.Legal.{is_failure_of}
 use Rattle.assise_model_world.specs.World.{IsClient}
 use Rattle.assise_model_events.specs.Machine.{MachineInvariant}
-use Rattle.assise_machine_state.specs.ClientValues.{ClientValue, client_in, client_seen}
+use Rattle.assise_machine_state.specs.ClientValues.{ClientValue, client_in}
 use Rattle.assise_machine_state.specs.Observed.{observed, world_of}
 use Rattle.assise_machine_state.specs.StateValues.{StateValue}
-use Rattle.assise_machine_state.proofs.Fullness.{client_number}
-use Rattle.assise_machine_state.proofs.ItemSeen.{client_is}
 use Rattle.assise_machine.specs.KnownClients.{IsKnownClient}
 
 same_not : (a b : Bool) → not a ≡ not b → a ≡ b
@@ -21,7 +19,7 @@ same_not false false same = refl
 pub known_client : (s : StateValue) (c : ℕ) (x : ClientValue) → IsClient (observed s).world c → x ≡ client_in s.clients c → MachineInvariant (observed s) → IsKnownClient (observed s).history c x
 unfolding observed world_of
 known_client s c x client is h =
-    let same : client_seen s.clients c ≡ x = client_is s.clients c (client_number s c client) ∙ sym is in
+    let same : client_in s.clients c ≡ x = sym is in
     let home = ap (λ y. y.home) same in
     let was = h.recorded.opened c client in
     let since = was.opened.since in
@@ -35,7 +33,7 @@ known_client s c x client is h =
       crashed = sym (ap (λ y. y.crashed) same) ∙ was.crashed;
       failed =
           sym (ap (λ y. y.failed) same)
-          ∙ same_not (client_seen s.clients c).failed (list_any (is_failure_of (client_seen s.clients c).home) since) was.lives
+          ∙ same_not (client_in s.clients c).failed (list_any (is_failure_of (client_in s.clients c).home) since) was.lives
           ∙ ap (λ n. list_any (is_failure_of n) since) home;
       calls = sym (ap (λ y. y.next) same) ∙ h.recorded.next c;
     }

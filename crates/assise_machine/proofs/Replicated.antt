@@ -32,7 +32,7 @@ use Rattle.assise_model_history.proofs.NumberedCalls.{kept_plain}
 use Rattle.assise_model_events.specs.Machine.{MachineInvariant, begun_as, state_of}
 use Rattle.assise_model_events.specs.Faults.{node_fault, unless_full}
 use Rattle.assise_model_events.proofs.Whatever.{handed_over_replicated, safe}
-use Rattle.assise_machine_state.specs.NodeValues.{region_seen}
+use Rattle.assise_machine_state.specs.NodeValues.{region_in}
 use Rattle.assise_machine_state.specs.Observed.{observed, world_of}
 use Rattle.assise_machine_state.specs.Places.{IsNumber}
 use Rattle.assise_machine_state.specs.Invariant.{ShapeInvariant}
@@ -174,13 +174,13 @@ module _ (s : StateValue) (shape : ShapeInvariant s) (some : 0 < length (full_no
         ∙ ap (tree_after opening) (kept_below_is (first_unreplicated (observed s).world) s.history)
         ∙ ap (tree_after_calls opening) (plain_ops (filter (below (first_unreplicated (observed s).world)) (kept_numbered s.history)))
 
-    same_values : (n : ℕ) → MachineInvariant (observed s) → Full (observed s).world n → (i : ℕ) → alone (region_seen s.nodes n) places i ≡ alone_observed (observed s).world n i
+    same_values : (n : ℕ) → MachineInvariant (observed s) → Full (observed s).world n → (i : ℕ) → alone (region_in s.nodes n) places i ≡ alone_observed (observed s).world n i
     unfolding observed
     same_values n h full i = alone_same s n places shape h.sound full count (λ c low. each c low ∙ acked_is h (suc c)) i
 
-    pub alone_gives : (n : ℕ) → Full (observed s).world n → Spells (alone (region_seen s.nodes n) places) (tree_after opening (kept_below bound s.history))
+    pub alone_gives : (n : ℕ) → Full (observed s).world n → Spells (alone (region_in s.nodes n) places) (tree_after opening (kept_below bound s.history))
     alone_gives n full =
-        spells_known (alone (region_seen s.nodes n) places) (tree_after opening (kept_below bound s.history))
+        spells_known (alone (region_in s.nodes n) places) (tree_after opening (kept_below bound s.history))
         (∥∥₁_map holds (λ h.
         subst (λ v. Spells v (tree_after opening (kept_below bound s.history))) (λ i j. sym (same_values n h full j) i)
         (subst (Spells (alone_observed (observed s).world n)) (sym (same_tree h)) ((safe (observed s) h).rebuilt n full))))

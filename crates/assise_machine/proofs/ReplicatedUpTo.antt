@@ -12,8 +12,8 @@ use Rattle.assise_model_world.specs.Invariant.{WorldInvariant}
 use Rattle.assise_model_world.specs.World.{Full, World, call_at, end_of_log, first_unreplicated, received_by_all}
 use Rattle.assise_model_world.proofs.Replicated.{log_of_home, log_of_left}
 use Rattle.assise_model_world.proofs.WorldObserved.{least_of-above, least_of-end, received_by_all-below}
-use Rattle.assise_machine_state.specs.ClientValues.{client_seen, no_client}
-use Rattle.assise_machine_state.specs.NodeValues.{log_seen, no_region, region_seen}
+use Rattle.assise_machine_state.specs.ClientValues.{client_in, no_client}
+use Rattle.assise_machine_state.specs.NodeValues.{log_seen, no_region, region_in}
 use Rattle.assise_machine_state.specs.Observed.{is_full_in, world_of}
 use Rattle.assise_machine_state.specs.Places.{IsNumber, item_at}
 use Rattle.assise_machine_state.specs.Invariant.{ShapeInvariant}
@@ -141,8 +141,8 @@ module _ (s : StateValue) (shape : ShapeInvariant s) (some : 0 < length (full_no
   abbrev region_at : ℕ → RegionValue
   region_at j = get_or s.nodes j no_region
 
-  seen_at : (j : ℕ) → region_seen s.nodes (suc j) ≡ region_at j
-  unfolding region_seen item_at
+  seen_at : (j : ℕ) → region_in s.nodes (suc j) ≡ region_at j
+  unfolding region_in item_at
   seen_at j = refl
 
   log_there : (j c : ℕ) → (log_seen s.nodes (suc j) c).log ≡ received_log (region_at j) c
@@ -221,7 +221,7 @@ module _ (s : StateValue) (shape : ShapeInvariant s) (some : 0 < length (full_no
       omega (arith, high, low)
 
   -- who was not opened made no calls
-  none_made : (c : ℕ) → client_seen s.clients c ≡ no_client → next c ≡ 0
+  none_made : (c : ℕ) → client_in s.clients c ≡ no_client → next c ≡ 0
   unfolding world_of
   none_made c nobody = sym (counted c) ∙ ap (λ x. x.next) nobody
 
@@ -230,12 +230,12 @@ module _ (s : StateValue) (shape : ShapeInvariant s) (some : 0 < length (full_no
       let high : least_end c s.nodes (next c) ≤ next c = least_end-most c s.nodes (next c) in
       omega (arith, high, none, received-end c, few c)
 
-  unopened : (c : ℕ) → length s.clients < c → client_seen s.clients c ≡ no_client
-  unfolding client_seen
+  unopened : (c : ℕ) → length s.clients < c → client_in s.clients c ≡ no_client
+  unfolding client_in
   unopened c past = seen_past no_client s.clients c past
 
-  nobody : client_seen s.clients 0 ≡ no_client
-  unfolding client_seen item_at
+  nobody : client_in s.clients 0 ≡ no_client
+  unfolding client_in item_at
   nobody = refl
 
   pub least_is : (c : ℕ) → least_end c s.nodes (next c) ≡ received_by_all w c

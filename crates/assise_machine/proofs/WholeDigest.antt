@@ -13,7 +13,7 @@ use Rattle.assise_model_events.specs.NodeEvents.{DigestsTo, Digesting, most_dige
 use Rattle.assise_model_events.specs.NodeEvents.Digesting.{is_digested, lacks_memory}
 use Rattle.assise_model_events.proofs.EachEvent.{event_keeps}
 use Rattle.assise_machine_state.specs.Changes.{drops_to}
-use Rattle.assise_machine_state.specs.ClientValues.{client_seen}
+use Rattle.assise_machine_state.specs.ClientValues.{client_in}
 use Rattle.assise_machine_state.specs.ClientValues.{cut_of}
 use Rattle.assise_machine_state.specs.Observed.{is_full_in, observed, world_of}
 use Rattle.assise_machine_state.specs.Invariant.{CutsInvariant, ShapeInvariant}
@@ -93,7 +93,7 @@ module _ (s : StateValue) (n : ℕ) (shape : ShapeInvariant s) (holds : ∥ Mach
         let levels = then_same.levels ∙ same.levels in
         let cuts = then_same.cuts ∙ same.cuts in
         let clients = then_same.clients ∙ same.clients in
-        (λ i. record { levels = levels i; cut = λ c j. cut_of (cuts i) c (client_seen (clients i) c) j })
+        (λ i. record { levels = levels i; cut = λ c j. cut_of (cuts i) c (client_in (clients i) c) j })
 
     trace : DigestsTo n count (world_of s) (world_of s) s.members (length s.clients) (world_of t) u.members
     trace = subst (DigestsTo n count (world_of s) (world_of s) s.members (length s.clients) (world_of t)) (sym then_same.members) (trace_to s n shape sound here count (length s.clients) (omega arith) whole)

@@ -8,7 +8,7 @@ use Rattle.assise_digest.specs.Region.{RegionValue}
 use Rattle.assise_lease_tree.specs.Trees.{stored_by}
 use Rattle.assise_model_world.specs.World.{World, received_by_all}
 use Rattle.assise_model_events.specs.Machine.{Machine}
-use Rattle.assise_machine_state.specs.NodeValues.{region_seen}
+use Rattle.assise_machine_state.specs.NodeValues.{region_in}
 use Rattle.assise_machine_state.specs.Whole.{machine_of}
 use Rattle.assise_machine.specs.declared.cluster.ClusterOf.{ClusterOf}
 
@@ -18,7 +18,7 @@ machine cluster = machine_of cluster.sound.state
 
 -- what a node has
 abbrev pub region_of : {C : Type 0} → ClusterOf C → ℕ → RegionValue
-region_of cluster n = region_seen cluster.sound.state.nodes n
+region_of cluster n = region_in cluster.sound.state.nodes n
 
 -- the revoker of a client
 abbrev pub revokers : {C : Type 0} → ClusterOf C → ℕ → Option C

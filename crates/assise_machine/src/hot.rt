@@ -3,7 +3,7 @@ ghost use Rattle.std.specs.Prelude.{◌≡◌, ◌<◌, ◌≤◌, ◌↔◌, Er
 ghost use Rattle.assise_names.specs.declared.refusal.Refusal.TheVariants.{OutOfMemory};
 ghost use Rattle.assise_lease_tree.specs.Trees.{KeepsRevokers};
 ghost use Rattle.assise_model_events.specs.NodeEvents.{SettingHot};
-ghost use Rattle.assise_machine_state.specs.NodeValues.{region_seen, with_hot_in};
+ghost use Rattle.assise_machine_state.specs.NodeValues.{region_in, with_hot_in};
 ghost use Rattle.assise_machine_state.specs.Whole.{machine_of};
 ghost use Rattle.assise_machine.specs.Answers.{setting_answer};
 
@@ -61,7 +61,7 @@ pub(crate) fn set_hot<C: Revokes + Drop>(
         (sound.new.state.nodes ≡ with_hot_in sound.old.state.nodes node capacity) }
     ensures kept { OnErr result (sound.new.state.nodes ≡ sound.old.state.nodes) }
     ensures asked { result ≡ Err OutOfMemory →
-        capacity < (region_seen sound.old.state.nodes node).capacity }
+        capacity < (region_in sound.old.state.nodes node).capacity }
     ensures revokers { KeepsRevokers sound.old.state.leases sound.new.state.leases }
 {
     let state = &mut sound.state;

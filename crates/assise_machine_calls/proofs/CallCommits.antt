@@ -36,9 +36,9 @@ use Rattle.assise_model_events.proofs.Answerable.{is_tried}
 use Rattle.assise_model_events.proofs.Faultless.{client_runs, first_none}
 use Rattle.assise_model_events.proofs.LackAnswerable.{full_can, memory_can, spent_can}
 use Rattle.assise_machine_state.specs.Changes.{after_call}
-use Rattle.assise_machine_state.specs.ClientValues.{ClientValue, client_in, client_seen, with_call, with_client}
+use Rattle.assise_machine_state.specs.ClientValues.{ClientValue, client_in, with_call, with_client}
 use Rattle.assise_machine_state.specs.NodeValues.{HasLog, log_in, log_seen, with_call_in}
-use Rattle.assise_machine_state.specs.Observed.{observed, own_node, own_seen, world_of}
+use Rattle.assise_machine_state.specs.Observed.{observed, own_seen, world_of}
 use Rattle.assise_machine_state.specs.Places.{IsNumber}
 use Rattle.assise_machine_state.specs.Invariant.{CutsInvariant, ShapeInvariant}
 use Rattle.assise_machine_state.specs.StateValues.{StateValue, leases_of, standings}
@@ -47,7 +47,6 @@ use Rattle.assise_machine_state.proofs.Fullness.{lives_unfailed, log_is}
 use Rattle.assise_machine_state.proofs.HotCapacities.{call_keeps}
 use Rattle.assise_machine_state.proofs.Noted.{call_noted}
 use Rattle.assise_machine_state.proofs.OwnLogs.{home_log, own_of_unfailed}
-use Rattle.assise_machine_state.proofs.ItemSeen.{client_is}
 use Rattle.assise_machine_calls.specs.Answers.{turn_answer}
 use Rattle.assise_machine_calls.specs.declared.turn.Turn.{Turn}
 use Rattle.assise_machine_calls.specs.Leasing.{IsReady, next_call, room_fault}
@@ -129,7 +128,7 @@ module _ (s : StateValue) (c : ℕ) (op : Op) (shape : ShapeInvariant s) (fine :
 
   pub call_unfailed : (client_in s.clients c).failed ≡ false
   unfolding observed
-  call_unfailed = ap (λ y. y.failed) (sym (client_is s.clients c there)) ∙ lives_unfailed s c (client_runs (observed s) c (call_client s c op fine)).0
+  call_unfailed = lives_unfailed s c (client_runs (observed s) c (call_client s c op fine)).0
 
   pub call_log : HasLog s.nodes home c
   call_log = home_log s c shape there call_unfailed
@@ -137,8 +136,7 @@ module _ (s : StateValue) (c : ℕ) (op : Op) (shape : ShapeInvariant s) (fine :
   own_is : own_seen s c ≡ log_in s.nodes home c
   unfolding own_seen
   own_is =
-      ap (λ y. log_seen s.nodes (own_node (standings s) y) c) (client_is s.clients c there)
-      ∙ ap (λ n. log_seen s.nodes n c) (own_of_unfailed (standings s) (client_in s.clients c) call_unfailed)
+      ap (λ n. log_seen s.nodes n c) (own_of_unfailed (standings s) (client_in s.clients c) call_unfailed)
       ∙ log_is s home c call_log
 
   records_are : (world_of s).records c ≡ (log_in s.nodes home c).log.records
@@ -154,11 +152,11 @@ module _ (s : StateValue) (c : ℕ) (op : Op) (shape : ShapeInvariant s) (fine :
 
   made_is : (world_of s).made c ≡ (client_in s.clients c).made
   unfolding world_of
-  made_is = ap (λ y. y.made) (client_is s.clients c there)
+  made_is = refl
 
   next_is : (world_of s).next c ≡ (client_in s.clients c).next
   unfolding world_of
-  next_is = ap (λ y. y.next) (client_is s.clients c there)
+  next_is = refl
 
   module _ (holds : ∥ MachineInvariant (observed s) ∥₁) where
     abbrev client_fine : client_fault (observed s) c ≡ None
@@ -304,7 +302,7 @@ module _ (s : StateValue) (c : ℕ) (op : Op) (shape : ShapeInvariant s) (fine :
           call = record { call = called; visited = served.visited; changed = served.changed };
           room = room;
           leases = call_leases s made_call;
-          adds = record { history = ap (λ k. s.history ++ calls (record { client = c; number = k; op = op; reply = t.reply }) ∷ []) (next_counted s c holds); limit = refl; hot = call_keeps s.nodes (client_seen s.clients c).home c (old.next c) _ };
+          adds = record { history = ap (λ k. s.history ++ calls (record { client = c; number = k; op = op; reply = t.reply }) ∷ []) (next_counted s c holds); limit = refl; hot = call_keeps s.nodes (client_in s.clients c).home c (old.next c) _ };
           keeps = record { members = refl; others = call_areas s made_call };
         })
 
@@ -319,9 +317,9 @@ module _ (s : StateValue) (c : ℕ) (op : Op) (shape : ShapeInvariant s) (fine :
             let numbered : number ≡ old.next c = number_is ∙ sym next_is in
             let nodes_now : rs ≡ then.nodes =
             nodes_are
-            ∙ ap (λ m. with_call_in s.nodes m c number t.effects) (home_is ∙ ap (λ y. y.home) (sym (client_is s.clients c there)))
-            ∙ ap (λ k. with_call_in s.nodes (client_seen s.clients c).home c k t.effects) numbered
-            ∙ ap (λ es. with_call_in s.nodes (client_seen s.clients c).home c (old.next c) es) effects_are in
+            ∙ ap (λ m. with_call_in s.nodes m c number t.effects) home_is
+            ∙ ap (λ k. with_call_in s.nodes (client_in s.clients c).home c k t.effects) numbered
+            ∙ ap (λ es. with_call_in s.nodes (client_in s.clients c).home c (old.next c) es) effects_are in
             let clients_now : ds ≡ then.clients = clients_are ∙ ap (λ b. with_client s.clients c (with_call b (client_in s.clients c))) (makes_one_is ∙ makes_is) in
             let told : h ≡ then.history =
             history_is ∙ ap (λ es. es ++ e ∷ []) history_was

@@ -48,7 +48,6 @@ use Rattle.assise_machine_state.specs.Invariant.{CutsInvariant, ShapeInvariant, 
 use Rattle.assise_machine_state.specs.StateValues.{StateValue, leases_of}
 use Rattle.assise_machine_state.proofs.Noted.{leases_noted}
 use Rattle.assise_machine_state.proofs.ReadObserved.{read_at_home}
-use Rattle.assise_machine_state.proofs.ItemSeen.{client_is}
 use Rattle.assise_machine_state.proofs.ShapedClients.{areas_stay, leases_held}
 use Rattle.assise_machine_calls.specs.Asked.{AsksThem, CutsAreAnswers}
 use Rattle.assise_machine_calls.specs.Leasing.{GotLeases, IsReady, IsVisited, NeverSyncs, next_call, next_step}
@@ -221,7 +220,7 @@ module _ (s : StateValue) (c : ℕ) (op : Op) (shape : ShapeInvariant s) (holds 
 
   fresh_is : inode_number c (client_in s.clients c).made ≡ inode_number c (w.made c)
   unfolding world_of
-  fresh_is = ap (λ x. inode_number c x.made) (sym (client_is s.clients c there))
+  fresh_is = refl
 
   step_is : (fresh : ℕ) → fresh ≡ inode_number c (client_in s.clients c).made → step (values (inodes_read s c)) op fresh ≡ next
   step_is fresh is = λ k. step (λ i. reads_at_home i k) op ((is ∙ fresh_is) k)
@@ -274,7 +273,7 @@ module _ (s : StateValue) (c : ℕ) (op : Op) (shape : ShapeInvariant s) (holds 
 
     home_is : w.home c ≡ (client_in s.clients c).home
     unfolding world_of
-    home_is = ap (λ x. x.home) (client_is s.clients c there)
+    home_is = refl
 
     grants : Grants w (leases_of s) c i mode (world_of s') (leases_of s')
     unfolding leases_of

@@ -9,7 +9,6 @@ use Rattle.assise_machine_state.specs.Observed.{observed, world_of}
 use Rattle.assise_machine_state.specs.Places.{IsNumber}
 use Rattle.assise_machine_state.specs.StateValues.{StateValue}
 use Rattle.std.proofs.Math.Bool.{and-false}
-use Rattle.assise_machine_state.proofs.ItemSeen.{client_is}
 
 -- ---- there is no such client
 
@@ -34,7 +33,7 @@ fault_is : (s : StateValue) (c : ℕ) → IsNumber s.clients c → client_fault 
 unfolding observed world_of
 fault_is s c there =
     let some : 1 ≤ c = omega (arith, there.some) in
-    rw (le-leb 1 c some, le-leb c (length s.clients) there.there, client_is s.clients c there, not_not (client_in s.clients c).failed) refl
+    rw (le-leb 1 c some, le-leb c (length s.clients) there.there, not_not (client_in s.clients c).failed) refl
 
 pub gone_fault : (s : StateValue) (c : ℕ) → IsNumber s.clients c → (client_in s.clients c).crashed ≡ true → client_fault (observed s) c ≡ Some ClientGone
 gone_fault s c there crashed = fault_is s c there ∙ rw crashed refl

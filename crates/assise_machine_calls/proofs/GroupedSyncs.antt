@@ -17,7 +17,7 @@ use Rattle.assise_model_events.specs.Machine.{MachineInvariant, Machine}
 use Rattle.assise_model_events.proofs.DsyncKeeps.{coalesced_holds}
 use Rattle.assise_model_events.proofs.Regroupable.{coalesced_high}
 use Rattle.assise_machine_state.specs.Changes.{after_coalescing, after_regrouping}
-use Rattle.assise_machine_state.specs.ClientValues.{ClientValue, client_in, client_seen, cut_of, with_client, with_goal}
+use Rattle.assise_machine_state.specs.ClientValues.{ClientValue, client_in, cut_of, with_client, with_goal}
 use Rattle.assise_machine_state.specs.NodeValues.{HasLog, log_in, log_seen, with_log_in}
 use Rattle.assise_machine_state.specs.Observed.{is_full_in, observed, own_seen, world_of}
 use Rattle.assise_machine_state.specs.Places.{IsNumber}
@@ -27,7 +27,7 @@ use Rattle.assise_machine_state.proofs.CoalescingSeen.{coalesced_groups, coalesc
 use Rattle.assise_machine_state.proofs.Fullness.{has_log, home_full, lives_unfailed, log_is, seen_full}
 use Rattle.assise_machine_state.proofs.HotCapacities.{log_keeps}
 use Rattle.assise_machine_state.proofs.OwnLogs.{own_end, own_of_unfailed}
-use Rattle.assise_machine_state.proofs.ItemSeen.{client_is, client_same}
+use Rattle.assise_machine_state.proofs.ItemSeen.{client_same}
 use Rattle.assise_machine_calls.proofs.SyncChanges.{Gives, fine_lives, fine_number}
 
 -- a sync that all full nodes have all for coalesces nothing
@@ -51,22 +51,19 @@ module _ (s : StateValue) (c : ℕ) (shape : ShapeInvariant s) (fine : client_fa
   lives : (world_of s).lives c ≡ true
   lives = fine_lives s c fine
 
-  unfailed : (client_seen s.clients c).failed ≡ false
+  unfailed : (client_in s.clients c).failed ≡ false
   unfailed = lives_unfailed s c lives
 
   module _ (home : ℕ) (home_is : home ≡ (client_in s.clients c).home) where
-    home_seen : home ≡ (client_seen s.clients c).home
-    home_seen = home_is ∙ ap (λ y. y.home) (sym (client_is s.clients c there))
-
     pub home_log : HasLog s.nodes home c
-    home_log = subst (λ n. HasLog s.nodes n c) (sym home_seen) (has_log s (client_seen s.clients c).home c shape (home_full s c shape unfailed) there)
+    home_log = subst (λ n. HasLog s.nodes n c) (sym home_is) (has_log s (client_in s.clients c).home c shape (home_full s c shape unfailed) there)
 
     full_home : is_full_in (standings s) home ≡ true
-    full_home = subst (λ n. is_full_in (standings s) n ≡ true) (sym home_seen) (home_full s c shape unfailed)
+    full_home = subst (λ n. is_full_in (standings s) n ≡ true) (sym home_is) (home_full s c shape unfailed)
 
     own_at_home : log_in s.nodes home c ≡ own_seen s c
     unfolding own_seen
-    own_at_home = sym (log_is s home c home_log) ∙ ap (λ n. log_seen s.nodes n c) (home_seen ∙ sym (own_of_unfailed (standings s) (client_seen s.clients c) unfailed))
+    own_at_home = sym (log_is s home c home_log) ∙ ap (λ n. log_seen s.nodes n c) (home_is ∙ sym (own_of_unfailed (standings s) (client_in s.clients c) unfailed))
 
     own_ends : end_of_log (world_of s) c ≡ log_end (own_seen s c).log
     unfolding world_of end_of_log
@@ -105,7 +102,7 @@ module _ (s : StateValue) (c : ℕ) (shape : ShapeInvariant s) (fine : client_fa
         nodes_same nodes is =
             is
             ∙ ap (λ k. with_log_in s.nodes home c (regrouped_from (log_in s.nodes home c) k)) from_is
-            ∙ ap (λ n. with_log_in s.nodes n c (regrouped_from (log_in s.nodes n c) start)) home_seen
+            ∙ ap (λ n. with_log_in s.nodes n c (regrouped_from (log_in s.nodes n c) start)) home_is
 
         pub still_log : (nodes : List RegionValue) → nodes ≡ with_log_in s.nodes home c (regrouped_from (log_in s.nodes home c) from) → HasLog nodes home c
         still_log nodes is = subst (λ rs. HasLog rs home c) (sym (nodes_same nodes is)) (has_log t home c (regrouped_shape s c shape sound lives own_law) full_home there)
@@ -113,7 +110,7 @@ module _ (s : StateValue) (c : ℕ) (shape : ShapeInvariant s) (fine : client_fa
         end_then : (nodes : List RegionValue) → nodes ≡ t.nodes → 0 < length (full_nodes (standings s)) → end_of_log (world_of t) c ≡ log_end (log_in nodes home c).log
         end_then nodes is some =
             own_end t c (regrouped_shape s c shape sound lives own_law) there some
-            ∙ ap (λ n. log_end (log_in t.nodes n c).log) (own_of_unfailed (standings s) (client_in s.clients c) (ap (λ y. y.failed) (sym (client_is s.clients c there)) ∙ unfailed) ∙ sym home_is)
+            ∙ ap (λ n. log_end (log_in t.nodes n c).log) (own_of_unfailed (standings s) (client_in s.clients c) unfailed ∙ sym home_is)
             ∙ ap (λ rs. log_end (log_in rs home c).log) (sym is)
 
         leases_same : leases_of (after_coalescing s c start) ≡ leases_of s
@@ -130,7 +127,7 @@ module _ (s : StateValue) (c : ℕ) (shape : ShapeInvariant s) (fine : client_fa
           regroups = coalesced_groups s c shape sound lives own_law (there_effects some);
           elsewhere = coalesced_none s c shape sound lives own_law (there_effects some);
           leases = leases_same;
-          adds = record { history = sym (append-nil s.history); limit = refl; hot = log_keeps s.nodes (client_seen s.clients c).home c _ };
+          adds = record { history = sym (append-nil s.history); limit = refl; hot = log_keeps s.nodes (client_in s.clients c).home c _ };
           keeps = record { members = refl; others = coalescing_areas s c start };
         })
 

@@ -1,5 +1,5 @@
 -- What holds of leases, out of what holds of all.
-use Rattle.std.proofs.Common.{◌≡◌, ℕ, Some, ap, ◌∙◌}
+use Rattle.std.proofs.Common.{◌≡◌, ℕ, Some}
 use Rattle.std.proofs.Math.Logic.{∥∥₁_elim}
 use Rattle.std.proofs.Props.{props}
 use Rattle.std.specs.Coded.{Coded-set, coded_option, coded_ℕ}
@@ -11,7 +11,6 @@ use Rattle.assise_machine_state.specs.Observed.{observed, world_of}
 use Rattle.assise_machine_state.specs.Places.{IsNumber}
 use Rattle.assise_machine_state.specs.StateValues.{StateValue, leases_of}
 use Rattle.assise_machine_state.proofs.Fullness.{number_client}
-use Rattle.assise_machine_state.proofs.ItemSeen.{client_is}
 
 module _ (s : StateValue) (holds : ∥ MachineInvariant (observed s) ∥₁) where
   lawful_now : LevelsInvariant (leases_of s).levels
@@ -53,4 +52,4 @@ module _ (s : StateValue) (holds : ∥ MachineInvariant (observed s) ∥₁) whe
   -- the lease tree knows a client's home
   pub home_known : (c : ℕ) → IsNumber s.clients c → s.levels.home c ≡ Some (client_in s.clients c).home
   unfolding observed world_of leases_of
-  home_known c there = are_leases.homes c (number_client s c there) ∙ ap (λ x. Some x.home) (client_is s.clients c there)
+  home_known c there = are_leases.homes c (number_client s c there)

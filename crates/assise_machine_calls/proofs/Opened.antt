@@ -14,7 +14,7 @@ use Rattle.assise_model_events.specs.Faults.{open_fault}
 use Rattle.assise_model_events.specs.Machine.{MachineInvariant}
 use Rattle.assise_machine_state.specs.Changes.{after_open}
 use Rattle.assise_machine_state.specs.ClientValues.{ClientValue, opened_on}
-use Rattle.assise_machine_state.specs.NodeValues.{begun_log, no_region, region_seen, with_logs_begun, with_logs_ended, without_log_of}
+use Rattle.assise_machine_state.specs.NodeValues.{begun_log, no_region, region_in, with_logs_begun, with_logs_ended, without_log_of}
 use Rattle.assise_machine_state.specs.Observed.{is_full_in, observed, world_of}
 use Rattle.assise_machine_state.specs.Places.{item_at}
 use Rattle.assise_machine_state.specs.Invariant.{CutsInvariant, ShapeInvariant}
@@ -76,8 +76,8 @@ all_ended full limit home m c (r ∷ rs) have none =
       | inr away ↦ rw away (λ k. none_gone r c (none 0 (ap full here ∙ away) (omega arith)) k ∷ rest k)
     ]
 
-seen_at : (rs : List RegionValue) (i : ℕ) → region_seen rs (1 + i) ≡ get_or rs i no_region
-unfolding region_seen item_at
+seen_at : (rs : List RegionValue) (i : ℕ) → region_in rs (1 + i) ≡ get_or rs i no_region
+unfolding region_in item_at
 seen_at rs i = (let next : 1 + i ≡ suc i = omega arith in rw next refl)
 
 pub ended : (s : StateValue) (n : ℕ) → ShapeInvariant s → with_logs_ended (with_logs_begun (is_full_in (standings s)) s.limit n 1 s.nodes) (suc (length s.clients)) ≡ s.nodes

@@ -9,7 +9,7 @@ use Rattle.assise_model_world.specs.World.{World, digested_by_all}
 use Rattle.assise_model_leases.specs.Handing.{ReleasesReady}
 use Rattle.assise_model_leases.specs.Leases.{Leases, client_lease}
 use Rattle.assise_model_events.specs.NodeEvents.{Gone, LetsGo, is_ready, leases_after}
-use Rattle.assise_machine_state.specs.ClientValues.{client_seen, cut_once_asked}
+use Rattle.assise_machine_state.specs.ClientValues.{client_in, cut_once_asked}
 use Rattle.assise_lease_table.specs.Cuts.{are_once, cut_in, is_asked, is_of}
 use Rattle.assise_machine_state.specs.Observed.{world_of}
 use Rattle.assise_machine_state.specs.Invariant.{CutsInvariant}
@@ -95,7 +95,7 @@ module _ (s t : StateValue) (many : ℕ) (noted : CutsInvariant s) (noted_there 
   now_ripe : (c i : ℕ) (a : Asked) → a.client ≡ c → cut_in s.cuts c i ≡ a.cut → is_ready (world_of s) (leases_of s) c i ≡ true → is_ripe s a ≡ true
   unfolding leases_of
   now_ripe c i a is cut ready =
-      (λ k. nat_le (cut_once_asked (client_seen s.clients (is k)) (sym cut k)) (digested_by_all (world_of s) (is k)))
+      (λ k. nat_le (cut_once_asked (client_in s.clients (is k)) (sym cut k)) (digested_by_all (world_of s) (is k)))
       ∙ (and_parts (is_revoked (client_lease (leases_of s) c i)) (nat_le ((leases_of s).cut c i) (digested_by_all (world_of s) c)) ready).1
 
   revoked_then : (c i : ℕ) → is_ready (world_of s) (leases_of s) c i ≡ true → client_lease (leases_after (leases_of s) goes.gone) c i ≡ client_lease (leases_of s) c i →

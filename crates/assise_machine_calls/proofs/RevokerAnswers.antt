@@ -1,7 +1,7 @@
 -- Those who are asked for their leases are lent their own logs, and their revokers answer cuts of these.
-use Rattle.std.proofs.Common.{◌≡◌, ℕ, ◌-◌, ◌<◌, ◌≤◌, nat_le, Bool, true, false, not, ◌&&◌, if◌then◌else◌, List, [], ◌∷◌, ◌++◌, filter, length, Option, Some, None, inl, inr, refl, ap, sym, subst, ◌∙◌, arith, append-nil}
+use Rattle.std.proofs.Common.{◌≡◌, ℕ, ◌<◌, ◌≤◌, nat_le, Bool, true, false, not, ◌&&◌, if◌then◌else◌, List, [], ◌∷◌, ◌++◌, filter, length, Option, Some, None, inl, inr, refl, ap, sym, subst, ◌∙◌, arith, append-nil}
 use Rattle.std.proofs.lemmas.Bool.{and_parts, cases_Bool, le-leb, leb-true, true≢false}
-use Rattle.std.proofs.lemmas.List.{length-map, length-set}
+use Rattle.std.proofs.lemmas.List.{length-map}
 use Rattle.assise_names.specs.declared.mode.Mode.{Mode}
 use Rattle.assise_private_log.specs.NumberedLog.{NumberedLog, is_border}
 use Rattle.assise_private_log.specs.Touches.{Covers}
@@ -21,8 +21,8 @@ use Rattle.assise_model_events.specs.Faults.{client_fault}
 use Rattle.assise_model_events.specs.Machine.{MachineInvariant}
 use Rattle.assise_model_events.proofs.Faultless.{client_runs}
 use Rattle.assise_machine_state.specs.Changes.{after_asking, with_goals}
-use Rattle.assise_machine_state.specs.ClientValues.{ClientValue, client_in, client_seen, with_client, with_goal}
-use Rattle.assise_machine_state.specs.NodeValues.{HasLog, log_in, log_seen}
+use Rattle.assise_machine_state.specs.ClientValues.{ClientValue, client_in, with_client, with_goal}
+use Rattle.assise_machine_state.specs.NodeValues.{HasLog, log_in}
 use Rattle.assise_machine_state.specs.Observed.{observed, own_node, own_seen, world_of}
 use Rattle.assise_machine_state.specs.Places.{IsNumber}
 use Rattle.assise_machine_state.specs.Invariant.{AreAnswers, CutsInvariant, ShapeInvariant}
@@ -31,11 +31,10 @@ use Rattle.assise_machine_state.proofs.AskingSeen.{asking_noted, asking_seen, as
 use Rattle.assise_machine_state.proofs.Fullness.{log_is}
 use Rattle.assise_machine_state.proofs.Noted.{running_number}
 use Rattle.assise_machine_state.proofs.OwnLogs.{own_log as has_own_log}
-use Rattle.assise_machine_state.proofs.ItemSeen.{client_is}
+use Rattle.assise_machine_state.proofs.ItemSeen.{length-with}
 use Rattle.assise_machine_state.proofs.ShapedClients.{areas_stay}
 use Rattle.assise_machine_state.proofs.ShapeKept.{own_marked}
 use Rattle.assise_machine_calls.specs.Asked.{AsksThem, CutsAreAnswers, clients_log, client_log}
-use Rattle.assise_machine_calls.proofs.SyncChanges.{fine_number}
 use Rattle.assise_machine_calls.proofs.LeaseFacts.{are_leases}
 
 -- ---- own logs
@@ -68,10 +67,10 @@ running_holder s i l leases among free =
     let held : is_held (lease_of (s.levels.clients i) l.holder) ≡ true = ap is_held found in
     let unrevoked : is_revoked (lease_of (s.levels.clients i) l.holder) ≡ false = ap is_revoked found ∙ free in
     running_number s.clients l.holder
-    (elim (cases_Bool (client_seen s.clients l.holder).crashed) [
+    (elim (cases_Bool (client_in s.clients l.holder).crashed) [
       | inl over ↦ absurd (true≢false (sym (leases.crashed l.holder i over held) ∙ unrevoked))
       | inr runs ↦
-          elim (cases_Bool (client_seen s.clients l.holder).failed) [
+          elim (cases_Bool (client_in s.clients l.holder).failed) [
             | inl over ↦ absurd (true≢false (sym (leases.failed l.holder i (ap not over) held) ∙ unrevoked))
             | inr lives ↦ rw (runs, lives) refl
           ]
@@ -94,7 +93,7 @@ few_asked choice ls asked who =
     omega (arith, same, not_longer (is_to_ask choice) ls)
 
 module _ {C : Type 0} (answers : C → NumberedLog → ℕ → ℕ → Type 0) (stored : ℕ → Option C) (s : StateValue) (c i n : ℕ) (mode : Mode) (asked : List Asked)
-    (shape : ShapeInvariant s) (some_full : 0 < length (full_nodes (standings s))) (home : n ≡ (client_seen s.clients c).home)
+    (shape : ShapeInvariant s) (some_full : 0 < length (full_nodes (standings s))) (home : n ≡ (client_in s.clients c).home)
     (all : AnswerAll answers stored (client_log s.nodes (standings s) s.clients) i (in_way s.levels.home (s.levels.nodes i) c n mode) (s.levels.clients i) asked) where
   pub asked_number : (a : Asked) → Among asked a → IsNumber s.clients a.client
   asked_number a among = (lent_to s.nodes (standings s) s.clients a.client (all.each a among).view (all.each a among).seen).0
@@ -104,7 +103,6 @@ module _ {C : Type 0} (answers : C → NumberedLog → ℕ → ℕ → Type 0) (
   own_is d there =
       let has : HasLog s.nodes (own_node (standings s) (client_in s.clients d)) d = has_own_log s d shape there some_full in
       ap (λ l. l.log) (sym (log_is s (own_node (standings s) (client_in s.clients d)) d has))
-      ∙ ap (λ x. (log_seen s.nodes (own_node (standings s) x) d).log) (sym (client_is s.clients d there))
 
   covered : (a : Asked) → Among asked a → Covers (own_seen s a.client).log i a.cut
   covered a among =
@@ -151,7 +149,7 @@ module _ (s : StateValue) (c i n : ℕ) (mode : Mode) (levels : TwoLevels) (aske
 
   home_is : n ≡ (world_of s).home c
   unfolding world_of
-  home_is = home ∙ ap (λ x. x.home) (sym (client_is s.clients c (fine_number s c fine)))
+  home_is = home
 
   asks_now : IsAskedFor s.levels levels c ((world_of s).home c) i mode
   asks_now = subst (λ m. IsAskedFor s.levels levels c m i mode) home_is asks
@@ -185,20 +183,17 @@ module _ {C : Type 0} (answers : C → NumberedLog → ℕ → ℕ → Type 0) (
     (holds : ∥ MachineInvariant (observed s) ∥₁) (shape : ShapeInvariant s) (noted : CutsInvariant s) (some_full : 0 < length (full_nodes (standings s))) (fine : client_fault (observed s) r.client ≡ None)
     (home : r.node ≡ (client_in s.clients r.client).home) (busy : is_free_for s.levels r.client r.node r.inode r.mode ≡ false) (asks : IsAskedFor s.levels levels r.client r.node r.inode r.mode)
     (all : AnswerAll answers stored (client_log s.nodes (standings s) s.clients) r.inode (in_way s.levels.home (s.levels.nodes r.inode) r.client r.node r.mode) (s.levels.clients r.inode) asked) where
-  home_seen : r.node ≡ (client_seen s.clients r.client).home
-  home_seen = home ∙ ap (λ x. x.home) (sym (client_is s.clients r.client (fine_number s r.client fine)))
-
   here : AreAnswers s r.client r.inode r.mode asked
-  here = are_answers answers stored s r.client r.inode r.node r.mode asked shape some_full home_seen all
+  here = are_answers answers stored s r.client r.inode r.node r.mode asked shape some_full home all
 
   -- and what is revoked has as its cut what was answered
   cuts_asked : CutsAreAnswers answers stored (observed s) (observed (after_asking s levels asked))
   unfolding observed
   cuts_asked d j fresh =
-      let asks_home : IsAskedFor s.levels levels r.client (client_seen s.clients r.client).home r.inode r.mode = subst (λ m. IsAskedFor s.levels levels r.client m r.inode r.mode) home_seen asks in
+      let asks_home : IsAskedFor s.levels levels r.client (client_in s.clients r.client).home r.inode r.mode = subst (λ m. IsAskedFor s.levels levels r.client m r.inode r.mode) home asks in
       let found = newly_answered s r.client r.inode r.mode levels asked noted (are_leases s holds) asks_home here d j fresh in
       let a = found.1 in
-      let got = cut_answered answers stored s r.client r.inode r.node r.mode asked shape some_full home_seen all a.0 a.1 in
+      let got = cut_answered answers stored s r.client r.inode r.node r.mode asked shape some_full home all a.0 a.1 in
       let cut = (leases_of (after_asking s levels asked)).cut in
       let at_cut : IsRaisedAnswer answers got.0 (clients_log (observed s) a.0.client) r.inode (cut d r.inode) = subst (λ k. IsRaisedAnswer answers got.0 (clients_log (observed s) a.0.client) r.inode k) (sym a.3) got.2 in
       let of_holder : IsRaisedAnswer answers got.0 (clients_log (observed s) d) r.inode (cut d r.inode) = subst (λ c. IsRaisedAnswer answers got.0 (clients_log (observed s) c) r.inode (cut d r.inode)) a.2 at_cut in (
@@ -231,5 +226,5 @@ module _ {C : Type 0} (answers : C → NumberedLog → ℕ → ℕ → Type 0) (
 -- with the next client's goal raised there are the same clients
 pub still_known : (cs ds : List ClientValue) (c to : ℕ) → ds ≡ with_client cs c (with_goal to (client_in cs c)) → (d : ℕ) → IsNumber cs d → IsNumber ds d
 still_known cs ds c to is d there =
-    let same : length ds ≡ length cs = ap length is ∙ length-set cs (c - 1) (with_goal to (client_in cs c)) in
+    let same : length ds ≡ length cs = ap length is ∙ length-with cs c (with_goal to (client_in cs c)) in
     record { some = there.some; there = subst (λ k. d ≤ k) (sym same) there.there }

@@ -13,14 +13,13 @@ use Rattle.assise_model_leases.specs.Leases.{AreLeases, IsRevokedLease}
 use Rattle.assise_model_leases.proofs.LeasesGo.{release_keeps}
 use Rattle.assise_model_members.specs.Returns.{OtherAreasStay}
 use Rattle.assise_machine_state.specs.Changes.{after_letting_go}
-use Rattle.assise_machine_state.specs.ClientValues.{ClientValue, client_in, client_seen, cut_once_asked}
+use Rattle.assise_machine_state.specs.ClientValues.{ClientValue, client_in, cut_once_asked}
 use Rattle.assise_lease_table.specs.Cuts.{are_once, cut_in, is_asked, is_of}
 use Rattle.assise_machine_state.specs.Observed.{observed, own_seen, world_of}
 use Rattle.assise_machine_state.specs.Places.{IsNumber}
 use Rattle.assise_machine_state.specs.Invariant.{CutsInvariant, ShapeInvariant}
 use Rattle.assise_machine_state.specs.StateValues.{StateValue, leases_of}
 use Rattle.assise_machine_state.proofs.Fullness.{number_client}
-use Rattle.assise_machine_state.proofs.ItemSeen.{client_is}
 use Rattle.assise_machine_state.proofs.ShapedClients.{areas_stay, leases_held}
 use Rattle.assise_machine_calls.specs.Releasing.{LetsSomeGo, is_early, is_ripe}
 
@@ -101,9 +100,9 @@ module _ (s : StateValue) (levels : TwoLevels) (a : Asked) (xs ys : List Asked) 
   unfolding leases_of
   revoked_here = sym (noted.noted a.client a.inode) ∙ ap (λ l. is_asked l a.client a.inode) is ∙ asked_there xs ys a
 
-  cut_here : (leases_of s).cut a.client a.inode ≡ cut_once_asked (client_seen s.clients a.client) a.cut
+  cut_here : (leases_of s).cut a.client a.inode ≡ cut_once_asked (client_in s.clients a.client) a.cut
   unfolding leases_of
-  cut_here = ap (cut_once_asked (client_seen s.clients a.client)) (ap (λ l. cut_in l a.client a.inode) is ∙ cut_there xs ys a once)
+  cut_here = ap (cut_once_asked (client_in s.clients a.client)) (ap (λ l. cut_in l a.client a.inode) is ∙ cut_there xs ys a once)
 
   lease_gone : lease_of (levels.clients a.inode) a.client ≡ None
   lease_gone = ap (λ ls. lease_of ls a.client) released.clients.here ∙ without_own (s.levels.clients a.inode) a.client
@@ -130,7 +129,7 @@ module _ (s : StateValue) (levels : TwoLevels) (a : Asked) (xs ys : List Asked) 
   cuts_kept : (d j : ℕ) → IsRevokedLease (leases_of t) d j → (leases_of t).cut d j ≡ (leases_of s).cut d j
   unfolding leases_of
   cuts_kept d j revoked =
-      ap (cut_once_asked (client_seen s.clients d)) (cut_without xs ys a d j (still_else d j revoked) ∙ ap (λ l. cut_in l d j) (sym is))
+      ap (cut_once_asked (client_in s.clients d)) (cut_without xs ys a d j (still_else d j revoked) ∙ ap (λ l. cut_in l d j) (sym is))
 
   held : HoldsAsLeased (world_of s) (world_of t) (leases_of t)
   unfolding world_of own_seen leases_of
@@ -140,7 +139,7 @@ module _ (s : StateValue) (levels : TwoLevels) (a : Asked) (xs ys : List Asked) 
   unfolding leases_of
   goes_now = record {
     revoked = revoked_here;
-    ready = subst (λ k. k ≤ digested_by_all (world_of s) a.client) (sym cut_here) (leb-true (cut_once_asked (client_seen s.clients a.client) a.cut) (digested_by_all (world_of s) a.client) ripe);
+    ready = subst (λ k. k ≤ digested_by_all (world_of s) a.client) (sym cut_here) (leb-true (cut_once_asked (client_in s.clients a.client) a.cut) (digested_by_all (world_of s) a.client) ripe);
     released = released;
     cuts = cuts_kept;
     holds = held;
@@ -231,7 +230,7 @@ ripe_left e (x ∷ xs) ys a ripe =
 pub ripe_as : (s : StateValue) (a : Asked) (x : ClientValue) (cut digested : ℕ) → IsNumber s.clients a.client → x ≡ client_in s.clients a.client → cut ≡ cut_once_asked x a.cut →
     digested ≡ digested_by_all (world_of s) a.client → nat_le cut digested ≡ is_ripe s a
 ripe_as s a x cut digested there known is all =
-    (λ i. nat_le (is i) (all i)) ∙ ap (λ y. nat_le (cut_once_asked y a.cut) (digested_by_all (world_of s) a.client)) (known ∙ sym (client_is s.clients a.client there))
+    (λ i. nat_le (is i) (all i)) ∙ ap (λ y. nat_le (cut_once_asked y a.cut) (digested_by_all (world_of s) a.client)) known
 
 -- ---- the whole step, as the code has it
 

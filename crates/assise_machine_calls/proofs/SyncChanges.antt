@@ -1,11 +1,10 @@
 -- What a client's syncs change of the state is what the laws mean by them.
-use Rattle.std.proofs.Common.{◌≡◌, ℕ, ◌+◌, ◌-◌, ◌<◌, ◌≤◌, true, false, List, [], ◌∷◌, ◌++◌, length, None, refl, ap, sym, subst, ◌∙◌, arith, append-nil}
+use Rattle.std.proofs.Common.{◌≡◌, ℕ, ◌+◌, ◌<◌, ◌≤◌, true, false, List, [], ◌∷◌, ◌++◌, length, None, refl, ap, sym, subst, ◌∙◌, arith, append-nil}
 use Rattle.std.specs.List.{list_any}
 use Rattle.std.proofs.lemmas.Bool.{false≢true}
 use Rattle.std.proofs.Math.Logic.{∥∥₁_elim, ∥∥₁_map}
 use Rattle.std.specs.Coded.{Coded-set, coded_ℕ}
 use Rattle.std.proofs.Props.{props}
-use Rattle.std.proofs.lemmas.List.{get_or-set_same, length-set}
 use Rattle.assise_names.specs.declared.call.Op.{Op}
 use Rattle.assise_names.specs.declared.call.Op.TheVariants.{Fsync}
 use Rattle.assise_names.specs.declared.durability.Durability.{Durability}
@@ -36,7 +35,7 @@ use Rattle.assise_machine_calls.specs.declared.sync.SyncCall.{SyncCall}
 use Rattle.assise_machine_calls.specs.declared.sync.SyncCall.TheVariants.{Fsync as OfFsync, Dsync as OfDsync}
 use Rattle.assise_machine_calls.specs.SyncCalls.{op_of}
 use Rattle.assise_machine_state.specs.Changes.{after_call, after_goal, goal_of}
-use Rattle.assise_machine_state.specs.ClientValues.{ClientValue, client_in, client_seen, cut_of, no_client, with_call, with_client, with_goal}
+use Rattle.assise_machine_state.specs.ClientValues.{ClientValue, client_in, cut_of, with_call, with_client, with_goal}
 use Rattle.assise_machine_state.specs.NodeValues.{hot_capacities, region_in, with_call_in}
 use Rattle.assise_machine_state.specs.Observed.{observed, own_node, world_of}
 use Rattle.assise_machine_state.specs.Places.{IsNumber}
@@ -47,7 +46,7 @@ use Rattle.assise_machine_state.proofs.Fullness.{lives_number}
 use Rattle.assise_machine_state.proofs.Noted.{call_noted, goal_noted}
 use Rattle.assise_machine_state.proofs.OwnLogs.{own_end}
 use Rattle.assise_machine_state.proofs.GoalObserved.{goal_raised, goal_shaped}
-use Rattle.assise_machine_state.proofs.ItemSeen.{client_is, client_same}
+use Rattle.assise_machine_state.proofs.ItemSeen.{client_here, client_same, length-with}
 use Rattle.assise_machine_state.proofs.ShapedClients.{areas_stay}
 
 -- ---- the client
@@ -59,7 +58,7 @@ fine_number s c fine = lives_number s c (client_runs (observed s) c fine).0
 -- how it was opened is what its value says
 pub durability_known : (s : StateValue) (c : ℕ) (u : Durability) → ShapeInvariant s → client_fault (observed s) c ≡ None → u ≡ (client_in s.clients c).durability → u ≡ durability_of c (observed s).history
 unfolding observed
-durability_known s c u shape fine is = is ∙ ap (λ y. y.durability) (sym (client_is s.clients c (fine_number s c fine))) ∙ shape.durabilities c
+durability_known s c u shape fine is = is ∙ shape.durabilities c
 
 -- ---- a call more of a client
 
@@ -93,7 +92,7 @@ module _ (s : StateValue) (x : NumberedCall) (sync : SyncsSome x.op) where
 
   changed_by : Step → StateValue
   changed_by t = record s {
-    nodes = with_call_in s.nodes (client_seen s.clients x.client).home x.client x.number t.effects;
+    nodes = with_call_in s.nodes (client_in s.clients x.client).home x.client x.number t.effects;
     clients = with_client s.clients x.client (with_call (list_any (makes x.fresh) t.effects) (client_in s.clients x.client));
     history = s.history ++ calls (plain_call x) ∷ [];
   }
@@ -273,13 +272,13 @@ all_received s c acked place received is all = omega (arith, received, is, all, 
 module _ (s : StateValue) (c : ℕ) (fine : client_fault (observed s) c ≡ None) where
   -- its counts have room for a call more
   module _ (holds : ∥ MachineInvariant (observed s) ∥₁) (x : ClientValue) where
-    pub next_fits : x.next ≡ (client_seen s.clients c).next → length s.history < 9223372036854775808 → x.next + 1 < 18446744073709551616
+    pub next_fits : x.next ≡ (client_in s.clients c).next → length s.history < 9223372036854775808 → x.next + 1 < 18446744073709551616
     unfolding world_of
     next_fits same few =
         let now : x.next ≡ (world_of s).next c = same in
         omega (arith, few, now, next_low s c holds)
 
-    pub made_fits : x.made ≡ (client_seen s.clients c).made → x.made + 1 < 18446744073709551616
+    pub made_fits : x.made ≡ (client_in s.clients c).made → x.made + 1 < 18446744073709551616
     unfolding world_of
     made_fits same =
         let now : x.made ≡ (world_of s).made c = same in
@@ -288,7 +287,7 @@ module _ (s : StateValue) (c : ℕ) (fine : client_fault (observed s) c ≡ None
   -- its next call
   pub numbered : (number : ℕ) → number ≡ (client_in s.clients c).next → number ≡ (world_of s).next c
   unfolding world_of
-  numbered number is = is ∙ ap (λ y. y.next) (sym (client_is s.clients c (fine_number s c fine)))
+  numbered number is = is
 
 module _ (s : StateValue) (c : ℕ) (op : Op) (place : ℕ) (cs : List ClientValue) (shape : ShapeInvariant s) (fine : client_fault (observed s) c ≡ None) (holds : ∥ MachineInvariant (observed s) ∥₁)
     (is : cs ≡ with_client s.clients c (with_goal place (client_in s.clients c))) where
@@ -296,15 +295,10 @@ module _ (s : StateValue) (c : ℕ) (op : Op) (place : ℕ) (cs : List ClientVal
   pub still_number : IsNumber cs c
   still_number =
       let before : IsNumber s.clients c = fine_number s c fine in
-      record { some = before.some; there = subst (λ k. c ≤ k) (sym (ap length is ∙ length-set s.clients (c - 1) (with_goal place (client_in s.clients c)))) before.there }
+      record { some = before.some; there = subst (λ k. c ≤ k) (sym (ap length is ∙ length-with s.clients c (with_goal place (client_in s.clients c)))) before.there }
 
-  pub client_now : client_in cs c ≡ with_goal place (client_seen s.clients c)
-  client_now =
-      let before : IsNumber s.clients c = fine_number s c fine in
-      let low : c - 1 < length s.clients = omega (arith, before.some, before.there) in
-      ap (λ xs. client_in xs c) is
-      ∙ get_or-set_same s.clients (c - 1) (with_goal place (client_in s.clients c)) no_client low
-      ∙ ap (with_goal place) (sym (client_is s.clients c before))
+  pub client_now : client_in cs c ≡ with_goal place (client_in s.clients c)
+  client_now = ap (λ xs. client_in xs c) is ∙ client_here s.clients c (with_goal place (client_in s.clients c)) (fine_number s c fine)
 
   module _ (same : place ≡ end_of_log (world_of s) c) (sync : SyncsSome op) where
     raised_clients : cs ≡ (after_goal s c (end_of_log (world_of s) c)).clients

@@ -7,13 +7,13 @@ use Rattle.assise_lease_tree.specs.TwoLevels.{IsIdle}
 use Rattle.assise_model_world.specs.World.{Full, digested_by_all}
 use Rattle.assise_model_events.specs.NodeEvents.{Freed, Frees, Gone, LetsGo, leases_after, leases_freed, world_after}
 use Rattle.assise_machine_state.specs.Changes.{after_leases, after_letting_go}
-use Rattle.assise_machine_state.specs.ClientValues.{client_seen, cut_once_asked}
+use Rattle.assise_machine_state.specs.ClientValues.{client_in, cut_once_asked}
 use Rattle.assise_machine_state.specs.Observed.{world_of}
 use Rattle.assise_machine_state.specs.StateValues.{StateValue, leases_of}
 
 -- all full nodes have digested what lies before the cut of the client that answered
 abbrev pub is_ripe : StateValue → Asked → Bool
-is_ripe s a = nat_le (cut_once_asked (client_seen s.clients a.client) a.cut) (digested_by_all (world_of s) a.client)
+is_ripe s a = nat_le (cut_once_asked (client_in s.clients a.client) a.cut) (digested_by_all (world_of s) a.client)
 
 abbrev pub is_early : StateValue → Asked → Bool
 is_early s a = not (is_ripe s a)

@@ -4,32 +4,26 @@ use Rattle.std.proofs.lemmas.Bool.{cases_Bool, ne_eqb}
 use Rattle.std.proofs.lemmas.List.{length-map}
 use Rattle.assise_digest.specs.Region.{HasClient, RegionValue, log_of, no_log, up_to_number}
 use Rattle.assise_machine_state.specs.Changes.{with_clients_cut, with_clients_failed}
-use Rattle.assise_machine_state.specs.ClientValues.{ClientValue, client_in, client_seen, failed_at, with_client}
-use Rattle.assise_machine_state.specs.NodeValues.{AreUndigested, HasLog, IsUndigestedFrom, changed_in, log_in, log_seen, no_region, region_in, region_seen, with_tails_cut}
+use Rattle.assise_machine_state.specs.ClientValues.{ClientValue, client_in, failed_at, with_client}
+use Rattle.assise_machine_state.specs.NodeValues.{AreUndigested, HasLog, IsUndigestedFrom, changed_in, log_in, log_seen, no_region, region_in, with_tails_cut}
 use Rattle.assise_machine_state.specs.Places.{IsNumber, item_at}
 use Rattle.assise_machine_state.proofs.CutSeen.{count_over}
 use Rattle.assise_machine_state.proofs.LogChanges.{beside_seen, count_seen, log_number}
-use Rattle.assise_machine_state.proofs.ItemSeen.{client_else, client_is, is_seen, less_one}
+use Rattle.assise_machine_state.proofs.ItemSeen.{client_else, is_seen, less_one}
 
 -- ---- a log that a node has
 
 pub seen_in : (rs : List RegionValue) (k c : ℕ) → HasLog rs k c → log_seen rs k c ≡ log_in rs k c
-unfolding log_seen region_seen
-seen_in rs k c has = ap (λ r. item_at no_log r.logs c) (is_seen no_region rs k has.node) ∙ is_seen no_log (region_in rs k).logs c (log_number rs k c has)
-
-pub count_in : (rs : List RegionValue) (k : ℕ) → IsNumber rs k → length (region_seen rs k).logs ≡ length (region_in rs k).logs
-unfolding region_seen
-count_in rs k there = ap (λ r. length r.logs) (is_seen no_region rs k there)
+unfolding log_seen
+seen_in rs k c has = is_seen no_log (region_in rs k).logs c (log_number rs k c has)
 
 each_undigested : (rs : List RegionValue) (c from : ℕ) → ((k : ℕ) → k < length rs → HasClient (slice_index_or rs k no_region) c → IsUndigestedFrom (log_of (slice_index_or rs k no_region) c) from) → AreUndigested rs c from
 each_undigested [] c from each = tt
 each_undigested (r ∷ rs) c from each = (each 0 (omega arith), each_undigested rs c from (λ k low. each (suc k) (omega (arith, low))))
 
 pub all_undigested : (rs : List RegionValue) (c from : ℕ) → ((k : ℕ) → HasLog rs k c → IsUndigestedFrom (log_in rs k c) from) → AreUndigested rs c from
-all_undigested rs c from each =
-    each_undigested rs c from
-    (λ k low. subst (λ j. HasClient (slice_index_or rs j no_region) c → IsUndigestedFrom (log_of (slice_index_or rs j no_region) c) from) (less_one k)
-    (λ has. each (suc k) (record { node = record { some = omega arith; there = omega (arith, low) }; client = has })))
+unfolding region_in item_at
+all_undigested rs c from each = each_undigested rs c from (λ k low has. each (suc k) (record { node = record { some = omega arith; there = omega (arith, low) }; client = has }))
 
 -- ---- what is cut of clients 1 to m leaves the logs of others
 
@@ -40,7 +34,7 @@ module _ (n : ℕ) (cs : List ClientValue) (kept : ℕ → ℕ) (rs : List Regio
   count_then : (m : ℕ) → length (cut m) ≡ length rs
   count_then zero = refl
   count_then (suc m) =
-      elim (cases_Bool ((client_seen cs (suc m)).home == n)) [
+      elim (cases_Bool ((client_in cs (suc m)).home == n)) [
         | inl here ↦ rw here (length-map (cut m) (changed_in (suc m) (λ l. up_to_number l (kept (suc m)))) ∙ count_then m)
         | inr other ↦ rw other (count_then m)
       ]
@@ -48,10 +42,10 @@ module _ (n : ℕ) (cs : List ClientValue) (kept : ℕ → ℕ) (rs : List Regio
   number_then : (m k : ℕ) → IsNumber (cut m) k → IsNumber rs k
   number_then m k there = record { some = there.some; there = subst (λ j. k ≤ j) (count_then m) there.there }
 
-  logs_then : (m k : ℕ) → length (region_seen (cut m) k).logs ≡ length (region_seen rs k).logs
+  logs_then : (m k : ℕ) → length (region_in (cut m) k).logs ≡ length (region_in rs k).logs
   logs_then zero k = refl
   logs_then (suc m) k =
-      elim (cases_Bool ((client_seen cs (suc m)).home == n)) [
+      elim (cases_Bool ((client_in cs (suc m)).home == n)) [
         | inl here ↦ rw here (count_seen (suc m) (λ l. up_to_number l (kept (suc m))) (cut m) k ∙ logs_then m k)
         | inr other ↦ rw other (logs_then m k)
       ]
@@ -59,16 +53,14 @@ module _ (n : ℕ) (cs : List ClientValue) (kept : ℕ → ℕ) (rs : List Regio
   log_then : (m k d : ℕ) → m < d → log_seen (cut m) k d ≡ log_seen rs k d
   log_then zero k d past = refl
   log_then (suc m) k d past =
-      elim (cases_Bool ((client_seen cs (suc m)).home == n)) [
+      elim (cases_Bool ((client_in cs (suc m)).home == n)) [
         | inl here ↦ rw here (beside_seen (suc m) (λ l. up_to_number l (kept (suc m))) (cut m) k d (omega arith) (λ same. absurd (omega (arith, past, same))) ∙ log_then m k d (omega (arith, past)))
         | inr other ↦ rw other (log_then m k d (omega (arith, past)))
       ]
 
   has_then : (m k d : ℕ) → m < d → HasLog (cut m) k d → HasLog rs k d
   has_then m k d past has =
-      let node : IsNumber rs k = number_then m k has.node in
-      let count : length (region_in (cut m) k).logs ≡ length (region_in rs k).logs = sym (count_in (cut m) k has.node) ∙ logs_then m k ∙ count_in rs k node in
-      record { node = node; client = record { some = has.client.some; there = subst (λ j. d ≤ j) count has.client.there } }
+      record { node = number_then m k has.node; client = record { some = has.client.some; there = subst (λ j. d ≤ j) (logs_then m k) has.client.there } }
 
   pub undigested_then : (m d from : ℕ) → m < d → ((k : ℕ) → HasLog rs k d → IsUndigestedFrom (log_in rs k d) from) → (k : ℕ) → HasLog (cut m) k d → IsUndigestedFrom (log_in (cut m) k d) from
   undigested_then m d from past each k has =
@@ -77,14 +69,14 @@ module _ (n : ℕ) (cs : List ClientValue) (kept : ℕ → ℕ) (rs : List Regio
       subst (λ l. IsUndigestedFrom l from) (sym same) (each k had)
 
   -- the next client of the node, and one of another
-  pub next_cut : (last : ℕ) → last ≢ 0 → (client_seen cs last).home ≡ n → with_tails_cut (cut (last - 1)) last (kept last) ≡ cut last
+  pub next_cut : (last : ℕ) → last ≢ 0 → (client_in cs last).home ≡ n → with_tails_cut (cut (last - 1)) last (kept last) ≡ cut last
   next_cut zero some here = absurd (some refl)
   next_cut (suc m) some here =
-      rw (eq-eqb (client_seen cs (suc m)).home n here) (ap (λ j. with_tails_cut (cut j) (suc m) (kept (suc m))) (less_one m))
+      rw (eq-eqb (client_in cs (suc m)).home n here) (ap (λ j. with_tails_cut (cut j) (suc m) (kept (suc m))) (less_one m))
 
-  pub next_stays : (last : ℕ) → last ≢ 0 → (client_seen cs last).home ≢ n → cut (last - 1) ≡ cut last
+  pub next_stays : (last : ℕ) → last ≢ 0 → (client_in cs last).home ≢ n → cut (last - 1) ≡ cut last
   next_stays zero some other = absurd (some refl)
-  next_stays (suc m) some other = rw (ne_eqb (client_seen cs (suc m)).home n other) (ap cut (less_one m))
+  next_stays (suc m) some other = rw (ne_eqb (client_in cs (suc m)).home n other) (ap cut (less_one m))
 
 -- ---- and so are the clients
 
@@ -95,10 +87,10 @@ module _ (n : ℕ) (kept : ℕ → ℕ) (cs : List ClientValue) where
   pub number_over : (m d : ℕ) → IsNumber cs d → IsNumber (over m) d
   number_over m d there = record { some = there.some; there = subst (λ j. d ≤ j) (sym (count_over n kept cs m)) there.there }
 
-  client_then : (m d : ℕ) → m < d → d ≤ length cs → client_seen (over m) d ≡ client_seen cs d
+  client_then : (m d : ℕ) → m < d → d ≤ length cs → client_in (over m) d ≡ client_in cs d
   client_then zero d past few = refl
   client_then (suc m) d past few =
-      elim (cases_Bool ((client_seen cs (suc m)).home == n)) [
+      elim (cases_Bool ((client_in cs (suc m)).home == n)) [
         | inl here ↦
             rw here
             (client_else (over m) (suc m) (failed_at (kept (suc m)) (client_in cs (suc m))) (number_over m (suc m) record { some = omega arith; there = omega (arith, past, few) }) d (λ same. absurd (omega (arith, past, same)))
@@ -107,26 +99,25 @@ module _ (n : ℕ) (kept : ℕ → ℕ) (cs : List ClientValue) where
       ]
 
   pub known_then : (m d : ℕ) → m < d → IsNumber cs d → client_in (over m) d ≡ client_in cs d
-  known_then m d past there =
-      sym (client_is (over m) d (number_over m d there)) ∙ client_then m d past there.there ∙ client_is cs d there
+  known_then m d past there = client_then m d past there.there
 
-  pub seen_known : (m d : ℕ) → m < d → IsNumber cs d → (client_in (over m) d).home ≡ (client_seen cs d).home
-  seen_known m d past there = ap (λ x. x.home) (known_then m d past there ∙ sym (client_is cs d there))
+  pub seen_known : (m d : ℕ) → m < d → IsNumber cs d → (client_in (over m) d).home ≡ (client_in cs d).home
+  seen_known m d past there = ap (λ x. x.home) (known_then m d past there)
 
-  pub next_fails : (last : ℕ) → IsNumber cs last → (client_seen cs last).home ≡ n → with_client (over (last - 1)) last (failed_at (kept last) (client_in (over (last - 1)) last)) ≡ over last
+  pub next_fails : (last : ℕ) → IsNumber cs last → (client_in cs last).home ≡ n → with_client (over (last - 1)) last (failed_at (kept last) (client_in (over (last - 1)) last)) ≡ over last
   next_fails zero there here = absurd (omega (arith, there.some))
   next_fails (suc m) there here =
       let same : client_in (over (suc m - 1)) (suc m) ≡ client_in cs (suc m) = known_then (suc m - 1) (suc m) (omega arith) there in
-      rw (eq-eqb (client_seen cs (suc m)).home n here)
+      rw (eq-eqb (client_in cs (suc m)).home n here)
       (λ i. with_client (over (less_one m i)) (suc m) (failed_at (kept (suc m)) (same i)))
 
-  pub next_lives : (last : ℕ) → last ≢ 0 → (client_seen cs last).home ≢ n → over (last - 1) ≡ over last
+  pub next_lives : (last : ℕ) → last ≢ 0 → (client_in cs last).home ≢ n → over (last - 1) ≡ over last
   next_lives zero some other = absurd (some refl)
-  next_lives (suc m) some other = rw (ne_eqb (client_seen cs (suc m)).home n other) (ap over (less_one m))
+  next_lives (suc m) some other = rw (ne_eqb (client_in cs (suc m)).home n other) (ap over (less_one m))
 
   -- the home that is found of it
   pub home_found : (last : ℕ) {home : ℕ} {known : ClientValue} {now : List ClientValue} → IsNumber cs last → now ≡ over (last - 1) →
-      known ≡ client_in now last → home ≡ known.home → home ≡ (client_seen cs last).home
+      known ≡ client_in now last → home ≡ known.home → home ≡ (client_in cs last).home
   home_found last there is got found =
       found ∙ ap (λ x. x.home) got ∙ ap (λ xs. (client_in xs last).home) is ∙ seen_known (last - 1) last (omega (arith, there.some)) there
 

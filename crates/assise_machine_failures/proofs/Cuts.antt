@@ -17,7 +17,7 @@ use Rattle.assise_model_world.specs.Invariant.{WorldInvariant}
 use Rattle.assise_model_world.specs.World.{World, call_at, end_of_log, records_between}
 use Rattle.assise_model_history.specs.Lost.{is_cut, losses_to}
 use Rattle.assise_machine_state.specs.ClientValues.{client_in}
-use Rattle.assise_machine_state.specs.NodeValues.{log_in, log_seen}
+use Rattle.assise_machine_state.specs.NodeValues.{log_in}
 use Rattle.assise_machine_state.specs.Observed.{own_node, own_seen, world_of}
 use Rattle.assise_machine_state.specs.Places.{IsNumber}
 use Rattle.assise_machine_state.specs.Invariant.{ShapeInvariant}
@@ -25,7 +25,7 @@ use Rattle.assise_machine_state.specs.StateValues.{StateValue, standings}
 use Rattle.assise_machine_state.proofs.Fullness.{log_is}
 use Rattle.assise_machine_state.proofs.Kept.{kept_from_first}
 use Rattle.assise_machine_state.proofs.OwnLogs.{own_end, own_log}
-use Rattle.assise_machine_state.proofs.ItemSeen.{client_is, less_one}
+use Rattle.assise_machine_state.proofs.ItemSeen.{less_one}
 use Rattle.assise_machine_failures.specs.Answers.{loss_of}
 use Rattle.assise_machine_failures.specs.Listing.{kept_inodes, kept_to}
 use Rattle.assise_machine_failures.proofs.KeptPlaces.{kept_count, kept_place}
@@ -133,8 +133,7 @@ module _ (s : StateValue) (n c : ℕ) (shape : ShapeInvariant s) (client : IsNum
   own_is : own_seen s c ≡ own
   unfolding own_seen
   own_is =
-      ap (λ x. log_seen s.nodes (own_node (standings s) x) c) (client_is s.clients c client)
-      ∙ log_is s (own_node (standings s) (client_in s.clients c)) c (own_log s c shape client some)
+      log_is s (own_node (standings s) (client_in s.clients c)) c (own_log s c shape client some)
 
   records_is : (world_of s).records c ≡ own.log.records
   unfolding world_of

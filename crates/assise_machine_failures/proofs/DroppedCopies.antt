@@ -1,10 +1,10 @@
 -- Copies of inodes that a node loses: what is left of the state, and what the laws observe of it.
-use Rattle.std.proofs.Common.{◌≡◌, ◌≢◌, ℕ, ◌-◌, ◌<◌, ◌≤◌, Bool, true, false, if◌then◌else◌, List, [], ◌∷◌, get_or, length, Option, Some, None, inl, inr, refl, ap, sym, subst, ◌∙◌, arith, eq-eqb, true≢false}
+use Rattle.std.proofs.Common.{◌≡◌, ◌≢◌, ℕ, ◌≤◌, Bool, true, false, if◌then◌else◌, List, [], ◌∷◌, get_or, length, Option, Some, None, inl, inr, refl, ap, sym, subst, ◌∙◌, arith, eq-eqb, true≢false}
 use Rattle.std.specs.Ordering.{nat_cmp}
 use Rattle.std.specs.FinSet as set
 use Rattle.std.specs.FinSet.{contains-from_list_nat}
 use Rattle.std.proofs.lemmas.Bool.{cases_eq, ne_eqb}
-use Rattle.std.proofs.lemmas.List.{get_or-set_same, get_or_past, length-set}
+use Rattle.std.proofs.lemmas.List.{get_or_past}
 use Rattle.std.proofs.lemmas.Option.{same_Some}
 use Rattle.assise_inode_table.specs.Contents.{Content}
 use Rattle.assise_inode_table.specs.Effects.{contains}
@@ -16,14 +16,16 @@ use Rattle.assise_model_world.specs.Staying.{SameNode}
 use Rattle.assise_model_world.specs.World.{Full, World}
 use Rattle.assise_model_members.specs.Returns.{LosesCopies}
 use Rattle.assise_machine_state.specs.Changes.{after_inode}
-use Rattle.assise_machine_state.specs.NodeValues.{hot_capacities, no_region, region_in, with_region}
+use Rattle.assise_machine_state.specs.NodeValues.{hot_capacities, region_in, with_region}
 use Rattle.assise_machine_state.specs.Observed.{is_full_in, stands_full, world_of}
 use Rattle.assise_machine_state.specs.Places.{IsNumber}
 use Rattle.assise_machine_state.specs.Invariant.{ShapeInvariant}
 use Rattle.assise_machine_state.specs.StateValues.{StateValue, leases_of, standings}
-use Rattle.assise_machine_state.proofs.Fullness.{full_seen, node_number, region_is}
+use Rattle.assise_machine_state.proofs.Fullness.{full_seen, node_number}
 use Rattle.assise_machine_state.proofs.HotCapacities.{region_keeps}
 use Rattle.assise_machine_state.proofs.AwayObserved.{inode_else, inode_here, inode_rests, inode_shaped}
+use Rattle.assise_machine_state.proofs.LogChanges.{region_here}
+use Rattle.assise_machine_state.proofs.ItemSeen.{length-with}
 use Rattle.assise_machine_failures.specs.Copies.{LosesStale, nodes_without, without_copies}
 
 -- ---- one rest after another
@@ -89,13 +91,11 @@ module _ (rs : List RegionValue) (n i : ℕ) (there : IsNumber rs n) where
   changed = with_inode (region_in rs n) i None
 
   pub one_number : IsNumber (with_region rs n changed) n
-  one_number = record { some = there.some; there = subst (λ k. n ≤ k) (sym (length-set rs (n - 1) changed)) there.there }
+  one_number = record { some = there.some; there = subst (λ k. n ≤ k) (sym (length-with rs n changed)) there.there }
 
   -- it has no logs still
   pub one_logless : (region_in rs n).logs ≡ [] → (region_in (with_region rs n changed) n).logs ≡ []
-  one_logless none =
-      let low : n - 1 < length rs = omega (arith, there.some, there.there) in
-      ap (λ r. r.logs) (get_or-set_same rs (n - 1) changed no_region low) ∙ none
+  one_logless none = ap (λ r. r.logs) (region_here rs n changed there) ∙ none
 
 -- where there are no logs, no record touches anything
 pub logless_quiet : (r : RegionValue) (i : ℕ) → r.logs ≡ [] → IsQuiet r i
@@ -106,7 +106,7 @@ logless_quiet r i none k home =
 -- ---- what the laws observe
 
 same_count : (s : StateValue) (n i : ℕ) → length (after_inode s n i None).nodes ≡ length s.nodes
-same_count s n i = length-set s.nodes (n - 1) (with_inode (region_in s.nodes n) i None)
+same_count s n i = length-with s.nodes n (with_inode (region_in s.nodes n) i None)
 
 still_number : (s : StateValue) (n i : ℕ) → IsNumber s.nodes n → IsNumber (after_inode s n i None).nodes n
 still_number s n i there = record { some = there.some; there = subst (λ k. n ≤ k) (sym (same_count s n i)) there.there }
@@ -182,7 +182,7 @@ pub not_full : (s : StateValue) (n : ℕ) → is_full_in (standings s) n ≡ fal
 not_full s n away f = true≢false (sym (full_seen s n f) ∙ away)
 
 pub returning_logless : (s : StateValue) (n : ℕ) → ShapeInvariant s → is_returning (standing_of (standings s) n) ≡ true → (region_in s.nodes n).logs ≡ []
-returning_logless s n shape is = ap (λ r. r.logs) (sym (region_is s n (returning_number s n shape is))) ∙ shape.no_logs n (returning_away s n is)
+returning_logless s n shape is = shape.no_logs n (returning_away s n is)
 
 pub loses : (s : StateValue) (n : ℕ) (inodes : List ℕ) (rs : List RegionValue) → stale_of (standing_of (standings s) n) ≡ Some (set.from_list inodes) → rs ≡ nodes_without s.nodes n inodes →
     LosesStale s n (record s { nodes = rs })

@@ -20,7 +20,6 @@ use Rattle.assise_machine_state.specs.StateValues.{StateValue, standings}
 use Rattle.assise_machine_state.proofs.Fullness.{full_is, has_log, log_is}
 use Rattle.assise_machine_state.proofs.Kept.{kept_elsewhere}
 use Rattle.assise_machine_state.proofs.OwnLogs.{listed_is, one_more, own_end}
-use Rattle.assise_machine_state.proofs.ItemSeen.{client_is}
 use Rattle.assise_machine_failures.specs.Listing.{kept_to}
 
 -- ---- the others of a list
@@ -77,11 +76,11 @@ module _ (s : StateValue) (n c : ℕ) (shape : ShapeInvariant s) (client : IsNum
 
   home_seen : (world_of s).home c ≡ (client_in s.clients c).home
   unfolding world_of
-  home_seen = ap (λ x. x.home) (client_is s.clients c client)
+  home_seen = refl
 
   lives_seen : (world_of s).lives c ≡ not (client_in s.clients c).failed
   unfolding world_of
-  lives_seen = ap (λ x. not x.failed) (client_is s.clients c client)
+  lives_seen = refl
 
   all_once_over : (world_of s).lives c ≡ false → kept_at_failure (world_of s) n c ≡ end_of_log (world_of s) c
   unfolding kept_at_failure

@@ -17,8 +17,8 @@ use Rattle.assise_manager.specs.Changes.{donor_of}
 use Rattle.assise_manager.specs.Standings.{Standing, standing_of}
 use Rattle.assise_model_world.specs.NodeSteps.{kept_at_failure}
 use Rattle.assise_model_world.specs.World.{World, records_between}
-use Rattle.assise_machine_state.specs.ClientValues.{client_seen}
-use Rattle.assise_machine_state.specs.NodeValues.{log_seen, region_seen}
+use Rattle.assise_machine_state.specs.ClientValues.{client_in}
+use Rattle.assise_machine_state.specs.NodeValues.{log_seen, region_in}
 use Rattle.assise_machine_state.specs.Observed.{is_full_in, own_node, own_seen, world_of}
 use Rattle.assise_machine_state.specs.Places.{IsNumber, item_at}
 use Rattle.assise_machine_state.specs.Invariant.{ShapeInvariant}
@@ -63,14 +63,14 @@ unfolding log_seen
 no_log_seen s m c shape other =
     elim (cases_Bool (is_full_in (standings s) m)) [
       | inl f ↦
-          let all : length (region_seen s.nodes m).logs ≡ length s.clients = shape.logs m f in
-          not_seen no_log (region_seen s.nodes m).logs c (λ is. other record { some = is.some; there = subst (λ k. c ≤ k) all is.there })
+          let all : length (region_in s.nodes m).logs ≡ length s.clients = shape.logs m f in
+          not_seen no_log (region_in s.nodes m).logs c (λ is. other record { some = is.some; there = subst (λ k. c ≤ k) all is.there })
       | inr away ↦ no_log_there s m c shape away
     ]
 
 no_records : (s : StateValue) (c : ℕ) → ShapeInvariant s → (IsNumber s.clients c → ⊥) → (world_of s).records c ≡ []
 unfolding world_of own_seen
-no_records s c shape other = ap (λ l. l.log.records) (no_log_seen s (own_node (standings s) (client_seen s.clients c)) c shape other)
+no_records s c shape other = ap (λ l. l.log.records) (no_log_seen s (own_node (standings s) (client_in s.clients c)) c shape other)
 
 abbrev no_record : List LogRecord
 no_record = []

@@ -9,7 +9,7 @@ use Rattle.std.proofs.lemmas.Bool.{cases_eq}
 use Rattle.std.proofs.lemmas.Option.{none-some, same_Some}
 use Rattle.assise_names.specs.declared.refusal.Refusal.{Refusal}
 use Rattle.assise_names.specs.declared.refusal.Refusal.TheVariants.{OutOfMemory}
-use Rattle.assise_inode_table.specs.Contents.{Content, values}
+use Rattle.assise_inode_table.specs.Contents.{Content}
 use Rattle.assise_digest.specs.Region.{RegionValue, with_inode}
 use Rattle.assise_manager.specs.Changes.{IsLowest, IsLowestOf, with_copied as copied_by, copied_as, donor_of, filling_fault, filling_fault_of, stale_of}
 use Rattle.assise_manager.specs.Membership.{IsMembership, Membership}
@@ -28,7 +28,7 @@ use Rattle.assise_machine_state.specs.Invariant.{CutsInvariant, ShapeInvariant}
 use Rattle.assise_machine_state.specs.StateValues.{StateValue, leases_of, standings}
 use Rattle.assise_machine_state.specs.Whole.{value_of}
 use Rattle.assise_machine_state.specs.declared.sound.SoundOf.{SoundOf}
-use Rattle.assise_machine_state.proofs.Fullness.{node_number, region_is}
+use Rattle.assise_machine_state.proofs.Fullness.{node_number}
 use Rattle.assise_machine_state.proofs.AwayObserved.{inode_else, inode_here, inode_rests, inode_shaped, members_areas, members_rest, members_shaped}
 use Rattle.assise_machine_state.proofs.HotCapacities.{region_keeps}
 use Rattle.assise_machine_state.proofs.Standings.{full_as, same_count}
@@ -95,7 +95,7 @@ module _ {s : StateValue} {n d : ℕ} (fills : IsFilledFrom s n d) where
   filled_away = full_as (standings s) n (returning since d stale) filled_from
 
   pub filled_logless : (region_in s.nodes n).logs ≡ []
-  filled_logless = ap (λ r. r.logs) (sym (region_is s n filled_number)) ∙ fills.shape.no_logs n filled_away
+  filled_logless = fills.shape.no_logs n filled_away
 
   pub filled_fine : filling_fault s.members n ≡ None
   filled_fine = ap filling_fault_of filled_from
@@ -173,7 +173,7 @@ module _ {s : StateValue} {n d : ℕ} {rs : List RegionValue} {m : Membership} (
 
   value_seen : v ≡ (world_of s).area d i
   unfolding world_of
-  value_seen = c.copied ∙ ap (λ r. values r.inodes i) (sym (region_is s d (donor_number c.fills)))
+  value_seen = c.copied
 
   node_refills : Refills (world_of s) s.members n i (world_of u) m
   node_refills = record {

@@ -20,8 +20,8 @@ use Rattle.assise_model_world.proofs.FailureKeeps.{kept_low}
 use Rattle.assise_model_history.specs.Lost.{losses_of}
 use Rattle.assise_model_events.specs.Machine.{MachineInvariant}
 use Rattle.assise_machine_state.specs.Changes.{after_failure, with_clients_cut, with_clients_failed}
-use Rattle.assise_machine_state.specs.ClientValues.{ClientValue, client_in, client_seen, failed_at, with_client}
-use Rattle.assise_machine_state.specs.NodeValues.{HasLog, IsUndigestedFrom, log_in, log_seen, region_in, region_seen, with_tails_cut, without_logs}
+use Rattle.assise_machine_state.specs.ClientValues.{ClientValue, client_in, failed_at, with_client}
+use Rattle.assise_machine_state.specs.NodeValues.{HasLog, IsUndigestedFrom, log_in, log_seen, region_in, with_tails_cut, without_logs}
 use Rattle.assise_machine_state.specs.Observed.{is_full_in, observed, world_of}
 use Rattle.assise_machine_state.specs.Places.{IsNumber}
 use Rattle.assise_machine_state.specs.Invariant.{ShapeInvariant}
@@ -30,7 +30,7 @@ use Rattle.assise_machine_state.proofs.Fullness.{node_number, seen_full}
 use Rattle.assise_machine_state.proofs.LogChanges.{log_away, region_else, region_here}
 use Rattle.assise_machine_state.proofs.ItemSeen.{less_one}
 use Rattle.assise_machine_failures.specs.Listing.{kept_in, kept_to}
-use Rattle.assise_machine_failures.proofs.CutOff.{count_in, seen_in}
+use Rattle.assise_machine_failures.proofs.CutOff.{seen_in}
 use Rattle.assise_machine_failures.proofs.KeptPlaces.{kept_place}
 
 -- ---- numbers
@@ -58,7 +58,7 @@ same_cuts n cs f g zero rs same = refl
 same_cuts n cs f g (suc m) rs same =
     let rest : with_clients_cut n cs f m rs ≡ with_clients_cut n cs g m rs = same_cuts n cs f g m rs (λ c some low. same c some (omega (arith, low))) in
     let last : f (suc m) ≡ g (suc m) = same (suc m) (omega arith) (omega arith) in
-    elim (cases_Bool ((client_seen cs (suc m)).home == n)) [
+    elim (cases_Bool ((client_in cs (suc m)).home == n)) [
       | inl here ↦ rw here (λ i. with_tails_cut (rest i) (suc m) (last i))
       | inr other ↦ rw other rest
     ]
@@ -68,7 +68,7 @@ same_ends n f g zero cs same = refl
 same_ends n f g (suc m) cs same =
     let rest : with_clients_failed n f m cs ≡ with_clients_failed n g m cs = same_ends n f g m cs (λ c some low. same c some (omega (arith, low))) in
     let last : f (suc m) ≡ g (suc m) = same (suc m) (omega arith) (omega arith) in
-    elim (cases_Bool ((client_seen cs (suc m)).home == n)) [
+    elim (cases_Bool ((client_in cs (suc m)).home == n)) [
       | inl here ↦ rw here (λ i. with_client (rest i) (suc m) (failed_at (last i) (client_in cs (suc m))))
       | inr other ↦ rw other rest
     ]
@@ -85,9 +85,9 @@ module _ (s : StateValue) (n : ℕ) (shape : ShapeInvariant s) (stands : standin
   -- the failed node has no log
   other_node : (k c : ℕ) → HasLog (without_logs s.nodes n) k c → k ≢ n
   other_node k c has same =
-      let none : length (region_seen (without_logs s.nodes n) n).logs ≡ 0 = ap (λ r. length r.logs) (region_here s.nodes n (record (region_in s.nodes n) { logs = [] }) number) in
-      let had : c ≤ length (region_seen (without_logs s.nodes n) n).logs =
-      subst (λ j. c ≤ length (region_seen (without_logs s.nodes n) j).logs) same (subst (λ j. c ≤ j) (sym (count_in (without_logs s.nodes n) k has.node)) has.client.there) in
+      let none : length (region_in (without_logs s.nodes n) n).logs ≡ 0 = ap (λ r. length r.logs) (region_here s.nodes n (record (region_in s.nodes n) { logs = [] }) number) in
+      let had : c ≤ length (region_in (without_logs s.nodes n) n).logs =
+      subst (λ j. c ≤ length (region_in (without_logs s.nodes n) j).logs) same has.client.there in
       absurd (omega (arith, none, had, has.client.some))
 
   is_full_there : (k c : ℕ) → HasLog (without_logs s.nodes n) k c → is_full_in (standings s) k ≡ true
@@ -96,10 +96,9 @@ module _ (s : StateValue) (n : ℕ) (shape : ShapeInvariant s) (stands : standin
         | inl f ↦ f
         | inr away ↦
             let differs : k ≢ n = other_node k c has in
-            let same : length (region_seen (without_logs s.nodes n) k).logs ≡ length (region_seen s.nodes k).logs = ap (λ r. length r.logs) (region_else s.nodes n (record (region_in s.nodes n) { logs = [] }) number k differs) in
-            let none : length (region_seen s.nodes k).logs ≡ 0 = ap length (shape.no_logs k away) in
-            let count = count_in (without_logs s.nodes n) k has.node in
-            absurd (omega (arith, same, none, count, has.client.some, has.client.there))
+            let same : length (region_in (without_logs s.nodes n) k).logs ≡ length (region_in s.nodes k).logs = ap (λ r. length r.logs) (region_else s.nodes n (record (region_in s.nodes n) { logs = [] }) number k differs) in
+            let none : length (region_in s.nodes k).logs ≡ 0 = ap length (shape.no_logs k away) in
+            absurd (omega (arith, same, none, has.client.some, has.client.there))
       ]
 
   digested_low : (k c : ℕ) → is_full_in (standings s) k ≡ true → (world_of s).digested k c ≤ kept_at_failure (world_of s) n c
@@ -108,18 +107,18 @@ module _ (s : StateValue) (n : ℕ) (shape : ShapeInvariant s) (stands : standin
       let low : received_by_all (world_of s) c ≤ kept_at_failure (world_of s) n c = kept_low (world_of s) n c in
       omega (arith, acked, low)
 
-  pub undigested : (ks : List ℕ) → ks ≡ kept_to (world_of s) n (length s.clients) → (k c : ℕ) → IsNumber s.clients c → (client_seen s.clients c).home ≡ n → HasLog (without_logs s.nodes n) k c →
+  pub undigested : (ks : List ℕ) → ks ≡ kept_to (world_of s) n (length s.clients) → (k c : ℕ) → IsNumber s.clients c → (client_in s.clients c).home ≡ n → HasLog (without_logs s.nodes n) k c →
       IsUndigestedFrom (log_in (without_logs s.nodes n) k c) (kept_in ks c)
   unfolding world_of
   undigested ks is k c client home has =
       let differs : k ≢ n = other_node k c has in
       let same : log_in (without_logs s.nodes n) k c ≡ log_seen s.nodes k c =
       sym (seen_in (without_logs s.nodes n) k c has) ∙ log_away s.nodes n (record (region_in s.nodes n) { logs = [] }) number k c differs in
-      let elsewhere : (k == (client_seen s.clients c).home) ≡ false = ne_eqb k (client_seen s.clients c).home (λ e. differs (e ∙ home)) in
+      let elsewhere : (k == (client_in s.clients c).home) ≡ false = ne_eqb k (client_in s.clients c).home (λ e. differs (e ∙ home)) in
       let low : (log_seen s.nodes k c).digested ≤ kept_at_failure (world_of s) n c = digested_low k c (is_full_there k c has) in
       let place : kept_in ks c ≡ kept_at_failure (world_of s) n c = place_in (world_of s) n (length s.clients) c ks is client.some client.there in
       record {
-        elsewhere = ap (λ l. l.at_home) same ∙ shape.at_home k c ∙ ap (λ b. b && not (client_seen s.clients c).failed) elsewhere;
+        elsewhere = ap (λ l. l.at_home) same ∙ shape.at_home k c ∙ ap (λ b. b && not (client_in s.clients c).failed) elsewhere;
         digested = (let digest : (log_in (without_logs s.nodes n) k c).digested ≡ (log_seen s.nodes k c).digested = ap (λ l. l.digested) same in omega (arith, digest, low, place));
       }
 

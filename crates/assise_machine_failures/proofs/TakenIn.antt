@@ -1,12 +1,11 @@
 -- A node that came back is full again, as the laws have it.
-use Rattle.std.proofs.Common.{◌≡◌, ◌≢◌, ℕ, suc, ◌+◌, ◌-◌, ◌<◌, ◌≤◌, false, true, List, [], ◌∷◌, ◌++◌, length, set as put_at, Option, Some, None, inl, inr, refl, ap, sym, subst, ◌∙◌, arith, eq-eqb, is_some, true≢false}
+use Rattle.std.proofs.Common.{◌≡◌, ◌≢◌, ℕ, suc, ◌+◌, ◌<◌, ◌≤◌, false, true, List, [], ◌∷◌, ◌++◌, length, Option, Some, None, inl, inr, refl, ap, sym, subst, ◌∙◌, arith, eq-eqb, is_some, true≢false}
 use Rattle.std.specs.Ordering.{nat_cmp}
 use Rattle.std.specs.FinSet as set
 use Rattle.std.specs.FinSet.{contains-empty, empty_of_len, len-empty}
 use Rattle.std.proofs.Math.Bridge.{le_prop}
 use Rattle.std.proofs.Math.Logic.{∥∥₁_elim, ∥∥₁_map}
 use Rattle.std.proofs.lemmas.Bool.{ne_eqb}
-use Rattle.std.proofs.lemmas.List.{get_or-set_same, length-set, set-get_or, set-set}
 use Rattle.std.proofs.lemmas.Option.{none-some}
 use Rattle.assise_names.specs.declared.refusal.Refusal.{Refusal}
 use Rattle.assise_names.specs.declared.refusal.Refusal.TheVariants.{Busy, OutOfMemory}
@@ -21,13 +20,15 @@ use Rattle.assise_model_events.specs.MemberEvents.{IsJoined, Joining}
 use Rattle.assise_model_events.specs.MemberEvents.Joining.{is_joined, is_refused, lacks_memory}
 use Rattle.assise_model_members.specs.Returns.{Rejoins}
 use Rattle.assise_machine_state.specs.Changes.{after_join}
-use Rattle.assise_machine_state.specs.NodeValues.{no_region, region_in, with_logs_of, without_logs}
+use Rattle.assise_machine_state.specs.NodeValues.{region_in, with_logs_of, with_region, without_logs}
 use Rattle.assise_machine_state.specs.Observed.{observed, world_of}
 use Rattle.assise_machine_state.specs.Places.{IsNumber}
 use Rattle.assise_machine_state.specs.Invariant.{CutsInvariant, ShapeInvariant}
 use Rattle.assise_machine_state.specs.StateValues.{StateValue, leases_of, standings}
 use Rattle.assise_machine_state.proofs.HotCapacities.{region_keeps}
 use Rattle.assise_machine_state.proofs.JoinObserved.{join_shaped, node_rejoins}
+use Rattle.assise_machine_state.proofs.LogChanges.{region_back, region_here}
+use Rattle.assise_machine_state.proofs.ItemSeen.{length-with, with-with}
 use Rattle.assise_machine_failures.proofs.RefillHappens.{IsFilledFrom, filled_from, filled_stands}
 use Rattle.assise_machine_failures.proofs.RefusedFailures.{IsFaultOr}
 use Rattle.assise_machine_failures.proofs.Settled.{settled}
@@ -41,17 +42,16 @@ same_all s nodes members history = (λ i. record s { nodes = nodes i; members = 
 -- logs that a node got go again
 logs_gone : (rs : List RegionValue) (n d : ℕ) → IsNumber rs n → (region_in rs n).logs ≡ [] → without_logs (with_logs_of rs n d) n ≡ rs
 logs_gone rs n d there none =
-    let low : n - 1 < length rs = omega (arith, there.some, there.there) in
     let filled : RegionValue = region_in (with_logs_of rs n d) n in
-    let same : without_clients filled ≡ without_clients (region_in rs n) = ap without_clients (get_or-set_same rs (n - 1) _ no_region low) in
+    let same : without_clients filled ≡ without_clients (region_in rs n) = ap without_clients (region_here rs n _ there) in
     let back : without_clients filled ≡ region_in rs n = same ∙ (λ i. record (region_in rs n) { logs = sym none i }) in
-    set-set rs (n - 1) _ _ ∙ ap (put_at rs (n - 1)) back ∙ set-get_or rs (n - 1) no_region
+    with-with rs n _ _ ∙ ap (with_region rs n) back ∙ region_back rs n
 
 pub logs_back : (rs ls ms : List RegionValue) (n d : ℕ) → IsNumber rs n → (region_in rs n).logs ≡ [] → ls ≡ with_logs_of rs n d → ms ≡ without_logs ls n → ms ≡ rs
 logs_back rs ls ms n d there none got gone = gone ∙ ap (λ xs. without_logs xs n) got ∙ logs_gone rs n d there none
 
 pub got_number : (rs ls : List RegionValue) (n d : ℕ) → IsNumber rs n → ls ≡ with_logs_of rs n d → IsNumber ls n
-got_number rs ls n d there got = record { some = there.some; there = subst (λ k. n ≤ k) (sym (ap length got ∙ length-set rs (n - 1) _)) there.there }
+got_number rs ls n d there got = record { some = there.some; there = subst (λ k. n ≤ k) (sym (ap length got ∙ length-with rs n _)) there.there }
 
 -- ---- the epoch fits
 

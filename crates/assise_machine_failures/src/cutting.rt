@@ -1,7 +1,7 @@
 //! The logs of a failed node's clients end where they are kept.
 ghost use Rattle.std.specs.Prelude.{◌≡◌, ◌≤◌, length, ℕ};
 ghost use Rattle.assise_machine_state.specs.Changes.{with_clients_cut, with_clients_failed};
-ghost use Rattle.assise_machine_state.specs.ClientValues.{client_seen};
+ghost use Rattle.assise_machine_state.specs.ClientValues.{client_in};
 ghost use Rattle.assise_machine_state.specs.NodeValues.{HasLog, IsUndigestedFrom, log_in};
 ghost use Rattle.assise_machine_failures.specs.Listing.{kept_in};
 
@@ -13,7 +13,7 @@ use assise_machine_state::nodes::Nodes;
 pub(crate) fn cut_to(nodes: &mut Nodes, clients: &mut Clients, node: u32, kept: &[u64], last: u32)
     requires kept { length kept.now ≡ length clients.old }
     requires last { last ≤ length clients.old }
-    requires undigested { (n c : ℕ) → (client_seen clients.old c).home ≡ node →
+    requires undigested { (n c : ℕ) → (client_in clients.old c).home ≡ node →
         HasLog nodes.old n c → IsUndigestedFrom (log_in nodes.old n c) (kept_in kept.now c) }
     ensures nodes { nodes.new ≡ with_clients_cut node clients.old
         (kept_in kept.now) last nodes.old }

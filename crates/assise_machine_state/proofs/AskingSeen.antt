@@ -3,7 +3,6 @@ use Rattle.std.proofs.Common.{◌≡◌, ◌≢◌, inl, inr, ℕ, zero, suc, �
 use Rattle.std.specs.List.{list_all, list_any}
 use Rattle.std.proofs.Math.Bool.{and-true, or-false}
 use Rattle.std.proofs.lemmas.Bool.{and_from, and_parts, and_right, cases_Bool, cases_eq, eqb-true, false_from_ne_true, ne_eqb, not-true, or_parts}
-use Rattle.std.proofs.lemmas.List.{length-set}
 use Rattle.std.proofs.lemmas.List.Folds.{list_any-append}
 use Rattle.assise_names.specs.declared.mode.Mode.{Mode}
 use Rattle.assise_record.specs.declared.effect.Effect.{Effect}
@@ -29,7 +28,7 @@ use Rattle.assise_model_leases.specs.Handing.{Asks, asked_goal, is_newly_revoked
 use Rattle.assise_model_leases.specs.Leases.{AreLeases, CoversFrom, IsRevokedLease, Leases, client_lease, is_held, is_written, client_records_from}
 use Rattle.assise_model_leases.proofs.LookUps.{revoke_of, revoked_held, revoked_one, held_one, still_revoked, written_one}
 use Rattle.assise_machine_state.specs.Changes.{after_asking, with_goals}
-use Rattle.assise_machine_state.specs.ClientValues.{ClientValue, client_in, client_seen, is_over, with_client, with_goal}
+use Rattle.assise_machine_state.specs.ClientValues.{ClientValue, client_in, is_over, with_client, with_goal}
 use Rattle.assise_lease_table.specs.Cuts.{are_once, cut_in, is_asked, is_of}
 use Rattle.assise_machine_state.specs.Observed.{own_seen, world_of}
 use Rattle.assise_machine_state.specs.Places.{IsNumber}
@@ -37,7 +36,7 @@ use Rattle.assise_machine_state.specs.Invariant.{AreAnswers, CutsInvariant, Shap
 use Rattle.assise_machine_state.specs.StateValues.{StateValue, leases_of}
 use Rattle.assise_machine_state.proofs.Fullness.{lives_number}
 use Rattle.assise_machine_state.proofs.Noted.{asked_either, cut_before, none_cut, once_both}
-use Rattle.assise_machine_state.proofs.ItemSeen.{client_else, client_here, client_is, client_same}
+use Rattle.assise_machine_state.proofs.ItemSeen.{client_else, client_here, client_same, length-with}
 use Rattle.assise_machine_state.proofs.ShapeKept.{shaped_as, still_marked}
 use Rattle.assise_machine_state.proofs.SameObserved.{node_as}
 
@@ -157,7 +156,7 @@ cut_behind (x ∷ xs) ys d j none =
 
 -- what a raised goal leaves of a client they all leave
 goals_keep : {A : Type 0} (f : ClientValue → A) → ((to : ℕ) (x : ClientValue) → f (with_goal to x) ≡ f x) → (xs : List Asked) (cs : List ClientValue) (d : ℕ) →
-    f (client_seen (with_goals xs cs) d) ≡ f (client_seen cs d)
+    f (client_in (with_goals xs cs) d) ≡ f (client_in cs d)
 goals_keep f same [] cs d = refl
 goals_keep f same (a ∷ xs) cs d =
     goals_keep f same xs (with_client cs a.client (with_goal a.cut (client_in cs a.client))) d
@@ -167,35 +166,35 @@ count_kept : (xs : List Asked) (cs : List ClientValue) → length (with_goals xs
 count_kept [] cs = refl
 count_kept (a ∷ xs) cs =
     count_kept xs (with_client cs a.client (with_goal a.cut (client_in cs a.client)))
-    ∙ length-set cs (a.client - 1) (with_goal a.cut (client_in cs a.client))
+    ∙ length-with cs a.client (with_goal a.cut (client_in cs a.client))
 
 same_number : (cs ds : List ClientValue) (d : ℕ) → length ds ≡ length cs → IsNumber cs d → IsNumber ds d
 same_number cs ds d count there = record { some = there.some; there = subst (λ n. d ≤ n) (sym count) there.there }
 
 -- each is raised to its client's answer, where all are of one inode, and one of each client
 goals_raised : (xs : List Asked) (cs : List ClientValue) (i d : ℕ) → AreAt i xs → AreDistinct (clients_of xs) → ((a : Asked) → Among xs a → IsNumber cs a.client) →
-    (client_seen (with_goals xs cs) d).goal ≡ max (client_seen cs d).goal (cut_in xs d i)
+    (client_in (with_goals xs cs) d).goal ≡ max (client_in cs d).goal (cut_in xs d i)
 goals_raised [] cs i d all distinct there = omega arith
 goals_raised (a ∷ xs) cs i d all distinct there =
     let now : ClientValue = with_goal a.cut (client_in cs a.client) in
     let at : AreAt i xs = λ b in_it. all b (inr in_it) in
     let here : IsNumber cs a.client = there a (inl refl) in
-    let rest : (client_seen (with_goals xs (with_client cs a.client now)) d).goal ≡ max (client_seen (with_client cs a.client now) d).goal (cut_in xs d i) =
+    let rest : (client_in (with_goals xs (with_client cs a.client now)) d).goal ≡ max (client_in (with_client cs a.client now) d).goal (cut_in xs d i) =
     goals_raised xs (with_client cs a.client now) i d at distinct.1
-    (λ b in_it. same_number cs (with_client cs a.client now) b.client (length-set cs (a.client - 1) now) (there b (inr in_it))) in
+    (λ b in_it. same_number cs (with_client cs a.client now) b.client (length-with cs a.client now) (there b (inr in_it))) in
     elim (cases_eq a.client d) [
       | inl is ↦
-          let raised : (client_seen (with_client cs a.client now) d).goal ≡ max (client_seen cs d).goal a.cut =
-          subst (λ e. (client_seen (with_client cs a.client now) e).goal ≡ max (client_seen cs e).goal a.cut) is
-          (ap (λ x. x.goal) (client_here cs a.client now here) ∙ ap (λ x. max x.goal a.cut) (sym (client_is cs a.client here))) in
+          let raised : (client_in (with_client cs a.client now) d).goal ≡ max (client_in cs d).goal a.cut =
+          subst (λ e. (client_in (with_client cs a.client now) e).goal ≡ max (client_in cs e).goal a.cut) is
+          (ap (λ x. x.goal) (client_here cs a.client now here)) in
           let none : cut_in xs d i ≡ 0 = none_cut xs d i (asked_is xs i d at ∙ ap (contains (clients_of xs)) (sym is) ∙ distinct.0) in
           let cut : cut_in (a ∷ xs) d i ≡ a.cut = ap (λ b. if b then a.cut else cut_in xs d i) (of_client a i d (all a (inl refl)) ∙ eq-eqb a.client d is) in
-          rest ∙ ap (max (client_seen (with_client cs a.client now) d).goal) none ∙ rw cut (omega (arith, raised))
+          rest ∙ ap (max (client_in (with_client cs a.client now) d).goal) none ∙ rw cut (omega (arith, raised))
       | inr other ↦
           let cut : cut_in (a ∷ xs) d i ≡ cut_in xs d i = ap (λ b. if b then a.cut else cut_in xs d i) (of_client a i d (all a (inl refl)) ∙ ne_eqb a.client d other) in
           rest
           ∙ ap (λ x. max x.goal (cut_in xs d i)) (client_else cs a.client now here d (λ same. other (sym same)))
-          ∙ sym (ap (max (client_seen cs d).goal) cut)
+          ∙ sym (ap (max (client_in cs d).goal) cut)
     ]
 
 -- ---- what holds of a cut in a client's log holds of it for the laws
@@ -233,7 +232,7 @@ module _ (s : StateValue) (levels : TwoLevels) (asked : List Asked) where
   abbrev after : StateValue
   after = after_asking s levels asked
 
-  stays : {A : Type 0} (f : ClientValue → A) → ((to : ℕ) (x : ClientValue) → f (with_goal to x) ≡ f x) → (d : ℕ) → f (client_seen after.clients d) ≡ f (client_seen s.clients d)
+  stays : {A : Type 0} (f : ClientValue → A) → ((to : ℕ) (x : ClientValue) → f (with_goal to x) ≡ f x) → (d : ℕ) → f (client_in after.clients d) ≡ f (client_in s.clients d)
   stays f same d = goals_keep f same asked s.clients d
 
   own_stays : (d : ℕ) → own_seen after d ≡ own_seen s d
@@ -284,9 +283,9 @@ module _ (s : StateValue) (levels : TwoLevels) (asked : List Asked) where
 -- ---- leases that are asked for
 
 module _ (s : StateValue) (c i : ℕ) (mode : Mode) (levels : TwoLevels) (asked : List Asked) (noted : CutsInvariant s) (leases : AreLeases (world_of s) (leases_of s))
-    (asks : IsAskedFor s.levels levels c (client_seen s.clients c).home i mode) (answers : AreAnswers s c i mode asked) where
+    (asks : IsAskedFor s.levels levels c (client_in s.clients c).home i mode) (answers : AreAnswers s c i mode asked) where
   abbrev way : Lease → Bool
-  way = in_way s.levels.home (s.levels.nodes i) c (client_seen s.clients c).home mode
+  way = in_way s.levels.home (s.levels.nodes i) c (client_in s.clients c).home mode
 
   abbrev l : Leases
   l = leases_of s
@@ -367,12 +366,12 @@ module _ (s : StateValue) (c i : ℕ) (mode : Mode) (levels : TwoLevels) (asked 
         | inr failed ↦ not_both (is_revoked (client_lease l d i)) (leases.failed d i failed (held d h)) (unrevoked d h)
       ]
 
-  runs : (d : ℕ) → is_asked asked d i ≡ true → is_over (client_seen s.clients d) ≡ false
+  runs : (d : ℕ) → is_asked asked d i ≡ true → is_over (client_in s.clients d) ≡ false
   unfolding world_of
   runs d h =
-      let running : (client_seen s.clients d).crashed ≡ false =
-      false_from_ne_true (client_seen s.clients d).crashed (λ crashed. not_both (is_revoked (client_lease l d i)) (leases.crashed d i crashed (held d h)) (unrevoked d h)) in
-      rw running (not-true (client_seen s.clients d).failed (lives d h))
+      let running : (client_in s.clients d).crashed ≡ false =
+      false_from_ne_true (client_in s.clients d).crashed (λ crashed. not_both (is_revoked (client_lease l d i)) (leases.crashed d i crashed (held d h)) (unrevoked d h)) in
+      rw running (not-true (client_in s.clients d).failed (lives d h))
 
   number : (d : ℕ) → is_asked asked d i ≡ true → IsNumber s.clients d
   number d h = lives_number s d (lives d h)
@@ -384,13 +383,13 @@ module _ (s : StateValue) (c i : ℕ) (mode : Mode) (levels : TwoLevels) (asked 
 
   -- ---- cuts
 
-  same_over : (d : ℕ) → is_over (client_seen (with_goals asked s.clients) d) ≡ is_over (client_seen s.clients d)
+  same_over : (d : ℕ) → is_over (client_in (with_goals asked s.clients) d) ≡ is_over (client_in s.clients d)
   same_over = stays s levels asked is_over (λ to x. refl)
 
   cut_now : (d : ℕ) → is_asked asked d i ≡ true → l'.cut d i ≡ cut_in asked d i
   unfolding leases_of
   cut_now d h =
-      ap (λ b. if b then (client_seen (with_goals asked s.clients) d).last_cut else cut_in (s.cuts ++ asked) d i) (same_over d ∙ runs d h)
+      ap (λ b. if b then (client_in (with_goals asked s.clients) d).last_cut else cut_in (s.cuts ++ asked) d i) (same_over d ∙ runs d h)
       ∙ cut_behind s.cuts asked d i (first_answer d h)
 
   cut_stays : (d j : ℕ) → is_asked asked d j ≡ false → l'.cut d j ≡ l.cut d j
@@ -435,7 +434,7 @@ module _ (s : StateValue) (c i : ℕ) (mode : Mode) (levels : TwoLevels) (asked 
     clients = clients_stay s levels asked;
     nodes = nodes_stay s levels asked;
     leases = leases_stay;
-    goals = λ d. goals_raised asked s.clients i d answers.inodes distinct asked_number ∙ ap (max (client_seen s.clients d).goal) (sym (goal_is d));
+    goals = λ d. goals_raised asked s.clients i d answers.inodes distinct asked_number ∙ ap (max (client_in s.clients d).goal) (sym (goal_is d));
   }
 
   pub asking_seen : (world_of s).lives c ≡ true → (world_of s).crashed c ≡ false → is_free_for s.levels c ((world_of s).home c) i mode ≡ false →

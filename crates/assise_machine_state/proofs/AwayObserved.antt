@@ -1,7 +1,6 @@
 -- What the laws observe where only nodes change that aren't full.
-use Rattle.std.proofs.Common.{◌≡◌, ◌≢◌, ℕ, ◌==◌, if◌then◌else◌, length, Option, inl, inr, refl, ap, sym, subst, ◌∙◌, eq-eqb, ◌-◌}
+use Rattle.std.proofs.Common.{◌≡◌, ◌≢◌, ℕ, ◌==◌, if◌then◌else◌, length, Option, inl, inr, refl, ap, sym, subst, ◌∙◌, eq-eqb}
 use Rattle.std.proofs.lemmas.Bool.{cases_eq, ne_eqb}
-use Rattle.std.proofs.lemmas.List.{length-set}
 use Rattle.assise_inode_table.specs.Contents.{Content, values}
 use Rattle.assise_inode_table.proofs.EffectValues.{get-with_value}
 use Rattle.assise_digest.specs.Region.{RegionValue, no_log, with_inode}
@@ -10,17 +9,17 @@ use Rattle.assise_private_log.specs.NumberedLog.{is_border}
 use Rattle.assise_model_world.specs.NodeSteps.{Rests}
 use Rattle.assise_model_world.specs.World.{Full}
 use Rattle.assise_machine_state.specs.Changes.{after_inode, after_members}
-use Rattle.assise_machine_state.specs.ClientValues.{client_seen}
-use Rattle.assise_machine_state.specs.NodeValues.{log_seen, region_in, region_seen}
+use Rattle.assise_machine_state.specs.ClientValues.{client_in}
+use Rattle.assise_machine_state.specs.NodeValues.{log_seen, region_in}
 use Rattle.assise_machine_state.specs.Observed.{is_full_in, own_node, own_seen, world_of}
 use Rattle.assise_machine_state.specs.Places.{IsNumber, item_at}
 use Rattle.assise_machine_state.specs.Invariant.{ShapeInvariant}
 use Rattle.assise_machine_state.specs.StateValues.{StateValue, standings}
-use Rattle.assise_machine_state.proofs.Fullness.{region_is}
 use Rattle.assise_machine_state.proofs.LogChanges.{region_else, region_here, region_kept}
 use Rattle.assise_machine_state.proofs.ShapeKept.{shaped_as, still_marked}
 use Rattle.assise_machine_state.proofs.Standings.{same_full, same_own}
 use Rattle.assise_machine_state.proofs.SameObserved.{clients_as, goals_as, leases_as, logs_as, node_as}
+use Rattle.assise_machine_state.proofs.ItemSeen.{length-with}
 
 -- ---- members of which the same are full
 
@@ -30,7 +29,7 @@ module _ (s : StateValue) (m : Membership) (long : length m.nodes ≡ length (st
 
   own_stays : (c : ℕ) → own_seen u c ≡ own_seen s c
   unfolding own_seen
-  own_stays c = ap (λ n. log_seen s.nodes n c) (same_own m.nodes (standings s) long same (client_seen s.clients c))
+  own_stays c = ap (λ n. log_seen s.nodes n c) (same_own m.nodes (standings s) long same (client_in s.clients c))
 
   pub members_rest : Rests (world_of s) (world_of u)
   unfolding world_of
@@ -74,7 +73,7 @@ module _ (s : StateValue) (n i : ℕ) (v : Option Content) (there : IsNumber s.n
   t = after_inode s n i v
 
   -- logs stay
-  same_logs : (k : ℕ) → (region_seen t.nodes k).logs ≡ (region_seen s.nodes k).logs
+  same_logs : (k : ℕ) → (region_in t.nodes k).logs ≡ (region_in s.nodes k).logs
   same_logs k = region_kept s.nodes n changed (λ r. r.logs) refl k
 
   same_log : (k c : ℕ) → log_seen t.nodes k c ≡ log_seen s.nodes k c
@@ -83,7 +82,7 @@ module _ (s : StateValue) (n i : ℕ) (v : Option Content) (there : IsNumber s.n
 
   own_same : (c : ℕ) → own_seen t c ≡ own_seen s c
   unfolding own_seen
-  own_same c = same_log (own_node (standings s) (client_seen s.clients c)) c
+  own_same c = same_log (own_node (standings s) (client_in s.clients c)) c
 
   -- and so do the inodes of other nodes
   area_else : (k j : ℕ) → k ≢ n → (world_of t).area k j ≡ (world_of s).area k j
@@ -93,9 +92,7 @@ module _ (s : StateValue) (n i : ℕ) (v : Option Content) (there : IsNumber s.n
   area_at : (j : ℕ) → (world_of t).area n j ≡ (if i == j then v else (world_of s).area n j)
   unfolding world_of
   area_at j =
-      ap (λ r. values r.inodes j) (region_here s.nodes n changed there)
-      ∙ get-with_value (region_in s.nodes n).inodes i v j
-      ∙ ap (λ r. if i == j then v else values r.inodes j) (sym (region_is s n there))
+      ap (λ r. values r.inodes j) (region_here s.nodes n changed there) ∙ get-with_value (region_in s.nodes n).inodes i v j
 
   pub inode_here : (world_of t).area n i ≡ v
   inode_here = area_at i ∙ rw (eq-eqb i i refl) refl
@@ -121,7 +118,7 @@ module _ (s : StateValue) (n i : ℕ) (v : Option Content) (there : IsNumber s.n
 
 pub inode_shaped : (s : StateValue) (n i : ℕ) (v : Option Content) → ShapeInvariant s → IsNumber s.nodes n → ShapeInvariant (after_inode s n i v)
 inode_shaped s n i v shape there = shaped_as s (after_inode s n i v) shape record {
-  nodes = length-set s.nodes (n - 1) (with_inode (region_in s.nodes n) i v);
+  nodes = length-with s.nodes n (with_inode (region_in s.nodes n) i v);
   members = refl;
   full = λ k. refl;
   logs = λ k. ap length (same_logs s n i v there k);

@@ -8,14 +8,13 @@ use Rattle.assise_model_world.specs.World.{received_by_all}
 use Rattle.assise_model_world.proofs.FailureKeeps.{contains-filter, filter-contains}
 use Rattle.assise_model_events.specs.Dsyncs.{besides, coalesced_from, full_elsewhere, most_of}
 use Rattle.assise_model_events.proofs.Regroupable.{most-above, most-below}
-use Rattle.assise_machine_state.specs.ClientValues.{client_in, client_seen}
+use Rattle.assise_machine_state.specs.ClientValues.{client_in}
 use Rattle.assise_machine_state.specs.NodeValues.{log_in}
 use Rattle.assise_machine_state.specs.Observed.{full_in, is_full_in, world_of}
 use Rattle.assise_machine_state.specs.Places.{IsNumber}
 use Rattle.assise_machine_state.specs.Invariant.{ShapeInvariant}
 use Rattle.assise_machine_state.specs.StateValues.{StateValue, standings}
 use Rattle.assise_machine_state.proofs.Fullness.{full_is, has_log, log_is}
-use Rattle.assise_machine_state.proofs.ItemSeen.{client_is}
 use Rattle.assise_machine_state.proofs.Standings.{is_listed, listed_is_full}
 
 -- ---- one node after another
@@ -87,15 +86,13 @@ module _ (s : StateValue) (c : ℕ) (shape : ShapeInvariant s) (client : IsNumbe
   most_besides : most_of (besides (client_in s.clients c).home (full_nodes (standings s))) received_in ≡ most_of (full_elsewhere (world_of s) c) (λ n. (world_of s).received n c)
   unfolding world_of
   most_besides =
-      let home : ℕ = (client_seen s.clients c).home in
-      let known = ap (λ x. most_of (besides x.home (full_nodes (standings s))) received_in) (sym (client_is s.clients c client)) in
+      let home : ℕ = (client_in s.clients c).home in
       let low = no_less home (full_nodes (standings s)) (full_in (standings s)) received_in (λ n. (world_of s).received n c) listed_full (λ n listed. sym (received_same n (listed_is_full (standings s) n listed))) in
       let high = no_less home (full_in (standings s)) (full_nodes (standings s)) (λ n. (world_of s).received n c) received_in full_listed (λ n full. received_same n (sym (full_is (standings s) n) ∙ full)) in
-      known ∙ omega (arith, low, high)
+      omega (arith, low, high)
 
   pub coalesced_place : (goal acked most : ℕ) → goal ≡ (client_in s.clients c).goal → acked ≡ received_by_all (world_of s) c →
       most ≡ most_of (besides (client_in s.clients c).home (full_nodes (standings s))) received_in → max (max goal acked) most ≡ coalesced_from (world_of s) c
   unfolding world_of
   coalesced_place goal acked most goal_is acked_is most_is =
-      let seen : (client_in s.clients c).goal ≡ (world_of s).goal c = ap (λ x. x.goal) (sym (client_is s.clients c client)) in
-      omega (arith, goal_is, seen, acked_is, most_is, most_besides)
+      omega (arith, goal_is, acked_is, most_is, most_besides)

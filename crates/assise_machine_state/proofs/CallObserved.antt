@@ -19,8 +19,8 @@ use Rattle.assise_model_members.specs.Returns.{OtherAreasStay}
 use Rattle.assise_model_history.specs.Numbered.{kept_numbered, made_in, numbered_in, plain_call}
 use Rattle.assise_model_history.proofs.NumberedCalls.{kept_call}
 use Rattle.assise_machine_state.specs.Changes.{after_call}
-use Rattle.assise_machine_state.specs.ClientValues.{ClientValue, client_in, client_seen, with_call}
-use Rattle.assise_machine_state.specs.NodeValues.{HasLog, log_in, log_seen, region_in, region_seen, with_call_in}
+use Rattle.assise_machine_state.specs.ClientValues.{ClientValue, client_in, with_call}
+use Rattle.assise_machine_state.specs.NodeValues.{HasLog, log_in, log_seen, region_in, with_call_in}
 use Rattle.assise_machine_state.specs.Observed.{own_node, own_seen, world_of}
 use Rattle.assise_machine_state.specs.Places.{IsNumber}
 use Rattle.assise_machine_state.specs.Invariant.{IsMarked, ShapeInvariant}
@@ -28,7 +28,7 @@ use Rattle.assise_machine_state.specs.StateValues.{StateValue, standings}
 use Rattle.assise_machine_state.proofs.Fullness.{has_log, home_full, lives_number, lives_unfailed, log_is}
 use Rattle.assise_machine_state.proofs.LogChanges.{log_else, log_here, log_same, none_more, region_kept}
 use Rattle.assise_machine_state.proofs.Marks.{called, called_border, marked_as, marked_called, so_many_marks}
-use Rattle.assise_machine_state.proofs.ItemSeen.{client_else, client_here, client_is, client_same}
+use Rattle.assise_machine_state.proofs.ItemSeen.{client_else, client_here, client_same, length-with}
 use Rattle.assise_machine_state.proofs.ShapeKept.{AreMarked, own_marked, shaped_as}
 use Rattle.assise_machine_state.proofs.SameObserved.{leases_as}
 
@@ -61,7 +61,7 @@ module _ (rs : List RegionValue) (n c call : ℕ) (es : List Effect) where
       ]
 
   call_region_kept : {A : Type 0} (f : RegionValue → A) → f (with_log (region_in rs n) c more) ≡ f (region_in rs n) → (m : ℕ) →
-      f (region_seen (with_call_in rs n c call es) m) ≡ f (region_seen rs m)
+      f (region_in (with_call_in rs n c call es) m) ≡ f (region_in rs m)
   call_region_kept f same m =
       elim (cases_Bool (has_some es)) [
         | inl some ↦ rw some (region_kept rs n (with_log (region_in rs n) c more) f same m)
@@ -71,11 +71,11 @@ module _ (rs : List RegionValue) (n c call : ℕ) (es : List Effect) where
   so_many_nodes : length (with_call_in rs n c call es) ≡ length rs
   so_many_nodes =
       elim (cases_Bool (has_some es)) [
-        | inl some ↦ rw some (length-set rs (n - 1) (with_log (region_in rs n) c more))
+        | inl some ↦ rw some (length-with rs n (with_log (region_in rs n) c more))
         | inr none ↦ rw none refl
       ]
 
-  so_many_logs : (m : ℕ) → length (region_seen (with_call_in rs n c call es) m).logs ≡ length (region_seen rs m).logs
+  so_many_logs : (m : ℕ) → length (region_in (with_call_in rs n c call es) m).logs ≡ length (region_in rs m).logs
   so_many_logs = call_region_kept (λ r. length r.logs) (length-set (region_in rs n).logs (c - 1) more)
 
 -- ---- counts
@@ -95,7 +95,7 @@ module _ (s : StateValue) (x : NumberedCall) where
   c = x.client
 
   abbrev home : ℕ
-  home = (client_seen s.clients c).home
+  home = (client_in s.clients c).home
 
   abbrev w : World
   w = world_of s
@@ -126,23 +126,23 @@ module _ (s : StateValue) (x : NumberedCall) where
   kept f same n d = call_log_kept s.nodes home c x.number es f same n d
 
   so_many_clients : length s'.clients ≡ length s.clients
-  so_many_clients = length-set s.clients (c - 1) now
+  so_many_clients = length-with s.clients c now
 
-  stays : {A : Type 0} (f : ClientValue → A) → f now ≡ f (client_in s.clients c) → (d : ℕ) → f (client_seen s'.clients d) ≡ f (client_seen s.clients d)
+  stays : {A : Type 0} (f : ClientValue → A) → f now ≡ f (client_in s.clients c) → (d : ℕ) → f (client_in s'.clients d) ≡ f (client_in s.clients d)
   stays f same = client_same f s.clients c now same
 
   -- each client's own log is where it was
-  own_now : (d : ℕ) → own_seen s' d ≡ log_seen s'.nodes (own_node (standings s) (client_seen s.clients d)) d
+  own_now : (d : ℕ) → own_seen s' d ≡ log_seen s'.nodes (own_node (standings s) (client_in s.clients d)) d
   unfolding own_seen
   own_now d = ap (λ n. log_seen s'.nodes n d) (stays (own_node (standings s)) refl d)
 
   own_kept : {A : Type 0} (f : ReceivedLog → A) → f (with_more (log_in s.nodes home c) (record { call = x.number; effects = es })) ≡ f (log_in s.nodes home c) → (d : ℕ) →
       f (own_seen s' d) ≡ f (own_seen s d)
   unfolding own_seen
-  own_kept f same d = ap f (own_now d) ∙ kept f same (own_node (standings s) (client_seen s.clients d)) d
+  own_kept f same d = ap f (own_now d) ∙ kept f same (own_node (standings s) (client_in s.clients d)) d
 
-  module _ (there : IsNumber s.clients c) (has : HasLog s.nodes home c) (unfailed : (client_seen s.clients c).failed ≡ false) where
-    own_is_home : own_node (standings s) (client_seen s.clients c) ≡ home
+  module _ (there : IsNumber s.clients c) (has : HasLog s.nodes home c) (unfailed : (client_in s.clients c).failed ≡ false) where
+    own_is_home : own_node (standings s) (client_in s.clients c) ≡ home
     own_is_home = rw unfailed refl
 
     home_log : log_seen s'.nodes home c ≡ called x.number es (log_seen s.nodes home c)
@@ -163,7 +163,7 @@ module _ (s : StateValue) (x : NumberedCall) where
 
     own_else : (d : ℕ) → d ≢ c → own_seen s' d ≡ own_seen s d
     unfolding own_seen
-    own_else d other = own_now d ∙ else_log (own_node (standings s) (client_seen s.clients d)) d (λ _ same. other same)
+    own_else d other = own_now d ∙ else_log (own_node (standings s) (client_in s.clients d)) d (λ _ same. other same)
 
     -- ---- its shape
 
@@ -229,7 +229,7 @@ module _ (s : StateValue) (x : NumberedCall) where
     next_now : x.number ≡ w.next c → w'.next c ≡ suc x.number
     unfolding world_of
     next_now number =
-        let before : x.number ≡ (client_in s.clients c).next = number ∙ ap (λ y. y.next) (client_is s.clients c there) in
+        let before : x.number ≡ (client_in s.clients c).next = number in
         let more : (client_in s.clients c).next + 1 ≡ suc x.number = omega (arith, before) in
         ap (λ y. y.next) (client_here s.clients c now there) ∙ more
 
@@ -238,7 +238,6 @@ module _ (s : StateValue) (x : NumberedCall) where
     made_now =
         ap (λ y. y.made) (client_here s.clients c now there)
         ∙ plus_one (call_makes_inode w x) (client_in s.clients c).made
-        ∙ ap (λ k. if call_makes_inode w x then suc k else k) (ap (λ y. y.made) (sym (client_is s.clients c there)))
 
     border_kept : AreMarked s → (d k : ℕ) → k ≤ end_of_log w d → w'.border d k ≡ w.border d k
     unfolding world_of
@@ -290,11 +289,11 @@ module _ (s : StateValue) (x : NumberedCall) where
   pub call_seen : ShapeInvariant s → w.made c ≡ made_in c s.history → w.made c ≤ 1048576 → MayMakeCall w x → MakesCall w x w'
   call_seen shape counted few may =
       let there : IsNumber s.clients c = lives_number s c may.lives in
-      let unfailed : (client_seen s.clients c).failed ≡ false = lives_unfailed s c may.lives in
+      let unfailed : (client_in s.clients c).failed ≡ false = lives_unfailed s c may.lives in
       call_of there (has_log s home c shape (home_full s c shape unfailed) there) unfailed shape counted few may
 
   pub call_shaped : ShapeInvariant s → w.lives c ≡ true → ShapeInvariant s'
   call_shaped shape lives =
       let there : IsNumber s.clients c = lives_number s c lives in
-      let unfailed : (client_seen s.clients c).failed ≡ false = lives_unfailed s c lives in
+      let unfailed : (client_in s.clients c).failed ≡ false = lives_unfailed s c lives in
       shaped there (has_log s home c shape (home_full s c shape unfailed) there) unfailed shape

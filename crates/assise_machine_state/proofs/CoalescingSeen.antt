@@ -3,7 +3,7 @@ use Rattle.std.proofs.Common.{◌≡◌, ◌≢◌, ℕ, ◌+◌, ◌-◌, ◌<�
 use Rattle.std.proofs.Math.Logic.{∥∥₁_elim}
 use Rattle.std.proofs.Props.{props}
 use Rattle.std.proofs.lemmas.Bool.{cases_Bool, cases_eq, ne_eqb}
-use Rattle.std.proofs.lemmas.List.{length-append, length-drop, length-set, length-take}
+use Rattle.std.proofs.lemmas.List.{length-append, length-drop, length-take}
 use Rattle.assise_record.specs.Groups.{AllHaveEffects, all_coalesced, are_whole, groups_of}
 use Rattle.assise_record.specs.LogRecord.{LogRecord}
 use Rattle.assise_record.proofs.GroupMarks.{groups-all, groups-are}
@@ -25,7 +25,7 @@ use Rattle.assise_model_members.specs.Returns.{OtherAreasStay}
 use Rattle.assise_model_events.specs.Dsyncs.{coalesced_from, new_groups}
 use Rattle.assise_model_events.proofs.Regroupable.{between_length, coalesced_elsewhere, coalesced_first, coalesced_high}
 use Rattle.assise_machine_state.specs.Changes.{after_coalescing, after_regrouping, goal_of}
-use Rattle.assise_machine_state.specs.ClientValues.{client_seen}
+use Rattle.assise_machine_state.specs.ClientValues.{client_in}
 use Rattle.assise_machine_state.specs.NodeValues.{HasLog, log_in, log_seen, region_in}
 use Rattle.assise_machine_state.specs.Observed.{is_full_in, own_node, own_seen, world_of}
 use Rattle.assise_machine_state.specs.Places.{IsNumber}
@@ -40,6 +40,7 @@ use Rattle.assise_machine_state.proofs.RegroupedMarks.{regrouped_marked}
 use Rattle.assise_machine_state.proofs.ShapeKept.{AreMarked, own_marked, shaped_as}
 use Rattle.assise_machine_state.proofs.ShapedClients.{areas_stay}
 use Rattle.assise_machine_state.proofs.SameObserved.{leases_as}
+use Rattle.assise_machine_state.proofs.ItemSeen.{length-with}
 
 -- ---- what is observed of a client's log
 
@@ -55,13 +56,13 @@ received_is : (s : StateValue) (n c : ℕ) → (world_of s).received n c ≡ log
 unfolding world_of
 received_is s n c = refl
 
-away_from : (s : StateValue) (c n : ℕ) → n ≢ (client_seen s.clients c).home → n ≢ (world_of s).home c
+away_from : (s : StateValue) (c n : ℕ) → n ≢ (client_in s.clients c).home → n ≢ (world_of s).home c
 unfolding world_of
 away_from s c n away = away
 
 module _ (s : StateValue) (c from : ℕ) where
   abbrev home : ℕ
-  home = (client_seen s.clients c).home
+  home = (client_in s.clients c).home
 
   abbrev w : World
   w = world_of s
@@ -100,7 +101,7 @@ module _ (s : StateValue) (c from : ℕ) where
     there : IsNumber s.clients c
     there = lives_number s c lives
 
-    unfailed : (client_seen s.clients c).failed ≡ false
+    unfailed : (client_in s.clients c).failed ≡ false
     unfailed = lives_unfailed s c lives
 
     has : HasLog s.nodes home c
@@ -112,7 +113,7 @@ module _ (s : StateValue) (c from : ℕ) where
     else_now : (n d : ℕ) → (n ≡ home → d ≡ c → ⊥) → log_seen t.nodes n d ≡ log_seen s.nodes n d
     else_now = log_else s.nodes home c (region_in s.nodes home).inodes new has
 
-    own_is_home : own_node (standings s) (client_seen s.clients c) ≡ home
+    own_is_home : own_node (standings s) (client_in s.clients c) ≡ home
     own_is_home = rw unfailed refl
 
     own_after : own_seen t c ≡ log_seen t.nodes home c
@@ -128,7 +129,7 @@ module _ (s : StateValue) (c from : ℕ) where
 
     own_else : (d : ℕ) → d ≢ c → own_seen t d ≡ own_seen s d
     unfolding own_seen
-    own_else d other = else_now (own_node (standings s) (client_seen s.clients d)) d (λ _ same. other same)
+    own_else d other = else_now (own_node (standings s) (client_in s.clients d)) d (λ _ same. other same)
 
     same_limit : new.log.limit ≡ (log_in s.nodes home c).log.limit
     same_limit = ap (λ m. m.limit) (regrouped_all (log_in s.nodes home c).log from)
@@ -178,7 +179,7 @@ module _ (s : StateValue) (c from : ℕ) where
 
       regrouped_shaped : ShapeInvariant t
       regrouped_shaped = shaped_as s t shape record {
-        nodes = length-set s.nodes (home - 1) _;
+        nodes = length-with s.nodes home _;
         members = refl;
         full = λ n. refl;
         logs = logs_count s.nodes home c (region_in s.nodes home).inodes new;
@@ -356,7 +357,7 @@ module _ (s : StateValue) (c : ℕ) (shape : ShapeInvariant s) (sound : ∥ Worl
   within : start ≤ log_end (own_seen s c).log
   within = omega (arith, start_high, own_ends s c)
 
-  others_end : (n : ℕ) → is_full_in (standings s) n ≡ true → n ≢ (client_seen s.clients c).home → log_end (log_seen s.nodes n c).log ≤ start
+  others_end : (n : ℕ) → is_full_in (standings s) n ≡ true → n ≢ (client_in s.clients c).home → log_end (log_seen s.nodes n c).log ≤ start
   others_end n full away = (let known = others_low n (seen_full s n full) (away_from s c n away) in omega (arith, known, received_is s n c))
 
   pub regrouped_shape : ShapeInvariant (after_regrouping s c start)

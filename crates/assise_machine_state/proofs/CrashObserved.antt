@@ -11,7 +11,7 @@ use Rattle.assise_model_world.specs.World.{World, end_of_log}
 use Rattle.assise_model_leases.specs.Handing.{CrashesWith}
 use Rattle.assise_model_history.proofs.NumberedCalls.{kept_crash}
 use Rattle.assise_machine_state.specs.Changes.{after_crash}
-use Rattle.assise_machine_state.specs.ClientValues.{ClientValue, client_in, client_seen, crashed_at, cut_of}
+use Rattle.assise_machine_state.specs.ClientValues.{ClientValue, client_in, crashed_at, cut_of}
 use Rattle.assise_machine_state.specs.Observed.{world_of}
 use Rattle.assise_machine_state.specs.Places.{IsNumber}
 use Rattle.assise_machine_state.specs.Invariant.{AreLeft, ShapeInvariant}
@@ -65,7 +65,7 @@ module _ (s : StateValue) (c : ℕ) (levels : TwoLevels) (asked : List Asked) wh
         cut_here = λ i. ap (λ x. cut_of (s.cuts ++ asked) c x i) (client_here s.clients c now there);
         cut_else = λ d i other.
             ap (λ x. cut_of (s.cuts ++ asked) d x i) (client_else s.clients c now there d other)
-            ∙ unasked_cut s.cuts asked d (client_seen s.clients d) i (left_else s (λ e. e == c) asked left d i (ne_eqb d c other));
+            ∙ unasked_cut s.cuts asked d (client_in s.clients d) i (left_else s (λ e. e == c) asked left d i (ne_eqb d c other));
       }
 
   pub crash_shaped : ShapeInvariant s → ShapeInvariant (after_crash s c levels asked)

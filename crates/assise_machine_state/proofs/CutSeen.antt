@@ -1,20 +1,20 @@
 -- What is seen of nodes and clients once a node's logs are gone, and those of its clients are cut.
 use Rattle.std.proofs.Common.{◌≡◌, ◌≢◌, ℕ, zero, suc, ◌-◌, ◌<◌, ◌≤◌, false, ◌==◌, List, [], length, take, inl, inr, refl, ap, sym, subst, ◌∙◌, arith, eq-eqb}
 use Rattle.std.proofs.lemmas.Bool.{cases_Bool, cases_eq, eqb-true}
-use Rattle.std.proofs.lemmas.List.{length-map, length-set, take_all}
+use Rattle.std.proofs.lemmas.List.{length-map, take_all}
 use Rattle.assise_digest.specs.Region.{ReceivedLog, RegionValue, no_log, up_to_number}
 use Rattle.assise_machine_state.specs.Changes.{with_clients_cut, with_clients_failed}
-use Rattle.assise_machine_state.specs.ClientValues.{ClientValue, client_in, client_seen, failed_at, no_client}
-use Rattle.assise_machine_state.specs.NodeValues.{changed_in, log_seen, region_in, region_seen, with_tails_cut, without_logs}
+use Rattle.assise_machine_state.specs.ClientValues.{ClientValue, client_in, failed_at, no_client}
+use Rattle.assise_machine_state.specs.NodeValues.{changed_in, log_seen, region_in, with_tails_cut, without_logs}
 use Rattle.assise_machine_state.specs.Places.{IsNumber}
 use Rattle.assise_machine_state.proofs.LogChanges.{beside_seen, count_seen, inodes_seen, log_away, own_changes_all, region_else, region_here, region_kept}
-use Rattle.assise_machine_state.proofs.ItemSeen.{client_else, client_here, client_is, seen_number}
+use Rattle.assise_machine_state.proofs.ItemSeen.{client_else, client_here, length-with, seen_number}
 
 -- ---- clients whose node failed
 
 -- the nobody of no number has no home
-pub home_number : (cs : List ClientValue) (c : ℕ) → 0 < (client_seen cs c).home → IsNumber cs c
-unfolding client_seen
+pub home_number : (cs : List ClientValue) (c : ℕ) → 0 < (client_in cs c).home → IsNumber cs c
+unfolding client_in
 home_number cs c some =
     seen_number no_client cs c (λ none. let nowhere : 0 < no_client.home = subst (λ x. 0 < x.home) none some in absurd (omega (arith, nowhere)))
 
@@ -25,8 +25,8 @@ module _ (n : ℕ) (kept : ℕ → ℕ) (cs : List ClientValue) where
   pub count_over : (m : ℕ) → length (over m) ≡ length cs
   count_over zero = refl
   count_over (suc m) =
-      elim (cases_Bool ((client_seen cs (suc m)).home == n)) [
-        | inl here ↦ rw here (length-set (over m) (suc m - 1) (failed_at (kept (suc m)) (client_in cs (suc m))) ∙ count_over m)
+      elim (cases_Bool ((client_in cs (suc m)).home == n)) [
+        | inl here ↦ rw here (length-with (over m) (suc m) (failed_at (kept (suc m)) (client_in cs (suc m))) ∙ count_over m)
         | inr other ↦ rw other (count_over m)
       ]
 
@@ -34,34 +34,32 @@ module _ (n : ℕ) (kept : ℕ → ℕ) (cs : List ClientValue) where
   number_over m few = record { some = omega arith; there = subst (λ k. suc m ≤ k) (sym (count_over m)) few }
 
   -- one of another node stays
-  pub client_stays : (m c : ℕ) → m ≤ length cs → (client_seen cs c).home ≢ n → client_seen (over m) c ≡ client_seen cs c
+  pub client_stays : (m c : ℕ) → m ≤ length cs → (client_in cs c).home ≢ n → client_in (over m) c ≡ client_in cs c
   client_stays zero c few other = refl
   client_stays (suc m) c few other =
-      let rest : client_seen (over m) c ≡ client_seen cs c = client_stays m c (omega (arith, few)) other in
-      elim (cases_Bool ((client_seen cs (suc m)).home == n)) [
+      let rest : client_in (over m) c ≡ client_in cs c = client_stays m c (omega (arith, few)) other in
+      elim (cases_Bool ((client_in cs (suc m)).home == n)) [
         | inl here ↦
-            let differs : c ≢ suc m = λ same. other (ap (λ d. (client_seen cs d).home) same ∙ eqb-true (client_seen cs (suc m)).home n here) in
+            let differs : c ≢ suc m = λ same. other (ap (λ d. (client_in cs d).home) same ∙ eqb-true (client_in cs (suc m)).home n here) in
             rw here (client_else (over m) (suc m) (failed_at (kept (suc m)) (client_in cs (suc m))) (number_over m few) c differs ∙ rest)
         | inr away ↦ rw away rest
       ]
 
-  failed_last : (m : ℕ) → suc m ≤ length cs → (client_seen cs (suc m)).home ≡ n → client_seen (over (suc m)) (suc m) ≡ failed_at (kept (suc m)) (client_seen cs (suc m))
+  failed_last : (m : ℕ) → suc m ≤ length cs → (client_in cs (suc m)).home ≡ n → client_in (over (suc m)) (suc m) ≡ failed_at (kept (suc m)) (client_in cs (suc m))
   failed_last m few here =
-      rw (eq-eqb (client_seen cs (suc m)).home n here)
-      (client_here (over m) (suc m) (failed_at (kept (suc m)) (client_in cs (suc m))) (number_over m few)
-      ∙ ap (failed_at (kept (suc m))) (sym (client_is cs (suc m) record { some = omega arith; there = few })))
+      rw (eq-eqb (client_in cs (suc m)).home n here) (client_here (over m) (suc m) (failed_at (kept (suc m)) (client_in cs (suc m))) (number_over m few))
 
   -- one of this node is over
-  pub client_fails : (m c : ℕ) → m ≤ length cs → 0 < c → c ≤ m → (client_seen cs c).home ≡ n → client_seen (over m) c ≡ failed_at (kept c) (client_seen cs c)
+  pub client_fails : (m c : ℕ) → m ≤ length cs → 0 < c → c ≤ m → (client_in cs c).home ≡ n → client_in (over m) c ≡ failed_at (kept c) (client_in cs c)
   client_fails zero c few some low here = absurd (omega (arith, some, low))
   client_fails (suc m) c few some low here =
       elim (cases_eq c (suc m)) [
         | inl last ↦
-            subst (λ d. client_seen (over (suc m)) d ≡ failed_at (kept d) (client_seen cs d)) (sym last)
-            (failed_last m few (subst (λ d. (client_seen cs d).home ≡ n) last here))
+            subst (λ d. client_in (over (suc m)) d ≡ failed_at (kept d) (client_in cs d)) (sym last)
+            (failed_last m few (subst (λ d. (client_in cs d).home ≡ n) last here))
         | inr differs ↦
-            let rest : client_seen (over m) c ≡ failed_at (kept c) (client_seen cs c) = client_fails m c (omega (arith, few)) some (omega (arith, low, differs)) here in
-            elim (cases_Bool ((client_seen cs (suc m)).home == n)) [
+            let rest : client_in (over m) c ≡ failed_at (kept c) (client_in cs c) = client_fails m c (omega (arith, few)) some (omega (arith, low, differs)) here in
+            elim (cases_Bool ((client_in cs (suc m)).home == n)) [
               | inl too ↦ rw too (client_else (over m) (suc m) (failed_at (kept (suc m)) (client_in cs (suc m))) (number_over m few) c differs ∙ rest)
               | inr away ↦ rw away rest
             ]
@@ -87,58 +85,58 @@ module _ (n : ℕ) (cs : List ClientValue) (kept : ℕ → ℕ) (rs : List Regio
   count_cut : (m : ℕ) → length (cut m) ≡ length rs
   count_cut zero = refl
   count_cut (suc m) =
-      elim (cases_Bool ((client_seen cs (suc m)).home == n)) [
+      elim (cases_Bool ((client_in cs (suc m)).home == n)) [
         | inl here ↦ rw here (length-map (cut m) (changed_in (suc m) (cut_to (kept (suc m)))) ∙ count_cut m)
         | inr other ↦ rw other (count_cut m)
       ]
 
   -- what each cut leaves of a node they all leave
-  all_cut : {A : Type 0} (f : RegionValue → A) → ((c from : ℕ) (xs : List RegionValue) (k : ℕ) → f (region_seen (with_tails_cut xs c from) k) ≡ f (region_seen xs k)) →
-      (m k : ℕ) → f (region_seen (cut m) k) ≡ f (region_seen rs k)
+  all_cut : {A : Type 0} (f : RegionValue → A) → ((c from : ℕ) (xs : List RegionValue) (k : ℕ) → f (region_in (with_tails_cut xs c from) k) ≡ f (region_in xs k)) →
+      (m k : ℕ) → f (region_in (cut m) k) ≡ f (region_in rs k)
   all_cut f one zero k = refl
   all_cut f one (suc m) k =
-      elim (cases_Bool ((client_seen cs (suc m)).home == n)) [
+      elim (cases_Bool ((client_in cs (suc m)).home == n)) [
         | inl here ↦ rw here (one (suc m) (kept (suc m)) (cut m) k ∙ all_cut f one m k)
         | inr other ↦ rw other (all_cut f one m k)
       ]
 
-  inodes_cut : (m k : ℕ) → (region_seen (cut m) k).inodes ≡ (region_seen rs k).inodes
+  inodes_cut : (m k : ℕ) → (region_in (cut m) k).inodes ≡ (region_in rs k).inodes
   inodes_cut = all_cut (λ r. r.inodes) (λ c from xs k. inodes_seen c (cut_to from) xs k)
 
-  logs_cut : (m k : ℕ) → length (region_seen (cut m) k).logs ≡ length (region_seen rs k).logs
+  logs_cut : (m k : ℕ) → length (region_in (cut m) k).logs ≡ length (region_in rs k).logs
   logs_cut = all_cut (λ r. length r.logs) (λ c from xs k. count_seen c (cut_to from) xs k)
 
   -- a log stays of which no client up to here has the number
-  stays_below : (m k d : ℕ) → ((c : ℕ) → c ≤ m → (client_seen cs c).home ≡ n → d ≢ c) → log_seen (cut m) k d ≡ log_seen rs k d
+  stays_below : (m k d : ℕ) → ((c : ℕ) → c ≤ m → (client_in cs c).home ≡ n → d ≢ c) → log_seen (cut m) k d ≡ log_seen rs k d
   stays_below zero k d other = refl
   stays_below (suc m) k d other =
       let rest : log_seen (cut m) k d ≡ log_seen rs k d = stays_below m k d (λ c low. other c (omega (arith, low))) in
-      elim (cases_Bool ((client_seen cs (suc m)).home == n)) [
-        | inl here ↦ rw here (beside_seen (suc m) (cut_to (kept (suc m))) (cut m) k d (omega arith) (other (suc m) (omega arith) (eqb-true (client_seen cs (suc m)).home n here)) ∙ rest)
+      elim (cases_Bool ((client_in cs (suc m)).home == n)) [
+        | inl here ↦ rw here (beside_seen (suc m) (cut_to (kept (suc m))) (cut m) k d (omega arith) (other (suc m) (omega arith) (eqb-true (client_in cs (suc m)).home n here)) ∙ rest)
         | inr away ↦ rw away rest
       ]
 
   -- that of a client of another node stays
-  log_stays : (m k d : ℕ) → (client_seen cs d).home ≢ n → log_seen (cut m) k d ≡ log_seen rs k d
-  log_stays m k d other = stays_below m k d (λ c low here same. other (ap (λ e. (client_seen cs e).home) same ∙ here))
+  log_stays : (m k d : ℕ) → (client_in cs d).home ≢ n → log_seen (cut m) k d ≡ log_seen rs k d
+  log_stays m k d other = stays_below m k d (λ c low here same. other (ap (λ e. (client_in cs e).home) same ∙ here))
 
-  cut_last : (m k : ℕ) → (client_seen cs (suc m)).home ≡ n → log_seen (cut (suc m)) k (suc m) ≡ up_to_number (log_seen rs k (suc m)) (kept (suc m))
+  cut_last : (m k : ℕ) → (client_in cs (suc m)).home ≡ n → log_seen (cut (suc m)) k (suc m) ≡ up_to_number (log_seen rs k (suc m)) (kept (suc m))
   cut_last m k here =
-      rw (eq-eqb (client_seen cs (suc m)).home n here)
+      rw (eq-eqb (client_in cs (suc m)).home n here)
       (own_changes_all (suc m) (cut_to (kept (suc m))) (omega arith) (cut_none (kept (suc m))) (cut m) k
       ∙ ap (λ l. up_to_number l (kept (suc m))) (stays_below m k (suc m) (λ c low there same. absurd (omega (arith, low, same)))))
 
   -- that of a client of this node is cut
-  log_is_cut : (m k d : ℕ) → 0 < d → d ≤ m → (client_seen cs d).home ≡ n → log_seen (cut m) k d ≡ up_to_number (log_seen rs k d) (kept d)
+  log_is_cut : (m k d : ℕ) → 0 < d → d ≤ m → (client_in cs d).home ≡ n → log_seen (cut m) k d ≡ up_to_number (log_seen rs k d) (kept d)
   log_is_cut zero k d some low here = absurd (omega (arith, some, low))
   log_is_cut (suc m) k d some low here =
       elim (cases_eq d (suc m)) [
         | inl last ↦
             subst (λ e. log_seen (cut (suc m)) k e ≡ up_to_number (log_seen rs k e) (kept e)) (sym last)
-            (cut_last m k (subst (λ e. (client_seen cs e).home ≡ n) last here))
+            (cut_last m k (subst (λ e. (client_in cs e).home ≡ n) last here))
         | inr differs ↦
             let rest : log_seen (cut m) k d ≡ up_to_number (log_seen rs k d) (kept d) = log_is_cut m k d some (omega (arith, low, differs)) here in
-            elim (cases_Bool ((client_seen cs (suc m)).home == n)) [
+            elim (cases_Bool ((client_in cs (suc m)).home == n)) [
               | inl too ↦ rw too (beside_seen (suc m) (cut_to (kept (suc m))) (cut m) k d (omega arith) differs ∙ rest)
               | inr away ↦ rw away rest
             ]
@@ -154,21 +152,21 @@ module _ (rs : List RegionValue) (n : ℕ) (cs : List ClientValue) (kept : ℕ �
   left = with_clients_cut n cs kept (length cs) (without_logs rs n)
 
   pub count_left : length left ≡ length rs
-  count_left = count_cut n cs kept (without_logs rs n) (length cs) ∙ length-set rs (n - 1) emptied
+  count_left = count_cut n cs kept (without_logs rs n) (length cs) ∙ length-with rs n emptied
 
-  pub inodes_left : (k : ℕ) → (region_seen left k).inodes ≡ (region_seen rs k).inodes
+  pub inodes_left : (k : ℕ) → (region_in left k).inodes ≡ (region_in rs k).inodes
   inodes_left k = inodes_cut n cs kept (without_logs rs n) (length cs) k ∙ region_kept rs n emptied (λ r. r.inodes) refl k
 
-  pub logs_left : (k : ℕ) → IsNumber rs n → k ≢ n → length (region_seen left k).logs ≡ length (region_seen rs k).logs
+  pub logs_left : (k : ℕ) → IsNumber rs n → k ≢ n → length (region_in left k).logs ≡ length (region_in rs k).logs
   logs_left k there other = logs_cut n cs kept (without_logs rs n) (length cs) k ∙ ap (λ r. length r.logs) (region_else rs n emptied there k other)
 
-  pub logs_gone : IsNumber rs n → length (region_seen left n).logs ≡ 0
+  pub logs_gone : IsNumber rs n → length (region_in left n).logs ≡ 0
   logs_gone there = logs_cut n cs kept (without_logs rs n) (length cs) n ∙ ap (λ r. length r.logs) (region_here rs n emptied there)
 
-  pub log_left : (k c : ℕ) → IsNumber rs n → k ≢ n → (client_seen cs c).home ≢ n → log_seen left k c ≡ log_seen rs k c
+  pub log_left : (k c : ℕ) → IsNumber rs n → k ≢ n → (client_in cs c).home ≢ n → log_seen left k c ≡ log_seen rs k c
   log_left k c there differs other = log_stays n cs kept (without_logs rs n) (length cs) k c other ∙ log_away rs n emptied there k c differs
 
-  pub log_cut_left : (k c : ℕ) → IsNumber rs n → k ≢ n → (client_seen cs c).home ≡ n → log_seen left k c ≡ up_to_number (log_seen rs k c) (kept c)
+  pub log_cut_left : (k c : ℕ) → IsNumber rs n → k ≢ n → (client_in cs c).home ≡ n → log_seen left k c ≡ up_to_number (log_seen rs k c) (kept c)
   log_cut_left k c there differs here =
       let client : IsNumber cs c = home_number cs c (subst (λ h. 0 < h) (sym here) there.some) in
       log_is_cut n cs kept (without_logs rs n) (length cs) k c client.some client.there here ∙ ap (λ l. up_to_number l (kept c)) (log_away rs n emptied there k c differs)

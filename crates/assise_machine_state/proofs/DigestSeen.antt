@@ -17,13 +17,13 @@ use Rattle.assise_model_world.specs.Invariant.{WorldInvariant}
 use Rattle.assise_model_world.specs.World.{Full, World, undigested_below}
 use Rattle.assise_model_members.specs.Returns.{DigestsNoted, OtherAreasStay}
 use Rattle.assise_machine_state.specs.Changes.{after_digest}
-use Rattle.assise_machine_state.specs.ClientValues.{client_seen}
+use Rattle.assise_machine_state.specs.ClientValues.{client_in}
 use Rattle.assise_machine_state.specs.NodeValues.{HasLog, log_in, log_seen, region_in}
 use Rattle.assise_machine_state.specs.Observed.{is_full_in, own_node, own_seen, world_of}
 use Rattle.assise_machine_state.specs.Places.{IsNumber}
 use Rattle.assise_machine_state.specs.Invariant.{ShapeInvariant}
 use Rattle.assise_machine_state.specs.StateValues.{StateValue, standings}
-use Rattle.assise_machine_state.proofs.Fullness.{full_seen, has_log, log_is, region_is, same_first}
+use Rattle.assise_machine_state.proofs.Fullness.{full_seen, has_log, log_is, same_first}
 use Rattle.assise_machine_state.proofs.LogChanges.{log_else, log_here, log_same, region_else, region_here, region_with}
 use Rattle.assise_machine_state.proofs.ReadObserved.{ahead_first}
 use Rattle.assise_machine_state.proofs.ShapeKept.{shaped_log, still_marked}
@@ -61,8 +61,8 @@ own_log : (s : StateValue) (n c k : ℕ) (inodes : set.FinSet nat_cmp) (d : ℕ)
 unfolding own_seen
 own_log s n c k inodes d =
     let t : StateValue = after_digest s n c k inodes in
-    ap (λ m. (log_seen t.nodes m d).log) (same_own (standings t) (standings s) (same_count (standings s) n inodes) (still_full (standings s) n inodes) (client_seen s.clients d))
-    ∙ same_log s n c k inodes (own_node (standings s) (client_seen s.clients d)) d
+    ap (λ m. (log_seen t.nodes m d).log) (same_own (standings t) (standings s) (same_count (standings s) n inodes) (still_full (standings s) n inodes) (client_in s.clients d))
+    ∙ same_log s n c k inodes (own_node (standings s) (client_in s.clients d)) d
 
 pub digest_shaped : (s : StateValue) (n c k : ℕ) (inodes : set.FinSet nat_cmp) → ShapeInvariant s → ShapeInvariant (after_digest s n c k inodes)
 digest_shaped s n c k inodes shape =
@@ -108,7 +108,6 @@ module _ (s : StateValue) (n c k : ℕ) (inodes : set.FinSet nat_cmp) (shape : S
   area_now i =
       ap (λ r. values r.inodes i) (region_here s.nodes n now has.node)
       ∙ get-all_applied (region_in s.nodes n).inodes (all_effects (take (k - (log_in s.nodes n c).digested) (ahead (log_in s.nodes n c)))) i
-      ∙ ap (λ r. value_after i (values r.inodes i) (all_effects (take (k - (log_in s.nodes n c).digested) (ahead (log_in s.nodes n c))))) (sym (region_is s n has.node))
       ∙ ap (λ rs. value_after i (w.area n i) (all_effects rs)) (sym below_is)
 
   area_beside : (m i : ℕ) → m ≢ n → w'.area m i ≡ w.area m i

@@ -14,16 +14,16 @@ use Rattle.assise_model_world.proofs.DropKeeps.{drop_sound}
 use Rattle.assise_model_world.proofs.WorldObserved.{digested_by_all-below, least_of-end}
 use Rattle.assise_model_events.proofs.Failable.{digested_border}
 use Rattle.assise_machine_state.specs.Changes.{after_drop, drops_to, first_but}
-use Rattle.assise_machine_state.specs.ClientValues.{client_seen}
-use Rattle.assise_machine_state.specs.NodeValues.{AreDigested, IsDigestedTo, hot_capacities, log_in, log_seen, no_region, region_in, region_seen}
+use Rattle.assise_machine_state.specs.ClientValues.{client_in}
+use Rattle.assise_machine_state.specs.NodeValues.{AreDigested, IsDigestedTo, hot_capacities, log_in, log_seen, no_region, region_in}
 use Rattle.assise_machine_state.specs.Observed.{is_full_in, own_node, own_seen, world_of}
 use Rattle.assise_machine_state.specs.Places.{IsNumber, item_at}
 use Rattle.assise_machine_state.specs.Invariant.{ShapeInvariant}
 use Rattle.assise_machine_state.specs.StateValues.{StateValue, standings}
 use Rattle.assise_machine_state.proofs.Prefixes.{HasPrefixes, drop_areas, drop_shaped, dropped_prefixes, dropped_twice, has_prefixes, same_digested}
-use Rattle.assise_machine_state.proofs.Fullness.{has_log, log_is, no_log_there, region_is, seen_full}
+use Rattle.assise_machine_state.proofs.Fullness.{has_log, log_is, no_log_there, seen_full}
 use Rattle.assise_machine_state.proofs.HotCapacities.{prefixes_keep}
-use Rattle.assise_machine_state.proofs.ItemSeen.{less_one, seen_past}
+use Rattle.assise_machine_state.proofs.ItemSeen.{seen_past}
 use Rattle.assise_machine_state.proofs.SameObserved.{clients_as, goals_as, leases_as}
 
 -- ---- who is no client has no log
@@ -33,7 +33,7 @@ module _ (s : StateValue) (shape : ShapeInvariant s) where
   unfolding log_seen item_at
   nothing_seen n c (inl past) =
       elim (cases_Bool (is_full_in (standings s) n)) [
-        | inl full ↦ (let logs : length (region_seen s.nodes n).logs ≡ length s.clients = shape.logs n full in seen_past no_log (region_seen s.nodes n).logs c (omega (arith, logs, past)))
+        | inl full ↦ (let logs : length (region_in s.nodes n).logs ≡ length s.clients = shape.logs n full in seen_past no_log (region_in s.nodes n).logs c (omega (arith, logs, past)))
         | inr away ↦ no_log_there s n c shape away
       ]
   nothing_seen n c (inr none) = rw none refl
@@ -41,7 +41,7 @@ module _ (s : StateValue) (shape : ShapeInvariant s) where
   nothing_owned : (c : ℕ) → (length s.clients < c) ⊎ (c ≡ 0) → (world_of s).first c ≡ digested_by_all (world_of s) c
   unfolding world_of own_seen digested_by_all end_of_log
   nothing_owned c beyond =
-      let none : log_seen s.nodes (own_node (standings s) (client_seen s.clients c)) c ≡ no_log = nothing_seen (own_node (standings s) (client_seen s.clients c)) c beyond in
+      let none : log_seen s.nodes (own_node (standings s) (client_in s.clients c)) c ≡ no_log = nothing_seen (own_node (standings s) (client_in s.clients c)) c beyond in
       let high = least_of-end (world_of s).full (λ n. (world_of s).digested n c) (end_of_log (world_of s) c) in
       let first : (world_of s).first c ≡ 0 = ap (λ l. l.log.first) none in
       let ends : end_of_log (world_of s) c ≡ 0 = ap (λ l. log_end l.log) none in
@@ -103,15 +103,13 @@ module _ (s : StateValue) (c : ℕ) (shape : ShapeInvariant s) (sound : ∥ Worl
       elim (cases_Bool (is_full_in (standings s) n)) [
         | inl here ↦ digested_here n here
         | inr away ↦
-            let none : length (region_in s.nodes n).logs ≡ 0 = ap (λ r. length r.logs) (sym (region_is s n there)) ∙ ap length (shape.no_logs n away) in
+            let none : length (region_in s.nodes n).logs ≡ 0 = ap length (shape.no_logs n away) in
             absurd (omega (arith, none, has.some, has.there))
       ]
 
   pub are_digested : AreDigested s.nodes c (digested_by_all (world_of s) c)
-  are_digested =
-      each_digested s.nodes c (digested_by_all (world_of s) c)
-      (λ k low. subst (λ j. HasClient (slice_index_or s.nodes j no_region) c → IsDigestedTo (log_of (slice_index_or s.nodes j no_region) c) (digested_by_all (world_of s) c)) (less_one k)
-      (digested_there (suc k) (record { some = omega arith; there = omega (arith, low) })))
+  unfolding region_in item_at
+  are_digested = each_digested s.nodes c (digested_by_all (world_of s) c) (λ k low. digested_there (suc k) (record { some = omega arith; there = omega (arith, low) }))
 
 -- ---- one client after another
 

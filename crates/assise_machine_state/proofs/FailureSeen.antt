@@ -35,8 +35,8 @@ use Rattle.assise_model_history.specs.Lost.{losses_of}
 use Rattle.assise_model_history.proofs.FailureKeeps.{failure_takes}
 use Rattle.assise_model_history.proofs.NumberedCalls.{kept_fail}
 use Rattle.assise_machine_state.specs.Changes.{after_failure}
-use Rattle.assise_machine_state.specs.ClientValues.{ClientValue, client_seen, cut_of, failed_at}
-use Rattle.assise_machine_state.specs.NodeValues.{log_seen, region_seen}
+use Rattle.assise_machine_state.specs.ClientValues.{ClientValue, client_in, cut_of, failed_at}
+use Rattle.assise_machine_state.specs.NodeValues.{log_seen, region_in}
 use Rattle.assise_machine_state.specs.Observed.{is_full_in, own_seen, world_of}
 use Rattle.assise_machine_state.specs.Places.{IsNumber}
 use Rattle.assise_machine_state.specs.Invariant.{AreLeft, IsMarked, ShapeInvariant}
@@ -92,26 +92,26 @@ module _ (s : StateValue) (n : ℕ) (inodes : set.FinSet nat_cmp) (levels : TwoL
   was_full k f = seen_full s k (sym (else_stands k (not_failed k f)) ∙ f)
 
   -- clients
-  client_same : (c : ℕ) → (client_seen s.clients c).home ≢ n → client_seen t.clients c ≡ client_seen s.clients c
+  client_same : (c : ℕ) → (client_in s.clients c).home ≢ n → client_in t.clients c ≡ client_in s.clients c
   client_same c other = client_stays n kept s.clients (length s.clients) c (omega arith) other
 
-  client_over : (c : ℕ) → (client_seen s.clients c).home ≡ n → client_seen t.clients c ≡ failed_at (kept c) (client_seen s.clients c)
+  client_over : (c : ℕ) → (client_in s.clients c).home ≡ n → client_in t.clients c ≡ failed_at (kept c) (client_in s.clients c)
   client_over c here =
       let client : IsNumber s.clients c = home_number s.clients c (subst (λ h. 0 < h) (sym here) failed_there.some) in
       client_fails n kept s.clients (length s.clients) c (omega arith) client.some client.there here
 
-  client_keeps : {A : Type 0} (f : ClientValue → A) → ((k : ℕ) (x : ClientValue) → f (failed_at k x) ≡ f x) → (c : ℕ) → f (client_seen t.clients c) ≡ f (client_seen s.clients c)
+  client_keeps : {A : Type 0} (f : ClientValue → A) → ((k : ℕ) (x : ClientValue) → f (failed_at k x) ≡ f x) → (c : ℕ) → f (client_in t.clients c) ≡ f (client_in s.clients c)
   client_keeps f same c =
-      elim (cases_eq (client_seen s.clients c).home n) [
-        | inl here ↦ ap f (client_over c here) ∙ same (kept c) (client_seen s.clients c)
+      elim (cases_eq (client_in s.clients c).home n) [
+        | inl here ↦ ap f (client_over c here) ∙ same (kept c) (client_in s.clients c)
         | inr other ↦ ap f (client_same c other)
       ]
 
   -- logs of the nodes that are left
-  log_there : (m c : ℕ) → m ≢ n → (client_seen s.clients c).home ≡ n → log_seen t.nodes m c ≡ up_to_number (log_seen s.nodes m c) (kept c)
+  log_there : (m c : ℕ) → m ≢ n → (client_in s.clients c).home ≡ n → log_seen t.nodes m c ≡ up_to_number (log_seen s.nodes m c) (kept c)
   log_there m c differs here = log_cut_left s.nodes n s.clients kept m c failed_there differs here
 
-  log_same : (m c : ℕ) → m ≢ n → (client_seen s.clients c).home ≢ n → log_seen t.nodes m c ≡ log_seen s.nodes m c
+  log_same : (m c : ℕ) → m ≢ n → (client_in s.clients c).home ≢ n → log_seen t.nodes m c ≡ log_seen s.nodes m c
   log_same m c differs other = log_left s.nodes n s.clients kept m c failed_there differs other
 
   -- ---- parts of its shape
@@ -119,39 +119,39 @@ module _ (s : StateValue) (n : ℕ) (inodes : set.FinSet nat_cmp) (levels : TwoL
   clients_left : length t.clients ≡ length s.clients
   clients_left = count_over n kept s.clients (length s.clients)
 
-  emptied : (region_seen t.nodes n).logs ≡ []
-  emptied = nil_from_length (region_seen t.nodes n).logs (logs_gone s.nodes n s.clients kept failed_there)
+  emptied : (region_in t.nodes n).logs ≡ []
+  emptied = nil_from_length (region_in t.nodes n).logs (logs_gone s.nodes n s.clients kept failed_there)
 
-  left_logs : (k : ℕ) → is_full_in (standings t) k ≡ true → length (region_seen t.nodes k).logs ≡ length t.clients
+  left_logs : (k : ℕ) → is_full_in (standings t) k ≡ true → length (region_in t.nodes k).logs ≡ length t.clients
   left_logs k f =
       let other : k ≢ n = not_failed k f in
       logs_left s.nodes n s.clients kept k failed_there other ∙ shape.logs k (sym (else_stands k other) ∙ f) ∙ sym clients_left
 
-  left_none : (k : ℕ) → is_full_in (standings t) k ≡ false → (region_seen t.nodes k).logs ≡ []
+  left_none : (k : ℕ) → is_full_in (standings t) k ≡ false → (region_in t.nodes k).logs ≡ []
   left_none k away = elim (cases_eq k n) [
-    | inl is ↦ subst (λ m. (region_seen t.nodes m).logs ≡ []) (sym is) emptied
-    | inr other ↦ nil_from_length (region_seen t.nodes k).logs (logs_left s.nodes n s.clients kept k failed_there other ∙ ap length (shape.no_logs k (sym (else_stands k other) ∙ away)))
+    | inl is ↦ subst (λ m. (region_in t.nodes m).logs ≡ []) (sym is) emptied
+    | inr other ↦ nil_from_length (region_in t.nodes k).logs (logs_left s.nodes n s.clients kept k failed_there other ∙ ap length (shape.no_logs k (sym (else_stands k other) ∙ away)))
   ]
 
   -- no client lives at the node, and the others live where they did
   gone_home : (c : ℕ) → KnowsHome t n c
   gone_home c =
       ap (λ l. l.at_home) (no_log_in t.nodes n c emptied)
-      ∙ elim (cases_eq (client_seen s.clients c).home n) [
-        | inl here ↦ rw (client_over c here) (sym (and-false (n == (client_seen s.clients c).home)))
-        | inr other ↦ rw (client_same c other, ne_eqb n (client_seen s.clients c).home (λ e. other (sym e))) refl
+      ∙ elim (cases_eq (client_in s.clients c).home n) [
+        | inl here ↦ rw (client_over c here) (sym (and-false (n == (client_in s.clients c).home)))
+        | inr other ↦ rw (client_same c other, ne_eqb n (client_in s.clients c).home (λ e. other (sym e))) refl
       ]
 
   left_home : (k c : ℕ) → k ≢ n → KnowsHome t k c
-  left_home k c differs = elim (cases_eq (client_seen s.clients c).home n) [
+  left_home k c differs = elim (cases_eq (client_in s.clients c).home n) [
     | inl here ↦
-        let elsewhere : (k == (client_seen s.clients c).home) ≡ false = ne_eqb k (client_seen s.clients c).home (λ e. differs (e ∙ here)) in
+        let elsewhere : (k == (client_in s.clients c).home) ≡ false = ne_eqb k (client_in s.clients c).home (λ e. differs (e ∙ here)) in
         rw (log_there k c differs here, client_over c here, elsewhere) (shape.at_home k c ∙ rw elsewhere refl)
     | inr other ↦ rw (log_same k c differs other, client_same c other) (shape.at_home k c)
   ]
 
   same_limit : (k c : ℕ) → k ≢ n → (log_seen t.nodes k c).log.limit ≡ (log_seen s.nodes k c).log.limit
-  same_limit k c differs = elim (cases_eq (client_seen s.clients c).home n) [
+  same_limit k c differs = elim (cases_eq (client_in s.clients c).home n) [
     | inl here ↦ ap (λ l. l.log.limit) (log_there k c differs here)
     | inr other ↦ ap (λ l. l.log.limit) (log_same k c differs other)
   ]
@@ -161,8 +161,8 @@ module _ (s : StateValue) (n : ℕ) (inodes : set.FinSet nat_cmp) (levels : TwoL
       let other : k ≢ n = not_failed k f in
       same_limit k c other ∙ limit_seen s k c shape (sym (else_stands k other) ∙ f) record { some = client.some; there = subst (λ m. c ≤ m) clients_left client.there }
 
-  left_durability : (c : ℕ) → (client_seen t.clients c).durability ≡ (client_seen s.clients c).durability
-  left_durability c = elim (cases_eq (client_seen s.clients c).home n) [
+  left_durability : (c : ℕ) → (client_in t.clients c).durability ≡ (client_in s.clients c).durability
+  left_durability c = elim (cases_eq (client_in s.clients c).home n) [
     | inl here ↦ ap (λ y. y.durability) (client_over c here)
     | inr other ↦ ap (λ y. y.durability) (client_same c other)
   ]
@@ -173,7 +173,7 @@ module _ (s : StateValue) (n : ℕ) (inodes : set.FinSet nat_cmp) (levels : TwoL
     cut_records : (m c : ℕ) → is_full_in (standings t) m ≡ true → w'.log m c ≡ take (kept c - w.first c) (w.log m c)
     unfolding world_of
     cut_records m c f =
-        elim (cases_eq (client_seen s.clients c).home n) [
+        elim (cases_eq (client_in s.clients c).home n) [
           | inl here ↦
               ap (λ l. l.log.records) (log_there m c (not_failed m f) here)
               ∙ ap (λ k. take (kept c - k) (log_seen s.nodes m c).log.records) (same_first s m c sound (was_full m f))
@@ -182,7 +182,7 @@ module _ (s : StateValue) (n : ℕ) (inodes : set.FinSet nat_cmp) (levels : TwoL
 
     cut_first : (m c : ℕ) → is_full_in (standings t) m ≡ true → (log_seen t.nodes m c).log.first ≡ w.first c
     cut_first m c f =
-        elim (cases_eq (client_seen s.clients c).home n) [
+        elim (cases_eq (client_in s.clients c).home n) [
           | inl here ↦ ap (λ l. l.log.first) (log_there m c (not_failed m f) here) ∙ same_first s m c sound (was_full m f)
           | inr other ↦ ap (λ l. l.log.first) (log_same m c (not_failed m f) other) ∙ same_first s m c sound (was_full m f)
         ]
@@ -190,7 +190,7 @@ module _ (s : StateValue) (n : ℕ) (inodes : set.FinSet nat_cmp) (levels : TwoL
     cut_received : (m c : ℕ) → is_full_in (standings t) m ≡ true → w'.received m c ≡ min (w.received m c) (kept c)
     unfolding world_of
     cut_received m c f =
-        elim (cases_eq (client_seen s.clients c).home n) [
+        elim (cases_eq (client_in s.clients c).home n) [
           | inl here ↦
               let low : (log_seen s.nodes m c).log.first ≤ kept c = subst (λ k. k ≤ kept c) (sym (same_first s m c sound (was_full m f))) (kept_from_first w n c sound) in
               ap (λ l. log_end l.log) (log_there m c (not_failed m f) here) ∙ end_cut (log_seen s.nodes m c).log (kept c) low
@@ -204,7 +204,7 @@ module _ (s : StateValue) (n : ℕ) (inodes : set.FinSet nat_cmp) (levels : TwoL
     cut_digested : (m c : ℕ) → is_full_in (standings t) m ≡ true → w'.digested m c ≡ w.digested m c
     unfolding world_of
     cut_digested m c f =
-        elim (cases_eq (client_seen s.clients c).home n) [
+        elim (cases_eq (client_in s.clients c).home n) [
           | inl here ↦ ap (λ l. l.digested) (log_there m c (not_failed m f) here)
           | inr other ↦ ap (λ l. l.digested) (log_same m c (not_failed m f) other)
         ]
@@ -213,7 +213,7 @@ module _ (s : StateValue) (n : ℕ) (inodes : set.FinSet nat_cmp) (levels : TwoL
     goals : (c : ℕ) → w'.goal c ≡ min (w.goal c) (kept c)
     unfolding world_of
     goals c =
-        elim (cases_eq (client_seen s.clients c).home n) [
+        elim (cases_eq (client_in s.clients c).home n) [
           | inl here ↦ ap (λ x. x.goal) (client_over c here)
           | inr other ↦
               let all : kept c ≡ end_of_log w c = kept_elsewhere w n c other in
@@ -240,39 +240,39 @@ module _ (s : StateValue) (n : ℕ) (inodes : set.FinSet nat_cmp) (levels : TwoL
           let k : (m : ℕ) × ((m ≢ n) × (is_full_in (standings s) m ≡ true)) = survivor_left s.members n stands fine in
           lowest_is_full (standings t) k.0 (else_stands k.0 k.1.0 ∙ k.1.1)
 
-      has_ended : (c : ℕ) → (client_seen t.clients c).failed ≡ true → (w.lives c ≡ false) ⊎ (w.home c ≡ n)
+      has_ended : (c : ℕ) → (client_in t.clients c).failed ≡ true → (w.lives c ≡ false) ⊎ (w.home c ≡ n)
       unfolding world_of
       has_ended c over =
-          elim (cases_eq (client_seen s.clients c).home n) [
+          elim (cases_eq (client_in s.clients c).home n) [
             | inl here ↦ inr here
             | inr other ↦ inl (ap (λ x. not x.failed) (sym (client_same c other)) ∙ ap not over)
           ]
 
-      own_once_over : (c : ℕ) → (client_seen t.clients c).failed ≡ true → own_seen t c ≡ log_seen t.nodes low c
+      own_once_over : (c : ℕ) → (client_in t.clients c).failed ≡ true → own_seen t c ≡ log_seen t.nodes low c
       unfolding own_seen
       own_once_over c over = rw over refl
 
-      low_records : (c : ℕ) → (client_seen t.clients c).failed ≡ true → w'.log low c ≡ take (kept c - w.first c) (w.records c)
+      low_records : (c : ℕ) → (client_in t.clients c).failed ≡ true → w'.log low c ≡ take (kept c - w.first c) (w.records c)
       low_records c over =
           cut_records low c low_stands
           ∙ prefix_kept w n low c sound (was_full low low_stands) (kept_received w n low c sound (was_full low low_stands) (not_failed low low_stands) (has_ended c over))
 
       -- and of one that lives on
-      home_differs : (c : ℕ) → (client_seen t.clients c).failed ≡ false → (client_seen s.clients c).home ≢ n
+      home_differs : (c : ℕ) → (client_in t.clients c).failed ≡ false → (client_in s.clients c).home ≢ n
       home_differs c unfailed here = true≢false (ap (λ x. x.failed) (sym (client_over c here)) ∙ unfailed)
 
-      own_while_lives : (c : ℕ) → (client_seen t.clients c).failed ≡ false → own_seen t c ≡ own_seen s c
+      own_while_lives : (c : ℕ) → (client_in t.clients c).failed ≡ false → own_seen t c ≡ own_seen s c
       unfolding own_seen
       own_while_lives c unfailed =
-          let differs : (client_seen s.clients c).home ≢ n = home_differs c unfailed in
-          let before : (client_seen s.clients c).failed ≡ false = ap (λ x. x.failed) (sym (client_same c differs)) ∙ unfailed in
+          let differs : (client_in s.clients c).home ≢ n = home_differs c unfailed in
+          let before : (client_in s.clients c).failed ≡ false = ap (λ x. x.failed) (sym (client_same c differs)) ∙ unfailed in
           rw (unfailed, before)
-          (ap (λ x. log_seen t.nodes x.home c) (client_same c differs) ∙ log_same (client_seen s.clients c).home c differs differs)
+          (ap (λ x. log_seen t.nodes x.home c) (client_same c differs) ∙ log_same (client_in s.clients c).home c differs differs)
 
       own_records : (c : ℕ) → w'.records c ≡ take (kept c - w.first c) (w.records c)
       unfolding world_of
       own_records c =
-          elim (cases_Bool (client_seen t.clients c).failed) [
+          elim (cases_Bool (client_in t.clients c).failed) [
             | inl over ↦ ap (λ l. l.log.records) (own_once_over c over) ∙ low_records c over
             | inr unfailed ↦ ap (λ l. l.log.records) (own_while_lives c unfailed) ∙ sym (all_kept w n c (kept_elsewhere w n c (home_differs c unfailed)))
           ]
@@ -280,7 +280,7 @@ module _ (s : StateValue) (n : ℕ) (inodes : set.FinSet nat_cmp) (levels : TwoL
       own_first : (c : ℕ) → w'.first c ≡ w.first c
       unfolding world_of
       own_first c =
-          elim (cases_Bool (client_seen t.clients c).failed) [
+          elim (cases_Bool (client_in t.clients c).failed) [
             | inl over ↦ ap (λ l. l.log.first) (own_once_over c over) ∙ cut_first low c low_stands
             | inr unfailed ↦ ap (λ l. l.log.first) (own_while_lives c unfailed)
           ]
@@ -309,7 +309,7 @@ module _ (s : StateValue) (n : ℕ) (inodes : set.FinSet nat_cmp) (levels : TwoL
       lowest_first c = same_first s low c sound (was_full low low_stands)
 
       -- below what is kept the borders of the lowest node's log are those of the own one
-      lowest_border : (c k : ℕ) → (client_seen t.clients c).failed ≡ true → k < kept c → is_border (lowest c) k ≡ is_border (own c) k
+      lowest_border : (c k : ℕ) → (client_in t.clients c).failed ≡ true → k < kept c → is_border (lowest c) k ≡ is_border (own c) k
       unfolding world_of
       lowest_border c k over below =
           elim (cases_lt (lowest c).first k) [
@@ -320,7 +320,7 @@ module _ (s : StateValue) (n : ℕ) (inodes : set.FinSet nat_cmp) (levels : TwoL
           ]
 
       -- of a client whose node fails now
-      cut_border : (c k : ℕ) → (client_seen t.clients c).failed ≡ true → (client_seen s.clients c).home ≡ n → k ≤ kept c → is_border (own_seen t c).log k ≡ is_border (own c) k
+      cut_border : (c k : ℕ) → (client_in t.clients c).failed ≡ true → (client_in s.clients c).home ≡ n → k ≤ kept c → is_border (own_seen t c).log k ≡ is_border (own c) k
       unfolding world_of
       cut_border c k over here high =
           let cut : NumberedLog = without_tail (lowest c) (kept c) in
@@ -337,7 +337,7 @@ module _ (s : StateValue) (n : ℕ) (inodes : set.FinSet nat_cmp) (levels : TwoL
           ]
 
       -- of one whose node failed before
-      left_border : (c k : ℕ) → (client_seen t.clients c).failed ≡ true → (client_seen s.clients c).home ≢ n → is_border (own_seen t c).log k ≡ is_border (own c) k
+      left_border : (c k : ℕ) → (client_in t.clients c).failed ≡ true → (client_in s.clients c).home ≢ n → is_border (own_seen t c).log k ≡ is_border (own c) k
       unfolding world_of end_of_log
       left_border c k over other =
           let ended : w.lives c ≡ false = ap (λ x. not x.failed) (sym (client_same c other)) ∙ ap not over in
@@ -347,8 +347,8 @@ module _ (s : StateValue) (n : ℕ) (inodes : set.FinSet nat_cmp) (levels : TwoL
 
       own_border : (c k : ℕ) → k ≤ kept c → is_border (own_seen t c).log k ≡ is_border (own c) k
       own_border c k high =
-          elim (cases_Bool (client_seen t.clients c).failed) [
-            | inl over ↦ (elim (cases_eq (client_seen s.clients c).home n) [
+          elim (cases_Bool (client_in t.clients c).failed) [
+            | inl over ↦ (elim (cases_eq (client_in s.clients c).home n) [
               | inl here ↦ cut_border c k over here high
               | inr other ↦ left_border c k over other
             ])
@@ -356,7 +356,7 @@ module _ (s : StateValue) (n : ℕ) (inodes : set.FinSet nat_cmp) (levels : TwoL
           ]
 
       -- a log that is cut has the groups that are left
-      marked_cut : (k c : ℕ) → k ≢ n → (client_seen s.clients c).home ≡ n → IsMarked (is_border (own_seen t c).log) (log_seen t.nodes k c).log
+      marked_cut : (k c : ℕ) → k ≢ n → (client_in s.clients c).home ≡ n → IsMarked (is_border (own_seen t c).log) (log_seen t.nodes k c).log
       marked_cut k c differs here =
           let l : NumberedLog = (log_seen s.nodes k c).log in
           let cut : NumberedLog = without_tail l (kept c) in
@@ -365,11 +365,11 @@ module _ (s : StateValue) (n : ℕ) (inodes : set.FinSet nat_cmp) (levels : TwoL
           (λ j low high. sym (own_border c j (omega (arith, low, high, length-take (kept c - l.first) l.records))))
           (marked_tail (is_border (own c)) l (kept c) (shape.marked k c)))
 
-      marked_left : (k c : ℕ) → k ≢ n → (client_seen s.clients c).home ≢ n → IsMarked (is_border (own_seen t c).log) (log_seen t.nodes k c).log
+      marked_left : (k c : ℕ) → k ≢ n → (client_in s.clients c).home ≢ n → IsMarked (is_border (own_seen t c).log) (log_seen t.nodes k c).log
       marked_left k c differs other =
           let l : NumberedLog = (log_seen s.nodes k c).log in
           subst (λ x. IsMarked (is_border (own_seen t c).log) x.log) (sym (log_same k c differs other))
-          (elim (cases_Bool (client_seen t.clients c).failed) [
+          (elim (cases_Bool (client_in t.clients c).failed) [
             | inl over ↦ marked_as (is_border (own c)) (is_border (own_seen t c).log) l (λ j low high. sym (left_border c j over other)) (shape.marked k c)
             | inr unfailed ↦ subst (λ x. IsMarked (is_border x.log) l) (sym (own_while_lives c unfailed)) (shape.marked k c)
           ])
@@ -377,7 +377,7 @@ module _ (s : StateValue) (n : ℕ) (inodes : set.FinSet nat_cmp) (levels : TwoL
       left_marked : (k c : ℕ) → IsMarked (is_border (own_seen t c).log) (log_seen t.nodes k c).log
       left_marked k c = elim (cases_eq k n) [
         | inl is ↦ subst (λ m. IsMarked (is_border (own_seen t c).log) (log_seen t.nodes m c).log) (sym is) (subst (λ l. IsMarked (is_border (own_seen t c).log) l.log) (sym (no_log_in t.nodes n c emptied)) refl)
-        | inr differs ↦ (elim (cases_eq (client_seen s.clients c).home n) [
+        | inr differs ↦ (elim (cases_eq (client_in s.clients c).home n) [
           | inl here ↦ marked_cut k c differs here
           | inr other ↦ marked_left k c differs other
         ])
@@ -441,10 +441,10 @@ module _ (s : StateValue) (n : ℕ) (inodes : set.FinSet nat_cmp) (levels : TwoL
           home = homes;
           clients = revoked;
           nodes = nodes;
-          cut_here = λ c i here. ap (λ x. cut_of t.cuts c x i) (client_over c here) ∙ cut_once_failed t.cuts c (kept c) (client_seen s.clients c) i ∙ sym (own_end c);
+          cut_here = λ c i here. ap (λ x. cut_of t.cuts c x i) (client_over c here) ∙ cut_once_failed t.cuts c (kept c) (client_in s.clients c) i ∙ sym (own_end c);
           cut_else = λ c i other.
               ap (λ x. cut_of t.cuts c x i) (client_same c other)
-              ∙ unasked_cut s.cuts asked c (client_seen s.clients c) i (left_else s (λ d. lives s.levels.home d n) asked left c i (lives_elsewhere s n c leases other));
+              ∙ unasked_cut s.cuts asked c (client_in s.clients c) i (left_else s (λ d. lives s.levels.home d n) asked left c i (lives_elsewhere s n c leases other));
         }
 
   -- ---- its shape is one

@@ -11,8 +11,8 @@ use Rattle.assise_model_world.specs.World.{Full, IsClient, World, end_of_log}
 use Rattle.assise_model_world.proofs.WorldObserved.{received_by_all-below}
 use Rattle.assise_model_history.specs.State.{down_from}
 use Rattle.assise_model_history.proofs.TracesKeep.{of_node}
-use Rattle.assise_machine_state.specs.ClientValues.{ClientValue, client_seen, no_client}
-use Rattle.assise_machine_state.specs.NodeValues.{HasLog, log_in, log_seen, no_region, region_in, region_seen}
+use Rattle.assise_machine_state.specs.ClientValues.{ClientValue, client_in, no_client}
+use Rattle.assise_machine_state.specs.NodeValues.{HasLog, log_in, log_seen, region_in}
 use Rattle.assise_machine_state.specs.Observed.{full_in, is_full_in, observed, world_of}
 use Rattle.assise_machine_state.specs.Places.{IsNumber, item_at}
 use Rattle.assise_machine_state.specs.Invariant.{ShapeInvariant}
@@ -51,24 +51,18 @@ full_number s n shape f = node_number s n full shape (stands_so (standings s) n 
 
 -- ---- logs
 
-pub region_is : (s : StateValue) (n : ℕ) → IsNumber s.nodes n → region_seen s.nodes n ≡ region_in s.nodes n
-unfolding region_seen
-region_is s n there = is_seen no_region s.nodes n there
-
 pub has_log : (s : StateValue) (n c : ℕ) → ShapeInvariant s → is_full_in (standings s) n ≡ true → IsNumber s.clients c → HasLog s.nodes n c
 has_log s n c shape f client =
     let there : IsNumber s.nodes n = full_number s n shape f in
-    let all : length (region_in s.nodes n).logs ≡ length s.clients = ap (λ r. length r.logs) (sym (region_is s n there)) ∙ shape.logs n f in
+    let all : length (region_in s.nodes n).logs ≡ length s.clients = shape.logs n f in
     record { node = there; client = record { some = client.some; there = subst (λ k. c ≤ k) (sym all) client.there } }
 
 pub log_is : (s : StateValue) (n c : ℕ) → HasLog s.nodes n c → log_seen s.nodes n c ≡ log_in s.nodes n c
 unfolding log_seen
-log_is s n c has =
-    ap (λ r. item_at no_log r.logs c) (region_is s n has.node)
-    ∙ is_seen no_log (region_in s.nodes n).logs c (log_number s.nodes n c has)
+log_is s n c has = is_seen no_log (region_in s.nodes n).logs c (log_number s.nodes n c has)
 
 -- a node that isn't full has no log
-pub no_log_in : (rs : List RegionValue) (n c : ℕ) → (region_seen rs n).logs ≡ [] → log_seen rs n c ≡ no_log
+pub no_log_in : (rs : List RegionValue) (n c : ℕ) → (region_in rs n).logs ≡ [] → log_seen rs n c ≡ no_log
 unfolding log_seen
 no_log_in rs n c none = ap (λ ls. item_at no_log ls c) none ∙ seen_nothing no_log c
 
@@ -77,21 +71,21 @@ no_log_there s n c shape away = no_log_in s.nodes n c (shape.no_logs n away)
 
 -- ---- clients that live
 
-unfailed_number : (cs : List ClientValue) (c : ℕ) → (client_seen cs c).failed ≡ false → IsNumber cs c
-unfolding client_seen
+unfailed_number : (cs : List ClientValue) (c : ℕ) → (client_in cs c).failed ≡ false → IsNumber cs c
+unfolding client_in
 unfailed_number cs c lives = seen_number no_client cs c (λ none. true≢false (sym (ap (λ x. x.failed) none) ∙ lives))
 
-pub lives_unfailed : (s : StateValue) (c : ℕ) → (world_of s).lives c ≡ true → (client_seen s.clients c).failed ≡ false
+pub lives_unfailed : (s : StateValue) (c : ℕ) → (world_of s).lives c ≡ true → (client_in s.clients c).failed ≡ false
 unfolding world_of
-lives_unfailed s c lives = not-true (client_seen s.clients c).failed lives
+lives_unfailed s c lives = not-true (client_in s.clients c).failed lives
 
 pub lives_number : (s : StateValue) (c : ℕ) → (world_of s).lives c ≡ true → IsNumber s.clients c
 lives_number s c lives = unfailed_number s.clients c (lives_unfailed s c lives)
 
 -- its home is full
-pub home_full : (s : StateValue) (c : ℕ) → ShapeInvariant s → (client_seen s.clients c).failed ≡ false → is_full_in (standings s) (client_seen s.clients c).home ≡ true
+pub home_full : (s : StateValue) (c : ℕ) → ShapeInvariant s → (client_in s.clients c).failed ≡ false → is_full_in (standings s) (client_in s.clients c).home ≡ true
 home_full s c shape unfailed =
-    let home : ℕ = (client_seen s.clients c).home in
+    let home : ℕ = (client_in s.clients c).home in
     let here : (log_seen s.nodes home c).at_home ≡ true = shape.at_home home c ∙ rw (unfailed, eq-eqb home home refl) refl in
     elim (cases_Bool (is_full_in (standings s) home)) [
       | inl f ↦ f

@@ -4,12 +4,12 @@ use Rattle.std.proofs.lemmas.Bool.{cases_eq, ne_eqb}
 use Rattle.assise_model_world.specs.ClientSteps.{RaisesGoals}
 use Rattle.assise_model_world.specs.World.{World, end_of_log}
 use Rattle.assise_machine_state.specs.Changes.{after_goal, goal_of}
-use Rattle.assise_machine_state.specs.ClientValues.{ClientValue, client_in, client_seen, with_client, with_goal}
+use Rattle.assise_machine_state.specs.ClientValues.{ClientValue, client_in, with_client, with_goal}
 use Rattle.assise_machine_state.specs.Observed.{world_of}
 use Rattle.assise_machine_state.specs.Places.{IsNumber}
 use Rattle.assise_machine_state.specs.Invariant.{ShapeInvariant}
 use Rattle.assise_machine_state.specs.StateValues.{StateValue}
-use Rattle.assise_machine_state.proofs.ItemSeen.{client_else, client_here, client_is}
+use Rattle.assise_machine_state.proofs.ItemSeen.{client_else, client_here}
 use Rattle.assise_machine_state.proofs.ShapedClients.{Remains, clients_stay, logs_stay, nodes_stay, still_shaped}
 use Rattle.assise_machine_state.proofs.SameObserved.{leases_as}
 
@@ -26,16 +26,16 @@ module _ (s : StateValue) (c to : ℕ) (there : IsNumber s.clients c) where
   remains : Remains (client_in s.clients c) now
   remains = record { home = refl; failed = refl; next = refl; made = refl; durability = refl }
 
-  goal_here : (client_seen (with_client s.clients c now) c).goal ≡ max (client_seen s.clients c).goal to
-  goal_here = ap (λ x. x.goal) (client_here s.clients c now there) ∙ ap (λ x. max x.goal to) (sym (client_is s.clients c there))
+  goal_here : (client_in (with_client s.clients c now) c).goal ≡ max (client_in s.clients c).goal to
+  goal_here = ap (λ x. x.goal) (client_here s.clients c now there)
 
-  goal_else : (d : ℕ) → d ≢ c → (client_seen (with_client s.clients c now) d).goal ≡ (client_seen s.clients d).goal
+  goal_else : (d : ℕ) → d ≢ c → (client_in (with_client s.clients c now) d).goal ≡ (client_in s.clients d).goal
   goal_else d other = ap (λ x. x.goal) (client_else s.clients c now there d other)
 
-  goals : (d : ℕ) → (client_seen (with_client s.clients c now) d).goal ≡ max (client_seen s.clients d).goal (goal_of c to d)
+  goals : (d : ℕ) → (client_in (with_client s.clients c now) d).goal ≡ max (client_in s.clients d).goal (goal_of c to d)
   goals d =
       elim (cases_eq d c) [
-        | inl is ↦ rw (eq-eqb d c is) (subst (λ e. (client_seen (with_client s.clients c now) e).goal ≡ max (client_seen s.clients e).goal to) (sym is) goal_here)
+        | inl is ↦ rw (eq-eqb d c is) (subst (λ e. (client_in (with_client s.clients c now) e).goal ≡ max (client_in s.clients e).goal to) (sym is) goal_here)
         | inr other ↦ rw (ne_eqb d c other) (goal_else d other ∙ omega arith)
       ]
 

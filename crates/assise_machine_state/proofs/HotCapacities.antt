@@ -1,15 +1,14 @@
 -- How many inodes may be hot at each node stays where its inodes and logs change.
-use Rattle.std.proofs.Common.{◌≡◌, ℕ, zero, suc, ◌-◌, ◌==◌, Bool, true, false, if◌then◌else◌, List, [], ◌∷◌, map, replicate, slice_index_or, slice_set, length, refl, ap, ◌∙◌}
+use Rattle.std.proofs.Common.{◌≡◌, ℕ, zero, suc, ◌-◌, ◌==◌, Bool, true, false, if◌then◌else◌, List, [], ◌∷◌, map, replicate, slice_index_or, slice_set, refl, ap, ◌∙◌, sym}
 use Rattle.std.proofs.lemmas.List.{map-set}
 use Rattle.assise_record.specs.Records.{has_some}
 use Rattle.assise_record.specs.declared.effect.Effect.{Effect}
 use Rattle.assise_digest.specs.Region.{ReceivedLog, RegionValue, from_number, log_of, region_with_client, up_to_number, with_hot_capacity, with_log}
-use Rattle.assise_model_world.specs.World.{digested_by_all}
-use Rattle.assise_machine_state.specs.Changes.{drops_to, with_clients_cut}
-use Rattle.assise_machine_state.specs.ClientValues.{ClientValue, client_seen}
-use Rattle.assise_machine_state.specs.NodeValues.{begun_log, changed_in, hot_capacities, new_region, new_regions, no_region, region_in, with_call_in, with_hot_in, with_log_in, with_logs_begun, with_prefixes_dropped, with_region, with_tails_cut, without_logs}
-use Rattle.assise_machine_state.specs.Observed.{world_of}
-use Rattle.assise_machine_state.specs.StateValues.{StateValue}
+use Rattle.assise_machine_state.specs.Changes.{with_clients_cut}
+use Rattle.assise_machine_state.specs.ClientValues.{ClientValue, client_in}
+use Rattle.assise_machine_state.specs.NodeValues.{begun_log, changed_in, hot_capacities, new_regions, no_region, region_in, with_call_in, with_hot_in, with_log_in, with_logs_begun, with_prefixes_dropped, with_region, with_tails_cut, without_logs}
+use Rattle.assise_machine_state.specs.Places.{IsNumber, item_at}
+use Rattle.assise_machine_state.proofs.ItemSeen.{is_seen, is_set}
 
 -- ---- at one node
 
@@ -19,13 +18,21 @@ kept_at (q ∷ rs) zero r same = ap (λ capacity. capacity ∷ hot_capacities rs
 kept_at (q ∷ rs) (suc k) r same = ap (λ capacities. q.capacity ∷ capacities) (kept_at rs k r same)
 
 pub region_keeps : (rs : List RegionValue) (n : ℕ) (r : RegionValue) → r.capacity ≡ (region_in rs n).capacity → hot_capacities (with_region rs n r) ≡ hot_capacities rs
-region_keeps rs n r same = kept_at rs (n - 1) r same
+unfolding region_in item_at
+region_keeps rs zero r same = refl
+region_keeps rs (suc k) r same = kept_at rs k r same
 
 pub log_keeps : (rs : List RegionValue) (n c : ℕ) (l : ReceivedLog) → hot_capacities (with_log_in rs n c l) ≡ hot_capacities rs
 log_keeps rs n c l = region_keeps rs n (with_log (region_in rs n) c l) refl
 
 pub set_at : (rs : List RegionValue) (n capacity : ℕ) → hot_capacities (with_hot_in rs n capacity) ≡ slice_set (hot_capacities rs) (n - 1) capacity
-set_at rs n capacity = map-set (λ r. r.capacity) rs (n - 1) (with_hot_capacity (region_in rs n) capacity)
+set_at rs n capacity = map-set (λ r. r.capacity) rs (n - 1) (with_hot_capacity (slice_index_or rs (n - 1) no_region) capacity)
+
+-- as the code sets it
+pub hot_as : (rs : List RegionValue) (n capacity : ℕ) → IsNumber rs n → with_region rs n (with_hot_capacity (region_in rs n) capacity) ≡ with_hot_in rs n capacity
+unfolding region_in
+hot_as rs n capacity there =
+    sym (is_set (with_hot_capacity (region_in rs n) capacity) rs n there) ∙ ap (λ r. slice_set rs (n - 1) (with_hot_capacity r capacity)) (is_seen no_region rs n there)
 
 -- ---- where something is so, or nothing changes
 
@@ -64,7 +71,7 @@ cut_keeps : (home : ℕ) (cs : List ClientValue) (kept : ℕ → ℕ) (m : ℕ) 
 cut_keeps home cs kept zero rs = refl
 cut_keeps home cs kept (suc c) rs =
     let before : List RegionValue = with_clients_cut home cs kept c rs in
-    either ((client_seen cs (suc c)).home == home) (with_tails_cut before (suc c) (kept (suc c))) before (tails_keep before (suc c) (kept (suc c)))
+    either ((client_in cs (suc c)).home == home) (with_tails_cut before (suc c) (kept (suc c))) before (tails_keep before (suc c) (kept (suc c)))
     ∙ cut_keeps home cs kept c rs
 
 -- a node fails

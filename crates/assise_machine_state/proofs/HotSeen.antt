@@ -1,5 +1,5 @@
 -- How many inodes may be hot at a node is observed, and of what is hot nothing else.
-use Rattle.std.proofs.Common.{◌≡◌, ℕ, ◌-◌, List, length, not, refl, ap}
+use Rattle.std.proofs.Common.{◌≡◌, ℕ, List, length, not, refl, ap, slice_index_or, ◌-◌}
 use Rattle.std.proofs.lemmas.List.{length-set}
 use Rattle.assise_inode_table.specs.Contents.{InodeMap, values}
 use Rattle.assise_private_log.specs.NumberedLog.{end, is_border}
@@ -8,15 +8,15 @@ use Rattle.assise_model_leases.specs.Leases.{client_lease, is_held, is_written}
 use Rattle.assise_model_history.specs.Numbered.{kept_numbered}
 use Rattle.assise_model_events.specs.Machine.{Machine, with_hot}
 use Rattle.assise_machine_state.specs.Changes.{after_hot}
-use Rattle.assise_machine_state.specs.ClientValues.{client_seen}
-use Rattle.assise_machine_state.specs.NodeValues.{log_seen, no_region, region_in, region_seen}
+use Rattle.assise_machine_state.specs.ClientValues.{client_in}
+use Rattle.assise_machine_state.specs.NodeValues.{log_seen, no_region, region_in}
 use Rattle.assise_machine_state.specs.Observed.{full_in, observed, own_node, own_seen, world_of}
 use Rattle.assise_machine_state.specs.Places.{item_at}
 use Rattle.assise_machine_state.specs.Invariant.{CutsInvariant, ShapeInvariant}
 use Rattle.assise_machine_state.specs.StateValues.{StateValue, leases_of, standings}
 use Rattle.assise_machine_state.proofs.HotCapacities.{set_at}
-use Rattle.assise_machine_state.proofs.ItemSeen.{seen_kept}
 use Rattle.assise_machine_state.proofs.ShapeKept.{shaped_as, still_marked}
+use Rattle.assise_machine_state.proofs.ItemSeen.{place_kept}
 
 -- what is observed, by what is seen of the nodes' capacities, inodes and logs
 observed_by : StateValue → (hot : List ℕ) → (inodes : ℕ → InodeMap) → (logs : ℕ → List ReceivedLog) → Machine
@@ -31,15 +31,15 @@ observed_by s hot inodes logs = record {
     received = λ n c. end (item_at no_log (logs n) c).log;
     digested = λ n c. (item_at no_log (logs n) c).digested;
     clients = length s.clients;
-    home = λ c. (client_seen s.clients c).home;
-    lives = λ c. not (client_seen s.clients c).failed;
-    crashed = λ c. (client_seen s.clients c).crashed;
-    records = λ c. (item_at no_log (logs (own_node (standings s) (client_seen s.clients c))) c).log.records;
-    first = λ c. (item_at no_log (logs (own_node (standings s) (client_seen s.clients c))) c).log.first;
-    border = λ c k. is_border (item_at no_log (logs (own_node (standings s) (client_seen s.clients c))) c).log k;
-    goal = λ c. (client_seen s.clients c).goal;
-    next = λ c. (client_seen s.clients c).next;
-    made = λ c. (client_seen s.clients c).made;
+    home = λ c. (client_in s.clients c).home;
+    lives = λ c. not (client_in s.clients c).failed;
+    crashed = λ c. (client_in s.clients c).crashed;
+    records = λ c. (item_at no_log (logs (own_node (standings s) (client_in s.clients c))) c).log.records;
+    first = λ c. (item_at no_log (logs (own_node (standings s) (client_in s.clients c))) c).log.first;
+    border = λ c k. is_border (item_at no_log (logs (own_node (standings s) (client_in s.clients c))) c).log k;
+    goal = λ c. (client_in s.clients c).goal;
+    next = λ c. (client_in s.clients c).next;
+    made = λ c. (client_in s.clients c).made;
     holds = λ c i. is_held (client_lease (leases_of s) c i);
     writes = λ c i. is_written (client_lease (leases_of s) c i);
     calls = kept_numbered s.history;
@@ -53,15 +53,15 @@ module _ (s : StateValue) (n capacity : ℕ) where
   t = after_hot s n capacity
 
   abbrev changed : RegionValue
-  changed = with_hot_capacity (region_in s.nodes n) capacity
+  changed = with_hot_capacity (slice_index_or s.nodes (n - 1) no_region) capacity
 
-  inodes_same : (k : ℕ) → (region_seen t.nodes k).inodes ≡ (region_seen s.nodes k).inodes
-  unfolding region_seen
-  inodes_same k = seen_kept (λ r. r.inodes) no_region changed s.nodes n k refl
+  inodes_same : (k : ℕ) → (region_in t.nodes k).inodes ≡ (region_in s.nodes k).inodes
+  unfolding region_in
+  inodes_same k = place_kept (λ r. r.inodes) no_region changed s.nodes (n - 1) k refl
 
-  logs_same : (k : ℕ) → (region_seen t.nodes k).logs ≡ (region_seen s.nodes k).logs
-  unfolding region_seen
-  logs_same k = seen_kept (λ r. r.logs) no_region changed s.nodes n k refl
+  logs_same : (k : ℕ) → (region_in t.nodes k).logs ≡ (region_in s.nodes k).logs
+  unfolding region_in
+  logs_same k = place_kept (λ r. r.logs) no_region changed s.nodes (n - 1) k refl
 
   pub machine_set : observed t ≡ with_hot (observed s) n capacity
   unfolding observed world_of own_seen log_seen observed_by leases_of
@@ -81,7 +81,7 @@ module _ (s : StateValue) (n capacity : ℕ) where
     limits = λ k c. ap (λ ls. (item_at no_log ls c).log.limit) (logs_same k);
     at_home = λ k c. ap (λ ls. (item_at no_log ls c).at_home) (logs_same k);
     marked = still_marked s t (λ k c. ap (λ ls. (item_at no_log ls c).log) (logs_same k))
-        (λ c. ap (λ ls. (item_at no_log ls c).log) (logs_same (own_node (standings s) (client_seen s.clients c))));
+        (λ c. ap (λ ls. (item_at no_log ls c).log) (logs_same (own_node (standings s) (client_in s.clients c))));
     durability = λ c. refl;
     opened = λ c. refl;
   }

@@ -1,29 +1,54 @@
 -- What is seen of a list after a change of the item of one number.
 use Rattle.std.proofs.Common.{◌≡◌, ◌≢◌, ◌⊎◌, ℕ, zero, suc, ◌-◌, ◌<◌, ◌≤◌, List, [], ◌∷◌, ◌++◌, get_or, length, set, inl, inr, refl, ap, sym, subst, ◌∙◌, arith}
 use Rattle.std.proofs.lemmas.Bool.{cases_eq, cases_lt}
-use Rattle.std.proofs.lemmas.List.{get_or-set_other, get_or-set_same, get_or_append_left, get_or_past, get_or_push, length_push, set_past}
-use Rattle.assise_machine_state.specs.ClientValues.{ClientValue, client_in, client_seen, no_client, with_client}
-use Rattle.assise_machine_state.specs.Places.{IsNumber, item_at, item, with_item}
+use Rattle.std.proofs.lemmas.List.{get_or-set_other, get_or-set_same, get_or_append_left, get_or_default, get_or_past, get_or_push, length-set, length_push, set-get_or, set-set, set_past}
+use Rattle.assise_machine_state.specs.ClientValues.{ClientValue, client_in, no_client, with_client}
+use Rattle.assise_machine_state.specs.Places.{IsNumber, item_at, with_item}
 
 pub less_one : (k : ℕ) → suc k - 1 ≡ k
 less_one k = omega arith
 
--- the item of a number is the one seen
-pub is_seen : {X : Type 0} (none : X) (xs : List X) (n : ℕ) → IsNumber xs n → item_at none xs n ≡ item none xs n
+-- the place of a number is the one before it
+pub is_seen : {X : Type 0} (none : X) (xs : List X) (n : ℕ) → IsNumber xs n → item_at none xs n ≡ get_or xs (n - 1) none
 unfolding item_at
 is_seen none xs zero n = absurd (omega (arith, n.some))
 is_seen none xs (suc k) n = rw (less_one k) refl
 
+pub is_set : {X : Type 0} (x : X) (xs : List X) (n : ℕ) → IsNumber xs n → set xs (n - 1) x ≡ with_item xs n x
+is_set x xs zero n = absurd (omega (arith, n.some))
+is_set x xs (suc k) n = rw (less_one k) refl
+
+-- a change leaves how many there are, and a later one stands
+pub length-with : {X : Type 0} (xs : List X) (n : ℕ) (x : X) → length (with_item xs n x) ≡ length xs
+length-with xs zero x = refl
+length-with xs (suc k) x = length-set xs k x
+
+pub with-with : {X : Type 0} (xs : List X) (n : ℕ) (x y : X) → with_item (with_item xs n x) n y ≡ with_item xs n y
+with-with xs zero x y = refl
+with-with xs (suc k) x y = set-set xs k x y
+
 pub seen_here : {X : Type 0} (none x : X) (xs : List X) (n : ℕ) → IsNumber xs n → item_at none (with_item xs n x) n ≡ x
 unfolding item_at
 seen_here none x xs zero n = absurd (omega (arith, n.some))
-seen_here none x xs (suc k) n = rw (less_one k) (get_or-set_same xs k x none (omega (arith, n.there)))
+seen_here none x xs (suc k) n = get_or-set_same xs k x none (omega (arith, n.there))
 
 pub seen_else : {X : Type 0} (none x : X) (xs : List X) (n d : ℕ) → IsNumber xs n → d ≢ n → item_at none (with_item xs n x) d ≡ item_at none xs d
 unfolding item_at
 seen_else none x xs n zero there other = refl
 seen_else none x xs zero (suc j) there other = absurd (omega (arith, there.some))
-seen_else none x xs (suc k) (suc j) there other = rw (less_one k) (get_or-set_other xs k j x none (λ same. other (ap suc same)))
+seen_else none x xs (suc k) (suc j) there other = get_or-set_other xs k j x none (λ same. other (ap suc same))
+
+-- an item that is found at the place of a number
+pub seen_found : {X : Type 0} (none x : X) (items xs : List X) (n : ℕ) → items ≡ xs → IsNumber xs n → x ≡ get_or items (n - 1) x → x ≡ item_at none xs n
+unfolding item_at
+seen_found none x items xs zero same n is = absurd (omega (arith, n.some))
+seen_found none x items xs (suc k) same n is = is ∙ ap (λ ys. get_or ys (suc k - 1) x) same ∙ rw (less_one k) (get_or_default xs k x none (omega (arith, n.there)))
+
+-- an item that is put where it is
+pub seen_back : {X : Type 0} (none : X) (xs : List X) (n : ℕ) → with_item xs n (item_at none xs n) ≡ xs
+unfolding item_at
+seen_back none xs zero = refl
+seen_back none xs (suc k) = set-get_or xs k none
 
 -- what the change leaves of the item it leaves everywhere, also where no item has the number
 
@@ -38,23 +63,30 @@ kept_at f none x xs k j same =
       | inr other ↦ ap f (get_or-set_other xs k j x none other)
     ]
 
-pub seen_kept : {X A : Type 0} (f : X → A) (none x : X) (xs : List X) (n d : ℕ) → f x ≡ f (item none xs n) → f (item_at none (with_item xs n x) d) ≡ f (item_at none xs d)
+-- the same of a place
+pub place_kept : {X A : Type 0} (f : X → A) (none x : X) (xs : List X) (k d : ℕ) → f x ≡ f (get_or xs k none) → f (item_at none (set xs k x) d) ≡ f (item_at none xs d)
 unfolding item_at
-seen_kept f none x xs n zero same = refl
-seen_kept f none x xs n (suc j) same = kept_at f none x xs (n - 1) j same
+place_kept f none x xs k zero same = refl
+place_kept f none x xs k (suc j) same = kept_at f none x xs k j same
+
+pub seen_kept : {X A : Type 0} (f : X → A) (none x : X) (xs : List X) (n d : ℕ) → f x ≡ f (item_at none xs n) → f (item_at none (with_item xs n x) d) ≡ f (item_at none xs d)
+unfolding item_at
+seen_kept f none x xs zero d same = refl
+seen_kept f none x xs (suc k) d same = place_kept f none x xs k d same
 
 -- each item is the new one or the old one
 seen_either : {X : Type 0} (none x : X) (xs : List X) (n d : ℕ) → (item_at none (with_item xs n x) d ≡ x) ⊎ (item_at none (with_item xs n x) d ≡ item_at none xs d)
 unfolding item_at
 seen_either none x xs n zero = inr refl
-seen_either none x xs n (suc j) =
-    elim (cases_eq j (n - 1)) [
+seen_either none x xs zero (suc j) = inr refl
+seen_either none x xs (suc k) (suc j) =
+    elim (cases_eq j k) [
       | inl is ↦
-          elim (cases_lt (n - 1) (length xs)) [
-            | inl low ↦ inl (subst (λ i. get_or (set xs (n - 1) x) i none ≡ x) (sym is) (get_or-set_same xs (n - 1) x none low))
-            | inr past ↦ inr (ap (λ ys. get_or ys j none) (set_past xs (n - 1) x past))
+          elim (cases_lt k (length xs)) [
+            | inl low ↦ inl (subst (λ i. get_or (set xs k x) i none ≡ x) (sym is) (get_or-set_same xs k x none low))
+            | inr past ↦ inr (ap (λ ys. get_or ys j none) (set_past xs k x past))
           ]
-      | inr other ↦ inr (get_or-set_other xs (n - 1) j x none other)
+      | inr other ↦ inr (get_or-set_other xs k j x none other)
     ]
 
 -- ---- where there is no item
@@ -81,25 +113,25 @@ seen_number none xs (suc k) some =
 
 -- ---- one client changes
 
-pub client_is : (cs : List ClientValue) (c : ℕ) → IsNumber cs c → client_seen cs c ≡ client_in cs c
-unfolding client_seen
-client_is cs c there = is_seen no_client cs c there
+pub client_found : (cs items : List ClientValue) (c : ℕ) {x : ClientValue} → items ≡ cs → IsNumber cs c → x ≡ get_or items (c - 1) x → x ≡ client_in cs c
+unfolding client_in
+client_found cs items c {x} same there is = seen_found no_client x items cs c same there is
 
-pub client_here : (cs : List ClientValue) (c : ℕ) (x : ClientValue) → IsNumber cs c → client_seen (with_client cs c x) c ≡ x
-unfolding client_seen
+pub client_here : (cs : List ClientValue) (c : ℕ) (x : ClientValue) → IsNumber cs c → client_in (with_client cs c x) c ≡ x
+unfolding client_in
 client_here cs c x there = seen_here no_client x cs c there
 
-pub client_else : (cs : List ClientValue) (c : ℕ) (x : ClientValue) → IsNumber cs c → (d : ℕ) → d ≢ c → client_seen (with_client cs c x) d ≡ client_seen cs d
-unfolding client_seen
+pub client_else : (cs : List ClientValue) (c : ℕ) (x : ClientValue) → IsNumber cs c → (d : ℕ) → d ≢ c → client_in (with_client cs c x) d ≡ client_in cs d
+unfolding client_in
 client_else cs c x there d other = seen_else no_client x cs c d there other
 
 pub client_same : {A : Type 0} (f : ClientValue → A) (cs : List ClientValue) (c : ℕ) (x : ClientValue) → f x ≡ f (client_in cs c) → (d : ℕ) →
-    f (client_seen (with_client cs c x) d) ≡ f (client_seen cs d)
-unfolding client_seen
+    f (client_in (with_client cs c x) d) ≡ f (client_in cs d)
+unfolding client_in
 client_same f cs c x same d = seen_kept f no_client x cs c d same
 
-pub client_either : (cs : List ClientValue) (c : ℕ) (x : ClientValue) (d : ℕ) → (client_seen (with_client cs c x) d ≡ x) ⊎ (client_seen (with_client cs c x) d ≡ client_seen cs d)
-unfolding client_seen
+pub client_either : (cs : List ClientValue) (c : ℕ) (x : ClientValue) (d : ℕ) → (client_in (with_client cs c x) d ≡ x) ⊎ (client_in (with_client cs c x) d ≡ client_in cs d)
+unfolding client_in
 client_either cs c x d = seen_either no_client x cs c d
 
 -- ---- one item more

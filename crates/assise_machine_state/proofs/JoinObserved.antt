@@ -7,7 +7,7 @@ use Rattle.std.proofs.Math.Logic.{∥∥₁_elim}
 use Rattle.std.proofs.Props.{props}
 use Rattle.std.proofs.Math.Bool.{and-false}
 use Rattle.std.proofs.lemmas.Bool.{cases_Bool, cases_eq, ne_eqb}
-use Rattle.std.proofs.lemmas.List.{take_all, length-map, length-set}
+use Rattle.std.proofs.lemmas.List.{take_all, length-map}
 use Rattle.assise_names.specs.declared.limits.TheConstants.{MOST_NODES}
 use Rattle.assise_history.specs.Entries.{returns}
 use Rattle.assise_history.proofs.ClientCounts.{durability-still}
@@ -23,22 +23,23 @@ use Rattle.assise_model_world.specs.World.{Full, World, end_of_log}
 use Rattle.assise_model_members.specs.Returns.{Rejoins}
 use Rattle.assise_model_history.proofs.NumberedCalls.{kept_return}
 use Rattle.assise_machine_state.specs.Changes.{after_join}
-use Rattle.assise_machine_state.specs.ClientValues.{client_seen}
-use Rattle.assise_machine_state.specs.NodeValues.{away, log_seen, region_in, region_seen}
+use Rattle.assise_machine_state.specs.ClientValues.{client_in}
+use Rattle.assise_machine_state.specs.NodeValues.{away, log_seen, region_in}
 use Rattle.assise_machine_state.specs.Observed.{is_full_in, own_seen, world_of}
 use Rattle.assise_machine_state.specs.Places.{IsNumber, item_at}
 use Rattle.assise_machine_state.specs.Invariant.{IsMarked, ShapeInvariant}
 use Rattle.assise_machine_state.specs.StateValues.{StateValue, standings}
-use Rattle.assise_machine_state.proofs.Fullness.{full_number, full_seen, home_full, node_number, region_is, same_first, seen_full}
+use Rattle.assise_machine_state.proofs.Fullness.{full_seen, home_full, node_number, same_first, seen_full}
 use Rattle.assise_machine_state.proofs.LogChanges.{log_away, region_else, region_here, region_kept}
 use Rattle.assise_machine_state.proofs.Marks.{borders_same, marked_as, so_many_marks}
 use Rattle.assise_machine_state.proofs.ShapeKept.{KnowsHome, limit_seen, limits_all, own_marked}
 use Rattle.assise_machine_state.proofs.Standings.{full_as, full_else, full_here, lowest_is_full, same_count}
 use Rattle.assise_machine_state.proofs.SameObserved.{clients_as, goals_as, leases_as, logs_as, node_as}
+use Rattle.assise_machine_state.proofs.ItemSeen.{length-with}
 
 -- ---- a client whose node failed: all full nodes have all that is left
 
-left_records : (s : StateValue) (m c : ℕ) → WorldInvariant (world_of s) → is_full_in (standings s) m ≡ true → (client_seen s.clients c).failed ≡ true →
+left_records : (s : StateValue) (m c : ℕ) → WorldInvariant (world_of s) → is_full_in (standings s) m ≡ true → (client_in s.clients c).failed ≡ true →
     (log_seen s.nodes m c).log.records ≡ (world_of s).records c
 unfolding world_of end_of_log
 left_records s m c sound f over =
@@ -82,13 +83,13 @@ module _ (s : StateValue) (n since donor : ℕ) (stale : set.FinSet nat_cmp) (sh
   abbrev filled : RegionValue
   filled = record (region_in s.nodes n) { logs = map away (region_in s.nodes donor).logs }
 
-  filled_seen : region_seen t.nodes n ≡ filled
+  filled_seen : region_in t.nodes n ≡ filled
   filled_seen = region_here s.nodes n filled node_there
 
-  region_stays : (k : ℕ) → k ≢ n → region_seen t.nodes k ≡ region_seen s.nodes k
+  region_stays : (k : ℕ) → k ≢ n → region_in t.nodes k ≡ region_in s.nodes k
   region_stays k other = region_else s.nodes n filled node_there k other
 
-  inodes_stay : (k : ℕ) → (region_seen t.nodes k).inodes ≡ (region_seen s.nodes k).inodes
+  inodes_stay : (k : ℕ) → (region_in t.nodes k).inodes ≡ (region_in s.nodes k).inodes
   inodes_stay k = region_kept s.nodes n filled (λ r. r.inodes) refl k
 
   log_stays : (k c : ℕ) → k ≢ n → log_seen t.nodes k c ≡ log_seen s.nodes k c
@@ -103,27 +104,25 @@ module _ (s : StateValue) (n since donor : ℕ) (stale : set.FinSet nat_cmp) (sh
   log_filled c =
       ap (λ r. item_at no_log r.logs c) filled_seen
       ∙ all_away (region_in s.nodes donor).logs c
-      ∙ ap (λ r. away (item_at no_log r.logs c)) (sym (region_is s donor (full_number s donor shape donor_stands)))
 
   -- ---- parts of its shape
 
   count : length t.nodes ≡ length s.nodes
-  count = length-set s.nodes (n - 1) filled
+  count = length-with s.nodes n filled
 
-  logs_here : length (region_seen t.nodes n).logs ≡ length s.clients
+  logs_here : length (region_in t.nodes n).logs ≡ length s.clients
   logs_here =
       ap (λ r. length r.logs) filled_seen
       ∙ length-map (region_in s.nodes donor).logs away
-      ∙ ap (λ r. length r.logs) (sym (region_is s donor (full_number s donor shape donor_stands)))
       ∙ shape.logs donor donor_stands
 
-  logs : (k : ℕ) → is_full_in (standings t) k ≡ true → length (region_seen t.nodes k).logs ≡ length s.clients
+  logs : (k : ℕ) → is_full_in (standings t) k ≡ true → length (region_in t.nodes k).logs ≡ length s.clients
   logs k f = elim (cases_eq k n) [
-    | inl is ↦ subst (λ m. length (region_seen t.nodes m).logs ≡ length s.clients) (sym is) logs_here
+    | inl is ↦ subst (λ m. length (region_in t.nodes m).logs ≡ length s.clients) (sym is) logs_here
     | inr other ↦ ap (λ r. length r.logs) (region_stays k other) ∙ shape.logs k (sym (full_same k other) ∙ f)
   ]
 
-  no_logs : (k : ℕ) → is_full_in (standings t) k ≡ false → (region_seen t.nodes k).logs ≡ []
+  no_logs : (k : ℕ) → is_full_in (standings t) k ≡ false → (region_in t.nodes k).logs ≡ []
   no_logs k away = elim (cases_eq k n) [
     | inl is ↦ absurd (true≢false (sym now_full ∙ sym (ap (is_full_in (standings t)) is) ∙ away))
     | inr other ↦ ap (λ r. r.logs) (region_stays k other) ∙ shape.no_logs k (sym (full_same k other) ∙ away)
@@ -138,12 +137,12 @@ module _ (s : StateValue) (n since donor : ℕ) (stale : set.FinSet nat_cmp) (sh
   ]
 
   -- no client lives at the node
-  nobody : (c : ℕ) → ((n == (client_seen s.clients c).home) && not (client_seen s.clients c).failed) ≡ false
-  nobody c = elim (cases_Bool (client_seen s.clients c).failed) [
-    | inl over ↦ rw over (and-false (n == (client_seen s.clients c).home))
+  nobody : (c : ℕ) → ((n == (client_in s.clients c).home) && not (client_in s.clients c).failed) ≡ false
+  nobody c = elim (cases_Bool (client_in s.clients c).failed) [
+    | inl over ↦ rw over (and-false (n == (client_in s.clients c).home))
     | inr unfailed ↦
-        let home : (client_seen s.clients c).home ≢ n = differs (client_seen s.clients c).home (home_full s c shape unfailed) in
-        rw (ne_eqb n (client_seen s.clients c).home (λ e. home (sym e))) refl
+        let home : (client_in s.clients c).home ≢ n = differs (client_in s.clients c).home (home_full s c shape unfailed) in
+        rw (ne_eqb n (client_in s.clients c).home (λ e. home (sym e))) refl
   ]
 
   homes : (k c : ℕ) → KnowsHome t k c
@@ -160,7 +159,7 @@ module _ (s : StateValue) (n since donor : ℕ) (stale : set.FinSet nat_cmp) (sh
     from_first : (m c : ℕ) → is_full_in (standings s) m ≡ true → (log_seen s.nodes m c).log.first ≡ w.first c
     from_first m c f = same_first s m c sound (seen_full s m f)
 
-    full_records : (m c : ℕ) → is_full_in (standings t) m ≡ true → (client_seen s.clients c).failed ≡ true → (log_seen t.nodes m c).log.records ≡ w.records c
+    full_records : (m c : ℕ) → is_full_in (standings t) m ≡ true → (client_in s.clients c).failed ≡ true → (log_seen t.nodes m c).log.records ≡ w.records c
     full_records m c f over =
         elim (cases_eq m n) [
           | inl is ↦ subst (λ k. (log_seen t.nodes k c).log.records ≡ w.records c) (sym is) (ap (λ l. l.log.records) (log_filled c) ∙ left_records s donor c sound donor_stands over)
@@ -177,18 +176,18 @@ module _ (s : StateValue) (n since donor : ℕ) (stale : set.FinSet nat_cmp) (sh
     lowest : is_full_in (standings t) (lowest_full (standings t)) ≡ true
     lowest = lowest_is_full (standings t) n now_full
 
-    at_home : (c : ℕ) → (client_seen s.clients c).failed ≡ false → own_seen t c ≡ own_seen s c
+    at_home : (c : ℕ) → (client_in s.clients c).failed ≡ false → own_seen t c ≡ own_seen s c
     unfolding own_seen
-    at_home c unfailed = rw unfailed (log_stays (client_seen s.clients c).home c (differs (client_seen s.clients c).home (home_full s c shape unfailed)))
+    at_home c unfailed = rw unfailed (log_stays (client_in s.clients c).home c (differs (client_in s.clients c).home (home_full s c shape unfailed)))
 
-    own_left : (c : ℕ) → (client_seen s.clients c).failed ≡ true → own_seen t c ≡ log_seen t.nodes (lowest_full (standings t)) c
+    own_left : (c : ℕ) → (client_in s.clients c).failed ≡ true → own_seen t c ≡ log_seen t.nodes (lowest_full (standings t)) c
     unfolding own_seen
     own_left c over = rw over refl
 
     own_records : (c : ℕ) → w'.records c ≡ w.records c
     unfolding world_of
     own_records c =
-        elim (cases_Bool (client_seen s.clients c).failed) [
+        elim (cases_Bool (client_in s.clients c).failed) [
           | inl over ↦ ap (λ l. l.log.records) (own_left c over) ∙ full_records (lowest_full (standings t)) c lowest over
           | inr unfailed ↦ ap (λ l. l.log.records) (at_home c unfailed)
         ]
@@ -196,7 +195,7 @@ module _ (s : StateValue) (n since donor : ℕ) (stale : set.FinSet nat_cmp) (sh
     own_first : (c : ℕ) → w'.first c ≡ w.first c
     unfolding world_of
     own_first c =
-        elim (cases_Bool (client_seen s.clients c).failed) [
+        elim (cases_Bool (client_in s.clients c).failed) [
           | inl over ↦ ap (λ l. l.log.first) (own_left c over) ∙ full_first (lowest_full (standings t)) c lowest
           | inr unfailed ↦ ap (λ l. l.log.first) (at_home c unfailed)
         ]
@@ -204,13 +203,13 @@ module _ (s : StateValue) (n since donor : ℕ) (stale : set.FinSet nat_cmp) (sh
     -- ---- groups
 
     -- all full nodes have all of a log whose client's node failed, so each has its borders
-    left_border : (m c k : ℕ) → is_full_in (standings s) m ≡ true → (client_seen s.clients c).failed ≡ true → is_border (log_seen s.nodes m c).log k ≡ is_border (own_seen s c).log k
+    left_border : (m c k : ℕ) → is_full_in (standings s) m ≡ true → (client_in s.clients c).failed ≡ true → is_border (log_seen s.nodes m c).log k ≡ is_border (own_seen s c).log k
     unfolding world_of end_of_log
     left_border m c k f over =
         let all : w.received m c ≡ end_of_log w c = sound.left m c (ap not over) (seen_full s m f) in
         borders_same (own_seen s c).log (log_seen s.nodes m c).log k (so_many_marks (is_border (own_seen s c).log) (own_seen s c).log (own_marked s shape.marked c)) (shape.marked m c) (from_first m c f) all
 
-    full_border : (m c k : ℕ) → is_full_in (standings t) m ≡ true → (client_seen s.clients c).failed ≡ true → is_border (log_seen t.nodes m c).log k ≡ is_border (own_seen s c).log k
+    full_border : (m c k : ℕ) → is_full_in (standings t) m ≡ true → (client_in s.clients c).failed ≡ true → is_border (log_seen t.nodes m c).log k ≡ is_border (own_seen s c).log k
     full_border m c k f over =
         elim (cases_eq m n) [
           | inl is ↦ subst (λ j. is_border (log_seen t.nodes j c).log k ≡ is_border (own_seen s c).log k) (sym is) (ap (λ l. is_border l.log k) (log_filled c) ∙ left_border donor c k donor_stands over)
@@ -219,7 +218,7 @@ module _ (s : StateValue) (n since donor : ℕ) (stale : set.FinSet nat_cmp) (sh
 
     own_border : (c k : ℕ) → is_border (own_seen t c).log k ≡ is_border (own_seen s c).log k
     own_border c k =
-        elim (cases_Bool (client_seen s.clients c).failed) [
+        elim (cases_Bool (client_in s.clients c).failed) [
           | inl over ↦ ap (λ l. is_border l.log k) (own_left c over) ∙ full_border (lowest_full (standings t)) c k lowest over
           | inr unfailed ↦ ap (λ l. is_border l.log k) (at_home c unfailed)
         ]

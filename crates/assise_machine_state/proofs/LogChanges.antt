@@ -1,13 +1,14 @@
 -- What is seen of nodes after a change of one of them, of one of its logs, or of one client's logs at all of them.
-use Rattle.std.proofs.Common.{◌≡◌, ◌≢◌, ℕ, ◌-◌, ◌<◌, nat_le, Bool, List, [], ◌∷◌, length, get_or, map, inl, inr, refl, ap, sym, subst, ◌∙◌, append-nil}
+use Rattle.std.proofs.Common.{◌≡◌, ◌≢◌, ℕ, ◌-◌, ◌<◌, nat_le, Bool, List, [], ◌∷◌, length, get_or, map, inl, inr, refl, ap, sym, subst, ◌∙◌, append-nil, Result, OnErr, set}
 use Rattle.std.proofs.Math.ListN.{get_or-map}
 use Rattle.std.proofs.lemmas.Bool.{cases_Bool, cases_eq, le-leb, leb-false, leb-true}
 use Rattle.std.proofs.lemmas.List.{length-set}
+use Rattle.std.proofs.lemmas.Result.{on_err_weaker}
 use Rattle.assise_inode_table.specs.Contents.{InodeMap}
 use Rattle.assise_digest.specs.Region.{ReceivedLog, RegionValue, log_of, no_log}
-use Rattle.assise_machine_state.specs.NodeValues.{HasLog, changed_in, log_in, log_seen, no_region, region_in, region_seen, with_records, with_region}
-use Rattle.assise_machine_state.specs.Places.{IsNumber, item_at, with_item}
-use Rattle.assise_machine_state.proofs.ItemSeen.{is_seen, seen_else, seen_here, seen_kept, seen_past}
+use Rattle.assise_machine_state.specs.NodeValues.{HasLog, changed_in, log_in, log_seen, no_region, region_in, with_records, with_region}
+use Rattle.assise_machine_state.specs.Places.{IsNumber, item_at}
+use Rattle.assise_machine_state.proofs.ItemSeen.{is_seen, is_set, place_kept, seen_back, seen_else, seen_found, seen_here, seen_kept, seen_past}
 
 -- a log into which nothing comes stays
 pub none_more : (border : ℕ → Bool) (l : ReceivedLog) → with_records border l [] ≡ l
@@ -25,51 +26,71 @@ log_number rs n c has = record { some = has.client.some; there = has.client.ther
 
 module _ (rs : List RegionValue) (n : ℕ) (r : RegionValue) where
   -- what it keeps stays of all nodes
-  pub region_kept : {A : Type 0} (f : RegionValue → A) → f r ≡ f (region_in rs n) → (m : ℕ) → f (region_seen (with_region rs n r) m) ≡ f (region_seen rs m)
-  unfolding region_seen
+  pub region_kept : {A : Type 0} (f : RegionValue → A) → f r ≡ f (region_in rs n) → (m : ℕ) → f (region_in (with_region rs n r) m) ≡ f (region_in rs m)
+  unfolding region_in
   region_kept f same m = seen_kept f no_region r rs n m same
 
   module _ (there : IsNumber rs n) where
-    pub region_here : region_seen (with_region rs n r) n ≡ r
-    unfolding region_seen
+    pub region_here : region_in (with_region rs n r) n ≡ r
+    unfolding region_in
     region_here = seen_here no_region r rs n there
 
-    pub region_else : (m : ℕ) → m ≢ n → region_seen (with_region rs n r) m ≡ region_seen rs m
-    unfolding region_seen
+    pub region_else : (m : ℕ) → m ≢ n → region_in (with_region rs n r) m ≡ region_in rs m
+    unfolding region_in
     region_else m other = seen_else no_region r rs n m there other
 
     pub log_away : (m d : ℕ) → m ≢ n → log_seen (with_region rs n r) m d ≡ log_seen rs m d
     unfolding log_seen
     log_away m d other = ap (λ x. item_at no_log x.logs d) (region_else m other)
 
+-- what is found of node n
+pub region_found : (rs items : List RegionValue) (n : ℕ) {r : RegionValue} → items ≡ rs → IsNumber rs n → r ≡ get_or items (n - 1) r → r ≡ region_in rs n
+unfolding region_in
+region_found rs items n {r} same there is = seen_found no_region r items rs n same there is
+
+-- what node n has is put back
+pub region_back : (rs : List RegionValue) (n : ℕ) → with_region rs n (region_in rs n) ≡ rs
+unfolding region_in
+region_back rs n = seen_back no_region rs n
+
+-- what is refused changes nothing
+pub refused_back : {T E : Type 0} (a : Result T E) (rs : List RegionValue) (n : ℕ) (now : RegionValue) {was : RegionValue} → was ≡ region_in rs n → OnErr a (now ≡ was) → OnErr a (with_region rs n now ≡ rs)
+refused_back a rs n now found kept = on_err_weaker a (λ same. ap (with_region rs n) (same ∙ found) ∙ region_back rs n) kept
+
+-- ---- one log of a node changes
+
+log_set : (l : ReceivedLog) (ls : List ReceivedLog) (c : ℕ) → IsNumber ls c → item_at no_log (set ls (c - 1) l) c ≡ l
+log_set l ls c has = ap (λ ks. item_at no_log ks c) (is_set l ls c has) ∙ seen_here no_log l ls c has
+
+log_other : (l : ReceivedLog) (ls : List ReceivedLog) (c d : ℕ) → IsNumber ls c → d ≢ c → item_at no_log (set ls (c - 1) l) d ≡ item_at no_log ls d
+log_other l ls c d has other = ap (λ ks. item_at no_log ks d) (is_set l ls c has) ∙ seen_else no_log l ls c d has other
+
 -- ---- node n has these inodes, and this log of client c
 
 abbrev pub region_with : List RegionValue → (n c : ℕ) → InodeMap → ReceivedLog → RegionValue
-region_with rs n c inodes l = record (region_in rs n) { inodes = inodes; logs = with_item (region_in rs n).logs c l }
+region_with rs n c inodes l = record (region_in rs n) { inodes = inodes; logs = set (region_in rs n).logs (c - 1) l }
 
 abbrev pub log_changed : List RegionValue → (n c : ℕ) → InodeMap → ReceivedLog → List RegionValue
 log_changed rs n c inodes l = with_region rs n (region_with rs n c inodes l)
 
 module _ (rs : List RegionValue) (n c : ℕ) (inodes : InodeMap) (l : ReceivedLog) where
-  pub logs_count : (m : ℕ) → length (region_seen (log_changed rs n c inodes l) m).logs ≡ length (region_seen rs m).logs
+  pub logs_count : (m : ℕ) → length (region_in (log_changed rs n c inodes l) m).logs ≡ length (region_in rs m).logs
   logs_count m = region_kept rs n (region_with rs n c inodes l) (λ r. length r.logs) (length-set (region_in rs n).logs (c - 1) l) m
 
   -- what the log keeps stays of all logs
   pub log_same : {A : Type 0} (f : ReceivedLog → A) (m d : ℕ) → f l ≡ f (log_in rs n c) → f (log_seen (log_changed rs n c inodes l) m d) ≡ f (log_seen rs m d)
   unfolding log_seen
-  log_same f m d same = region_kept rs n (region_with rs n c inodes l) (λ r. f (item_at no_log r.logs d)) (seen_kept f no_log l (region_in rs n).logs c d same) m
+  log_same f m d same = region_kept rs n (region_with rs n c inodes l) (λ r. f (item_at no_log r.logs d)) (place_kept f no_log l (region_in rs n).logs (c - 1) d same) m
 
   module _ (has : HasLog rs n c) where
     pub log_here : log_seen (log_changed rs n c inodes l) n c ≡ l
     unfolding log_seen
-    log_here = ap (λ r. item_at no_log r.logs c) (region_here rs n (region_with rs n c inodes l) has.node) ∙ seen_here no_log l (region_in rs n).logs c (log_number rs n c has)
+    log_here = ap (λ r. item_at no_log r.logs c) (region_here rs n (region_with rs n c inodes l) has.node) ∙ log_set l (region_in rs n).logs c (log_number rs n c has)
 
     log_beside : (d : ℕ) → d ≢ c → log_seen (log_changed rs n c inodes l) n d ≡ log_seen rs n d
-    unfolding log_seen region_seen
+    unfolding log_seen
     log_beside d other =
-        ap (λ r. item_at no_log r.logs d) (seen_here no_region (region_with rs n c inodes l) rs n has.node)
-        ∙ seen_else no_log l (region_in rs n).logs c d (log_number rs n c has) other
-        ∙ ap (λ r. item_at no_log r.logs d) (sym (is_seen no_region rs n has.node))
+        ap (λ r. item_at no_log r.logs d) (region_here rs n (region_with rs n c inodes l) has.node) ∙ log_other l (region_in rs n).logs c d (log_number rs n c has) other
 
     -- each other log stays
     pub log_else : (m d : ℕ) → (m ≡ n → d ≡ c → ⊥) → log_seen (log_changed rs n c inodes l) m d ≡ log_seen rs m d
@@ -89,8 +110,8 @@ module _ (c : ℕ) (g : ReceivedLog → ReceivedLog) where
         | inr e ↦ rw e refl
       ]
 
-  region_changed : (rs : List RegionValue) (n : ℕ) → region_seen (map (changed_in c g) rs) n ≡ changed_in c g (region_seen rs n)
-  unfolding region_seen item_at
+  region_changed : (rs : List RegionValue) (n : ℕ) → region_in (map (changed_in c g) rs) n ≡ changed_in c g (region_in rs n)
+  unfolding region_in item_at
   region_changed rs n = ap (λ r. get_or (r ∷ map (changed_in c g) rs) n r) (sym none_changed) ∙ get_or-map (changed_in c g) (no_region ∷ rs) n no_region
 
   -- a region's inodes stay, the count of its logs, and what each log keeps
@@ -112,49 +133,47 @@ module _ (c : ℕ) (g : ReceivedLog → ReceivedLog) where
   part_kept : {A : Type 0} (f : ReceivedLog → A) (r : RegionValue) (d : ℕ) → ((l : ReceivedLog) → f (g l) ≡ f l) → f (item_at no_log (changed_in c g r).logs d) ≡ f (item_at no_log r.logs d)
   part_kept f r d same =
       elim (cases_Bool (nat_le c (length r.logs))) [
-        | inl e ↦ rw e (seen_kept f no_log (g (log_of r c)) r.logs c d (same (log_of r c)))
+        | inl e ↦ rw e (place_kept f no_log (g (log_of r c)) r.logs (c - 1) d (same (log_of r c)))
         | inr e ↦ rw e refl
       ]
 
   beside_kept : (r : RegionValue) (d : ℕ) → 0 < c → d ≢ c → item_at no_log (changed_in c g r).logs d ≡ item_at no_log r.logs d
   beside_kept r d some other =
       elim (cases_Bool (nat_le c (length r.logs))) [
-        | inl e ↦ rw e (seen_else no_log (g (log_of r c)) r.logs c d record { some = some; there = leb-true c (length r.logs) e } other)
+        | inl e ↦ rw e (log_other (g (log_of r c)) r.logs c d record { some = some; there = leb-true c (length r.logs) e } other)
         | inr e ↦ rw e refl
       ]
 
   own_changed : (r : RegionValue) → IsNumber r.logs c → item_at no_log (changed_in c g r).logs c ≡ g (item_at no_log r.logs c)
   own_changed r has =
-      rw (le-leb c (length r.logs) has.there) (seen_here no_log (g (log_of r c)) r.logs c has ∙ ap g (sym (is_seen no_log r.logs c has)))
+      rw (le-leb c (length r.logs) has.there) (log_set (g (log_of r c)) r.logs c has ∙ ap g (sym (is_seen no_log r.logs c has)))
 
   -- the same of what is seen of nodes
 
-  pub inodes_seen : (rs : List RegionValue) (n : ℕ) → (region_seen (map (changed_in c g) rs) n).inodes ≡ (region_seen rs n).inodes
-  inodes_seen rs n = ap (λ r. r.inodes) (region_changed rs n) ∙ inodes_kept (region_seen rs n)
+  pub inodes_seen : (rs : List RegionValue) (n : ℕ) → (region_in (map (changed_in c g) rs) n).inodes ≡ (region_in rs n).inodes
+  inodes_seen rs n = ap (λ r. r.inodes) (region_changed rs n) ∙ inodes_kept (region_in rs n)
 
-  pub count_seen : (rs : List RegionValue) (n : ℕ) → length (region_seen (map (changed_in c g) rs) n).logs ≡ length (region_seen rs n).logs
-  count_seen rs n = ap (λ r. length r.logs) (region_changed rs n) ∙ count_kept (region_seen rs n)
+  pub count_seen : (rs : List RegionValue) (n : ℕ) → length (region_in (map (changed_in c g) rs) n).logs ≡ length (region_in rs n).logs
+  count_seen rs n = ap (λ r. length r.logs) (region_changed rs n) ∙ count_kept (region_in rs n)
 
   pub part_seen : {A : Type 0} (f : ReceivedLog → A) (rs : List RegionValue) (n d : ℕ) → ((l : ReceivedLog) → f (g l) ≡ f l) → f (log_seen (map (changed_in c g) rs) n d) ≡ f (log_seen rs n d)
   unfolding log_seen
-  part_seen f rs n d same = ap (λ r. f (item_at no_log r.logs d)) (region_changed rs n) ∙ part_kept f (region_seen rs n) d same
+  part_seen f rs n d same = ap (λ r. f (item_at no_log r.logs d)) (region_changed rs n) ∙ part_kept f (region_in rs n) d same
 
   pub beside_seen : (rs : List RegionValue) (n d : ℕ) → 0 < c → d ≢ c → log_seen (map (changed_in c g) rs) n d ≡ log_seen rs n d
   unfolding log_seen
-  beside_seen rs n d some other = ap (λ r. item_at no_log r.logs d) (region_changed rs n) ∙ beside_kept (region_seen rs n) d some other
+  beside_seen rs n d some other = ap (λ r. item_at no_log r.logs d) (region_changed rs n) ∙ beside_kept (region_in rs n) d some other
 
   pub own_changes : (rs : List RegionValue) (n : ℕ) → HasLog rs n c → log_seen (map (changed_in c g) rs) n c ≡ g (log_seen rs n c)
-  unfolding log_seen region_seen
+  unfolding log_seen
   own_changes rs n has =
-      let is : region_seen rs n ≡ region_in rs n = is_seen no_region rs n has.node in
-      let number : IsNumber (region_seen rs n).logs c = subst (λ r. IsNumber r.logs c) (sym is) (log_number rs n c has) in
-      ap (λ r. item_at no_log r.logs c) (region_changed rs n) ∙ own_changed (region_seen rs n) number
+      ap (λ r. item_at no_log r.logs c) (region_changed rs n) ∙ own_changed (region_in rs n) (log_number rs n c has)
 
   -- of a change that leaves the log of no client
   pub own_changes_all : 0 < c → g no_log ≡ no_log → (rs : List RegionValue) (n : ℕ) → log_seen (map (changed_in c g) rs) n c ≡ g (log_seen rs n c)
   unfolding log_seen
   own_changes_all some none rs n =
-      let r : RegionValue = region_seen rs n in
+      let r : RegionValue = region_in rs n in
       ap (λ x. item_at no_log x.logs c) (region_changed rs n)
       ∙ elim (cases_Bool (nat_le c (length r.logs))) [
         | inl has ↦ own_changed r record { some = some; there = leb-true c (length r.logs) has }

@@ -1,11 +1,11 @@
 -- Answers stay noted where they stay, and where more come with the leases that are revoked.
-use Rattle.std.proofs.Common.{◌≡◌, ◌≢◌, ◌⊎◌, ℕ, suc, ◌-◌, ◌≤◌, ◌==◌, if◌then◌else◌, Bool, true, false, cond, not, ◌&&◌, ◌||◌, List, [], ◌∷◌, ◌++◌, length, Option, Some, None, inl, inr, refl, ap, sym, ◌∙◌, arith, true≢false, eq-eqb}
+use Rattle.std.proofs.Common.{◌≡◌, ◌≢◌, ◌⊎◌, ℕ, suc, ◌≤◌, ◌==◌, if◌then◌else◌, Bool, true, false, cond, not, ◌&&◌, ◌||◌, List, [], ◌∷◌, ◌++◌, length, Option, Some, None, inl, inr, refl, ap, sym, ◌∙◌, arith, true≢false, eq-eqb}
 use Rattle.std.proofs.Math.Logic.{∥∥₁_elim}
 use Rattle.std.proofs.Props.{props}
 use Rattle.std.specs.Ordering.{nat_cmp}
 use Rattle.std.specs.FinSet as set
 use Rattle.std.proofs.lemmas.Bool.{and_from, and_parts, cases_Bool, cases_lt, false_from_ne_true, ne_eqb, not-true, or_cases, or_left, or_right}
-use Rattle.std.proofs.lemmas.List.{length-set, length_push}
+use Rattle.std.proofs.lemmas.List.{length_push}
 use Rattle.std.proofs.lemmas.List.Folds.{list_any-append}
 use Rattle.assise_names.specs.declared.durability.Durability.{Durability}
 use Rattle.assise_inode_table.specs.Traces.{NumberedCall}
@@ -21,20 +21,20 @@ use Rattle.assise_model_leases.specs.Leases.{AreLeases, is_held}
 use Rattle.assise_model_leases.proofs.LookUps.{revoke_of, revoked_one}
 use Rattle.assise_model_leases.proofs.QuietLeases.{holder_home}
 use Rattle.assise_machine_state.specs.Changes.{after_call, after_crash, after_failure, after_goal, after_leases, after_open}
-use Rattle.assise_machine_state.specs.ClientValues.{ClientValue, client_in, client_seen, crashed_at, cut_of, failed_at, is_over, no_client, opened_on, with_call, with_goal}
+use Rattle.assise_machine_state.specs.ClientValues.{ClientValue, client_in, crashed_at, cut_of, failed_at, is_over, no_client, opened_on, with_call, with_goal}
 use Rattle.assise_lease_table.specs.Cuts.{are_once, cut_in, is_asked, is_of, is_unasked}
 use Rattle.assise_machine_state.specs.Observed.{world_of}
 use Rattle.assise_machine_state.specs.Places.{IsNumber}
 use Rattle.assise_machine_state.specs.Invariant.{AreLeft, CutsInvariant, SameRevoked}
 use Rattle.assise_machine_state.specs.StateValues.{StateValue, leases_of}
 use Rattle.assise_machine_state.proofs.CutSeen.{count_over}
-use Rattle.assise_machine_state.proofs.ItemSeen.{seen_number}
+use Rattle.assise_machine_state.proofs.ItemSeen.{length-with, seen_number}
 
 -- ---- one client
 
 -- a client that isn't over was opened
-pub running_number : (cs : List ClientValue) (c : ℕ) → is_over (client_seen cs c) ≡ false → IsNumber cs c
-unfolding client_seen
+pub running_number : (cs : List ClientValue) (c : ℕ) → is_over (client_in cs c) ≡ false → IsNumber cs c
+unfolding client_in
 running_number cs c runs = seen_number no_client cs c (λ none. true≢false (sym (ap is_over none) ∙ runs))
 
 pub failed_over : (k : ℕ) (x : ClientValue) → is_over (failed_at k x) ≡ true
@@ -102,12 +102,12 @@ noted_known s some = ∥∥₁_elim some (hlevel props) (λ noted. noted)
 pub call_noted : (s : StateValue) (x : NumberedCall) → CutsInvariant s → CutsInvariant (after_call s x)
 call_noted s x noted =
     let now : ClientValue = with_call (call_makes_inode (world_of s) x) (client_in s.clients x.client) in
-    still_noted s (after_call s x) refl (omega (arith, length-set s.clients (x.client - 1) now)) (λ c i. refl) noted
+    still_noted s (after_call s x) refl (omega (arith, length-with s.clients x.client now)) (λ c i. refl) noted
 
 pub goal_noted : (s : StateValue) (c to : ℕ) → CutsInvariant s → CutsInvariant (after_goal s c to)
 goal_noted s c to noted =
     let now : ClientValue = with_goal to (client_in s.clients c) in
-    still_noted s (after_goal s c to) refl (omega (arith, length-set s.clients (c - 1) now)) (λ d i. refl) noted
+    still_noted s (after_goal s c to) refl (omega (arith, length-with s.clients c now)) (λ d i. refl) noted
 
 pub leases_noted : (s : StateValue) (levels : TwoLevels) → CutsInvariant s → SameRevoked s levels → CutsInvariant (after_leases s levels)
 leases_noted s levels noted same = still_noted s (after_leases s levels) refl (omega arith) same noted
@@ -158,11 +158,11 @@ number_or_none cs d =
     ]
 
 -- a client of another node doesn't live at this one
-pub lives_elsewhere : (s : StateValue) (n c : ℕ) → AreLeases (world_of s) (leases_of s) → (client_seen s.clients c).home ≢ n → lives s.levels.home c n ≡ false
+pub lives_elsewhere : (s : StateValue) (n c : ℕ) → AreLeases (world_of s) (leases_of s) → (client_in s.clients c).home ≢ n → lives s.levels.home c n ≡ false
 unfolding world_of leases_of
 lives_elsewhere s n c leases other =
     elim (number_or_none s.clients c) [
-      | inl is ↦ ap (λ o. is_node o n) (leases.homes c (is.some, is.there)) ∙ ne_eqb (client_seen s.clients c).home n other
+      | inl is ↦ ap (λ o. is_node o n) (leases.homes c (is.some, is.there)) ∙ ne_eqb (client_in s.clients c).home n other
       | inr none ↦ ap (λ o. is_node o n) (leases.strangers c (λ is. none record { some = is.0; there = is.1 }))
     ]
 
@@ -209,7 +209,7 @@ module _ (s t : StateValue) (who : ℕ → Bool) (choice : Lease → Bool) (aske
 pub crash_noted : (s : StateValue) (c : ℕ) (levels : TwoLevels) (asked : List Asked) → CutsInvariant s → AreLeases (world_of s) (leases_of s) → IsRevoked s.levels levels c → AreLeft s (λ d. d == c) asked →
     CutsInvariant (after_crash s c levels asked)
 crash_noted s c levels asked noted leases revoked left =
-    more_noted s (after_crash s c levels asked) (λ d. d == c) (is_own c) asked refl (omega (arith, length-set s.clients (c - 1) (crashed_at (end_of_log (world_of s) c) (client_in s.clients c)))) leases left noted
+    more_noted s (after_crash s c levels asked) (λ d. d == c) (is_own c) asked refl (omega (arith, length-with s.clients c (crashed_at (end_of_log (world_of s) c) (client_in s.clients c)))) leases left noted
     revoked.clients (λ d i a is. ap (λ h. h == c) (lease_among (s.levels.clients i) d a is).1)
 
 pub failure_noted : (s : StateValue) (n : ℕ) (inodes : set.FinSet nat_cmp) (levels : TwoLevels) (asked : List Asked) → CutsInvariant s → AreLeases (world_of s) (leases_of s) →

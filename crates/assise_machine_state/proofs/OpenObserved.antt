@@ -18,8 +18,8 @@ use Rattle.assise_model_leases.specs.Handing.{OpensAt, SameCuts}
 use Rattle.assise_model_members.specs.Returns.{OtherAreasStay}
 use Rattle.assise_model_history.proofs.NumberedCalls.{kept_open}
 use Rattle.assise_machine_state.specs.Changes.{after_open}
-use Rattle.assise_machine_state.specs.ClientValues.{ClientValue, client_seen, cut_of, no_client, opened_on}
-use Rattle.assise_machine_state.specs.NodeValues.{begun_log, log_seen, no_region, region_seen, with_logs_begun}
+use Rattle.assise_machine_state.specs.ClientValues.{ClientValue, client_in, cut_of, no_client, opened_on}
+use Rattle.assise_machine_state.specs.NodeValues.{begun_log, log_seen, no_region, region_in, with_logs_begun}
 use Rattle.assise_machine_state.specs.Observed.{is_full_in, own_node, own_seen, world_of}
 use Rattle.assise_machine_state.specs.Places.{IsNumber, item_at}
 use Rattle.assise_machine_state.specs.Invariant.{CutsInvariant, IsMarked, ShapeInvariant}
@@ -63,18 +63,18 @@ module _ (full : ℕ → Bool) (limit home : ℕ) where
   -- ---- the same of what is seen
 
   region_kept : {A : Type 0} (f : RegionValue → A) → ((r : RegionValue) (b : Bool) → f (with_client_log r (begun_log limit b)) ≡ f r) →
-      (rs : List RegionValue) (m : ℕ) → f (region_seen (with_logs_begun full limit home 1 rs) m) ≡ f (region_seen rs m)
-  unfolding region_seen item_at
+      (rs : List RegionValue) (m : ℕ) → f (region_in (with_logs_begun full limit home 1 rs) m) ≡ f (region_in rs m)
+  unfolding region_in item_at
   region_kept f same rs zero = refl
   region_kept f same rs (suc j) = begun_kept f same 1 rs j
 
-  region_begun : (rs : List RegionValue) (m : ℕ) → full m ≡ true → IsNumber rs m → region_seen (with_logs_begun full limit home 1 rs) m ≡ begun m (region_seen rs m)
-  unfolding region_seen item_at
+  region_begun : (rs : List RegionValue) (m : ℕ) → full m ≡ true → IsNumber rs m → region_in (with_logs_begun full limit home 1 rs) m ≡ begun m (region_in rs m)
+  unfolding region_in item_at
   region_begun rs zero has there = absurd (omega (arith, there.some))
   region_begun rs (suc j) has there = begun_there 1 rs j (suc j) (omega arith) has (omega (arith, there.there))
 
-  region_away : (rs : List RegionValue) (m : ℕ) → full m ≡ false → region_seen (with_logs_begun full limit home 1 rs) m ≡ region_seen rs m
-  unfolding region_seen item_at
+  region_away : (rs : List RegionValue) (m : ℕ) → full m ≡ false → region_in (with_logs_begun full limit home 1 rs) m ≡ region_in rs m
+  unfolding region_in item_at
   region_away rs zero away = refl
   region_away rs (suc j) away = begun_away 1 rs j (suc j) (omega arith) away
 
@@ -101,16 +101,16 @@ module _ (s : StateValue) (n : ℕ) (u : Durability) (levels : TwoLevels) where
 
   -- the client
 
-  new_client : client_seen s'.clients next ≡ opened_on n u
-  unfolding client_seen
+  new_client : client_in s'.clients next ≡ opened_on n u
+  unfolding client_in
   new_client = pushed_here no_client (opened_on n u) s.clients
 
-  other_client : (d : ℕ) → d ≢ next → client_seen s'.clients d ≡ client_seen s.clients d
-  unfolding client_seen
+  other_client : (d : ℕ) → d ≢ next → client_in s'.clients d ≡ client_in s.clients d
+  unfolding client_in
   other_client d other = pushed_else no_client (opened_on n u) s.clients d other
 
-  client_kept : {A : Type 0} (f : ClientValue → A) → f (opened_on n u) ≡ f no_client → (d : ℕ) → f (client_seen s'.clients d) ≡ f (client_seen s.clients d)
-  unfolding client_seen
+  client_kept : {A : Type 0} (f : ClientValue → A) → f (opened_on n u) ≡ f no_client → (d : ℕ) → f (client_in s'.clients d) ≡ f (client_in s.clients d)
+  unfolding client_in
   client_kept f same d = pushed_kept f no_client (opened_on n u) s.clients d same
 
   so_many_clients : length s'.clients ≡ next
@@ -134,18 +134,18 @@ module _ (s : StateValue) (n : ℕ) (u : Durability) (levels : TwoLevels) where
     unfolding log_seen
     no_log_before m =
         elim (cases_Bool (is_full_in (standings s) m)) [
-          | inl f ↦ (let all : length (region_seen s.nodes m).logs ≡ length s.clients = shape.logs m f in seen_past no_log (region_seen s.nodes m).logs next (omega (arith, all)))
+          | inl f ↦ (let all : length (region_in s.nodes m).logs ≡ length s.clients = shape.logs m f in seen_past no_log (region_in s.nodes m).logs next (omega (arith, all)))
           | inr away ↦ no_log_there s m next shape away
         ]
 
     own_kept : {A : Type 0} (f : ReceivedLog → A) → ((b : Bool) → f (begun_log s.limit b) ≡ f no_log) → (d : ℕ) → f (own_seen s' d) ≡ f (own_seen s d)
     unfolding own_seen
     own_kept f same d =
-        kept f same (own_node (standings s) (client_seen s'.clients d)) d
+        kept f same (own_node (standings s) (client_in s'.clients d)) d
         ∙ elim (cases_eq d next) [
           | inl is ↦
-              subst (λ k. f (log_seen s.nodes (own_node (standings s) (client_seen s'.clients k)) k) ≡ f (log_seen s.nodes (own_node (standings s) (client_seen s.clients k)) k)) (sym is)
-              (ap f (no_log_before (own_node (standings s) (client_seen s'.clients next)) ∙ sym (no_log_before (own_node (standings s) (client_seen s.clients next)))))
+              subst (λ k. f (log_seen s.nodes (own_node (standings s) (client_in s'.clients k)) k) ≡ f (log_seen s.nodes (own_node (standings s) (client_in s.clients k)) k)) (sym is)
+              (ap f (no_log_before (own_node (standings s) (client_in s'.clients next)) ∙ sym (no_log_before (own_node (standings s) (client_in s.clients next)))))
           | inr other ↦ ap (λ y. f (log_seen s.nodes (own_node (standings s) y) d)) (other_client d other)
         ]
 
@@ -187,8 +187,8 @@ module _ (s : StateValue) (n : ℕ) (u : Durability) (levels : TwoLevels) where
     }
 
     -- nobody asked it for a lease
-    cut_new : CutsInvariant s → (i : ℕ) → cut_of s.cuts next (client_seen s'.clients next) i ≡ cut_of s.cuts next (client_seen s.clients next) i
-    unfolding client_seen
+    cut_new : CutsInvariant s → (i : ℕ) → cut_of s.cuts next (client_in s'.clients next) i ≡ cut_of s.cuts next (client_in s.clients next) i
+    unfolding client_in
     cut_new noted i =
         ap (λ y. cut_of s.cuts next y i) new_client
         ∙ none_cut s.cuts next i (new_unasked s noted i)
@@ -198,7 +198,7 @@ module _ (s : StateValue) (n : ℕ) (u : Durability) (levels : TwoLevels) where
     unfolding leases_of
     cuts_stay noted d i =
         elim (cases_eq d next) [
-          | inl is ↦ subst (λ k. cut_of s.cuts k (client_seen s'.clients k) i ≡ cut_of s.cuts k (client_seen s.clients k) i) (sym is) (cut_new noted i)
+          | inl is ↦ subst (λ k. cut_of s.cuts k (client_in s'.clients k) i ≡ cut_of s.cuts k (client_in s.clients k) i) (sym is) (cut_new noted i)
           | inr other ↦ ap (λ y. cut_of s.cuts d y i) (other_client d other)
         ]
 
@@ -208,18 +208,18 @@ module _ (s : StateValue) (n : ℕ) (u : Durability) (levels : TwoLevels) where
 
     -- ---- its shape
 
-    begun_region : (m : ℕ) → is_full_in (standings s) m ≡ true → region_seen s'.nodes m ≡ with_client_log (region_seen s.nodes m) (begun_log s.limit (m == n))
+    begun_region : (m : ℕ) → is_full_in (standings s) m ≡ true → region_in s'.nodes m ≡ with_client_log (region_in s.nodes m) (begun_log s.limit (m == n))
     begun_region m f = region_begun (is_full_in (standings s)) s.limit n s.nodes m f (full_number s m shape f)
 
-    same_region : (m : ℕ) → is_full_in (standings s) m ≡ false → region_seen s'.nodes m ≡ region_seen s.nodes m
+    same_region : (m : ℕ) → is_full_in (standings s) m ≡ false → region_in s'.nodes m ≡ region_in s.nodes m
     same_region m away = region_away (is_full_in (standings s)) s.limit n s.nodes m away
 
     begun_now : (m : ℕ) → is_full_in (standings s) m ≡ true → log_seen s'.nodes m next ≡ begun_log s.limit (m == n)
     unfolding log_seen
     begun_now m f =
         ap (λ r. item_at no_log r.logs next) (begun_region m f)
-        ∙ subst (λ k. item_at no_log ((region_seen s.nodes m).logs ++ begun_log s.limit (m == n) ∷ []) (suc k) ≡ begun_log s.limit (m == n)) (shape.logs m f)
-        (pushed_here no_log (begun_log s.limit (m == n)) (region_seen s.nodes m).logs)
+        ∙ subst (λ k. item_at no_log ((region_in s.nodes m).logs ++ begun_log s.limit (m == n) ∷ []) (suc k) ≡ begun_log s.limit (m == n)) (shape.logs m f)
+        (pushed_here no_log (begun_log s.limit (m == n)) (region_in s.nodes m).logs)
 
     same_log : (m d : ℕ) → d ≢ next → log_seen s'.nodes m d ≡ log_seen s.nodes m d
     unfolding log_seen
@@ -227,16 +227,16 @@ module _ (s : StateValue) (n : ℕ) (u : Durability) (levels : TwoLevels) where
         elim (cases_Bool (is_full_in (standings s) m)) [
           | inl f ↦
               ap (λ r. item_at no_log r.logs d) (begun_region m f)
-              ∙ pushed_else no_log (begun_log s.limit (m == n)) (region_seen s.nodes m).logs d (λ is. other (is ∙ ap suc (shape.logs m f)))
+              ∙ pushed_else no_log (begun_log s.limit (m == n)) (region_in s.nodes m).logs d (λ is. other (is ∙ ap suc (shape.logs m f)))
           | inr away ↦ ap (λ r. item_at no_log r.logs d) (same_region m away)
         ]
 
-    so_many_logs : (m : ℕ) → is_full_in (standings s) m ≡ true → length (region_seen s'.nodes m).logs ≡ next
+    so_many_logs : (m : ℕ) → is_full_in (standings s) m ≡ true → length (region_in s'.nodes m).logs ≡ next
     so_many_logs m f =
         let more : (k : ℕ) → k ≡ length s.clients → k + 1 ≡ next = λ k is. omega (arith, is) in
-        ap (λ r. length r.logs) (begun_region m f) ∙ length_push (region_seen s.nodes m).logs (begun_log s.limit (m == n)) ∙ more (length (region_seen s.nodes m).logs) (shape.logs m f)
+        ap (λ r. length r.logs) (begun_region m f) ∙ length_push (region_in s.nodes m).logs (begun_log s.limit (m == n)) ∙ more (length (region_in s.nodes m).logs) (shape.logs m f)
 
-    no_logs_there : (m : ℕ) → is_full_in (standings s) m ≡ false → (region_seen s'.nodes m).logs ≡ []
+    no_logs_there : (m : ℕ) → is_full_in (standings s) m ≡ false → (region_in s'.nodes m).logs ≡ []
     no_logs_there m away = ap (λ r. r.logs) (same_region m away) ∙ shape.no_logs m away
 
     at_home_new : Full w n → (m : ℕ) → KnowsHome s' m next
@@ -258,7 +258,7 @@ module _ (s : StateValue) (n : ℕ) (u : Durability) (levels : TwoLevels) where
     own_other : (d : ℕ) → d ≢ next → own_seen s' d ≡ own_seen s d
     unfolding own_seen
     own_other d other =
-        ap (λ y. log_seen s'.nodes (own_node (standings s) y) d) (other_client d other) ∙ same_log (own_node (standings s) (client_seen s.clients d)) d other
+        ap (λ y. log_seen s'.nodes (own_node (standings s) y) d) (other_client d other) ∙ same_log (own_node (standings s) (client_in s.clients d)) d other
 
     marked_new : (m : ℕ) → IsMarked (is_border (own_seen s' next).log) (log_seen s'.nodes m next).log
     marked_new m = elim (cases_Bool (is_full_in (standings s) m)) [
@@ -283,7 +283,7 @@ module _ (s : StateValue) (n : ℕ) (u : Durability) (levels : TwoLevels) where
               ap (λ l. l.log.limit) (same_log m d other) ∙ limit_seen s m d shape f old
         ]
 
-    all_logs : (m : ℕ) → is_full_in (standings s) m ≡ true → length (region_seen s'.nodes m).logs ≡ length s'.clients
+    all_logs : (m : ℕ) → is_full_in (standings s) m ≡ true → length (region_in s'.nodes m).logs ≡ length s'.clients
     all_logs m f = so_many_logs m f ∙ sym so_many_clients
 
     pub open_shaped : Full w n → ShapeInvariant s'
@@ -298,7 +298,7 @@ module _ (s : StateValue) (n : ℕ) (u : Durability) (levels : TwoLevels) where
       most_limit = shape.most_limit;
       marked = marked_now;
       durabilities = λ d. elim (cases_eq next d) [
-        | inl is ↦ subst (λ k. (client_seen s'.clients k).durability ≡ durability_of k s'.history) is (ap (λ y. y.durability) new_client ∙ sym (durability-opened s.history next n u))
+        | inl is ↦ subst (λ k. (client_in s'.clients k).durability ≡ durability_of k s'.history) is (ap (λ y. y.durability) new_client ∙ sym (durability-opened s.history next n u))
         | inr other ↦ ap (λ y. y.durability) (other_client d (λ is. other (sym is))) ∙ shape.durabilities d ∙ sym (durability-other s.history d next n u (ne_eqb next d other))
       ];
     }

@@ -8,14 +8,13 @@ use Rattle.assise_manager.specs.Membership.{lowest_full}
 use Rattle.assise_manager.specs.Standings.{Standing, full_nodes}
 use Rattle.assise_model_world.specs.World.{digested_by_all, end_of_log, least_of, received_by_all}
 use Rattle.assise_model_world.proofs.WorldObserved.{least_of-above, least_of-below, least_of-end, least_of-same}
-use Rattle.assise_machine_state.specs.ClientValues.{ClientValue, client_in, client_seen}
+use Rattle.assise_machine_state.specs.ClientValues.{ClientValue, client_in}
 use Rattle.assise_machine_state.specs.NodeValues.{HasLog, log_in, log_seen}
 use Rattle.assise_machine_state.specs.Observed.{full_in, is_full_in, own_node, own_seen, world_of}
 use Rattle.assise_machine_state.specs.Places.{IsNumber}
 use Rattle.assise_machine_state.specs.Invariant.{ShapeInvariant}
 use Rattle.assise_machine_state.specs.StateValues.{StateValue, standings}
 use Rattle.assise_machine_state.proofs.Fullness.{full_is, has_log, home_full, log_is}
-use Rattle.assise_machine_state.proofs.ItemSeen.{client_is}
 use Rattle.assise_machine_state.proofs.Standings.{is_listed, listed_is_full, lowest_listed}
 
 -- ---- the own node
@@ -23,8 +22,7 @@ use Rattle.assise_machine_state.proofs.Standings.{is_listed, listed_is_full, low
 -- the home of a client that lives is full
 full_home : (s : StateValue) (c : ℕ) → ShapeInvariant s → IsNumber s.clients c → (client_in s.clients c).failed ≡ false → is_full_in (standings s) (client_in s.clients c).home ≡ true
 full_home s c shape client unfailed =
-    let same : client_seen s.clients c ≡ client_in s.clients c = client_is s.clients c client in
-    subst (λ x. is_full_in (standings s) x.home ≡ true) same (home_full s c shape (ap (λ x. x.failed) same ∙ unfailed))
+    home_full s c shape unfailed
 
 pub own_full : (s : StateValue) (c : ℕ) → ShapeInvariant s → IsNumber s.clients c → 0 < length (full_nodes (standings s)) → is_full_in (standings s) (own_node (standings s) (client_in s.clients c)) ≡ true
 own_full s c shape client some =
@@ -51,11 +49,10 @@ home_log s c shape client unfailed = has_log s (client_in s.clients c).home c sh
 
 pub home_known : (s : StateValue) (c : ℕ) → ShapeInvariant s → IsNumber s.clients c → (client_in s.clients c).failed ≡ false → (log_in s.nodes (client_in s.clients c).home c).at_home ≡ true
 home_known s c shape client unfailed =
-    let same : client_seen s.clients c ≡ client_in s.clients c = client_is s.clients c client in
     let home : ℕ = (client_in s.clients c).home in
     ap (λ l. l.at_home) (sym (log_is s home c (home_log s c shape client unfailed)))
     ∙ shape.at_home home c
-    ∙ rw (same, unfailed, eq-eqb home home refl) refl
+    ∙ rw (unfailed, eq-eqb home home refl) refl
 
 -- ---- the least place
 
@@ -86,8 +83,7 @@ pub own_end : (s : StateValue) (c : ℕ) → ShapeInvariant s → IsNumber s.cli
     end_of_log (world_of s) c ≡ log_end (log_in s.nodes (own_node (standings s) (client_in s.clients c)) c).log
 unfolding world_of end_of_log own_seen
 own_end s c shape client some =
-    ap (λ x. log_end (log_seen s.nodes (own_node (standings s) x) c).log) (client_is s.clients c client)
-    ∙ ap (λ l. log_end l.log) (log_is s (own_node (standings s) (client_in s.clients c)) c (own_log s c shape client some))
+    ap (λ l. log_end l.log) (log_is s (own_node (standings s) (client_in s.clients c)) c (own_log s c shape client some))
 
 pub least_received : (s : StateValue) (c : ℕ) → ShapeInvariant s → IsNumber s.clients c → 0 < length (full_nodes (standings s)) →
     least_of (full_nodes (standings s)) (λ n. log_end (log_in s.nodes n c).log) (log_end (log_in s.nodes (own_node (standings s) (client_in s.clients c)) c).log) ≡ received_by_all (world_of s) c

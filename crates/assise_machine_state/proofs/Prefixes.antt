@@ -14,8 +14,8 @@ use Rattle.assise_model_world.proofs.Logs.{drop-of_drop}
 use Rattle.assise_model_world.proofs.WorldObserved.{digested_by_all-below, digested_by_all-first, least_of-end, least_of-same, received_by_all-below}
 use Rattle.assise_model_events.proofs.LeaseSteps.{clients_after, full_after}
 use Rattle.assise_machine_state.specs.Changes.{after_drop, first_but}
-use Rattle.assise_machine_state.specs.ClientValues.{client_seen}
-use Rattle.assise_machine_state.specs.NodeValues.{log_seen, region_seen}
+use Rattle.assise_machine_state.specs.ClientValues.{client_in}
+use Rattle.assise_machine_state.specs.NodeValues.{log_seen, region_in}
 use Rattle.assise_machine_state.specs.Observed.{is_full_in, own_node, own_seen, world_of}
 use Rattle.assise_machine_state.specs.Places.{IsNumber}
 use Rattle.assise_machine_state.specs.Invariant.{IsMarked, ShapeInvariant}
@@ -67,7 +67,7 @@ module _ (s : StateValue) (c to : ℕ) (shape : ShapeInvariant s) (prefixes : Ha
   begins n full = own_changes c (λ l. from_number l to) s.nodes n (has_log s n c shape full client)
 
   -- where no node has it, there is nothing to drop
-  nowhere : log_seen s.nodes (own_node (standings s) (client_seen s.clients c)) c ≡ no_log → to ≡ 0
+  nowhere : log_seen s.nodes (own_node (standings s) (client_in s.clients c)) c ≡ no_log → to ≡ 0
   unfolding end_of_log world_of own_seen
   nowhere none =
       let high : to ≤ end_of_log w c = omega (arith, all_digested, digested_by_all-end w c) in
@@ -77,7 +77,7 @@ module _ (s : StateValue) (c to : ℕ) (shape : ShapeInvariant s) (prefixes : Ha
   own_begins : own_seen (after_drop s c to) c ≡ from_number (own_seen s c) to
   unfolding own_seen
   own_begins =
-      let own : ℕ = own_node (standings s) (client_seen s.clients c) in
+      let own : ℕ = own_node (standings s) (client_in s.clients c) in
       elim (cases_Bool (is_full_in (standings s) own)) [
         | inl full ↦ begins own full
         | inr away ↦
@@ -90,7 +90,7 @@ module _ (s : StateValue) (c to : ℕ) (shape : ShapeInvariant s) (prefixes : Ha
 
   own_beside : (d : ℕ) → d ≢ c → own_seen (after_drop s c to) d ≡ own_seen s d
   unfolding own_seen
-  own_beside d other = beside (own_node (standings s) (client_seen s.clients d)) d other
+  own_beside d other = beside (own_node (standings s) (client_in s.clients d)) d other
 
   -- ---- its shape
 
@@ -106,7 +106,7 @@ module _ (s : StateValue) (c to : ℕ) (shape : ShapeInvariant s) (prefixes : Ha
             (marked_prefix (own_seen s c).log (log_seen s.nodes n c).log to from_first at_border low (all n c))
         | inr away ↦
             let none : log_seen (after_drop s c to).nodes n c ≡ no_log =
-            no_log_in (after_drop s c to).nodes n c (nil_from_length (region_seen (after_drop s c to).nodes n).logs (count_seen c (λ l. from_number l to) s.nodes n ∙ ap length (shape.no_logs n away))) in
+            no_log_in (after_drop s c to).nodes n c (nil_from_length (region_in (after_drop s c to).nodes n).logs (count_seen c (λ l. from_number l to) s.nodes n ∙ ap length (shape.no_logs n away))) in
             subst (λ l. IsMarked (is_border (from_number (own_seen s c) to).log) l.log) (sym none) refl
       ])
 

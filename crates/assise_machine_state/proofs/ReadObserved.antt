@@ -5,18 +5,17 @@ use Rattle.std.specs.FinMap as map
 use Rattle.assise_record.specs.Records.{all_effects}
 use Rattle.assise_inode_table.proofs.EffectLists.{get-all_applied}
 use Rattle.assise_inode_table.specs.Contents.{values}
-use Rattle.assise_inode_table.specs.Effects.{all_applied, value_after}
+use Rattle.assise_inode_table.specs.Effects.{value_after}
 use Rattle.assise_digest.specs.Region.{ReceivedLog, ahead, ahead_below, all_ahead, alone, no_log}
 use Rattle.assise_model_world.specs.Invariant.{WorldInvariant}
 use Rattle.assise_model_world.specs.World.{Full, World, undigested_records as ahead_observed, undigested_below as below_observed, all_undigested_records as all_observed, alone_at as alone_observed, received_by_all, view}
-use Rattle.assise_machine_state.specs.ClientValues.{client_in, client_seen}
-use Rattle.assise_machine_state.specs.NodeValues.{HasLog, log_in, log_seen, region_in, region_seen}
+use Rattle.assise_machine_state.specs.ClientValues.{client_in}
+use Rattle.assise_machine_state.specs.NodeValues.{HasLog, log_in, log_seen, region_in}
 use Rattle.assise_machine_state.specs.Observed.{inodes_read, is_full_in, world_of}
 use Rattle.assise_machine_state.specs.Places.{item_at}
 use Rattle.assise_machine_state.specs.Invariant.{ShapeInvariant}
 use Rattle.assise_machine_state.specs.StateValues.{StateValue, standings}
-use Rattle.assise_machine_state.proofs.Fullness.{full_seen, has_log, home_full, lives_number, lives_unfailed, log_is, region_is, same_first}
-use Rattle.assise_machine_state.proofs.ItemSeen.{client_is}
+use Rattle.assise_machine_state.proofs.Fullness.{full_seen, has_log, home_full, lives_number, lives_unfailed, log_is, same_first}
 
 -- ---- what a full node has ahead of a client
 
@@ -29,25 +28,20 @@ ahead_is s n c sound f = ahead_first s n c (same_first s n c sound f)
 
 -- ---- by a client at its home
 
-home_is : (s : StateValue) (c : ℕ) → (world_of s).lives c ≡ true → client_seen s.clients c ≡ client_in s.clients c
-home_is s c lives = client_is s.clients c (lives_number s c lives)
-
 -- a full node's inodes with what it has ahead of a client are those that the client sees there
 seen_there : (s : StateValue) (n c i : ℕ) → WorldInvariant (world_of s) → Full (world_of s) n → HasLog s.nodes n c
     → value_after i (map.get (region_in s.nodes n).inodes i) (all_effects (ahead (log_in s.nodes n c))) ≡ view (world_of s) n c i
 unfolding view world_of
 seen_there s n c i sound f has =
-    ap (λ r. value_after i (values r.inodes i) (all_effects (ahead (log_in s.nodes n c)))) (sym (region_is s n has.node))
-    ∙ ap (λ l. value_after i (values (region_seen s.nodes n).inodes i) (all_effects (ahead l))) (sym (log_is s n c has))
-    ∙ ap (λ rs. value_after i (values (region_seen s.nodes n).inodes i) (all_effects rs)) (sym (ahead_is s n c sound f))
+    ap (λ l. value_after i (values (region_in s.nodes n).inodes i) (all_effects (ahead l))) (sym (log_is s n c has))
+    ∙ ap (λ rs. value_after i (values (region_in s.nodes n).inodes i) (all_effects rs)) (sym (ahead_is s n c sound f))
 
 pub read_at_home : (s : StateValue) (c i : ℕ) → ShapeInvariant s → WorldInvariant (world_of s) → (world_of s).lives c ≡ true → map.get (inodes_read s c) i ≡ view (world_of s) ((world_of s).home c) c i
 unfolding world_of
 read_at_home s c i shape sound lives =
-    let home : ℕ = (client_seen s.clients c).home in
+    let home : ℕ = (client_in s.clients c).home in
     let full : is_full_in (standings s) home ≡ true = home_full s c shape (lives_unfailed s c lives) in
-    ap (λ x. map.get (all_applied (region_in s.nodes x.home).inodes (all_effects (ahead (log_in s.nodes x.home c)))) i) (sym (home_is s c lives))
-    ∙ get-all_applied (region_in s.nodes home).inodes (all_effects (ahead (log_in s.nodes home c))) i
+    get-all_applied (region_in s.nodes home).inodes (all_effects (ahead (log_in s.nodes home c))) i
     ∙ seen_there s home c i sound (sound.homes c lives) (has_log s home c shape full (lives_number s c lives))
 
 -- ---- of a full node's region alone
@@ -68,7 +62,7 @@ module _ (s : StateValue) (n : ℕ) (acked : List ℕ) (shape : ShapeInvariant s
   w = world_of s
 
   abbrev ls : List ReceivedLog
-  ls = (region_seen s.nodes n).logs
+  ls = (region_in s.nodes n).logs
 
   all_logs : length ls ≡ length s.clients
   all_logs = shape.logs n (full_seen s n full)
@@ -96,6 +90,6 @@ module _ (s : StateValue) (n : ℕ) (acked : List ℕ) (shape : ShapeInvariant s
       let numbers : take (length s.clients) acked ≡ acked = take_all (length s.clients) acked (omega (arith, count)) in
       sym (λ i. all_ahead (logs i) (numbers i)) ∙ same_ahead (length s.clients) (omega arith)
 
-  pub alone_same : (i : ℕ) → alone (region_seen s.nodes n) acked i ≡ alone_observed w n i
+  pub alone_same : (i : ℕ) → alone (region_in s.nodes n) acked i ≡ alone_observed w n i
   unfolding alone_observed world_of
-  alone_same i = ap (value_after i (values (region_seen s.nodes n).inodes i)) all_same
+  alone_same i = ap (value_after i (values (region_in s.nodes n).inodes i)) all_same

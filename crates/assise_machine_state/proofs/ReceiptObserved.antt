@@ -12,7 +12,7 @@ use Rattle.assise_model_world.specs.Invariant.{WorldInvariant}
 use Rattle.assise_model_world.specs.World.{Full, World, end_of_log, records_between}
 use Rattle.assise_model_members.specs.Returns.{OtherAreasStay}
 use Rattle.assise_machine_state.specs.Changes.{after_delivery}
-use Rattle.assise_machine_state.specs.ClientValues.{client_seen}
+use Rattle.assise_machine_state.specs.ClientValues.{client_in}
 use Rattle.assise_machine_state.specs.NodeValues.{HasLog, log_in, log_seen, region_in, with_records}
 use Rattle.assise_machine_state.specs.Observed.{own_node, own_seen, world_of}
 use Rattle.assise_machine_state.specs.Places.{IsNumber}
@@ -38,16 +38,16 @@ other_areas s n c k m i else = same_area s n c k m i
 
 -- what a node has of a log that is a client's own is all of it, and its log of the client begins where the own one does
 pub record HasPrefix (s : StateValue) (n c : ℕ) : Type 0 where
-  pub all_there : own_node (standings s) (client_seen s.clients c) ≡ n → (world_of s).received n c ≡ end_of_log (world_of s) c
+  pub all_there : own_node (standings s) (client_in s.clients c) ≡ n → (world_of s).received n c ≡ end_of_log (world_of s) c
   pub first : (log_seen s.nodes n c).log.first ≡ (world_of s).first c
 
 pub has_prefix : (s : StateValue) (n c : ℕ) → WorldInvariant (world_of s) → Full (world_of s) n → HasPrefix s n c
 unfolding world_of
 has_prefix s n c sound full_node = record {
-  all_there = λ own. elim (cases_Bool (client_seen s.clients c).failed) [
+  all_there = λ own. elim (cases_Bool (client_in s.clients c).failed) [
     | inl failed ↦ sound.left n c (ap not failed) full_node
     | inr unfailed ↦
-        let home : (client_seen s.clients c).home ≡ n = rw unfailed at own in
+        let home : (client_in s.clients c).home ≡ n = rw unfailed at own in
         subst (λ m. (world_of s).received m c ≡ end_of_log (world_of s) c) home (sound.whole c (ap not unfailed))
   ];
   first = same_first s n c sound full_node;
@@ -84,7 +84,7 @@ module _ (s : StateValue) (n c k : ℕ) (shape : ShapeInvariant s) (prefix : Has
       let nothing : take (k - w.received n c) (drop (w.received n c - w.first c) (w.records c)) ≡ [] = ap (λ j. take j (drop (w.received n c - w.first c) (w.records c))) none in
       ap (with_records (is_border (own_seen s c).log) (log_in s.nodes n c)) nothing ∙ none_more (is_border (own_seen s c).log) (log_in s.nodes n c)
 
-  same_here : own_node (standings s) (client_seen s.clients c) ≡ n → (m d : ℕ) → log_seen t.nodes m d ≡ log_seen s.nodes m d
+  same_here : own_node (standings s) (client_in s.clients c) ≡ n → (m d : ℕ) → log_seen t.nodes m d ≡ log_seen s.nodes m d
   same_here own m d = log_same s.nodes n c (region_in s.nodes n).inodes longer (λ x. x) m d (no_more (prefix.all_there own))
 
   same_else : (m d : ℕ) → (m ≡ n → d ≡ c → ⊥) → log_seen t.nodes m d ≡ log_seen s.nodes m d
@@ -94,11 +94,11 @@ module _ (s : StateValue) (n c k : ℕ) (shape : ShapeInvariant s) (prefix : Has
   unfolding own_seen
   same_own d =
       elim (cases_eq d c) [
-        | inl is ↦ (elim (cases_eq (own_node (standings s) (client_seen s.clients c)) n) [
-          | inl own ↦ same_here own (own_node (standings s) (client_seen s.clients d)) d
-          | inr other ↦ same_else (own_node (standings s) (client_seen s.clients d)) d (λ there same. other (ap (λ e. own_node (standings s) (client_seen s.clients e)) (sym same) ∙ there))
+        | inl is ↦ (elim (cases_eq (own_node (standings s) (client_in s.clients c)) n) [
+          | inl own ↦ same_here own (own_node (standings s) (client_in s.clients d)) d
+          | inr other ↦ same_else (own_node (standings s) (client_in s.clients d)) d (λ there same. other (ap (λ e. own_node (standings s) (client_in s.clients e)) (sym same) ∙ there))
         ])
-        | inr other ↦ same_else (own_node (standings s) (client_seen s.clients d)) d (λ there same. other same)
+        | inr other ↦ same_else (own_node (standings s) (client_in s.clients d)) d (λ there same. other same)
       ]
 
   -- and this node's log has its groups

@@ -1,14 +1,15 @@
 -- Records and logs come to a region one after another.
 use Rattle.std.proofs.Common.{◌≡◌, ◌≢◌, ℕ, suc, ◌+◌, ◌-◌, ◌<◌, ◌≤◌, Bool, List, [], ◌∷◌, ◌++◌, false, length, map, take, take-suc, take_all, get_or, inl, inr, ap, sym, subst, ◌∙◌, arith}
 use Rattle.std.proofs.lemmas.Bool.{cases_eq}
-use Rattle.std.proofs.lemmas.List.{append_assoc, get_or-set_other, get_or-set_same, length-set, length_push, map-append, set-set}
+use Rattle.std.proofs.lemmas.List.{append_assoc, get_or-set_same, length-set, length_push, map-append, set-get_or, set-set}
 use Rattle.assise_record.specs.LogRecord.{LogRecord}
 use Rattle.assise_private_log.specs.NumberedLog.{NumberedLog, end, is_border, with_grouped}
 use Rattle.assise_private_log.proofs.Borders.{border_end, border_grouped}
 use Rattle.assise_digest.specs.Region.{AreWhole, HasClient, IsBegun, ReceivedLog, RegionValue, log_of, no_log, with_log, with_one}
 use Rattle.assise_model_events.specs.NodeEvents.{border_marks}
-use Rattle.assise_machine_state.specs.NodeValues.{AreTaken, HasGroupsOf, HasLog, away, copied, log_in, no_region, region_in, with_log_in, with_next, with_records, with_region}
-use Rattle.assise_machine_state.specs.Places.{IsNumber}
+use Rattle.assise_machine_state.specs.NodeValues.{AreTaken, HasGroupsOf, HasLog, away, copied, log_in, region_in, with_log_in, with_next, with_records, with_region}
+use Rattle.assise_machine_state.proofs.LogChanges.{none_more, region_back, region_else, region_here}
+use Rattle.assise_machine_state.proofs.ItemSeen.{length-with, with-with}
 
 -- ---- records
 
@@ -36,20 +37,20 @@ in_region border r c a rest there =
     ∙ ap (λ ls. record r { logs = ls }) (set-set r.logs (c - 1) more (with_records border more rest))
     ∙ ap (λ l. with_log r c l) (one_then_others border (log_of r c) a rest)
 
-pub region_then : (border : ℕ → Bool) (rs : List RegionValue) (n c : ℕ) (a : LogRecord) → HasLog rs n c →
+region_then : (border : ℕ → Bool) (rs : List RegionValue) (n c : ℕ) (a : LogRecord) → HasLog rs n c →
     region_in (with_next border rs n c a) n ≡ with_log (region_in rs n) c (with_one (log_in rs n c) a (border (end (log_in rs n c).log)))
 region_then border rs n c a has =
-    get_or-set_same rs (n - 1) (with_log (region_in rs n) c (with_one (log_in rs n c) a (border (end (log_in rs n c).log)))) no_region (omega (arith, has.node.some, has.node.there))
+    region_here rs n (with_log (region_in rs n) c (with_one (log_in rs n c) a (border (end (log_in rs n c).log)))) has.node
 
-pub log_then : (border : ℕ → Bool) (rs : List RegionValue) (n c : ℕ) (a : LogRecord) → HasLog rs n c → log_in (with_next border rs n c a) n c ≡ with_one (log_in rs n c) a (border (end (log_in rs n c).log))
+log_then : (border : ℕ → Bool) (rs : List RegionValue) (n c : ℕ) (a : LogRecord) → HasLog rs n c → log_in (with_next border rs n c a) n c ≡ with_one (log_in rs n c) a (border (end (log_in rs n c).log))
 log_then border rs n c a has =
     ap (λ r. log_of r c) (region_then border rs n c a has)
     ∙ get_or-set_same (region_in rs n).logs (c - 1) (with_one (log_in rs n c) a (border (end (log_in rs n c).log))) no_log (omega (arith, has.client.some, has.client.there))
 
-pub has_then : (border : ℕ → Bool) (rs : List RegionValue) (n c : ℕ) (a : LogRecord) → HasLog rs n c → HasLog (with_next border rs n c a) n c
+has_then : (border : ℕ → Bool) (rs : List RegionValue) (n c : ℕ) (a : LogRecord) → HasLog rs n c → HasLog (with_next border rs n c a) n c
 has_then border rs n c a has =
     let more : ReceivedLog = with_one (log_in rs n c) a (border (end (log_in rs n c).log)) in
-    let nodes : length (with_next border rs n c a) ≡ length rs = length-set rs (n - 1) (with_log (region_in rs n) c more) in
+    let nodes : length (with_next border rs n c a) ≡ length rs = length-with rs n (with_log (region_in rs n) c more) in
     let logs : length (region_in (with_next border rs n c a) n).logs ≡ length (region_in rs n).logs =
     ap (λ r. length r.logs) (region_then border rs n c a has) ∙ length-set (region_in rs n).logs (c - 1) more in
     record {
@@ -58,25 +59,23 @@ has_then border rs n c a has =
     }
 
 -- another node's log stays
-pub log_beside : (border : ℕ → Bool) (rs : List RegionValue) (n m c : ℕ) (a : LogRecord) → HasLog rs n c → IsNumber rs m → m ≢ n → log_in (with_next border rs n c a) m c ≡ log_in rs m c
-log_beside border rs n m c a has there differs =
-    let places : m - 1 ≢ n - 1 = λ same. differs (omega (arith, same, there.some, has.node.some)) in
-    ap (λ r. log_of r c) (get_or-set_other rs (n - 1) (m - 1) (with_log (region_in rs n) c (with_one (log_in rs n c) a (border (end (log_in rs n c).log)))) no_region places)
+log_beside : (border : ℕ → Bool) (rs : List RegionValue) (n m c : ℕ) (a : LogRecord) → HasLog rs n c → m ≢ n → log_in (with_next border rs n c a) m c ≡ log_in rs m c
+log_beside border rs n m c a has differs =
+    ap (λ r. log_of r c) (region_else rs n (with_log (region_in rs n) c (with_one (log_in rs n c) a (border (end (log_in rs n c).log)))) has.node m differs)
 
 pub one_taken : (border : ℕ → Bool) (rs : List RegionValue) (n c : ℕ) (a : LogRecord) (rest : List LogRecord) → HasLog rs n c →
     with_log_in (with_next border rs n c a) n c (with_records border (log_in (with_next border rs n c a) n c) rest) ≡ with_log_in rs n c (with_records border (log_in rs n c) (a ∷ rest))
 one_taken border rs n c a rest has =
     let one : RegionValue = with_log (region_in rs n) c (with_one (log_in rs n c) a (border (end (log_in rs n c).log))) in
     ap (λ r. with_region (with_next border rs n c a) n (with_log r c (with_records border (log_of r c) rest))) (region_then border rs n c a has)
-    ∙ set-set rs (n - 1) one (with_log one c (with_records border (log_of one c) rest))
+    ∙ with-with rs n one (with_log one c (with_records border (log_of one c) rest))
     ∙ ap (with_region rs n) (in_region border (region_in rs n) c a rest has.client)
 
-pub has_beside : (border : ℕ → Bool) (rs : List RegionValue) (n m c : ℕ) (a : LogRecord) → HasLog rs n c → HasLog rs m c → m ≢ n → HasLog (with_next border rs n c a) m c
+has_beside : (border : ℕ → Bool) (rs : List RegionValue) (n m c : ℕ) (a : LogRecord) → HasLog rs n c → HasLog rs m c → m ≢ n → HasLog (with_next border rs n c a) m c
 has_beside border rs n m c a has other differs =
-    let places : m - 1 ≢ n - 1 = λ same. differs (omega (arith, same, other.node.some, has.node.some)) in
     let more : RegionValue = with_log (region_in rs n) c (with_one (log_in rs n c) a (border (end (log_in rs n c).log))) in
-    let nodes : length (with_next border rs n c a) ≡ length rs = length-set rs (n - 1) more in
-    let region : region_in (with_next border rs n c a) m ≡ region_in rs m = get_or-set_other rs (n - 1) (m - 1) more no_region places in
+    let nodes : length (with_next border rs n c a) ≡ length rs = length-with rs n more in
+    let region : region_in (with_next border rs n c a) m ≡ region_in rs m = region_else rs n more has.node m differs in
     record {
       node = record { some = other.node.some; there = subst (λ k. m ≤ k) (sym nodes) other.node.there };
       client = subst (λ r. HasClient r c) (sym region) other.client;
@@ -84,7 +83,7 @@ has_beside border rs n m c a has other differs =
 
 -- the groups of the own log go on
 
-pub groups_then : (own l : NumberedLog) (a : LogRecord) → HasGroupsOf own l → HasGroupsOf own (with_grouped l a (is_border own (end l)))
+groups_then : (own l : NumberedLog) (a : LogRecord) → HasGroupsOf own l → HasGroupsOf own (with_grouped l a (is_border own (end l)))
 groups_then own l a g = record {
   marks = omega (arith, g.marks, length_push l.begins (is_border own (end l)), length_push l.records a);
   borders = λ k low is.
@@ -95,6 +94,42 @@ groups_then own l a g = record {
             border_grouped l a (is_border own (end l)) k g.marks (λ here. absurd (other here)) ∙ g.borders k before is
       ];
 }
+
+-- the node's log with one record more, and the client's own log
+pub record TakesOne (rs ss : List RegionValue) (n own c : ℕ) : Type 0 where
+  pub there : HasLog ss n c
+  pub own_there : HasLog ss own c
+  pub own_log : log_in ss own c ≡ log_in rs own c
+  pub groups : HasGroupsOf (log_in ss own c).log (log_in ss n c).log
+  pub elsewhere : (log_in ss n c).at_home ≡ false
+  pub limit : (log_in ss n c).log.limit ≡ (log_in rs n c).log.limit
+  pub longer : length (log_in ss n c).log.records ≡ length (log_in rs n c).log.records + 1
+  pub end : end (log_in ss n c).log ≡ end (log_in rs n c).log + 1
+
+pub takes_one : (rs : List RegionValue) (n own c : ℕ) (a : LogRecord) → HasLog rs n c → HasLog rs own c → own ≢ n → HasGroupsOf (log_in rs own c).log (log_in rs n c).log → (log_in rs n c).at_home ≡ false →
+    TakesOne rs (with_next (is_border (log_in rs own c).log) rs n c a) n own c
+takes_one rs n own c a has own_has other groups elsewhere =
+    let l : ReceivedLog = log_in rs n c in
+    let border : ℕ → Bool = is_border (log_in rs own c).log in
+    let now : log_in (with_next border rs n c a) n c ≡ with_one l a (border (end l.log)) = log_then border rs n c a has in
+    let kept : log_in (with_next border rs n c a) own c ≡ log_in rs own c = log_beside border rs n own c a has other in
+    record {
+      there = has_then border rs n c a has;
+      own_there = has_beside border rs n own c a has own_has other;
+      own_log = kept;
+      groups = subst (λ o. HasGroupsOf o.log (log_in (with_next border rs n c a) n c).log) (sym kept)
+          (subst (λ m. HasGroupsOf (log_in rs own c).log m.log) (sym now) (groups_then (log_in rs own c).log l.log a groups));
+      elsewhere = ap (λ m. m.at_home) now ∙ elsewhere;
+      limit = ap (λ m. m.log.limit) now;
+      longer = ap (λ m. length m.log.records) now ∙ omega (arith, length_push l.log.records a);
+      end = ap (λ m. end m.log) now ∙ omega (arith, length_push l.log.records a);
+    }
+
+-- where none comes nothing changes
+pub none_taken : (border : ℕ → Bool) (rs : List RegionValue) (n c : ℕ) → with_log_in rs n c (with_records border (log_in rs n c) []) ≡ rs
+none_taken border rs n c =
+    let r : RegionValue = region_in rs n in
+    ap (λ l. with_region rs n (with_log r c l)) (none_more border (log_of r c)) ∙ ap (λ ls. with_region rs n (record r { logs = ls })) (set-get_or r.logs (c - 1) no_log) ∙ region_back rs n
 
 -- ---- copies
 

@@ -8,8 +8,8 @@ use Rattle.assise_model_world.specs.Staying.{SameClients, SameGoals, KeepsLeases
 use Rattle.assise_model_leases.specs.Leases.{is_held, is_written}
 use Rattle.assise_model_leases.proofs.LookUps.{revoke_of, held_one, written_one}
 use Rattle.assise_model_history.specs.Numbered.{kept_numbered}
-use Rattle.assise_machine_state.specs.ClientValues.{client_seen}
-use Rattle.assise_machine_state.specs.NodeValues.{log_seen, region_seen}
+use Rattle.assise_machine_state.specs.ClientValues.{client_in}
+use Rattle.assise_machine_state.specs.NodeValues.{log_seen, region_in}
 use Rattle.assise_machine_state.specs.Observed.{own_seen, world_of}
 use Rattle.assise_machine_state.specs.StateValues.{StateValue, leases_of}
 
@@ -19,14 +19,14 @@ module _ (s t : StateValue) where
   unfolding world_of
   clients_as same = record {
     clients = ap length same;
-    home = λ c. ap (λ cs. (client_seen cs c).home) same;
-    lives = λ c. ap (λ cs. not (client_seen cs c).failed) same;
-    crashed = λ c. ap (λ cs. (client_seen cs c).crashed) same;
+    home = λ c. ap (λ cs. (client_in cs c).home) same;
+    lives = λ c. ap (λ cs. not (client_in cs c).failed) same;
+    crashed = λ c. ap (λ cs. (client_in cs c).crashed) same;
   }
 
   pub goals_as : t.clients ≡ s.clients → SameGoals (world_of s) (world_of t)
   unfolding world_of
-  goals_as same c = ap (λ cs. (client_seen cs c).goal) same
+  goals_as same c = ap (λ cs. (client_in cs c).goal) same
 
   -- and their own logs
   pub logs_as : t.clients ≡ s.clients → kept_numbered t.history ≡ kept_numbered s.history → ((c : ℕ) → (own_seen t c).log.records ≡ (own_seen s c).log.records)
@@ -37,13 +37,13 @@ module _ (s t : StateValue) where
     calls = calls;
     records = records;
     first = first;
-    next = λ c. ap (λ cs. (client_seen cs c).next) same;
+    next = λ c. ap (λ cs. (client_in cs c).next) same;
     border = border;
-    made = λ c. ap (λ cs. (client_seen cs c).made) same;
+    made = λ c. ap (λ cs. (client_in cs c).made) same;
   }
 
   -- one node
-  pub node_as : (n : ℕ) → ((i : ℕ) → values (region_seen t.nodes n).inodes i ≡ values (region_seen s.nodes n).inodes i) → ((c : ℕ) → log_seen t.nodes n c ≡ log_seen s.nodes n c) →
+  pub node_as : (n : ℕ) → ((i : ℕ) → values (region_in t.nodes n).inodes i ≡ values (region_in s.nodes n).inodes i) → ((c : ℕ) → log_seen t.nodes n c ≡ log_seen s.nodes n c) →
       SameNode (world_of s) (world_of t) n
   unfolding world_of
   node_as n inodes logs = record {

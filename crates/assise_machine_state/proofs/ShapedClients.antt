@@ -1,6 +1,5 @@
 -- What stays of the state where the value of one client changes, and the node of its own log doesn't.
-use Rattle.std.proofs.Common.{◌≡◌, ℕ, ◌-◌, not, List, length, refl, ap}
-use Rattle.std.proofs.lemmas.List.{length-set}
+use Rattle.std.proofs.Common.{◌≡◌, ℕ, not, List, length, refl, ap}
 use Rattle.assise_history.specs.Legal.{durability_of}
 use Rattle.assise_history.specs.Entries.{EntryValue}
 use Rattle.assise_private_log.specs.NumberedLog.{is_border}
@@ -11,11 +10,11 @@ use Rattle.assise_model_leases.specs.Handing.{HoldsAsLeased}
 use Rattle.assise_model_members.specs.Returns.{OtherAreasStay}
 use Rattle.assise_model_history.specs.Numbered.{kept_numbered}
 use Rattle.assise_machine_state.specs.Changes.{after_leases}
-use Rattle.assise_machine_state.specs.ClientValues.{ClientValue, client_in, client_seen, with_client}
+use Rattle.assise_machine_state.specs.ClientValues.{ClientValue, client_in, with_client}
 use Rattle.assise_machine_state.specs.Observed.{own_seen, world_of}
 use Rattle.assise_machine_state.specs.Invariant.{ShapeInvariant}
 use Rattle.assise_machine_state.specs.StateValues.{StateValue, leases_of}
-use Rattle.assise_machine_state.proofs.ItemSeen.{client_same}
+use Rattle.assise_machine_state.proofs.ItemSeen.{client_same, length-with}
 use Rattle.assise_machine_state.proofs.ShapeKept.{shaped_as, still_marked}
 use Rattle.assise_machine_state.proofs.SameObserved.{clients_as, goals_as, logs_as, node_as}
 
@@ -68,13 +67,13 @@ module _ (s : StateValue) (c : ℕ) (x : ClientValue) (levels : TwoLevels) (cuts
   nodes_stay = record { full = refl; same = λ n f. node_as s (changed s c x levels cuts h) n (λ i. refl) (λ d. refl) }
 
   pub same_count : length (changed s c x levels cuts h).clients ≡ length s.clients
-  same_count = length-set s.clients (c - 1) x
+  same_count = length-with s.clients c x
 
   module _ (remains : Remains (client_in s.clients c) x) where
-    pub home_stays : (d : ℕ) → (client_seen (with_client s.clients c x) d).home ≡ (client_seen s.clients d).home
+    pub home_stays : (d : ℕ) → (client_in (with_client s.clients c x) d).home ≡ (client_in s.clients d).home
     home_stays = client_same (λ y. y.home) s.clients c x remains.home
 
-    failed_stays : (d : ℕ) → (client_seen (with_client s.clients c x) d).failed ≡ (client_seen s.clients d).failed
+    failed_stays : (d : ℕ) → (client_in (with_client s.clients c x) d).failed ≡ (client_in s.clients d).failed
     failed_stays = client_same (λ y. y.failed) s.clients c x remains.failed
 
     pub lives_stays : (d : ℕ) → (world_of (changed s c x levels cuts h)).lives d ≡ (world_of s).lives d

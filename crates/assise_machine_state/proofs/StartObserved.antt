@@ -1,5 +1,5 @@
 -- A cluster in which nothing happened is observed as the start of the machine.
-use Rattle.std.proofs.Common.{◌≡◌, ℕ, zero, suc, ◌-◌, ◌<◌, ◌≤◌, ◌&&◌, ◌==◌, [], ◌∷◌, length, filter, get_or, slice_get, false, not, Some, refl, ap, sym, subst, ◌∙◌, arith}
+use Rattle.std.proofs.Common.{◌≡◌, ℕ, zero, suc, ◌<◌, ◌≤◌, ◌&&◌, ◌==◌, [], ◌∷◌, length, filter, get_or, slice_get, false, not, Some, refl, ap, sym, subst, ◌∙◌, arith}
 use Rattle.std.proofs.Math.Bool.{and-false}
 use Rattle.assise_names.specs.declared.limits.TheConstants.{MOST_NODES}
 use Rattle.assise_inode_table.specs.Contents.{values}
@@ -12,8 +12,8 @@ use Rattle.assise_manager.specs.Standings.{full}
 use Rattle.assise_model_world.specs.Runs.{begun}
 use Rattle.assise_model_history.specs.State.{down_from}
 use Rattle.assise_model_events.specs.Machine.{begun_as}
-use Rattle.assise_machine_state.specs.ClientValues.{client_seen, cut_of, no_client}
-use Rattle.assise_machine_state.specs.NodeValues.{HasLog, log_seen, new_region, new_regions, no_region, region_in, region_seen}
+use Rattle.assise_machine_state.specs.ClientValues.{client_in, cut_of, no_client}
+use Rattle.assise_machine_state.specs.NodeValues.{HasLog, log_seen, new_region, new_regions, no_region, region_in}
 use Rattle.assise_machine_state.specs.Observed.{full_in, is_full_in, observed, own_node, own_seen, world_of}
 use Rattle.assise_machine_state.specs.Places.{item_at}
 use Rattle.assise_machine_state.specs.Invariant.{IsMarked, ShapeInvariant}
@@ -29,8 +29,8 @@ same_regions f zero hot k same = refl
 same_regions f (suc n) hot zero same = same
 same_regions f (suc n) hot (suc k) same = same_regions f n hot k same
 
-new_seen : {A : Type 0} (f : RegionValue → A) (n hot k : ℕ) → f (new_region hot) ≡ f no_region → f (region_seen (new_regions n hot) k) ≡ f no_region
-unfolding region_seen item_at
+new_seen : {A : Type 0} (f : RegionValue → A) (n hot k : ℕ) → f (new_region hot) ≡ f no_region → f (region_in (new_regions n hot) k) ≡ f no_region
+unfolding region_in item_at
 new_seen f n hot zero same = refl
 new_seen f n hot (suc k) same = same_regions f n hot k same
 
@@ -38,8 +38,8 @@ no_log_seen : (n hot k c : ℕ) → log_seen (new_regions n hot) k c ≡ no_log
 unfolding log_seen
 no_log_seen n hot k c = ap (λ ls. item_at no_log ls c) (new_seen (λ r. r.logs) n hot k refl) ∙ seen_nothing no_log c
 
-nobody_seen : (c : ℕ) → client_seen [] c ≡ no_client
-unfolding client_seen
+nobody_seen : (c : ℕ) → client_in [] c ≡ no_client
+unfolding client_in
 nobody_seen c = seen_nothing no_client c
 
 -- the state in which nothing happened
@@ -48,7 +48,7 @@ begun_state n hot limit levels = record { nodes = new_regions n hot; members = a
 
 no_own_log : (n hot limit c : ℕ) (t : TwoLevels) → own_seen (begun_state n hot limit t) c ≡ no_log
 unfolding own_seen
-no_own_log n hot limit c t = no_log_seen n hot (own_node (fulls n) (client_seen [] c)) c
+no_own_log n hot limit c t = no_log_seen n hot (own_node (fulls n) (client_in [] c)) c
 
 -- ---- which nodes are full
 
@@ -139,7 +139,7 @@ begun_shaped n hot limit few least most = record {
     as_many m = many_regions m ∙ sym (so_many m)
 
     has_none : (m k c : ℕ) → HasLog (new_regions m hot) k c → ⊥
-    has_none m k c has = (let none : length (region_in (new_regions m hot) k).logs ≡ 0 = ap length (same_regions (λ r. r.logs) m hot (k - 1) refl) in absurd (omega (arith, none, has.client.some, has.client.there)))
+    has_none m k c has = (let none : length (region_in (new_regions m hot) k).logs ≡ 0 = ap length (new_seen (λ r. r.logs) m hot k refl) in absurd (omega (arith, none, has.client.some, has.client.there)))
 
 pub starts_shaped : (s : StateValue) (n hot : ℕ) → s.nodes ≡ new_regions n hot → s.members ≡ all_full n → s.clients ≡ [] → SameLevels nobody s.levels → s.cuts ≡ [] → s.history ≡ [] → n ≤ MOST_NODES → 8 ≤ s.limit → s.limit ≤ 4096 → ShapeInvariant s
 starts_shaped s n hot nodes members none levels unasked nothing few least most = subst ShapeInvariant (sym (parts s n hot nodes members none levels unasked nothing)) (begun_shaped n hot s.limit few least most)

@@ -6,13 +6,12 @@ use Rattle.assise_private_log.specs.NumberedLog.{NumberedLog, records_from}
 use Rattle.assise_manager.specs.Standings.{full_nodes}
 use Rattle.assise_model_world.specs.World.{call_at, first_unreplicated, received_by_all}
 use Rattle.assise_machine_state.specs.ClientValues.{client_in}
-use Rattle.assise_machine_state.specs.NodeValues.{log_in, log_seen}
+use Rattle.assise_machine_state.specs.NodeValues.{log_in}
 use Rattle.assise_machine_state.specs.Observed.{own_node, own_seen, world_of}
 use Rattle.assise_machine_state.specs.Places.{IsNumber}
 use Rattle.assise_machine_state.specs.Invariant.{ShapeInvariant}
 use Rattle.assise_machine_state.specs.StateValues.{StateValue, standings}
 use Rattle.assise_machine_state.proofs.Fullness.{log_is}
-use Rattle.assise_machine_state.proofs.ItemSeen.{client_is}
 use Rattle.assise_machine_state.proofs.OwnLogs.{own_log}
 
 call_behind : (rs : List LogRecord) (k next : ℕ) → call_of rs k next ≡ call_of (drop k rs) 0 next
@@ -26,9 +25,7 @@ pub first_behind : (s : StateValue) (c : ℕ) → ShapeInvariant s → IsNumber 
     call_of (records_from l place) 0 (client_in s.clients c).next ≡ first_unreplicated (world_of s) c
 unfolding world_of own_seen call_at first_unreplicated
 first_behind s c shape client some l is place acked =
-    let known = client_is s.clients c client in
-    let own = ap (λ x. log_seen s.nodes (own_node (standings s) x) c) known ∙ log_is s (own_node (standings s) (client_in s.clients c)) c (own_log s c shape client some) in
+    let own = log_is s (own_node (standings s) (client_in s.clients c)) c (own_log s c shape client some) in
     let same : l ≡ (own_seen s c).log = is ∙ sym (ap (λ x. x.log) own) in
-    let next : (client_in s.clients c).next ≡ (world_of s).next c = sym (ap (λ x. x.next) known) in
-    (λ i. call_of (drop (acked i - (same i).first) (same i).records) 0 (next i))
+    (λ i. call_of (drop (acked i - (same i).first) (same i).records) 0 (client_in s.clients c).next)
     ∙ sym (call_behind ((world_of s).records c) (received_by_all (world_of s) c - (world_of s).first c) ((world_of s).next c))

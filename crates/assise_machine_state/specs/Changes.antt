@@ -17,7 +17,7 @@ use Rattle.assise_model_world.specs.NodeSteps.{kept_at_failure}
 use Rattle.assise_model_world.specs.World.{World, call_makes_inode, digested_by_all, end_of_log, records_between, step_at_home}
 use Rattle.assise_model_history.specs.Lost.{losses_of}
 use Rattle.assise_model_history.specs.Numbered.{plain_call}
-use Rattle.assise_machine_state.specs.ClientValues.{ClientValue, client_in, client_seen, crashed_at, failed_at, opened_on, with_call, with_client, with_goal}
+use Rattle.assise_machine_state.specs.ClientValues.{ClientValue, client_in, crashed_at, failed_at, opened_on, with_call, with_client, with_goal}
 use Rattle.assise_machine_state.specs.NodeValues.{log_in, region_in, with_call_in, with_prefixes_dropped, with_hot_in, with_log_in, with_logs_begun, with_logs_of, with_records, with_region, with_tails_cut, without_logs}
 use Rattle.assise_machine_state.specs.Observed.{is_full_in, own_seen, world_of}
 use Rattle.assise_machine_state.specs.StateValues.{StateValue, standings}
@@ -36,7 +36,7 @@ after_open s n u levels = record s {
 -- a call is answered: its record, if it has effects, is added at its client's home
 abbrev pub after_call : StateValue → NumberedCall → StateValue
 after_call s x = record s {
-  nodes = with_call_in s.nodes (client_seen s.clients x.client).home x.client x.number (step_at_home (world_of s) x).effects;
+  nodes = with_call_in s.nodes (client_in s.clients x.client).home x.client x.number (step_at_home (world_of s) x).effects;
   clients = with_client s.clients x.client (with_call (call_makes_inode (world_of s) x) (client_in s.clients x.client));
   history = s.history ++ calls (plain_call x) ∷ [];
 }
@@ -48,7 +48,7 @@ after_goal s c to = record s { clients = with_client s.clients c (with_goal to (
 -- a client's records from a place on, which its home alone has, become groups there, each coalesced
 abbrev pub after_regrouping : StateValue → (c from : ℕ) → StateValue
 after_regrouping s c from = record s {
-  nodes = with_log_in s.nodes (client_seen s.clients c).home c (regrouped_from (log_in s.nodes (client_seen s.clients c).home c) from);
+  nodes = with_log_in s.nodes (client_in s.clients c).home c (regrouped_from (log_in s.nodes (client_in s.clients c).home c) from);
 }
 
 -- and all of its log is to be replicated
@@ -120,13 +120,13 @@ first_but w c to d = if d == c then to else w.first d
 abbrev pub with_clients_cut : (home : ℕ) (clients : List ClientValue) (kept : ℕ → ℕ) → ℕ → List RegionValue → List RegionValue
 with_clients_cut home cs kept zero rs = rs
 with_clients_cut home cs kept (suc c) rs =
-    if (client_seen cs (suc c)).home == home then with_tails_cut (with_clients_cut home cs kept c rs) (suc c) (kept (suc c)) else with_clients_cut home cs kept c rs
+    if (client_in cs (suc c)).home == home then with_tails_cut (with_clients_cut home cs kept c rs) (suc c) (kept (suc c)) else with_clients_cut home cs kept c rs
 
 -- their node failed
 abbrev pub with_clients_failed : (home : ℕ) (kept : ℕ → ℕ) → ℕ → List ClientValue → List ClientValue
 with_clients_failed home kept zero cs = cs
 with_clients_failed home kept (suc c) cs =
-    if (client_seen cs (suc c)).home == home then with_client (with_clients_failed home kept c cs) (suc c) (failed_at (kept (suc c)) (client_in cs (suc c))) else with_clients_failed home kept c cs
+    if (client_in cs (suc c)).home == home then with_client (with_clients_failed home kept c cs) (suc c) (failed_at (kept (suc c)) (client_in cs (suc c))) else with_clients_failed home kept c cs
 
 -- node n fails: its logs are gone, those of its clients are cut elsewhere, the manager lists these inodes, and these are the
 -- leases then, with its clients' answers for those that they were not asked for

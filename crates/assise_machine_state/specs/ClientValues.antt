@@ -7,7 +7,7 @@ use Rattle.assise_names.specs.declared.durability.Durability.{Durability}
 use Rattle.assise_names.specs.declared.durability.Durability.TheVariants.{Pessimistic, Optimistic}
 use Rattle.assise_lease_table.specs.declared.lease.Asked.{Asked}
 use Rattle.assise_lease_table.specs.Cuts.{cut_in}
-use Rattle.assise_machine_state.specs.Places.{item_at, item, with_item}
+use Rattle.assise_machine_state.specs.Places.{item_at, with_item}
 
 -- ---- one client
 
@@ -89,12 +89,8 @@ failed_at end c = record c { goal = min c.goal end; failed = true; last_cut = en
 abbrev pub no_client : ClientValue
 no_client = record { home = 0; durability = Pessimistic; goal = 0; next = 0; made = 0; crashed = false; failed = true; last_cut = 0 }
 
-abbrev pub client_in : List ClientValue → ℕ → ClientValue
-client_in cs c = item no_client cs c
+unfoldable pub client_in : List ClientValue → ℕ → ClientValue
+client_in cs c = item_at no_client cs c
 
 abbrev pub with_client : List ClientValue → ℕ → ClientValue → List ClientValue
 with_client cs c x = with_item cs c x
-
--- the client of any number
-unfoldable pub client_seen : List ClientValue → ℕ → ClientValue
-client_seen cs c = item_at no_client cs c

@@ -13,9 +13,9 @@ use Rattle.assise_lease_tree.specs.Levels.{in_way, is_revoked}
 use Rattle.assise_lease_tree.specs.TwoLevels.{TwoLevels}
 use Rattle.assise_model_world.specs.Invariant.{WorldInvariant}
 use Rattle.assise_model_events.specs.NodeEvents.{border_marks}
-use Rattle.assise_machine_state.specs.ClientValues.{client_seen}
+use Rattle.assise_machine_state.specs.ClientValues.{client_in}
 use Rattle.assise_lease_table.specs.Cuts.{are_once, is_asked, is_unasked}
-use Rattle.assise_machine_state.specs.NodeValues.{HasLog, log_in, log_seen, region_seen}
+use Rattle.assise_machine_state.specs.NodeValues.{HasLog, log_in, log_seen, region_in}
 use Rattle.assise_machine_state.specs.Observed.{is_full_in, own_seen, world_of}
 use Rattle.assise_machine_state.specs.Places.{IsNumber}
 use Rattle.assise_machine_state.specs.StateValues.{StateValue, standings}
@@ -29,10 +29,10 @@ pub record ShapeInvariant (s : StateValue) : Type 0 where
   pub nodes : length s.nodes ≡ length (standings s)
   pub few_nodes : length s.nodes ≤ MOST_NODES
   -- a full node has a log of each client, and another has none
-  pub logs : (n : ℕ) → is_full_in (standings s) n ≡ true → length (region_seen s.nodes n).logs ≡ length s.clients
-  pub no_logs : (n : ℕ) → is_full_in (standings s) n ≡ false → (region_seen s.nodes n).logs ≡ []
+  pub logs : (n : ℕ) → is_full_in (standings s) n ≡ true → length (region_in s.nodes n).logs ≡ length s.clients
+  pub no_logs : (n : ℕ) → is_full_in (standings s) n ≡ false → (region_in s.nodes n).logs ≡ []
   -- at a client's home its log is known as that of a client that lives there, until the node fails, and nowhere else
-  pub at_home : (n c : ℕ) → (log_seen s.nodes n c).at_home ≡ ((n == (client_seen s.clients c).home) && not (client_seen s.clients c).failed)
+  pub at_home : (n c : ℕ) → (log_seen s.nodes n c).at_home ≡ ((n == (client_in s.clients c).home) && not (client_in s.clients c).failed)
   -- all logs have one limit, 8 to 4,096 records
   pub limits : (n c : ℕ) → HasLog s.nodes n c → (log_in s.nodes n c).log.limit ≡ s.limit
   pub least_limit : 8 ≤ s.limit
@@ -40,7 +40,7 @@ pub record ShapeInvariant (s : StateValue) : Type 0 where
   -- each node's log of a client has the groups of the client's own
   pub marked : (n c : ℕ) → IsMarked (is_border (own_seen s c).log) (log_seen s.nodes n c).log
   -- each client is known as it was opened
-  pub durabilities : (c : ℕ) → (client_seen s.clients c).durability ≡ durability_of c s.history
+  pub durabilities : (c : ℕ) → (client_in s.clients c).durability ≡ durability_of c s.history
 
 -- what a digest and a failure go through the clients under: the invariant of the world, and the shape
 pub record PartsInvariant (s : StateValue) : Type 0 where
@@ -60,7 +60,7 @@ pub record AreLeft (s : StateValue) (who : ℕ → Bool) (asked : List Asked) : 
 
 -- those who stand in the way of client c were asked, each once, and answered cuts that cover in their own logs, at borders
 pub record AreAnswers (s : StateValue) (c i : ℕ) (mode : Mode) (asked : List Asked) : Type 0 where
-  pub who : clients_of asked ≡ holders (filter (is_to_ask (in_way s.levels.home (s.levels.nodes i) c (client_seen s.clients c).home mode)) (s.levels.clients i))
+  pub who : clients_of asked ≡ holders (filter (is_to_ask (in_way s.levels.home (s.levels.nodes i) c (client_in s.clients c).home mode)) (s.levels.clients i))
   pub inodes : (a : Asked) → Among asked a → a.inode ≡ i
   pub covers : (a : Asked) → Among asked a → Covers (own_seen s a.client).log i a.cut
   pub borders : (a : Asked) → Among asked a → is_border (own_seen s a.client).log a.cut ≡ true

@@ -1,6 +1,6 @@
 -- What nodes have: for each its inodes, and the logs that it received.
 -- Assise (OSDI 2020), section 3 (CC-NVM: update logs, shared areas, recovery).
-use Rattle.std.specs.Prelude.{◌≡◌, ℕ, zero, suc, ◌<◌, ◌≤◌, nat_le, Bool, true, false, ◌==◌, if◌then◌else◌, List, [], ◌∷◌, ◌++◌, length, map}
+use Rattle.std.specs.Prelude.{◌≡◌, ℕ, zero, suc, ◌-◌, ◌<◌, ◌≤◌, nat_le, Bool, true, false, ◌==◌, if◌then◌else◌, List, [], ◌∷◌, ◌++◌, length, map, slice_index_or, slice_set}
 use Rattle.assise_record.specs.Records.{has_some}
 use Rattle.assise_inode_table.specs.Opening.{opening_inodes}
 use Rattle.assise_record.specs.declared.effect.Effect.{Effect}
@@ -8,7 +8,7 @@ use Rattle.assise_record.specs.LogRecord.{LogRecord}
 use Rattle.assise_private_log.specs.NumberedLog.{NumberedLog, empty_log, end, is_border}
 use Rattle.assise_digest.specs.Region.{AreWhole, HasClient, IsBegun, ReceivedLog, RegionValue, from_number, log_of, no_log, up_to_number, region_with_client, with_hot_capacity, with_log, with_more, with_one, without_clients, without_last_client}
 use Rattle.assise_model_events.specs.NodeEvents.{border_marks}
-use Rattle.assise_machine_state.specs.Places.{IsNumber, item_at, item, with_item}
+use Rattle.assise_machine_state.specs.Places.{IsNumber, item_at, with_item}
 
 -- a node that received nothing, of which `hot` inodes may be hot
 abbrev pub new_region : (hot : ℕ) → RegionValue
@@ -23,8 +23,8 @@ new_regions (suc count) hot = new_region hot ∷ new_regions count hot
 abbrev pub no_region : RegionValue
 no_region = new_region 0
 
-abbrev pub region_in : List RegionValue → ℕ → RegionValue
-region_in rs n = item no_region rs n
+unfoldable pub region_in : List RegionValue → ℕ → RegionValue
+region_in rs n = item_at no_region rs n
 
 -- how many inodes may be hot at each node, by number
 abbrev pub hot_capacities : List RegionValue → List ℕ
@@ -39,13 +39,9 @@ pub record HasLog (rs : List RegionValue) (n c : ℕ) : Type 0 where
   pub node : IsNumber rs n
   pub client : HasClient (region_in rs n) c
 
--- ---- of any number
-
-unfoldable pub region_seen : List RegionValue → ℕ → RegionValue
-region_seen rs n = item_at no_region rs n
-
+-- the same of a client of any number
 unfoldable pub log_seen : List RegionValue → ℕ → ℕ → ReceivedLog
-log_seen rs n c = item_at no_log (region_seen rs n).logs c
+log_seen rs n c = item_at no_log (region_in rs n).logs c
 
 -- ---- changes at one node
 
@@ -57,7 +53,7 @@ with_log_in rs n c l = with_region rs n (with_log (region_in rs n) c l)
 
 -- `capacity` inodes may be hot at node n
 abbrev pub with_hot_in : List RegionValue → ℕ → (capacity : ℕ) → List RegionValue
-with_hot_in rs n capacity = with_region rs n (with_hot_capacity (region_in rs n) capacity)
+with_hot_in rs n capacity = slice_set rs (n - 1) (with_hot_capacity (slice_index_or rs (n - 1) no_region) capacity)
 
 -- the effects of a call, if it has some, are a record more of the client's log
 abbrev pub with_call_in : List RegionValue → ℕ → ℕ → ℕ → List Effect → List RegionValue

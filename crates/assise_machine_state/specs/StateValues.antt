@@ -8,7 +8,7 @@ use Rattle.assise_lease_tree.specs.TwoLevels.{TwoLevels}
 use Rattle.assise_manager.specs.Membership.{Membership}
 use Rattle.assise_manager.specs.Standings.{Standing}
 use Rattle.assise_model_leases.specs.Leases.{Leases}
-use Rattle.assise_machine_state.specs.ClientValues.{ClientValue, client_seen, cut_of}
+use Rattle.assise_machine_state.specs.ClientValues.{ClientValue, client_in, cut_of}
 
 pub record StateValue : Type 0 where
   -- what each node has
@@ -31,4 +31,4 @@ standings s = s.members.nodes
 
 -- who holds which inode, with the cuts of what is revoked
 unfoldable pub leases_of : StateValue → Leases
-leases_of s = record { levels = s.levels; cut = λ c i. cut_of s.cuts c (client_seen s.clients c) i }
+leases_of s = record { levels = s.levels; cut = λ c i. cut_of s.cuts c (client_in s.clients c) i }

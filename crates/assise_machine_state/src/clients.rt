@@ -1,5 +1,6 @@
 //! What is known of all clients.
 ghost use Rattle.std.specs.Prelude.{◌≡◌, ◌==◌, ◌+◌, ◌^◌, ◌<◌, ◌≤◌, [], ◌∷◌, ◌++◌, IfOk, IsOkUnless, length, vec_capacity};
+ghost use Rattle.std.specs.Borrow.{Lends, sem};
 ghost use Rattle.assise_names.specs.declared.refusal.Refusal.TheVariants.{OutOfMemory};
 ghost use Rattle.assise_names.specs.declared.limits.TheConstants.{MOST_CLIENTS};
 ghost use Rattle.assise_machine_state.specs.ClientValues.{client_in, crashed_at, failed_at, opened_on, with_call, with_client, with_goal};
@@ -32,6 +33,9 @@ impl Model for Clients {
 }
 
 impl Clients {
+    ghost use Rattle.assise_machine_state.specs.contracts.client.Client.{the_row as client_row};
+    ghost use Rattle.assise_machine_state.specs.contracts.clients.Clients.{the_row};
+
     /// No clients, with room for all that may be opened. The one refusal is [`Refusal::OutOfMemory`].
     pub fn new(alloc: Global) -> Result<Clients, Refusal>
         ensures none { IfOk result (λ clients. clients ≡ []) }
@@ -64,6 +68,16 @@ impl Clients {
         &self.clients[client as usize - 1]
     }
 
+    /// The same, to be changed.
+    fn get_mut(&mut self, client: u32) -> &mut Client
+        requires client { IsNumber self.old client }
+        ensures* writes_back { sem 𝓛 (Lends the_row client_row self.entry result
+            (with_client self.old client)) }
+        ensures value { result.now ≡ client_in self.old client }
+    {
+        &mut self.clients[client as usize - 1]
+    }
+
     /// Adds a client that is opened on a node, where not all were opened that may be. It takes no memory.
     pub fn open(&mut self, home: u32, durability: Durability)
         requires room { length self.old < MOST_CLIENTS }
@@ -89,7 +103,7 @@ impl Clients {
         ensures { self.new ≡ with_client self.old client
             (with_call makes (client_in self.old client)) }
     {
-        let it = &mut self.clients[client as usize - 1];
+        let it = self.get_mut(client);
         it.next += 1;
         if makes {
             it.made += 1;
@@ -102,7 +116,7 @@ impl Clients {
         ensures { self.new ≡ with_client self.old client
             (with_goal to (client_in self.old client)) }
     {
-        let it = &mut self.clients[client as usize - 1];
+        let it = self.get_mut(client);
         it.goal = it.goal.max(to);
     }
 
@@ -112,7 +126,7 @@ impl Clients {
         ensures { self.new ≡ with_client self.old client
             (crashed_at end (client_in self.old client)) }
     {
-        let it = &mut self.clients[client as usize - 1];
+        let it = self.get_mut(client);
         it.goal = end;
         it.crashed = true;
         it.last_cut = end;
@@ -124,7 +138,7 @@ impl Clients {
         ensures { self.new ≡ with_client self.old client
             (failed_at end (client_in self.old client)) }
     {
-        let it = &mut self.clients[client as usize - 1];
+        let it = self.get_mut(client);
         it.goal = it.goal.min(end);
         it.failed = true;
         it.last_cut = end;

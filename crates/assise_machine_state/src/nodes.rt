@@ -1,13 +1,16 @@
 //! What all nodes have.
 ghost use Rattle.std.specs.Prelude.{◌≡◌, ◌≢◌, ◌⊎◌, ◌+◌, ◌^◌, ◌<◌, ◌≤◌, [], IfErr, IfOk, IsOk, IsOkUnless, None, OnErr, OnOk, drop, false, length, map as mapped, true};
+ghost use Rattle.std.specs.Borrow.{Lends, sem};
 ghost use Rattle.std.specs.FinMap as map;
 ghost use Rattle.assise_names.specs.declared.refusal.Refusal.TheVariants.{LogFull, OutOfMemory};
 ghost use Rattle.assise_inode_table.specs.Whole.{CanBeMadeWhole};
 ghost use Rattle.assise_record.specs.Groups.{AllHaveEffects};
 ghost use Rattle.assise_private_log.specs.NumberedLog.{IsNumberedLog, end, is_border, records_from};
 ghost use Rattle.assise_digest.specs.Region.{AreWhole, HasClient, LogHasRoom, IsLogFull, IsQuiet, ReceivedLog, TouchDisjoint, ahead_below, digested_by, from_number, log_of, regrouped_from, up_to_number, whole_ahead, region_with_client, with_inode, with_log, with_more, without_clients};
+ghost use Rattle.assise_digest.specs.contracts.region.Region.{the_row as region_row};
 ghost use Rattle.assise_manager.specs.Whole.{membership};
 ghost use Rattle.assise_machine_state.specs.NodeValues.{AreDigested, AreTaken, AreUndigested, HasGroupsOf, HasLog, IsDigestedTo, IsUndigestedFrom, away, begun_log, changed_in, copied, log_in, new_regions, region_in, with_copies, with_prefixes_dropped, with_hot_in, with_log_in, with_logs_begun, with_logs_ended, with_logs_of, with_next, with_records, with_region, with_tails_cut, without_log_of, without_logs};
+ghost use Rattle.assise_machine_state.specs.contracts.nodes.Nodes.{the_row};
 ghost use Rattle.assise_machine_state.specs.Observed.{is_full_in};
 ghost use Rattle.assise_machine_state.specs.Places.{IsNumber};
 
@@ -70,6 +73,16 @@ impl Nodes {
         ensures { result.now ≡ region_in self.now node }
     {
         &self.regions[node as usize - 1]
+    }
+
+    /// The same, to be changed.
+    fn region_mut(&mut self, node: u32) -> &mut Region
+        requires node { IsNumber self.old node }
+        ensures* writes_back { sem 𝓛 (Lends the_row region_row self.entry result
+            (with_region self.old node)) }
+        ensures value { result.now ≡ region_in self.old node }
+    {
+        &mut self.regions[node as usize - 1]
     }
 
     /// All full nodes begin a log of the next client, which lives on one of them, of 8 to 4,096 records at most. The one
@@ -183,7 +196,7 @@ impl Nodes {
     {
         let number = self.region(node).log(client as usize).end();
         let begins = self.region(own).log(client as usize).is_border(number);
-        let region = &mut self.regions[node as usize - 1];
+        let region = self.region_mut(node);
         let Ok(()) = region.append_grouped(client as usize, added, begins) else {
             unreachable!()
         };
@@ -199,8 +212,8 @@ impl Nodes {
         ensures err { OnErr result (self.new ≡ self.old) }
         ensures only_memory { IsOkUnless result OutOfMemory }
     {
-        let copies = copies_of(alloc, &self.regions[donor as usize - 1])?;
-        let region = &mut self.regions[node as usize - 1];
+        let copies = copies_of(alloc, self.region(donor))?;
+        let region = self.region_mut(node);
         let added = add_copies(region, copies.into_iter());
         if added.is_err() {
             region.remove_clients();
@@ -213,7 +226,7 @@ impl Nodes {
         requires node { IsNumber self.old node }
         ensures { self.new ≡ self.old }
     {
-        self.regions[node as usize - 1].touch(inode);
+        self.region_mut(node).touch(inode);
     }
 
     /// Sets how many inodes may be hot at a node, 1 to 4,096. The one refusal is [`Refusal::OutOfMemory`], where fewer may be
@@ -227,7 +240,7 @@ impl Nodes {
         ensures asked { OnErr result (capacity < (region_in self.old node).capacity) }
         ensures only_memory { IsOkUnless result OutOfMemory }
     {
-        self.regions[node as usize - 1].set_hot_capacity(capacity)
+        self.region_mut(node).set_hot_capacity(capacity)
     }
 
     /// Takes a record of a client in at a node, behind the last, with effects that can be made all or none. It is refused
@@ -247,7 +260,7 @@ impl Nodes {
             ((back.0 ≡ OutOfMemory) × LogHasRoom (log_in self.old node client) ×
             ((log_in self.old node client).at_home ≡ true))) }
     {
-        self.regions[node as usize - 1].append(client as usize, added)
+        self.region_mut(node).append(client as usize, added)
     }
 
     /// Cuts the records of a client at a node from a number on, none of which are digested there, into groups, and lets what is
@@ -264,7 +277,7 @@ impl Nodes {
         ensures err { OnErr result (self.new ≡ self.old) }
         ensures only_memory { IsOkUnless result OutOfMemory }
     {
-        self.regions[node as usize - 1].coalesce(client as usize, from)
+        self.region_mut(node).coalesce(client as usize, from)
     }
 
     /// A node digests at most `at_most` records of a client that are numbered below what is replicated, each group whole or
@@ -294,7 +307,8 @@ impl Nodes {
             (0 < length (ahead_below (log_in self.old node client) acked))) }
         ensures only_memory { IsOkUnless result OutOfMemory }
     {
-        self.regions[node as usize - 1].digest_some(client as usize, acked, at_most)
+        self.region_mut(node)
+            .digest_some(client as usize, acked, at_most)
     }
 
     /// A node loses its copy of an inode. It takes no memory.
@@ -304,7 +318,7 @@ impl Nodes {
         ensures { self.new ≡ with_region self.old node
             (with_inode (region_in self.old node) inode None) }
     {
-        self.regions[node as usize - 1].stale(inode);
+        self.region_mut(node).stale(inode);
     }
 
     /// Gives a node an inode, or none. The one refusal is [`Refusal::OutOfMemory`], where it has none of that number, and it
@@ -318,7 +332,7 @@ impl Nodes {
         ensures asked { OnErr result (map.get (region_in self.old node).inodes inode ≡ None) }
         ensures only_memory { IsOkUnless result OutOfMemory }
     {
-        self.regions[node as usize - 1].refill_one(inode, value)
+        self.region_mut(node).refill_one(inode, value)
     }
 
     /// A node that fails loses its logs, and keeps its inodes. It takes no memory.
@@ -326,7 +340,7 @@ impl Nodes {
         requires node { IsNumber self.old node }
         ensures { self.new ≡ without_logs self.old node }
     {
-        self.regions[node as usize - 1].remove_clients();
+        self.region_mut(node).remove_clients();
     }
 
     /// All nodes that have a log of a client let its records below a place go, which each of them has digested. It takes no

@@ -13,7 +13,7 @@ ghost use Rattle.assise_model_world.specs.World.{Full, World, undigested_below, 
 ghost use Rattle.assise_model_members.specs.Returns.{DigestsNoted, OtherAreasStay};
 ghost use Rattle.assise_model_events.specs.Machine.{with_hot};
 ghost use Rattle.assise_machine_state.specs.Changes.{after_delivery, after_digest, after_drop, after_hot, first_but};
-ghost use Rattle.assise_machine_state.specs.NodeValues.{region_seen};
+ghost use Rattle.assise_machine_state.specs.NodeValues.{region_in};
 ghost use Rattle.assise_machine_state.specs.Observed.{inodes_read, observed, world_of};
 ghost use Rattle.assise_machine_state.specs.Places.{IsNumber};
 ghost use Rattle.assise_machine_state.specs.Invariant.{CutsInvariant, ShapeInvariant};
@@ -67,7 +67,7 @@ pub fn what_is_read_is_observed()
     ensures region { (s : StateValue) (n i : ℕ) (acked : List ℕ) → ShapeInvariant s →
         WorldInvariant (world_of s) → Full (world_of s) n → length acked ≡ length s.clients →
         ((c : ℕ) → c < length s.clients → slice_index_or acked c 0 ≡ received_by_all (world_of s)
-        (suc c)) → alone (region_seen s.nodes n) acked i ≡ alone_observed (world_of s) n i }
+        (suc c)) → alone (region_in s.nodes n) acked i ≡ alone_observed (world_of s) n i }
 {}
 
 /// How many inodes may be hot at a node is observed, and of what is hot nothing else.

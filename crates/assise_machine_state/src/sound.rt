@@ -30,7 +30,7 @@ impl<C: Revokes + Drop> SoundOf<C> {
     ghost use Rattle.assise_model_events.specs.Faults.{node_fault};
     ghost use Rattle.assise_model_events.specs.Machine.{begun_as};
     ghost use Rattle.assise_machine_state.specs.ClientValues.{client_in};
-    ghost use Rattle.assise_machine_state.specs.NodeValues.{new_regions, region_seen};
+    ghost use Rattle.assise_machine_state.specs.NodeValues.{new_regions, region_in};
     ghost use Rattle.assise_machine_state.specs.Places.{IsNumber};
 
     /// A cluster in which nothing happened: 1 to `MOST_NODES` full nodes, whose clients' logs have 8 to 4,096 records at most, and 1 to
@@ -70,7 +70,7 @@ impl<C: Revokes + Drop> SoundOf<C> {
         ensures fault { (e : Refused) → node_fault (machine_of self.now.state) node ≡ Some e →
             result ≡ Err e }
         ensures ok { IsOk result ↔ (node_fault (machine_of self.now.state) node ≡ None) }
-        ensures region { IfOk result (λ r. r.now ≡ region_seen self.now.state.nodes node) }
+        ensures region { IfOk result (λ r. r.now ≡ region_in self.now.state.nodes node) }
     {
         match self.state.members.phase(node)? {
             Phase::Full => Ok(self.state.nodes.region(node)),

@@ -1,7 +1,8 @@
-use Rattle.std.proofs.Common.{refl, sym, ◌∙◌}
+use Rattle.std.proofs.Common.{◌<◌, ◌∙◌, OnErr, refl, subst, sym}
 use Rattle.assise_model_events.specs.NodeEvents.SettingHot.{is_refused}
+use Rattle.assise_machine_state.specs.NodeValues.{region_in}
 use Rattle.assise_machine_state.specs.Whole.{value_of}
-use Rattle.assise_machine.proofs.HotSet.{Sets, asked_seen, node_there, sets}
+use Rattle.assise_machine.proofs.HotSet.{Sets, node_there, sets}
 use Rattle.assise_machine.proofs.hot.set_hot.Given as given
 use Rattle.assise_machine.proofs.hot.set_hot.Goals as goal
 
@@ -26,6 +27,4 @@ pub returns-clause-happens : goal.returns-clause-happens
 returns-clause-happens g c = (set_now g c.before).happens
 
 pub returns-clause-asked : goal.returns-clause-asked
-returns-clause-asked g c =
-    λ is. asked_seen (value_of c.args.sound.now.state) c.args.node c.args.capacity c.args.sound.now.invariant.shape (sym c.node_refusal.ensures ∙ c.in_default.is)
-    c.set_hot_capacity.result is c.set_hot_capacity.ensures.asked
+returns-clause-asked g c = λ is. subst (λ x. OnErr x (c.args.capacity < (region_in c.args.sound.now.state.nodes c.args.node).capacity)) is c.set_hot_capacity.ensures.asked

@@ -1,4 +1,4 @@
-use Rattle.std.proofs.Common.{◌≡◌, ◌+◌, ◌++◌, ◌∷◌, [], length, refl, ap, sym, ◌∙◌, arith}
+use Rattle.std.proofs.Common.{◌≡◌, ◌+◌, ◌++◌, ◌∷◌, [], length, refl, ap, ◌∙◌, arith}
 use Rattle.std.proofs.lemmas.List.{length_push}
 use Rattle.std.proofs.lemmas.Result.{err_from_is_err_and}
 use Rattle.assise_model_events.specs.ClientEvents.Noting.{lacks_memory}
@@ -6,7 +6,6 @@ use Rattle.assise_model_events.specs.Events.{refused}
 use Rattle.assise_machine_state.specs.ClientValues.{client_in}
 use Rattle.assise_machine_state.specs.Observed.{observed}
 use Rattle.assise_machine_state.specs.Whole.{value_of}
-use Rattle.assise_machine_state.proofs.ItemSeen.{client_is}
 use Rattle.assise_machine_calls.specs.Answers.{turn_answer}
 use Rattle.assise_machine_calls.proofs.SyncChanges.{fine_number, made_fits, next_fits, noted_given}
 use Rattle.assise_machine_calls.proofs.sync.note.Goals as goal
@@ -33,14 +32,12 @@ note_call-requires-clause-next g c =
     let s = value_of c.args.sound.now.state in
     let more : length c.push.new.self.events ≡ length s.history + 1 =
     ap length (c.push.ensures.grown ∙ ap (λ h. h ++ c.call.result ∷ []) c.reserve.ensures.same) ∙ length_push s.history c.call.result in
-    let now = sym (client_is s.clients c.args.client (fine_number s c.args.client c.requires.fine)) in
-    next_fits s c.args.client c.requires.fine c.args.sound.now.invariant.holds (client_in s.clients c.args.client) (ap (λ y. y.next) now) (omega (arith, more, c.push.ensures.few))
+    next_fits s c.args.client c.requires.fine c.args.sound.now.invariant.holds (client_in s.clients c.args.client) refl (omega (arith, more, c.push.ensures.few))
 
 pub note_call-requires-clause-made : goal.note_call-requires-clause-made
 note_call-requires-clause-made g c =
     let s = value_of c.args.sound.now.state in
-    let now = sym (client_is s.clients c.args.client (fine_number s c.args.client c.requires.fine)) in
-    made_fits s c.args.client c.requires.fine c.args.sound.now.invariant.holds (client_in s.clients c.args.client) (ap (λ y. y.made) now)
+    made_fits s c.args.client c.requires.fine c.args.sound.now.invariant.holds (client_in s.clients c.args.client) refl
 
 pub invariant_of-sound-2 : goal.invariant_of-sound-2
 invariant_of-sound-2 g c =

@@ -1,6 +1,6 @@
 use Rattle.std.proofs.Common.{◌≡◌, ◌≢◌, ◌+◌, ◌-◌, ◌≤◌, ap, sym, subst, ◌∙◌, arith}
 use Rattle.assise_machine_state.specs.Changes.{with_clients_cut, with_clients_failed}
-use Rattle.assise_machine_state.specs.ClientValues.{client_in, client_seen, failed_at, with_client}
+use Rattle.assise_machine_state.specs.ClientValues.{client_in, failed_at, with_client}
 use Rattle.assise_machine_state.specs.NodeValues.{AreUndigested, with_tails_cut}
 use Rattle.assise_machine_state.specs.Places.{IsNumber}
 use Rattle.assise_machine_failures.specs.Listing.{kept_in}
@@ -19,7 +19,7 @@ cut_tails-requires-clause-elsewhere c =
     let kept = kept_in c.args.kept.now in
     let there : IsNumber c.args.clients.now k = record { some = omega (arith, c.loop-client.auto.client); there = omega (arith, c.loop-client-test.true, c.requires.last) } in
     let found = home_found c.args.node kept c.args.clients.now k there c.loop-client.invariant.clients c.get.ensures c.home.ensures in
-    let home : (client_seen c.args.clients.now k).home ≡ c.args.node = omega (arith, c.if-home-node.true, found) in
+    let home : (client_in c.args.clients.now k).home ≡ c.args.node = omega (arith, c.if-home-node.true, found) in
     subst (λ rs. AreUndigested rs k (kept k)) (sym c.loop-client.invariant.nodes)
     (all_undigested _ k (kept k)
     (undigested_then c.args.node c.args.clients.now kept c.args.nodes.now (k - 1) k (kept k) (omega (arith, there.some))
@@ -41,7 +41,7 @@ loop-client-preserved c =
     let found = home_found c.args.node kept c.args.clients.now k there c.loop-client.invariant.clients c.get.ensures c.home.ensures in
     elim c.if-home-node.branch [
       | then-home-node b ↦
-          let home : (client_seen c.args.clients.now k).home ≡ c.args.node = omega (arith, b.if-home-node.true, found) in
+          let home : (client_in c.args.clients.now k).home ≡ c.args.node = omega (arith, b.if-home-node.true, found) in
           record {
             nodes =
                 b.nodes-is
@@ -56,7 +56,7 @@ loop-client-preserved c =
             low = low;
           }
       | else-home-node b ↦
-          let away : (client_seen c.args.clients.now k).home ≢ c.args.node = λ is. absurd (omega (arith, b.if-home-node.false, found, is)) in
+          let away : (client_in c.args.clients.now k).home ≢ c.args.node = λ is. absurd (omega (arith, b.if-home-node.false, found, is)) in
           record {
             nodes = b.nodes-is ∙ c.loop-client.invariant.nodes ∙ next_stays c.args.node c.args.clients.now kept c.args.nodes.now k some away ∙ ap (λ n. with_clients_cut c.args.node c.args.clients.now kept n c.args.nodes.now) next;
             clients = b.clients-is ∙ c.loop-client.invariant.clients ∙ next_lives c.args.node kept c.args.clients.now k some away ∙ ap (λ n. with_clients_failed c.args.node kept n c.args.clients.now) next;
@@ -78,7 +78,7 @@ all_over c =
     let found = home_found c.args.node kept c.args.clients.now k there c.loop-client.invariant.clients c.get.ensures c.home.ensures in
     elim c.if-home-node.branch [
       | then-home-node b ↦
-          let home : (client_seen c.args.clients.now k).home ≡ c.args.node = omega (arith, b.if-home-node.true, found) in
+          let home : (client_in c.args.clients.now k).home ≡ c.args.node = omega (arith, b.if-home-node.true, found) in
           record {
             nodes =
                 b.nodes-is
@@ -92,7 +92,7 @@ all_over c =
                 ∙ next_fails c.args.node kept c.args.clients.now k there home ∙ ap (λ n. with_clients_failed c.args.node kept n c.args.clients.now) last;
           }
       | else-home-node b ↦
-          let away : (client_seen c.args.clients.now k).home ≢ c.args.node = λ is. absurd (omega (arith, b.if-home-node.false, found, is)) in
+          let away : (client_in c.args.clients.now k).home ≢ c.args.node = λ is. absurd (omega (arith, b.if-home-node.false, found, is)) in
           record {
             nodes = b.nodes-is ∙ c.loop-client.invariant.nodes ∙ next_stays c.args.node c.args.clients.now kept c.args.nodes.now k some away ∙ ap (λ n. with_clients_cut c.args.node c.args.clients.now kept n c.args.nodes.now) last;
             clients = b.clients-is ∙ c.loop-client.invariant.clients ∙ next_lives c.args.node kept c.args.clients.now k some away ∙ ap (λ n. with_clients_failed c.args.node kept n c.args.clients.now) last;

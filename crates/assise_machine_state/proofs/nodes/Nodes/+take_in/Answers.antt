@@ -1,9 +1,20 @@
-use Rattle.std.proofs.Common.{◌≡◌, ℕ, Bool, List, ◌∷◌, ◌∙◌, drop, ap, sym, arith}
+use Rattle.std.proofs.Common.{◌≡◌, ℕ, Bool, List, ◌∷◌, ◌∙◌, drop, ap, sym, arith, []}
+use Rattle.std.proofs.lemmas.List.{drop_all, nil_from_length}
 use Rattle.assise_record.specs.LogRecord.{LogRecord}
 use Rattle.assise_private_log.specs.NumberedLog.{is_border}
 use Rattle.assise_machine_state.specs.NodeValues.{log_in, with_log_in, with_records}
-use Rattle.assise_machine_state.proofs.RecordsTaken.{one_taken}
+use Rattle.assise_machine_state.proofs.RecordsTaken.{none_taken, one_taken}
 use Rattle.assise_machine_state.proofs.nodes.Nodes.+take_in.Goals as goal
+
+pub returns-in_default : goal.returns-in_default
+returns-in_default t c =
+    let rs = c.args.self.now in
+    let n = c.args.node in
+    let client = c.args.client in
+    let border : ℕ → Bool = is_border (log_in rs c.args.own client).log in
+    let none : c.args.records.rest.items ≡ [] = nil_from_length c.args.records.rest.items (omega (arith, c.in_default.ensures.cases.0)) in
+    sym (none_taken border rs n client)
+    ∙ ap (λ more. with_log_in rs n client (with_records border (log_in rs n client) more)) (sym (ap (drop c.args.skipped) none ∙ drop_all c.args.skipped [] (omega arith)))
 
 pub returns : goal.returns
 returns t c =

@@ -8,7 +8,7 @@ use Rattle.assise_manager.specs.Whole.{membership}
 use Rattle.assise_machine_state.specs.Observed.{is_full_in, observed}
 use Rattle.assise_machine_state.specs.Whole.{value_of}
 use Rattle.assise_machine_state.proofs.NodesAway.{away_other, away_refused, full_served, none_refused, phase_full}
-use Rattle.assise_machine_state.proofs.Fullness.{full_number, region_is}
+use Rattle.assise_machine_state.proofs.Fullness.{full_number}
 use Rattle.assise_machine_state.proofs.sound.SoundOf.region.Goals as goal
 
 same_refusal : (r e : Refusal) → Some r ≡ Some e → r ≡ e
@@ -61,10 +61,7 @@ returns-in-Full-clause-ok g c =
 
 pub returns-in-Full-clause-region : goal.returns-in-Full-clause-region
 returns-in-Full-clause-region g c =
-    let nodes = (membership c.args.self.now.state.members).nodes in
-    let f : is_full_in nodes c.args.node ≡ true = phase_full nodes c.args.node (sym c.phase.ensures ∙ c.in_ok-phase.was ∙ ap Ok c.in-Full.is) in
-    let s = value_of c.args.self.now.state in
-    c.region.ensures ∙ sym (region_is s c.args.node (full_number s c.args.node c.args.self.now.invariant.shape f))
+    c.region.ensures
 
 pub returns-in-Down : goal.returns-in-Down
 unfolding observed

@@ -1,0 +1,7 @@
+use Rattle.std.proofs.Common.{◌∙◌, ap}
+use Rattle.assise_machine_state.specs.NodeValues.{with_region}
+use Rattle.assise_machine_state.proofs.LogChanges.{region_back}
+use Rattle.assise_machine_state.proofs.nodes.Nodes.touch.Goals as goal
+
+pub returns : goal.returns
+returns c = ap (with_region c.args.self.now c.args.node) (c.touch.ensures ∙ c.region_mut.ensures.value) ∙ region_back c.args.self.now c.args.node
