@@ -1,5 +1,5 @@
 -- Legal histories, one entry at a time.
-use Rattle.std.proofs.Common.{◌≡◌, ◌↔◌, List, [], ◌∷◌, ◌++◌, refl, ap, subst, ◌∙◌, inl, inr, append_assoc, arith}
+use Rattle.std.proofs.Common.{◌≡◌, ◌↔◌, List, [], ◌∷◌, ◌++◌, refl, ap, subst, ◌∙◌, inl, inr, append_assoc}
 use Rattle.assise_seq_tree.specs.Tree.{opening}
 use Rattle.assise_history.specs.Entries.{EntryValue}
 use Rattle.assise_history.specs.Kept.{kept, IsRun}
@@ -29,7 +29,10 @@ unfolding IsLegal
 legal-last h e legal = legal h [] e refl
 
 pub one_more : (h : List EntryValue) (e : EntryValue) → IsLegal (h ++ e ∷ []) ↔ (IsLegal h × Fits h e)
-one_more h e = grind (arith, legal-prefix, legal-last, legal-push)
+one_more h e = (
+  λ all. (legal-prefix h (e ∷ []) all, legal-last h e all),
+  λ parts. legal-push h e parts.0 parts.1,
+)
 
 -- an entry in the midst, and a prefix
 pub fits_in : (h before later : List EntryValue) (e : EntryValue) → IsLegal h → h ≡ before ++ e ∷ later → Fits before e

@@ -18,7 +18,9 @@ none_more : {X : Type 0} (p : X → Bool) (xs : List X) (x : X) → list_any p x
 none_more p xs x none not_it = list_any-append p xs (x ∷ []) ∙ or_from (list_any p xs) (p x || false) none (or_from (p x) false not_it refl)
 
 none_before : {X : Type 0} (p : X → Bool) (xs : List X) (x : X) → list_any p (xs ++ x ∷ []) ≡ false → (list_any p xs ≡ false) × (p x ≡ false)
-none_before p xs x none = grind (arith, or_parts, list_any-append)
+none_before p xs x none =
+    let parts = or_parts (list_any p xs) (p x || false) (sym (list_any-append p xs (x ∷ [])) ∙ none) in
+    (parts.0, (or_parts (p x) false parts.1).0)
 
 -- where an entry stood it stands with an entry more
 pub further : (h before since : List EntryValue) (x e : EntryValue) → h ≡ before ++ x ∷ since → h ++ e ∷ [] ≡ before ++ x ∷ (since ++ e ∷ [])
@@ -133,7 +135,10 @@ abbrev OnePlace : List EntryValue → Type 0
 OnePlace h = (c n n2 : ℕ) (u u2 : Durability) (before since before2 since2 : List EntryValue) → h ≡ before ++ opens c n u ∷ since → h ≡ before2 ++ opens c n2 u2 ∷ since2 → SamePlace before since n u before2 since2 n2 u2
 
 opened_late : (h : List EntryValue) (c n m : ℕ) (u v : Durability) (before since : List EntryValue) → IsLegal h → Fits h (opens c n u) → h ≡ before ++ opens c m v ∷ since → ⊥
-opened_late h c n m u v before since legal fits split = grind (arith, next_opened, opened_within)
+opened_late h c n m u v before since legal fits split =
+    let next = next_opened h c n u fits in
+    let within = opened_within h before since c m v legal split in
+    omega arith
 
 one_place_more : (h : List EntryValue) (e : EntryValue) → IsLegal h → Fits h e → OnePlace h → OnePlace (h ++ e ∷ [])
 one_place_more h e legal fits place c n n2 u u2 before since before2 since2 split split2 =

@@ -1,5 +1,6 @@
 -- Which calls are lost and which are kept, in the words of the entries.
 use Rattle.std.proofs.Common.{◌≡◌, ◌↔◌, ℕ, zero, suc, nat_le, Bool, true, false, not, ◌&&◌, ◌==◌, List, [], ◌∷◌, ◌++◌, filter, Contains, refl, ap, sym, subst, inl, inr, arith, eqb-true, eq-eqb, leb-true, le-leb}
+use Rattle.std.specs.List.{list_any}
 use Rattle.std.proofs.lemmas.Bool.{cases_Bool, both_ways, false_from_ne_true}
 use Rattle.std.proofs.lemmas.List.Elements.{Contains-append_right, Contains-append_cases}
 use Rattle.assise_history.specs.declared.call.Call.{Call}
@@ -61,7 +62,11 @@ lost_at (fails m others ∷ es) behind n losses x h =
 lost_at (_ ∷ es) behind n losses x h = lost_at es behind n losses x h
 
 pub lost : (es : List EntryValue) (x : Call) → IsTaken es x → is_lost es x ≡ true
-lost es x t = grind (arith, Bool, nat_le, two_from, eq-eqb, le-leb, passes_at, lost_at)
+lost es x t =
+    let p : Loss → Bool = λ l. (l.client == x.client) && nat_le l.first x.number in
+    let one : p t.loss ≡ true = two_from (t.loss.client == x.client) (nat_le t.loss.first x.number) (eq-eqb t.loss.client x.client t.client) (le-leb t.loss.first x.number t.first) in
+    let all : loses t.losses x ≡ true = subst (λ ls. list_any p ls ≡ true) (sym t.listed) (passes_at p t.lower t.higher t.loss one) in
+    subst (λ es. is_lost es x ≡ true) (sym t.split) (lost_at t.before t.behind t.node t.losses x all)
 
 pub lost_exactly : (es : List EntryValue) (x : Call) → (is_lost es x ≡ true) ↔ IsTaken es x
 lost_exactly es x = (taken es x, lost es x)

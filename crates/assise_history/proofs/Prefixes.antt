@@ -39,7 +39,15 @@ pub record Found (p : ClientSummary → Bool) (es : List EntryValue) : Type 0 wh
   pub holds : p (through since (newly_opened client node durability)) ≡ true
 
 last_any : (p : ClientSummary → Bool) (ks : List ClientSummary) (k : ClientSummary) → list_any p (ks ++ k ∷ []) ≡ true → (list_any p ks ≡ true) ⊎ (p k ≡ true)
-last_any p ks k h = grind (arith, list_any-append, or_cases)
+last_any p ks k h =
+    let e : (list_any p ks || (p k || false)) ≡ true = sym (list_any-append p ks (k ∷ [])) ∙ h in
+    elim (or_cases (list_any p ks) (p k || false) e) [
+      | inl a ↦ inl a
+      | inr b ↦ elim (or_cases (p k) false b) [
+        | inl here ↦ inr here
+        | inr never ↦ cc
+      ]
+    ]
 
 pub record Newly (p : ClientSummary → Bool) (e : EntryValue) : Type 0 where
   pub client : ℕ
@@ -115,13 +123,22 @@ count_clients h = let e = count_from nothing_yet h in omega arith
 
 -- what stays of a client, and what changes
 entry_client : (e : EntryValue) (k : ClientSummary) → (with_entry e k).client ≡ k.client
-entry_client e k = grind (arith, cases_Bool)
+entry_client (calls x) k = elim (cases_Bool (k.client == x.client)) [ inl t ↦ rw t refl | inr f ↦ rw f refl ]
+entry_client (crashes c) k = elim (cases_Bool (k.client == c)) [ inl t ↦ rw t refl | inr f ↦ rw f refl ]
+entry_client (fails n losses) k = elim (cases_Bool (k.node == n)) [ inl t ↦ rw t refl | inr f ↦ rw f refl ]
+entry_client _ k = refl
 
 entry_node : (e : EntryValue) (k : ClientSummary) → (with_entry e k).node ≡ k.node
-entry_node e k = grind (arith, cases_Bool)
+entry_node (calls x) k = elim (cases_Bool (k.client == x.client)) [ inl t ↦ rw t refl | inr f ↦ rw f refl ]
+entry_node (crashes c) k = elim (cases_Bool (k.client == c)) [ inl t ↦ rw t refl | inr f ↦ rw f refl ]
+entry_node (fails n losses) k = elim (cases_Bool (k.node == n)) [ inl t ↦ rw t refl | inr f ↦ rw f refl ]
+entry_node _ k = refl
 
 entry_durability : (e : EntryValue) (k : ClientSummary) → (with_entry e k).durability ≡ k.durability
-entry_durability e k = grind (arith, cases_Bool)
+entry_durability (calls x) k = elim (cases_Bool (k.client == x.client)) [ inl t ↦ rw t refl | inr f ↦ rw f refl ]
+entry_durability (crashes c) k = elim (cases_Bool (k.client == c)) [ inl t ↦ rw t refl | inr f ↦ rw f refl ]
+entry_durability (fails n losses) k = elim (cases_Bool (k.node == n)) [ inl t ↦ rw t refl | inr f ↦ rw f refl ]
+entry_durability _ k = refl
 
 or_none : (b : Bool) → b ≡ (b || false)
 or_none true = refl
@@ -132,10 +149,16 @@ or_true true = refl
 or_true false = refl
 
 entry_crashed : (e : EntryValue) (k : ClientSummary) → (with_entry e k).crashed ≡ (k.crashed || is_crash_of k.client e)
-entry_crashed e k = grind (arith, cases_Bool, or_none, or_true)
+entry_crashed (calls x) k = elim (cases_Bool (k.client == x.client)) [ inl t ↦ rw t (or_none k.crashed) | inr f ↦ rw f (or_none k.crashed) ]
+entry_crashed (crashes c) k = elim (cases_Bool (k.client == c)) [ inl t ↦ rw t (or_true k.crashed) | inr f ↦ rw f (or_none k.crashed) ]
+entry_crashed (fails n losses) k = elim (cases_Bool (k.node == n)) [ inl t ↦ rw t (or_none k.crashed) | inr f ↦ rw f (or_none k.crashed) ]
+entry_crashed _ k = or_none k.crashed
 
 entry_failed : (e : EntryValue) (k : ClientSummary) → (with_entry e k).failed ≡ (k.failed || is_failure_of k.node e)
-entry_failed e k = grind (arith, cases_Bool, or_none, or_true)
+entry_failed (calls x) k = elim (cases_Bool (k.client == x.client)) [ inl t ↦ rw t (or_none k.failed) | inr f ↦ rw f (or_none k.failed) ]
+entry_failed (crashes c) k = elim (cases_Bool (k.client == c)) [ inl t ↦ rw t (or_none k.failed) | inr f ↦ rw f (or_none k.failed) ]
+entry_failed (fails n losses) k = elim (cases_Bool (k.node == n)) [ inl t ↦ rw t (or_true k.failed) | inr f ↦ rw f (or_none k.failed) ]
+entry_failed _ k = or_none k.failed
 
 pub through_client : (es : List EntryValue) (k : ClientSummary) → (through es k).client ≡ k.client
 through_client [] k = refl
@@ -190,7 +213,16 @@ back_left (k ∷ ks) m n h =
     ]
 
 down_after : (s : Summary) (e : EntryValue) (n : ℕ) → is_down (summary_after s e) n ≡ true → ((is_down s n ≡ true) × (is_return_of n e ≡ false)) ⊎ ((losses : List Loss) × (e ≡ fails n losses))
-down_after s e n h = grind (arith, or_cases, list_any-append, eqb-true, back_left)
+down_after s (fails m losses) n h =
+    elim (or_cases (is_down s n) ((m == n) || false) (sym (list_any-append (λ k. k == n) s.down (m ∷ [])) ∙ h)) [
+      | inl a ↦ inl (a, refl)
+      | inr b ↦ elim (or_cases (m == n) false b) [
+        | inl here ↦ inr (losses, ap (λ k. fails k losses) (eqb-true m n here))
+        | inr never ↦ cc
+      ]
+    ]
+down_after s (returns m) n h = inl (back_left s.down m n h)
+down_after s _ n h = inl (h, refl)
 
 back_stays : (down : List ℕ) (m n : ℕ) → list_any (λ k. k == n) down ≡ true → (n == m) ≡ false → list_any (λ k. k == n) (filter (λ k. not (k == m)) down) ≡ true
 back_stays [] m n h other = h
@@ -217,10 +249,16 @@ down_from s (e ∷ es) n h =
     ]
 
 pub down_found : (h : List EntryValue) (n : ℕ) → is_down (summary h) n ≡ true → IsDown h n
-down_found h n is = grind (arith, down_from)
+down_found h n is =
+    elim (down_from nothing_yet h n is) [
+      | inl none ↦ let no : false ≡ true = none.0 in cc
+      | inr d ↦ d
+    ]
 
 stays_after : (s : Summary) (e : EntryValue) (n : ℕ) → is_down s n ≡ true → is_return_of n e ≡ false → is_down (summary_after s e) n ≡ true
-stays_after s e n h other = grind (arith, list_any-append, or_left, back_stays)
+stays_after s (fails m losses) n h other = list_any-append (λ k. k == n) s.down (m ∷ []) ∙ or_left (is_down s n) _ h
+stays_after s (returns m) n h other = back_stays s.down m n h other
+stays_after s _ n h other = h
 
 stays_down : (s : Summary) (es : List EntryValue) (n : ℕ) → is_down s n ≡ true → list_any (is_return_of n) es ≡ false → is_down (summed_from s es) n ≡ true
 stays_down s [] n h none = h

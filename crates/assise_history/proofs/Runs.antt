@@ -92,7 +92,9 @@ kept-quiet (calls other ∷ es) e h none =
 kept-quiet (_ ∷ es) e h none = kept-quiet es e h none
 
 pub kept-push : (es : List EntryValue) (e : EntryValue) → kept (es ++ e ∷ []) ≡ kept_more (kept es) e
-kept-push es e = grind (arith, kept-call, kept-fail, kept-quiet)
+kept-push es (calls call) = kept-call es call
+kept-push es (fails n losses) = kept-fail es n losses
+kept-push es e = kept-quiet es e (λ call. refl) refl
 
 -- a run's prefix is a run
 pub run-prefix : (t : Tree) (cs ds : List Call) → IsRun t (cs ++ ds) → IsRun t cs
@@ -110,11 +112,15 @@ tree_after-push t (c ∷ cs) x = tree_after-push (answer t c.op).1 cs x
 
 -- one call more was played, and its reply is right
 pub played_right : (s : Tree) (cs : List Call) (t t' : Tree) (reply : _) (x : Call) → IsRun s cs → t ≡ tree_after s cs → (reply, t') ≡ answer t x.op → reply ≡ x.reply → IsRun s (cs ++ x ∷ []) × (t' ≡ tree_after s (cs ++ x ∷ []))
-played_right s cs t t' reply x run is step right = grind (arith, run-push, tree_after-push)
+played_right s cs t t' reply x run is step right =
+    let now : (reply, t') ≡ answer (tree_after s cs) x.op = step ∙ ap (λ u. answer u x.op) is in
+    (run-push s cs x run (sym right ∙ ap (λ p. p.0) now), ap (λ p. p.1) now ∙ sym (tree_after-push s cs x))
 
 -- its reply is wrong
 pub played_wrong : (s : Tree) (cs : List Call) (t t' : Tree) (reply : _) (x : Call) → t ≡ tree_after s cs → (reply, t') ≡ answer t x.op → (reply ≡ x.reply → ⊥) → IsRun s (cs ++ x ∷ []) → ⊥
-played_wrong s cs t t' reply x is step wrong run = grind (arith, run-last)
+played_wrong s cs t t' reply x is step wrong run =
+    let now : (reply, t') ≡ answer (tree_after s cs) x.op = step ∙ ap (λ u. answer u x.op) is in
+    wrong (ap (λ p. p.0) now ∙ sym (run-last s cs x run))
 
 -- one call more of a list of references
 pub calls_more : (cs : List (Bor Call)) (i : ℕ) (d : Bor Call) → i < length cs → map (λ x. x.now) (take (i + 1) cs) ≡ map (λ x. x.now) (take i cs) ++ (get_or cs i d).now ∷ []

@@ -8,7 +8,7 @@ use Rattle.assise_history.specs.declared.call.Loss.{Loss}
 use Rattle.assise_history.specs.declared.prefix.ClientSummary.{ClientSummary}
 use Rattle.assise_history.specs.Entries.{EntryValue, opens, calls, crashes, fails, returns}
 use Rattle.assise_history.specs.Legal.{IsLegal, Fits, is_sync, syncs, durability_of, is_crash_of, is_failure_of, calls_made, IsAlive, IsPastSyncs, MayLose, ClientsAscend, IsNextCall, MayOpen, IsFair, MayFollow}
-use Rattle.assise_history.specs.Summary.{follows, summary, newly_opened, is_past, ascend_from, makes_next_call, may_lose, summary_with_call, with_crash, with_failure, comes_next}
+use Rattle.assise_history.specs.Summary.{follows, summary, newly_opened, is_past, is_down, ascend_from, makes_next_call, may_lose, summary_with_call, with_crash, with_failure, comes_next}
 use Rattle.assise_history.proofs.TestedElements.{two, two_from, four, four_from, all_at, all_from, cut_end, not_nil}
 use Rattle.assise_history.proofs.Legality.{along}
 use Rattle.assise_history.proofs.ClientCounts.{early, durability_in, made_append, made_before, next_opened, number_in}
@@ -146,10 +146,17 @@ call_follows h x legal is =
 
 -- an open
 open_allowed : (h : List EntryValue) (c n : ℕ) (u : Durability) → follows (summary h) (opens c n u) ≡ true → MayOpen h c n
-open_allowed h c n u rule = grind (arith, two, length, not, next, eqb-true, count_clients, both_ways, not-true, down_seen)
+open_allowed h c n u rule =
+    let parts = two (c == length (summary h).clients + 1) (not (is_down (summary h) n)) rule in
+    record {
+      next = eqb-true c (length (summary h).clients + 1) parts.0 ∙ ap (λ k. k + 1) (count_clients h);
+      up = λ d. both_ways (is_down (summary h) n) (not-true (is_down (summary h) n) parts.1) (down_seen h n d);
+    }
 
 open_follows : (h : List EntryValue) (c n : ℕ) (u : Durability) → MayOpen h c n → follows (summary h) (opens c n u) ≡ true
-open_follows h c n u may = grind (arith, length, count_clients, two_from, not, eq-eqb, not_from_false, false_from_ne_true, down_found)
+open_follows h c n u may =
+    let first : c ≡ length (summary h).clients + 1 = may.next ∙ ap (λ k. k + 1) (sym (count_clients h)) in
+    two_from (c == length (summary h).clients + 1) (not (is_down (summary h) n)) (eq-eqb c (length (summary h).clients + 1) first) (not_from_false (is_down (summary h) n) (false_from_ne_true (is_down (summary h) n) (λ down. may.up (down_found h n down))))
 
 -- a crash
 crash_allowed : (h : List EntryValue) (c : ℕ) → list_any (λ k. (k.client == c) && not k.crashed) (summary h).clients ≡ true → IsAlive h c
@@ -166,7 +173,10 @@ crash_allowed h c rule =
     }
 
 crash_follows : (h : List EntryValue) (c : ℕ) → IsAlive h c → list_any (λ k. (k.client == c) && not k.crashed) (summary h).clients ≡ true
-crash_follows h c a = grind (arith, through, seen, not, two_from, eq-eqb, through_client, not_from_false, crashed_since)
+crash_follows h c a =
+    let o = a.opened in
+    let k = through o.since (newly_opened c a.node o.durability) in
+    seen (λ k. (k.client == c) && not k.crashed) h o.before o.since c a.node o.durability o.split (two_from (k.client == c) (not k.crashed) (eq-eqb k.client c (through_client o.since (newly_opened c a.node o.durability))) (not_from_false k.crashed (crashed_since o.since c a.node o.durability ∙ a.no_crash)))
 
 -- a failure: its clients ascend
 past_more : (o : Option ℕ) (i j : ℕ) → is_past o i ≡ true → i < j → is_past o j ≡ true
@@ -359,7 +369,10 @@ failure_allowed h n losses legal rule =
     }
 
 failure_follows : (h : List EntryValue) (n : ℕ) (losses : List Loss) → IsLegal h → IsFair h n losses → follows (summary h) (fails n losses) ≡ true
-failure_follows h n losses legal fair = grind (arith, two_from, None, ascend_back, all_from, pair_from)
+failure_follows h n losses legal fair =
+    two_from (ascend_from None losses) (list_all (λ l. list_any (may_lose n l) (summary h).clients) losses)
+    (ascend_back None losses fair.ascending (λ before behind l split. refl))
+    (all_from (λ l. list_any (may_lose n l) (summary h).clients) losses (λ before behind l split. pair_from h n l legal (fair.each before behind l split)))
 
 -- what the summary of a legal history allows may follow it, and what may follow is allowed
 pub may_follow : (h : List EntryValue) (e : EntryValue) → IsLegal h → follows (summary h) e ≡ true → MayFollow h e

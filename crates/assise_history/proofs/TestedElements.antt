@@ -1,17 +1,26 @@
 -- Where an element stands that passes a test, and histories from their ends.
-use Rattle.std.proofs.Common.{◌≡◌, Bool, true, ◌&&◌, ◌||◌, ◌⊎◌, List, [], ◌∷◌, ◌++◌, map, refl, ap, sym, subst, inl, inr, append_assoc, append-nil, arith}
+use Rattle.std.proofs.Common.{◌≡◌, Bool, true, false, ◌&&◌, ◌||◌, ◌⊎◌, List, [], ◌∷◌, ◌++◌, map, refl, ap, sym, subst, inl, inr, append_assoc, append-nil}
 use Rattle.std.specs.List.{list_any, list_all}
 use Rattle.std.proofs.lemmas.Bool.{or_cases, or_left, or_right}
 
 -- parts of a test
 pub two : (a b : Bool) → (a && b) ≡ true → (a ≡ true) × (b ≡ true)
-two a b h = grind arith
+two true true h = (refl, refl)
+two true false h = cc
+two false b h = cc
 
 pub three : (a b c : Bool) → (a && b && c) ≡ true → (a ≡ true) × (b ≡ true) × (c ≡ true)
-three a b c h = grind arith
+three true true true h = (refl, refl, refl)
+three true true false h = cc
+three true false c h = cc
+three false b c h = cc
 
 pub four : (a b c d : Bool) → (a && b && c && d) ≡ true → (a ≡ true) × (b ≡ true) × (c ≡ true) × (d ≡ true)
-four a b c d h = grind arith
+four true true true true h = (refl, refl, refl, refl)
+four true true true false h = cc
+four true true false d h = cc
+four true false c d h = cc
+four false b c d h = cc
 
 pub two_from : (a b : Bool) → a ≡ true → b ≡ true → (a && b) ≡ true
 two_from a b h k = rw (h, k) refl
