@@ -69,7 +69,7 @@ def long_fsync(bench):
 # which other work on the machine sways, twice as much.
 BUDGETS = (
     # All seven workloads beside the plain program.
-    ("plain", beside_plain, 1.20),
+    ("plain", beside_plain, 1.05),
     # A stat behind 20,000 others, to one behind none.
     ("before", many_calls_before, 1.05),
     # A create in a directory that gets 4,000 entries, to one where it gets 500.
