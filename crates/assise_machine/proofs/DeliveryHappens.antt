@@ -8,7 +8,7 @@ use Rattle.assise_record.specs.LogFrame.{LogFrame}
 use Rattle.assise_record.specs.LogRecord.{LogRecord}
 use Rattle.assise_private_log.specs.NumberedLog.{NumberedLog, end as log_end, is_border, records_from}
 use Rattle.assise_private_log.proofs.Borders.{border_first}
-use Rattle.assise_digest.specs.Region.{AreWhole, RegionValue, log_of}
+use Rattle.assise_digest.specs.Region.{AreWhole, RegionValue}
 use Rattle.assise_manager.specs.Standings.{full_nodes}
 use Rattle.assise_model_world.specs.Chances.{MayDeliver}
 use Rattle.assise_model_world.specs.World.{World, end_of_log, records_between}
@@ -19,12 +19,12 @@ use Rattle.assise_model_events.specs.NodeEvents.{Delivering, is_delivered}
 use Rattle.assise_model_events.proofs.EachEvent.{event_keeps}
 use Rattle.assise_machine_state.specs.Changes.{after_delivery}
 use Rattle.assise_machine_state.specs.ClientValues.{client_in}
-use Rattle.assise_machine_state.specs.NodeValues.{HasGroupsOf, HasLog, log_in, log_seen, region_in, with_log_in, with_records}
+use Rattle.assise_machine_state.specs.NodeValues.{HasGroupsOf, HasLog, log_in, with_log_in, with_records}
 use Rattle.assise_machine_state.specs.Observed.{is_full_in, observed, own_node, own_seen, world_of}
 use Rattle.assise_machine_state.specs.Places.{IsNumber}
 use Rattle.assise_machine_state.specs.Invariant.{CutsInvariant, ShapeInvariant}
 use Rattle.assise_machine_state.specs.StateValues.{StateValue, leases_of, standings}
-use Rattle.assise_machine_state.proofs.Fullness.{has_log, log_is, seen_full}
+use Rattle.assise_machine_state.proofs.Fullness.{has_log, seen_full}
 use Rattle.assise_machine_state.proofs.Marks.{border_inside, so_many_marks}
 use Rattle.assise_machine_state.proofs.Noted.{still_noted}
 use Rattle.assise_machine_state.proofs.OwnLogs.{own_log as has_own_log}
@@ -78,7 +78,7 @@ module _ (s : StateValue) (f : LogFrame) (n : ℕ) (shape : ShapeInvariant s) (h
     own_is : (own_seen s c).log ≡ own_log s c
     unfolding own_seen
     own_is =
-        ap (λ l. l.log) (log_is s (own_node (standings s) (client_in s.clients c)) c has_own)
+        refl
 
     -- where the client's groups lie
     abbrev own_border : ℕ → Bool
@@ -86,17 +86,16 @@ module _ (s : StateValue) (f : LogFrame) (n : ℕ) (shape : ShapeInvariant s) (h
 
     received_is : (r : ℕ) → r ≡ log_end (log_in s.nodes n c).log → r ≡ w.received n c
     unfolding world_of
-    received_is r is = is ∙ ap (λ l. log_end l.log) (sym (log_is s n c has))
+    received_is r is = is
 
     -- as the code finds it
-    pub received_as : (q : RegionValue) (l : NumberedLog) (k r : ℕ) → r ≡ log_end l → l ≡ (log_of q k).log → q ≡ region_in s.nodes n → k ≡ c → r ≡ w.received n c
-    received_as q l k r is log region of_client = received_is r (is ∙ ap log_end log ∙ ap (λ x. log_end (log_of x k).log) region ∙ ap (λ d. log_end (log_in s.nodes n d).log) of_client)
+    pub received_as : (l : NumberedLog) (k r : ℕ) → r ≡ log_end l → l ≡ (log_in s.nodes n k).log → k ≡ c → r ≡ w.received n c
+    received_as l k r is log of_client = received_is r (is ∙ ap log_end log ∙ ap (λ d. log_end (log_in s.nodes n d).log) of_client)
 
     counted : w.received n c ≡ w.first c + length (log_in s.nodes n c).log.records
     unfolding world_of
     counted =
-        ap (λ l. log_end l.log) (log_is s n c has)
-        ∙ ap (λ k. k + length (log_in s.nodes n c).log.records) (ap (λ l. l.log.first) (sym (log_is s n c has)) ∙ prefix.first)
+        ap (λ k. k + length (log_in s.nodes n c).log.records) prefix.first
 
     first_is : w.first c ≡ (own_log s c).first
     unfolding world_of
@@ -196,7 +195,8 @@ module _ (s : StateValue) (f : LogFrame) (n : ℕ) (shape : ShapeInvariant s) (h
       nothing_new old =
           let none : records_between w c (w.received n c) place ≡ [] = more_is ∙ drop_all (r - f.first) f.records (omega (arith, old, next.no_gap)) in
           let same : t ≡ s =
-          ap (λ more. record s { nodes = with_log_in s.nodes n c (with_records own_border (log_in s.nodes n c) more) }) none ∙ (λ i. record s { nodes = none_taken own_border s.nodes n c i })
+          ap (λ more. record s { nodes = with_log_in s.nodes n c (with_records own_border (log_in s.nodes n c) more) }) none
+          ∙ (λ i. record s { nodes = none_taken own_border s.nodes n c i })
           in
           let here : place ≡ r = omega (arith, old, is) in
           subst (λ u. Delivering (observed s) f n (told r) (observed u)) same (subst (λ k. Delivering (observed s) f n (told k) (observed t)) here delivered_now)
@@ -210,7 +210,7 @@ module _ (s : StateValue) (f : LogFrame) (n : ℕ) (shape : ShapeInvariant s) (h
         unfolding world_of
         lives_elsewhere =
             false_from_ne_true (log_in s.nodes n c).at_home (λ here.
-            let known_there = sym (shape.at_home n c) ∙ ap (λ l. l.at_home) (log_is s n c has) ∙ here in
+            let known_there = sym (shape.at_home n c) ∙ here in
             let parts = and_parts (n == (client_in s.clients c).home) (not (client_in s.clients c).failed) known_there in
             let unfailed : (client_in s.clients c).failed ≡ false = not-true (client_in s.clients c).failed parts.1 in
             let own : own_node (standings s) (client_in s.clients c) ≡ n = rw unfailed (sym (eqb-true n (client_in s.clients c).home parts.0)) in
@@ -241,13 +241,13 @@ module _ (s : StateValue) (f : LogFrame) (n : ℕ) (shape : ShapeInvariant s) (h
         groups : HasGroupsOf (own_log s c) (log_in s.nodes n c).log
         groups =
             subst (λ own. HasGroupsOf own (log_in s.nodes n c).log) own_is
-            (subst (λ l. HasGroupsOf (own_seen s c).log l.log) (log_is s n c has) (record {
-              marks = so_many_marks own_border (log_seen s.nodes n c).log (shape.marked n c);
-              borders = λ k low is. elim (cases_lt (log_seen s.nodes n c).log.first k) [
-                | inl inside ↦ border_inside own_border (log_seen s.nodes n c).log k (shape.marked n c) inside low ∙ is
-                | inr before ↦ border_first (log_seen s.nodes n c).log k before
+            (record {
+              marks = so_many_marks own_border (log_in s.nodes n c).log (shape.marked n c);
+              borders = λ k low is. elim (cases_lt (log_in s.nodes n c).log.first k) [
+                | inl inside ↦ border_inside own_border (log_in s.nodes n c).log k (shape.marked n c) inside low ∙ is
+                | inr before ↦ border_first (log_in s.nodes n c).log k before
               ];
-            }))
+            })
 
         -- as the code names what it passes
         module _ (k first : ℕ) (items : List LogRecord) (of_client : k ≡ c) (from : first ≡ f.first) (all : items ≡ f.records) where

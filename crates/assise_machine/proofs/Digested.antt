@@ -1,20 +1,20 @@
 -- A node's digest, as the laws have it.
-use Rattle.std.proofs.Common.{◌≡◌, ◌≢◌, ℕ, suc, ◌+◌, ◌-◌, ◌<◌, ◌≤◌, min, true, false, ◌||◌, ◌==◌, List, [], ◌∷◌, length, map, take, slice_set, inl, inr, refl, ap, sym, subst, ◌∙◌, arith}
+use Rattle.std.proofs.Common.{◌≡◌, ◌≢◌, ℕ, suc, ◌+◌, ◌-◌, ◌<◌, ◌≤◌, min, true, false, ◌||◌, ◌==◌, List, [], ◌∷◌, length, map, take, inl, inr, refl, ap, sym, subst, ◌∙◌, arith}
 use Rattle.std.proofs.Math.Bool.{or-false}
 use Rattle.std.proofs.Math.Logic.{∥∥₁_elim, ∥∥₁_map}
 use Rattle.std.proofs.Props.{props}
 use Rattle.std.proofs.lemmas.Bool.{cases_Bool, cases_lt, false_from_ne_true}
-use Rattle.std.proofs.lemmas.List.{get_or-set_same, length-drop, length-set, set-get_or}
+use Rattle.std.proofs.lemmas.List.{length-drop}
 use Rattle.std.specs.Cmp.{nat_cmp_total}
 use Rattle.std.specs.FinSet as set
 use Rattle.std.specs.FinSet.{contains-empty, contains-from_list_nat, contains-union, nat_cmp-IsAntisymmetric, same_set}
 use Rattle.std.specs.Ordering.{nat_cmp}
 use Rattle.assise_record.specs.Records.{all_effects}
-use Rattle.assise_inode_table.specs.Effects.{contains, touched}
+use Rattle.assise_inode_table.specs.Effects.{all_applied, contains, touched}
 use Rattle.assise_private_log.specs.Borders.{whole_count}
 use Rattle.assise_private_log.specs.NumberedLog.{NumberedLog, end as log_end, is_border}
 use Rattle.assise_private_log.proofs.Borders.{border_end, border_first, whole_here}
-use Rattle.assise_digest.specs.Region.{HasClient, ReceivedLog, RegionValue, TouchDisjoint, ahead, digested_by, digested_further, log_at, log_of, no_log}
+use Rattle.assise_digest.specs.Region.{HasClient, ReceivedLog, RegionValue, TouchDisjoint, ahead, digested_further, log_at}
 use Rattle.assise_manager.specs.Changes.{noted, stale_again, with_written}
 use Rattle.assise_manager.specs.Membership.{Membership}
 use Rattle.assise_manager.specs.Standings.{Standing, down, full, full_nodes, returning}
@@ -26,16 +26,16 @@ use Rattle.assise_model_world.proofs.Logs.{contains-drop, contains-take}
 use Rattle.assise_model_world.proofs.WorldObserved.{received_by_all-below, received_by_all-border}
 use Rattle.assise_model_members.specs.Returns.{DigestsNoted}
 use Rattle.assise_model_events.specs.NodeEvents.{undigested}
-use Rattle.assise_machine_state.specs.NodeValues.{HasLog, log_in, log_seen, region_in, with_region}
+use Rattle.assise_machine_state.specs.NodeValues.{HasLog, log_in, region_in, with_digested_in, with_log_in}
 use Rattle.assise_machine_state.specs.Observed.{is_full_in, own_seen, world_of}
 use Rattle.assise_machine_state.specs.Places.{IsNumber, item_at}
 use Rattle.assise_machine_state.specs.Invariant.{ShapeInvariant}
 use Rattle.assise_machine_state.specs.StateValues.{StateValue, standings}
 use Rattle.assise_machine_state.proofs.DigestSeen.{digest_shaped, noted_prefix}
-use Rattle.assise_machine_state.proofs.Fullness.{has_log, log_is, same_first, seen_full}
+use Rattle.assise_machine_state.proofs.Fullness.{has_log, same_first, seen_full}
 use Rattle.assise_machine_state.proofs.Marks.{border_inside, so_many_marks}
 use Rattle.assise_machine_state.proofs.ReadObserved.{ahead_first}
-use Rattle.assise_machine_state.proofs.LogChanges.{region_back, region_here}
+use Rattle.assise_machine_state.proofs.LogChanges.{log_back, log_here, region_here, region_with}
 use Rattle.assise_machine_state.proofs.ItemSeen.{length-with}
 use Rattle.assise_machine.specs.Digesting.{EndsWithGroup, NoneListed, digests_some}
 use Rattle.assise_machine.proofs.Unlisted.{nothing_noted}
@@ -71,63 +71,56 @@ none_noted m n = λ i. record { epoch = m.epoch; nodes = none_again n m.nodes i;
 none_further : (l : ReceivedLog) → digested_further l 0 ≡ l
 none_further l = (let same : l.digested + 0 ≡ l.digested = omega arith in (λ i. record { log = l.log; digested = same i; at_home = l.at_home }))
 
-none_made : (r : RegionValue) (c : ℕ) → digested_by r c 0 ≡ r
-none_made r c = (let same : slice_set r.logs (c - 1) (digested_further (log_of r c) 0) ≡ r.logs = ap (slice_set r.logs (c - 1)) (none_further (log_of r c)) ∙ set-get_or r.logs (c - 1) no_log in
-    (λ i. record r { logs = same i }))
+none_made : (rs : List RegionValue) (n c : ℕ) → with_digested_in rs n c 0 ≡ rs
+none_made rs n c = ap (with_log_in rs n c) (none_further (log_in rs n c)) ∙ log_back rs n c
 
 pub none_digested : (s : StateValue) (n c : ℕ) → HasLog s.nodes n c → digests_some s n c 0 ≡ s
 unfolding world_of
 none_digested s n c has =
-    let same : (log_seen s.nodes n c).digested ≡ (log_in s.nodes n c).digested = ap (λ l. l.digested) (log_is s n c has) in
-    let none : (log_seen s.nodes n c).digested + 0 - (log_in s.nodes n c).digested ≡ 0 = omega (arith, same) in
-    let nodes : with_region s.nodes n (digested_by (region_in s.nodes n) c ((log_seen s.nodes n c).digested + 0 - (log_in s.nodes n c).digested)) ≡ s.nodes =
-    ap (λ k. with_region s.nodes n (digested_by (region_in s.nodes n) c k)) none
-    ∙ ap (with_region s.nodes n) (none_made (region_in s.nodes n) c)
-    ∙ region_back s.nodes n in
+    let none : (log_in s.nodes n c).digested + 0 - (log_in s.nodes n c).digested ≡ 0 = omega arith in
+    let nodes : with_digested_in s.nodes n c ((log_in s.nodes n c).digested + 0 - (log_in s.nodes n c).digested) ≡ s.nodes =
+    ap (with_digested_in s.nodes n c) none ∙ none_made s.nodes n c in
     (λ i. record s { nodes = nodes i; members = none_noted s.members n i })
 
 -- ---- one client's records
 
 -- as the code finds it
 
-pub digests_as : (s : StateValue) (n c count : ℕ) → HasLog s.nodes n c → (rs : List RegionValue) (m : Membership) (is : List ℕ) → rs ≡ with_region s.nodes n (digested_by (region_in s.nodes n) c count) →
+pub digests_as : (s : StateValue) (n c count : ℕ) → HasLog s.nodes n c → (rs : List RegionValue) (m : Membership) (is : List ℕ) →
+    rs ≡ with_digested_in s.nodes n c count →
     m ≡ noted s.members n (set.from_list is) → is ≡ touched (all_effects (take count (ahead (log_in s.nodes n c)))) → record s { nodes = rs; members = m } ≡ digests_some s n c count
 unfolding world_of
 digests_as s n c count has rs m is nodes members inodes =
-    let same : (log_seen s.nodes n c).digested ≡ (log_in s.nodes n c).digested = ap (λ l. l.digested) (log_is s n c has) in
-    let so_many : count ≡ (log_seen s.nodes n c).digested + count - (log_in s.nodes n c).digested = omega (arith, same) in
-    let there = nodes ∙ ap (λ k. with_region s.nodes n (digested_by (region_in s.nodes n) c k)) so_many in
+    let so_many : count ≡ (log_in s.nodes n c).digested + count - (log_in s.nodes n c).digested = omega arith in
+    let there = nodes ∙ ap (with_digested_in s.nodes n c) so_many in
     let listed = members ∙ ap (λ l. noted s.members n (set.from_list l)) inodes in
     (λ i. record s { nodes = there i; members = listed i })
 
 -- as the code finds it while all nodes are full, when nothing is noted
 
 pub digests_unlisted : (s : StateValue) (n c count : ℕ) → HasLog s.nodes n c → length (standings s) ≤ length (full_nodes (standings s)) → NoneListed s.members →
-    (rs : List RegionValue) → rs ≡ with_region s.nodes n (digested_by (region_in s.nodes n) c count) → record s { nodes = rs } ≡ digests_some s n c count
+    (rs : List RegionValue) → rs ≡ with_digested_in s.nodes n c count → record s { nodes = rs } ≡ digests_some s n c count
 digests_unlisted s n c count has many none rs nodes =
     let inodes = touched (all_effects (take count (ahead (log_in s.nodes n c)))) in
     digests_as s n c count has rs s.members inodes nodes (sym (nothing_noted s.members n (set.from_list inodes) many none)) refl
 
 -- what the node has then
 
-pub has_after : (rs : List RegionValue) (n c count : ℕ) → HasLog rs n c → HasLog (with_region rs n (digested_by (region_in rs n) c count)) n c
+pub has_after : (rs : List RegionValue) (n c count : ℕ) → HasLog rs n c → HasLog (with_digested_in rs n c count) n c
 has_after rs n c count has =
-    let nodes : length (with_region rs n (digested_by (region_in rs n) c count)) ≡ length rs = length-with rs n (digested_by (region_in rs n) c count) in
-    let logs : length (slice_set (region_in rs n).logs (c - 1) (digested_further (log_in rs n c) count)) ≡ length (region_in rs n).logs =
-    length-set (region_in rs n).logs (c - 1) (digested_further (log_in rs n c) count) in
-    let there = has.client.there in
-    let region : region_in (with_region rs n (digested_by (region_in rs n) c count)) n ≡ digested_by (region_in rs n) c count =
-    region_here rs n (digested_by (region_in rs n) c count) has.node in
+    let r : RegionValue =
+    region_with rs n c (all_applied (region_in rs n).inodes (all_effects (take count (ahead (log_in rs n c))))) (digested_further (log_in rs n c) count) in
+    let logs : length r.logs ≡ length (region_in rs n).logs = length-with (region_in rs n).logs c (digested_further (log_in rs n c) count) in
     record {
-      node = record { some = has.node.some; there = omega (arith, nodes, has.node.there) };
-      client = subst (λ r. HasClient r c) (sym region) (record { some = has.client.some; there = omega (arith, logs, there) });
+      node = record { some = has.node.some; there = subst (λ k. n ≤ k) (sym (length-with rs n r)) has.node.there };
+      client =
+          subst (λ q. HasClient q c) (sym (region_here rs n r has.node))
+          (record { some = has.client.some; there = subst (λ k. c ≤ k) (sym logs) has.client.there });
     }
 
-pub log_after : (rs : List RegionValue) (n c count : ℕ) → HasLog rs n c → log_in (with_region rs n (digested_by (region_in rs n) c count)) n c ≡ digested_further (log_in rs n c) count
+pub log_after : (rs : List RegionValue) (n c count : ℕ) → HasLog rs n c → log_in (with_digested_in rs n c count) n c ≡ digested_further (log_in rs n c) count
 log_after rs n c count has =
-    let there = has.client.there in
-    ap (λ r. log_of r c) (region_here rs n (digested_by (region_in rs n) c count) has.node)
-    ∙ get_or-set_same (region_in rs n).logs (c - 1) (digested_further (log_in rs n c) count) no_log (omega (arith, has.client.some, there))
+    log_here rs n c (all_applied (region_in rs n).inodes (all_effects (take count (ahead (log_in rs n c))))) (digested_further (log_in rs n c) count) has
 
 module _ (s : StateValue) (n c : ℕ) (shape : ShapeInvariant s) (sound : ∥ WorldInvariant (world_of s) ∥₁) (here : is_full_in (standings s) n ≡ true) (client : IsNumber s.clients c) where
   abbrev w : World
@@ -139,10 +132,7 @@ module _ (s : StateValue) (n c : ℕ) (shape : ShapeInvariant s) (sound : ∥ Wo
   full_here : Full w n
   full_here = seen_full s n here
 
-  was : log_seen s.nodes n c ≡ log_in s.nodes n c
-  was = log_is s n c has_here
-
-  first_is : (log_seen s.nodes n c).log.first ≡ w.first c
+  first_is : (log_in s.nodes n c).log.first ≡ w.first c
   first_is = ∥∥₁_elim sound (search props) (λ h. same_first s n c h full_here)
 
   from_first : w.first c ≤ w.digested n c
@@ -153,13 +143,13 @@ module _ (s : StateValue) (n c : ℕ) (shape : ShapeInvariant s) (sound : ∥ Wo
 
   pub digested_is : w.digested n c ≡ (log_in s.nodes n c).digested
   unfolding world_of
-  digested_is = ap (λ l. l.digested) was
+  digested_is = refl
 
   -- as the code finds it: how many records may be digested
-  pub wanted_as : (r : RegionValue) (from acked at_most wanted : ℕ) → from ≡ (log_of r c).digested → r ≡ region_in s.nodes n → acked ≡ received_by_all w c →
+  pub wanted_as : (from acked at_most wanted : ℕ) → from ≡ (log_in s.nodes n c).digested → acked ≡ received_by_all w c →
       wanted ≡ min at_most (acked - from) → wanted ≡ min at_most (undigested w n c)
-  wanted_as r from acked at_most wanted log region all is =
-      let there : from ≡ w.digested n c = log ∙ ap (λ x. (log_of x c).digested) region ∙ sym digested_is in
+  wanted_as from acked at_most wanted log all is =
+      let there : from ≡ w.digested n c = log ∙ sym digested_is in
       is ∙ (λ i. min at_most (all i - there i))
 
   -- what all full nodes have, this one has
@@ -168,15 +158,13 @@ module _ (s : StateValue) (n c : ℕ) (shape : ShapeInvariant s) (sound : ∥ Wo
   some_ahead =
       let l = log_in s.nodes n c in
       let all : received_by_all w c ≤ w.received n c = received_by_all-below w n c full_here in
-      let ends : w.received n c ≡ l.log.first + length l.log.records = ap (λ x. log_end x.log) was in
-      let first : l.log.first ≡ w.first c = ap (λ x. x.log.first) (sym was) ∙ first_is in
       let left : length (ahead l) ≡ length l.log.records - (l.digested - l.log.first) = length-drop (l.digested - l.log.first) l.log.records in
-      omega (arith, all, ends, first, left, from_first, digested_is)
+      omega (arith, all, first_is, left, from_first)
 
   -- no other client's records touch what these touch
 
   written : WorldInvariant w → (j i : ℕ) → contains (touched (all_effects (ahead (log_at (region_in s.nodes n) j)))) i ≡ true → w.writes (suc j) i ≡ true
-  unfolding world_of log_seen item_at Guarded
+  unfolding world_of log_in item_at Guarded
   written h j i touches =
       let l = log_at (region_in s.nodes n) j in
       let log : contains (touched (all_effects l.log.records)) i ≡ true = contains-drop l.log.records (l.digested - l.log.first) i touches in
@@ -209,9 +197,8 @@ module _ (s : StateValue) (n c : ℕ) (shape : ShapeInvariant s) (sound : ∥ Wo
   border_there : (k : ℕ) → k ≤ w.received n c → is_border (log_in s.nodes n c).log k ≡ w.border c k
   unfolding world_of
   border_there k low =
-      let l : NumberedLog = (log_seen s.nodes n c).log in
-      ap (λ x. is_border x.log k) (sym was)
-      ∙ elim (cases_lt l.first k) [
+      let l : NumberedLog = (log_in s.nodes n c).log in
+      elim (cases_lt l.first k) [
         | inl inside ↦ (elim (cases_lt k (log_end l)) [
           | inl before ↦ border_inside (is_border (own_seen s c).log) l k (shape.marked n c) inside before
           | inr past ↦
@@ -238,16 +225,17 @@ module _ (s : StateValue) (n c : ℕ) (shape : ShapeInvariant s) (sound : ∥ Wo
       ]
 
   -- some whole groups are among 64 of them, and all of them are
-  pub some_wanted : (r : RegionValue) (l : NumberedLog) (from acked at_most most wanted : ℕ) → from ≡ (log_of r c).digested → l ≡ (log_of r c).log → r ≡ region_in s.nodes n → acked ≡ received_by_all w c →
+  pub some_wanted : (l : NumberedLog) (from acked at_most most wanted : ℕ) → from ≡ (log_in s.nodes n c).digested → l ≡ (log_in s.nodes n c).log →
+      acked ≡ received_by_all w c →
       most ≡ min at_most (acked - from) → wanted ≡ whole_count l from most → (64 ≤ most → 0 < wanted) → at_most ≡ 64 → 0 < undigested w n c → 0 < wanted
-  some_wanted r l from acked at_most most wanted log logs region all is counted some whole_most left =
-      let there : from ≡ w.digested n c = log ∙ ap (λ x. (log_of x c).digested) region ∙ sym digested_is in
+  some_wanted l from acked at_most most wanted log logs all is counted some whole_most left =
+      let there : from ≡ w.digested n c = log ∙ sym digested_is in
       elim (cases_lt most 64) [
         | inl fewer ↦
             let ends : from + most ≡ received_by_all w c = omega (arith, fewer, is, whole_most, all, there, replicated) in
             let high : received_by_all w c ≤ w.received n c = received_by_all-below w n c full_here in
             let border : is_border l (from + most) ≡ true =
-            (λ i. is_border ((logs ∙ ap (λ x. (log_of x c).log) region) i) (ends i)) ∙ border_there (received_by_all w c) high ∙ all_border in
+            (λ i. is_border (logs i) (ends i)) ∙ border_there (received_by_all w c) high ∙ all_border in
             omega (arith, counted, whole_here l from most border, is, whole_most, left, all, there, fewer)
         | inr enough ↦ some enough
       ]
@@ -272,7 +260,7 @@ module _ (s : StateValue) (n c : ℕ) (shape : ShapeInvariant s) (sound : ∥ Wo
     unfolding undigested_below
     below_is =
         let so_many : place - w.digested n c ≡ count = omega arith in
-        (λ i. take (so_many i) (ahead_first s n c first_is i)) ∙ ap (λ l. take count (ahead l)) was
+        (λ i. take (so_many i) (ahead_first s n c first_is i))
 
     pub noted_so : DigestsNoted w s.members n c place inodes (world_of t) t.members
     noted_so =

@@ -23,9 +23,9 @@ use Rattle.assise_machine_state.specs.ClientValues.{ClientValue, client_in}
 use Rattle.assise_machine_state.specs.NodeValues.{HasLog, log_in}
 use Rattle.assise_machine_state.specs.Observed.{is_full_in, observed, own_seen, stands_full, world_of}
 use Rattle.assise_machine_state.specs.Places.{IsNumber}
-use Rattle.assise_machine_state.specs.Invariant.{IsMarked, ShapeInvariant}
+use Rattle.assise_machine_state.specs.Invariant.{ShapeInvariant}
 use Rattle.assise_machine_state.specs.StateValues.{StateValue, standings}
-use Rattle.assise_machine_state.proofs.Fullness.{has_log, log_is, same_first, seen_full}
+use Rattle.assise_machine_state.proofs.Fullness.{has_log, same_first, seen_full}
 use Rattle.assise_machine_state.proofs.Standings.{listed_is_full}
 
 -- ---- a node at which nothing is wrong is full
@@ -95,7 +95,7 @@ module _ (s : StateValue) (n c : ℕ) (shape : ShapeInvariant s) (holds : ∥ Ma
 
     received_is : (k : ℕ) → HasLog s.nodes k c → (observed s).world.received k c ≡ log_end (log_in s.nodes k c).log
     unfolding observed world_of
-    received_is k has = ap (λ l. log_end l.log) (log_is s k c has)
+    received_is k has = refl
 
     module _ (full_node : is_full_in (standings s) n ≡ true)
       where
@@ -106,11 +106,10 @@ module _ (s : StateValue) (n c : ℕ) (shape : ShapeInvariant s) (holds : ∥ Ma
         unfolding observed
         first_is =
             sym (∥∥₁_elim holds (search props) (λ h. same_first s n c h.sound (seen_full s n full_node)))
-            ∙ ap (λ l. l.log.first) (log_is s n c has)
 
         records_is : (observed s).world.log n c ≡ (log_in s.nodes n c).log.records
         unfolding observed world_of
-        records_is = ap (λ l. l.log.records) (log_is s n c has)
+        records_is = refl
 
         limit_is : (observed s).limit ≡ (log_in s.nodes n c).log.limit
         unfolding observed
@@ -120,7 +119,7 @@ module _ (s : StateValue) (n c : ℕ) (shape : ShapeInvariant s) (holds : ∥ Ma
         unfolding observed world_of
         begins_is =
             (λ i. border_marks (is_border (own_seen s c).log) (first_is i) (records_is i))
-            ∙ sym (subst (λ l. IsMarked (is_border (own_seen s c).log) l.log) (log_is s n c has) (shape.marked n c))
+            ∙ sym (shape.marked n c)
 
         log_as : node_log (observed s) n c ≡ (log_in s.nodes n c).log
         log_as = λ i. record { first = first_is i; limit = limit_is i; records = records_is i; begins = begins_is i }

@@ -6,7 +6,6 @@ pub mod DeliveryCopy
 pub mod DeliveryHappens
 pub mod RaisedNode
 pub mod EventLists
-pub mod Marked
 pub mod Opened
 pub mod Others
 pub mod KeptPrefixes

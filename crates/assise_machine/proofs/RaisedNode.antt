@@ -11,7 +11,7 @@ use Rattle.assise_model_events.specs.Events.{raised}
 use Rattle.assise_model_events.specs.Machine.{MachineInvariant}
 use Rattle.assise_model_events.specs.MemberEvents.{IsRaised, Raising, is_raised, is_refused}
 use Rattle.assise_model_events.proofs.Raised.{raise_holds}
-use Rattle.assise_machine_state.specs.NodeValues.{log_seen, region_in}
+use Rattle.assise_machine_state.specs.NodeValues.{log_in, region_in}
 use Rattle.assise_machine_state.specs.Observed.{observed, own_seen, world_of}
 use Rattle.assise_machine_state.specs.Invariant.{CutsInvariant, ShapeInvariant}
 use Rattle.assise_machine_state.specs.StateValues.{StateValue, leases_of}
@@ -29,7 +29,7 @@ module _ (s : StateValue) (n : ℕ) where
   after_raise = record s { members = with_raised s.members n }
 
   shape_kept : ShapeInvariant s → ShapeInvariant after_raise
-  unfolding own_seen log_seen region_in
+  unfolding own_seen log_in region_in
   shape_kept shape = record {
     nodes = shape.nodes;
     few_nodes = shape.few_nodes;

@@ -174,7 +174,8 @@ module _ (s : StateValue) (shape : ShapeInvariant s) (some : 0 < length (full_no
         ∙ ap (tree_after opening) (kept_below_is (first_unreplicated (observed s).world) s.history)
         ∙ ap (tree_after_calls opening) (plain_ops (filter (below (first_unreplicated (observed s).world)) (kept_numbered s.history)))
 
-    same_values : (n : ℕ) → MachineInvariant (observed s) → Full (observed s).world n → (i : ℕ) → alone (region_in s.nodes n) places i ≡ alone_observed (observed s).world n i
+    same_values : (n : ℕ) → MachineInvariant (observed s) → Full (observed s).world n → (i : ℕ) →
+        alone (region_in s.nodes n) places i ≡ alone_observed (observed s).world n i
     unfolding observed
     same_values n h full i = alone_same s n places shape h.sound full count (λ c low. each c low ∙ acked_is h (suc c)) i
 

@@ -13,7 +13,7 @@ use Rattle.assise_model_world.specs.World.{Full, World, call_at, end_of_log, fir
 use Rattle.assise_model_world.proofs.Replicated.{log_of_home, log_of_left}
 use Rattle.assise_model_world.proofs.WorldObserved.{least_of-above, least_of-end, received_by_all-below}
 use Rattle.assise_machine_state.specs.ClientValues.{client_in, no_client}
-use Rattle.assise_machine_state.specs.NodeValues.{log_seen, no_region, region_in}
+use Rattle.assise_machine_state.specs.NodeValues.{log_in, no_region, region_in}
 use Rattle.assise_machine_state.specs.Observed.{is_full_in, world_of}
 use Rattle.assise_machine_state.specs.Places.{IsNumber, item_at}
 use Rattle.assise_machine_state.specs.Invariant.{ShapeInvariant}
@@ -145,8 +145,8 @@ module _ (s : StateValue) (shape : ShapeInvariant s) (some : 0 < length (full_no
   unfolding region_in item_at
   seen_at j = refl
 
-  log_there : (j c : ℕ) → (log_seen s.nodes (suc j) c).log ≡ received_log (region_at j) c
-  unfolding log_seen
+  log_there : (j c : ℕ) → (log_in s.nodes (suc j) c).log ≡ received_log (region_at j) c
+  unfolding log_in
   log_there j c = ap (λ r. (item_at no_log r.logs c).log) (seen_at j)
 
   received_there : (j c : ℕ) → w.received (suc j) c ≡ log_end (received_log (region_at j) c)

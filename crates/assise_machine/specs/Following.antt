@@ -1,6 +1,6 @@
 -- Which states of a cluster come behind which.
 -- Assise (OSDI 2020), section 3 (a process's calls, and what a node's SharedFS does of itself).
-use Rattle.std.proofs.Common.{◌≡◌, refl, subst, List, [], ◌∷◌, ◌++◌}
+use Rattle.std.proofs.Common.{refl, subst, List, [], ◌∷◌, ◌++◌}
 use Rattle.assise_model_events.specs.Events.{Answer, ClusterEvent, open_client, try_call, try_fsync, outgoing, deliver, digest, release_ready, set_hot, crash, fail, back, refill, join, raise}
 use Rattle.assise_model_events.specs.Happenings.{AllHappen, Happens}
 use Rattle.assise_model_events.specs.Machine.{Machine}

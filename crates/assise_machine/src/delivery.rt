@@ -47,7 +47,7 @@ pub(crate) fn deliver<C: Revokes + Drop>(
         return Err(refusal);
     }
     let client = frame.client();
-    let received = state.nodes.region(node).log(client as usize).end();
+    let received = state.nodes.log(node, client).end();
     if !is_next(state, &frame, node, received) {
         return Err(Refusal::StaleMessage);
     }
@@ -57,7 +57,7 @@ pub(crate) fn deliver<C: Revokes + Drop>(
     }
     let had = (received - frame.first()) as usize;
     let own = state.own_node(client);
-    let log = state.own_region(client).log(client as usize);
+    let log = state.own_log(client);
     let records = with_own_payloads(log, frame, received);
     state.nodes.extend(node, client, own, records, had);
     Ok(place)
@@ -129,7 +129,7 @@ fn frame_refusal<C: Revokes + Drop>(sound: &SoundOf<C>, frame: &Frame, node: u32
         return Some(refusal);
     }
     let client = frame.client();
-    let received = state.nodes.region(node).log(client as usize).end();
+    let received = state.nodes.log(node, client).end();
     if is_next(state, frame, node, received) {
         None
     } else {
@@ -175,7 +175,7 @@ fn is_next<C: Revokes + Drop>(state: &StateOf<C>, frame: &Frame, node: u32, rece
         return false;
     }
     let client = frame.client();
-    let own = state.own_region(client).log(client as usize);
+    let own = state.own_log(client);
     if !has_own_marks(own, frame, received) {
         return false;
     }

@@ -127,10 +127,9 @@ fn digest_of<C: Revokes + Drop>(
     ensures revokers { state.new.leases ≡ state.old.leases }
 {
     let acked = state.acked(client);
-    let region = state.nodes.region(node);
-    let from = region.digested(client as usize);
+    let from = state.nodes.digested(node, client);
     let most = at_most.min((acked - from) as usize);
-    let wanted = region.log(client as usize).whole_count(from, most);
+    let wanted = state.nodes.log(node, client).whole_count(from, most);
     if wanted == 0 {
         return Progress {
             count: 0,
@@ -209,13 +208,12 @@ fn digest_noted<C: Revokes + Drop>(
     ensures revokers { state.new.leases ≡ state.old.leases }
     ensures only_memory { IsOkUnless result OutOfMemory }
 {
-    let region = state.nodes.region(node);
-    let from = region.digested(client as usize);
+    let from = state.nodes.digested(node, client);
     let mut inodes = Vec::new(alloc);
-    push_touched_from(&mut inodes, region.log(client as usize), from, wanted)?;
+    push_touched_from(&mut inodes, state.nodes.log(node, client), from, wanted)?;
     state.members.reserve_written(node, inodes.len())?;
     let count = state.nodes.digest_some(node, client, acked, wanted)?;
-    let written = effects_from(state.nodes.region(node).log(client as usize), from, count);
+    let written = effects_from(state.nodes.log(node, client), from, count);
     state.members.note_reserved(node, &inodes[..written]);
     Ok(count)
 }

@@ -65,8 +65,8 @@ fn frame_of<C: Revokes + Drop>(
     let Some(next) = successor(state.members.full_nodes(), known.home(), node) else {
         return Ok(None);
     };
-    let log = state.nodes.region(node).log(client as usize);
-    let from = state.nodes.region(next).log(client as usize).end();
+    let log = state.nodes.log(node, client);
+    let from = state.nodes.log(next, client).end();
     let to = known.goal().min(log.end());
     let marked = state.members.level(node).sends_marks();
     let frame = message(alloc, log, marked, state.members.epoch(), client, from, to)?;

@@ -37,13 +37,13 @@ use Rattle.assise_model_events.proofs.Faultless.{client_runs, first_none}
 use Rattle.assise_model_events.proofs.LackAnswerable.{full_can, memory_can, spent_can}
 use Rattle.assise_machine_state.specs.Changes.{after_call}
 use Rattle.assise_machine_state.specs.ClientValues.{ClientValue, client_in, with_call, with_client}
-use Rattle.assise_machine_state.specs.NodeValues.{HasLog, log_in, log_seen, with_call_in}
+use Rattle.assise_machine_state.specs.NodeValues.{HasLog, log_in, with_call_in}
 use Rattle.assise_machine_state.specs.Observed.{observed, own_seen, world_of}
 use Rattle.assise_machine_state.specs.Places.{IsNumber}
 use Rattle.assise_machine_state.specs.Invariant.{CutsInvariant, ShapeInvariant}
 use Rattle.assise_machine_state.specs.StateValues.{StateValue, leases_of, standings}
 use Rattle.assise_machine_state.proofs.CallObserved.{call_areas, call_seen, call_shaped}
-use Rattle.assise_machine_state.proofs.Fullness.{lives_unfailed, log_is}
+use Rattle.assise_machine_state.proofs.Fullness.{lives_unfailed}
 use Rattle.assise_machine_state.proofs.HotCapacities.{call_keeps}
 use Rattle.assise_machine_state.proofs.Noted.{call_noted}
 use Rattle.assise_machine_state.proofs.OwnLogs.{home_log, own_of_unfailed}
@@ -136,8 +136,7 @@ module _ (s : StateValue) (c : ℕ) (op : Op) (shape : ShapeInvariant s) (fine :
   own_is : own_seen s c ≡ log_in s.nodes home c
   unfolding own_seen
   own_is =
-      ap (λ n. log_seen s.nodes n c) (own_of_unfailed (standings s) (client_in s.clients c) call_unfailed)
-      ∙ log_is s home c call_log
+      ap (λ n. log_in s.nodes n c) (own_of_unfailed (standings s) (client_in s.clients c) call_unfailed)
 
   records_are : (world_of s).records c ≡ (log_in s.nodes home c).log.records
   unfolding world_of
@@ -302,7 +301,11 @@ module _ (s : StateValue) (c : ℕ) (op : Op) (shape : ShapeInvariant s) (fine :
           call = record { call = called; visited = served.visited; changed = served.changed };
           room = room;
           leases = call_leases s made_call;
-          adds = record { history = ap (λ k. s.history ++ calls (record { client = c; number = k; op = op; reply = t.reply }) ∷ []) (next_counted s c holds); limit = refl; hot = call_keeps s.nodes (client_in s.clients c).home c (old.next c) _ };
+          adds = record {
+            history = ap (λ k. s.history ++ calls (record { client = c; number = k; op = op; reply = t.reply }) ∷ []) (next_counted s c holds);
+            limit = refl;
+            hot = call_keeps s.nodes (client_in s.clients c).home c (old.next c) _;
+          };
           keeps = record { members = refl; others = call_areas s made_call };
         })
 

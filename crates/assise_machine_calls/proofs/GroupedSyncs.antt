@@ -18,13 +18,13 @@ use Rattle.assise_model_events.proofs.DsyncKeeps.{coalesced_holds}
 use Rattle.assise_model_events.proofs.Regroupable.{coalesced_high}
 use Rattle.assise_machine_state.specs.Changes.{after_coalescing, after_regrouping}
 use Rattle.assise_machine_state.specs.ClientValues.{ClientValue, client_in, cut_of, with_client, with_goal}
-use Rattle.assise_machine_state.specs.NodeValues.{HasLog, log_in, log_seen, with_log_in}
+use Rattle.assise_machine_state.specs.NodeValues.{HasLog, log_in, with_log_in}
 use Rattle.assise_machine_state.specs.Observed.{is_full_in, observed, own_seen, world_of}
 use Rattle.assise_machine_state.specs.Places.{IsNumber}
 use Rattle.assise_machine_state.specs.Invariant.{CutsInvariant, ShapeInvariant}
 use Rattle.assise_machine_state.specs.StateValues.{StateValue, leases_of, standings}
 use Rattle.assise_machine_state.proofs.CoalescingSeen.{coalesced_groups, coalesced_none, coalesced_shape, coalescing_areas, coalescing_noted, regrouped_shape}
-use Rattle.assise_machine_state.proofs.Fullness.{has_log, home_full, lives_unfailed, log_is, seen_full}
+use Rattle.assise_machine_state.proofs.Fullness.{has_log, home_full, lives_unfailed, seen_full}
 use Rattle.assise_machine_state.proofs.HotCapacities.{log_keeps}
 use Rattle.assise_machine_state.proofs.OwnLogs.{own_end, own_of_unfailed}
 use Rattle.assise_machine_state.proofs.ItemSeen.{client_same}
@@ -63,7 +63,7 @@ module _ (s : StateValue) (c : ℕ) (shape : ShapeInvariant s) (fine : client_fa
 
     own_at_home : log_in s.nodes home c ≡ own_seen s c
     unfolding own_seen
-    own_at_home = sym (log_is s home c home_log) ∙ ap (λ n. log_seen s.nodes n c) (home_is ∙ sym (own_of_unfailed (standings s) (client_in s.clients c) unfailed))
+    own_at_home = ap (λ n. log_in s.nodes n c) (home_is ∙ sym (own_of_unfailed (standings s) (client_in s.clients c) unfailed))
 
     own_ends : end_of_log (world_of s) c ≡ log_end (own_seen s c).log
     unfolding world_of end_of_log
@@ -71,7 +71,7 @@ module _ (s : StateValue) (c : ℕ) (shape : ShapeInvariant s) (fine : client_fa
 
     digested_is : (world_of s).digested home c ≡ (log_in s.nodes home c).digested
     unfolding world_of
-    digested_is = ap (λ x. x.digested) (log_is s home c home_log)
+    digested_is = refl
 
     module _ (holds : ∥ MachineInvariant (observed s) ∥₁) (from : ℕ) (from_is : from ≡ coalesced_from (world_of s) c) where
       sound : ∥ WorldInvariant (world_of s) ∥₁

@@ -22,13 +22,12 @@ use Rattle.assise_model_events.specs.Machine.{MachineInvariant}
 use Rattle.assise_model_events.proofs.Faultless.{client_runs}
 use Rattle.assise_machine_state.specs.Changes.{after_asking, with_goals}
 use Rattle.assise_machine_state.specs.ClientValues.{ClientValue, client_in, with_client, with_goal}
-use Rattle.assise_machine_state.specs.NodeValues.{HasLog, log_in}
+use Rattle.assise_machine_state.specs.NodeValues.{log_in}
 use Rattle.assise_machine_state.specs.Observed.{observed, own_node, own_seen, world_of}
 use Rattle.assise_machine_state.specs.Places.{IsNumber}
 use Rattle.assise_machine_state.specs.Invariant.{AreAnswers, CutsInvariant, ShapeInvariant}
 use Rattle.assise_machine_state.specs.StateValues.{StateValue, leases_of, standings}
 use Rattle.assise_machine_state.proofs.AskingSeen.{asking_noted, asking_seen, asking_shaped, newly_answered}
-use Rattle.assise_machine_state.proofs.Fullness.{log_is}
 use Rattle.assise_machine_state.proofs.Noted.{running_number}
 use Rattle.assise_machine_state.proofs.OwnLogs.{own_log as has_own_log}
 use Rattle.assise_machine_state.proofs.ItemSeen.{length-with}
@@ -100,9 +99,7 @@ module _ {C : Type 0} (answers : C → NumberedLog → ℕ → ℕ → Type 0) (
 
   own_is : (d : ℕ) → IsNumber s.clients d → (log_in s.nodes (own_node (standings s) (client_in s.clients d)) d).log ≡ (own_seen s d).log
   unfolding own_seen
-  own_is d there =
-      let has : HasLog s.nodes (own_node (standings s) (client_in s.clients d)) d = has_own_log s d shape there some_full in
-      ap (λ l. l.log) (sym (log_is s (own_node (standings s) (client_in s.clients d)) d has))
+  own_is d there = refl
 
   covered : (a : Asked) → Among asked a → Covers (own_seen s a.client).log i a.cut
   covered a among =
@@ -190,7 +187,8 @@ module _ {C : Type 0} (answers : C → NumberedLog → ℕ → ℕ → Type 0) (
   cuts_asked : CutsAreAnswers answers stored (observed s) (observed (after_asking s levels asked))
   unfolding observed
   cuts_asked d j fresh =
-      let asks_home : IsAskedFor s.levels levels r.client (client_in s.clients r.client).home r.inode r.mode = subst (λ m. IsAskedFor s.levels levels r.client m r.inode r.mode) home asks in
+      let asks_home : IsAskedFor s.levels levels r.client (client_in s.clients r.client).home r.inode r.mode =
+      subst (λ m. IsAskedFor s.levels levels r.client m r.inode r.mode) home asks in
       let found = newly_answered s r.client r.inode r.mode levels asked noted (are_leases s holds) asks_home here d j fresh in
       let a = found.1 in
       let got = cut_answered answers stored s r.client r.inode r.node r.mode asked shape some_full home all a.0 a.1 in

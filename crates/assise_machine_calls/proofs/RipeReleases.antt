@@ -139,7 +139,9 @@ module _ (s : StateValue) (levels : TwoLevels) (a : Asked) (xs ys : List Asked) 
   unfolding leases_of
   goes_now = record {
     revoked = revoked_here;
-    ready = subst (λ k. k ≤ digested_by_all (world_of s) a.client) (sym cut_here) (leb-true (cut_once_asked (client_in s.clients a.client) a.cut) (digested_by_all (world_of s) a.client) ripe);
+    ready =
+        subst (λ k. k ≤ digested_by_all (world_of s) a.client) (sym cut_here)
+        (leb-true (cut_once_asked (client_in s.clients a.client) a.cut) (digested_by_all (world_of s) a.client) ripe);
     released = released;
     cuts = cuts_kept;
     holds = held;
@@ -199,11 +201,6 @@ module _ (s : StateValue) (levels : TwoLevels) (a : Asked) (xs ys : List Asked) 
 
   pub early_then : (b : Asked) → is_early t b ≡ is_early s b
   early_then b = ap not (same_ripe b)
-
--- ---- nothing goes
-
-pub none_goes : (s : StateValue) → LetsSomeGo s 0 s
-none_goes s = record { gone = []; count = refl; goes = tt; world = refl; leases = refl; rest = refl }
 
 -- ---- answers that are left
 

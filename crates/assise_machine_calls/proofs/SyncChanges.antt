@@ -17,7 +17,6 @@ use Rattle.assise_inode_table.specs.Interaction.{Step}
 use Rattle.assise_inode_table.specs.Numbers.{inode_number}
 use Rattle.assise_inode_table.specs.Traces.{NumberedCall}
 use Rattle.assise_private_log.specs.NumberedLog.{NumberedLog, end as log_end}
-use Rattle.assise_digest.specs.Region.{RegionValue, log_of}
 use Rattle.assise_manager.specs.Standings.{full_nodes}
 use Rattle.assise_model_world.specs.ClientSteps.{MakesCall, RaisesGoals}
 use Rattle.assise_model_world.specs.World.{World, call_makes_inode, end_of_log, received_by_all, step_at_home, view}
@@ -36,7 +35,7 @@ use Rattle.assise_machine_calls.specs.declared.sync.SyncCall.TheVariants.{Fsync 
 use Rattle.assise_machine_calls.specs.SyncCalls.{op_of}
 use Rattle.assise_machine_state.specs.Changes.{after_call, after_goal, goal_of}
 use Rattle.assise_machine_state.specs.ClientValues.{ClientValue, client_in, cut_of, with_call, with_client, with_goal}
-use Rattle.assise_machine_state.specs.NodeValues.{hot_capacities, region_in, with_call_in}
+use Rattle.assise_machine_state.specs.NodeValues.{hot_capacities, log_in, with_call_in}
 use Rattle.assise_machine_state.specs.Observed.{observed, own_node, world_of}
 use Rattle.assise_machine_state.specs.Places.{IsNumber}
 use Rattle.assise_machine_state.specs.Invariant.{CutsInvariant, ShapeInvariant}
@@ -262,9 +261,10 @@ NotesTo s c a s' = Noting (observed s) c a (observed s')
 given : (s s' : StateValue) (c : ℕ) (op : Op) (a : Answer) → SyncsSome op → ∥ MachineInvariant (observed s) ∥₁ → SyncsTo s c op a s' → ShapeInvariant s' → CutsInvariant s' → Gives (SyncsTo s c op a) s'
 given s s' c op a sync holds e shape noted = record { happens = e; holds = ∥∥₁_map holds (λ h. syncing_keeps (observed s) (observed s') c op sync.0 a sync.1 h e); shape = shape; noted = noted }
 
-pub place_is : (s : StateValue) (c place : ℕ) (r : RegionValue) (l : NumberedLog) → ShapeInvariant s → client_fault (observed s) c ≡ None → 0 < length (full_nodes (standings s)) →
-    r ≡ region_in s.nodes (own_node (standings s) (client_in s.clients c)) → l ≡ (log_of r c).log → place ≡ log_end l → place ≡ end_of_log (world_of s) c
-place_is s c place r l shape fine some region log is = is ∙ ap log_end log ∙ ap (λ q. log_end (log_of q c).log) region ∙ sym (own_end s c shape (fine_number s c fine) some)
+pub place_is : (s : StateValue) (c place : ℕ) (l : NumberedLog) → ShapeInvariant s → client_fault (observed s) c ≡ None →
+    0 < length (full_nodes (standings s)) →
+    l ≡ (log_in s.nodes (own_node (standings s) (client_in s.clients c)) c).log → place ≡ log_end l → place ≡ end_of_log (world_of s) c
+place_is s c place l shape fine some log is = is ∙ ap log_end log ∙ sym (own_end s c shape (fine_number s c fine) some)
 
 pub all_received : (s : StateValue) (c acked place : ℕ) → acked ≡ received_by_all (world_of s) c → place ≡ end_of_log (world_of s) c → place ≤ acked → received_by_all (world_of s) c ≡ end_of_log (world_of s) c
 all_received s c acked place received is all = omega (arith, received, is, all, received_by_all-end (world_of s) c)
@@ -295,7 +295,8 @@ module _ (s : StateValue) (c : ℕ) (op : Op) (place : ℕ) (cs : List ClientVal
   pub still_number : IsNumber cs c
   still_number =
       let before : IsNumber s.clients c = fine_number s c fine in
-      record { some = before.some; there = subst (λ k. c ≤ k) (sym (ap length is ∙ length-with s.clients c (with_goal place (client_in s.clients c)))) before.there }
+      let many : length cs ≡ length s.clients = ap length is ∙ length-with s.clients c (with_goal place (client_in s.clients c)) in
+      record { some = before.some; there = subst (λ k. c ≤ k) (sym many) before.there }
 
   pub client_now : client_in cs c ≡ with_goal place (client_in s.clients c)
   client_now = ap (λ xs. client_in xs c) is ∙ client_here s.clients c (with_goal place (client_in s.clients c)) (fine_number s c fine)

@@ -100,7 +100,7 @@ fn room_refusal<C: Revokes + Drop>(
     if known.made() == MOST_INODES && makes_inode(effects, inode_number(client, known.made())) {
         return Some(Refusal::InodesSpent);
     }
-    let log = state.nodes.region(known.home()).log(client as usize);
+    let log = state.nodes.log(known.home(), client);
     if log.spare() == 0 && !effects.is_empty() {
         return Some(Refusal::LogFull);
     }

@@ -25,7 +25,7 @@ pub fn crash<C: Revokes + Drop>(sound: &mut SoundOf<C>, client: u32) -> Result<(
     state.history.reserve()?;
     let asked = state.leases.unasked_of(client)?;
     state.cuts.reserve(asked.len())?;
-    let end = state.own_region(client).log(client as usize).end();
+    let end = state.own_log(client).end();
     state.clients.crash(client, end);
     state.leases.freeze(client);
     note_all(&mut state.cuts, asked.into_iter());

@@ -38,6 +38,6 @@ impl Views for OwnLogs<'_> {
         } else {
             known.home()
         };
-        Some(self.nodes.region(node).log(client as usize).view())
+        Some(self.nodes.log(node, client).view())
     }
 }

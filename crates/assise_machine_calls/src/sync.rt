@@ -91,7 +91,7 @@ fn sync<C: Revokes + Drop>(
     ensures revokers { KeepsRevokers sound.old.state.leases sound.new.state.leases }
 {
     let state = &mut sound.state;
-    let end = state.own_region(client).log(client as usize).end();
+    let end = state.own_log(client).end();
     if state.acked(client) < end {
         state.clients.raise_goal(client, end);
         return Ok(Turn::NotYet);
@@ -117,7 +117,7 @@ fn sync_groups<C: Revokes + Drop>(sound: &mut SoundOf<C>, client: u32) -> Result
         (machine_of sound.new.state) }
     ensures revokers { KeepsRevokers sound.old.state.leases sound.new.state.leases }
 {
-    let end = sound.state.own_region(client).log(client as usize).end();
+    let end = sound.state.own_log(client).end();
     if sound.state.acked(client) < end {
         return coalesce(sound, client);
     }
@@ -138,7 +138,7 @@ fn coalesce<C: Revokes + Drop>(sound: &mut SoundOf<C>, client: u32) -> Result<Tu
     let from = state.coalesced_from(client);
     let home = state.clients.get(client).home();
     state.nodes.coalesce(home, client, from)?;
-    let end = state.nodes.region(home).log(client as usize).end();
+    let end = state.nodes.log(home, client).end();
     state.clients.raise_goal(client, end);
     Ok(Turn::NotYet)
 }

@@ -13,7 +13,7 @@ pub(crate) fn put_client(sound: &Sound, client: u32, text: &mut String) -> Resul
     }
     let known = state.clients.get(client);
     let (calls, made, goal) = (known.next(), known.made(), known.goal());
-    let end = state.own_region(client).log(client as usize).end();
+    let end = state.own_log(client).end();
     let (acked, digested) = (state.acked(client), state.digested(client));
     write!(
         text,

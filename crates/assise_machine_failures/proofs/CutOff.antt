@@ -2,20 +2,14 @@
 use Rattle.std.proofs.Common.{◌≡◌, ◌≢◌, ℕ, zero, suc, ◌-◌, ◌<◌, ◌≤◌, ◌==◌, List, [], ◌∷◌, length, slice_index_or, inl, inr, refl, ap, sym, subst, ◌∙◌, arith, eq-eqb}
 use Rattle.std.proofs.lemmas.Bool.{cases_Bool, ne_eqb}
 use Rattle.std.proofs.lemmas.List.{length-map}
-use Rattle.assise_digest.specs.Region.{HasClient, RegionValue, log_of, no_log, up_to_number}
+use Rattle.assise_digest.specs.Region.{HasClient, RegionValue, log_of, up_to_number}
 use Rattle.assise_machine_state.specs.Changes.{with_clients_cut, with_clients_failed}
 use Rattle.assise_machine_state.specs.ClientValues.{ClientValue, client_in, failed_at, with_client}
-use Rattle.assise_machine_state.specs.NodeValues.{AreUndigested, HasLog, IsUndigestedFrom, changed_in, log_in, log_seen, no_region, region_in, with_tails_cut}
+use Rattle.assise_machine_state.specs.NodeValues.{AreUndigested, HasLog, IsUndigestedFrom, changed_in, log_in, no_region, region_in, with_tails_cut}
 use Rattle.assise_machine_state.specs.Places.{IsNumber, item_at}
 use Rattle.assise_machine_state.proofs.CutSeen.{count_over}
-use Rattle.assise_machine_state.proofs.LogChanges.{beside_seen, count_seen, log_number}
-use Rattle.assise_machine_state.proofs.ItemSeen.{client_else, is_seen, less_one}
-
--- ---- a log that a node has
-
-pub seen_in : (rs : List RegionValue) (k c : ℕ) → HasLog rs k c → log_seen rs k c ≡ log_in rs k c
-unfolding log_seen
-seen_in rs k c has = is_seen no_log (region_in rs k).logs c (log_number rs k c has)
+use Rattle.assise_machine_state.proofs.LogChanges.{beside_seen, count_seen, log_found}
+use Rattle.assise_machine_state.proofs.ItemSeen.{client_else, less_one}
 
 each_undigested : (rs : List RegionValue) (c from : ℕ) → ((k : ℕ) → k < length rs → HasClient (slice_index_or rs k no_region) c → IsUndigestedFrom (log_of (slice_index_or rs k no_region) c) from) → AreUndigested rs c from
 each_undigested [] c from each = tt
@@ -23,7 +17,9 @@ each_undigested (r ∷ rs) c from each = (each 0 (omega arith), each_undigested 
 
 pub all_undigested : (rs : List RegionValue) (c from : ℕ) → ((k : ℕ) → HasLog rs k c → IsUndigestedFrom (log_in rs k c) from) → AreUndigested rs c from
 unfolding region_in item_at
-all_undigested rs c from each = each_undigested rs c from (λ k low has. each (suc k) (record { node = record { some = omega arith; there = omega (arith, low) }; client = has }))
+all_undigested rs c from each = each_undigested rs c from (λ k low client.
+    let has : HasLog rs (suc k) c = record { node = record { some = omega arith; there = omega (arith, low) }; client = client } in
+    subst (λ l. IsUndigestedFrom l from) (sym (log_found rs (suc k) c has refl)) (each (suc k) has))
 
 -- ---- what is cut of clients 1 to m leaves the logs of others
 
@@ -50,7 +46,7 @@ module _ (n : ℕ) (cs : List ClientValue) (kept : ℕ → ℕ) (rs : List Regio
         | inr other ↦ rw other (logs_then m k)
       ]
 
-  log_then : (m k d : ℕ) → m < d → log_seen (cut m) k d ≡ log_seen rs k d
+  log_then : (m k d : ℕ) → m < d → log_in (cut m) k d ≡ log_in rs k d
   log_then zero k d past = refl
   log_then (suc m) k d past =
       elim (cases_Bool ((client_in cs (suc m)).home == n)) [
@@ -65,7 +61,7 @@ module _ (n : ℕ) (cs : List ClientValue) (kept : ℕ → ℕ) (rs : List Regio
   pub undigested_then : (m d from : ℕ) → m < d → ((k : ℕ) → HasLog rs k d → IsUndigestedFrom (log_in rs k d) from) → (k : ℕ) → HasLog (cut m) k d → IsUndigestedFrom (log_in (cut m) k d) from
   undigested_then m d from past each k has =
       let had : HasLog rs k d = has_then m k d past has in
-      let same : log_in (cut m) k d ≡ log_in rs k d = sym (seen_in (cut m) k d has) ∙ log_then m k d past ∙ seen_in rs k d had in
+      let same : log_in (cut m) k d ≡ log_in rs k d = log_then m k d past in
       subst (λ l. IsUndigestedFrom l from) (sym same) (each k had)
 
   -- the next client of the node, and one of another
@@ -104,7 +100,8 @@ module _ (n : ℕ) (kept : ℕ → ℕ) (cs : List ClientValue) where
   pub seen_known : (m d : ℕ) → m < d → IsNumber cs d → (client_in (over m) d).home ≡ (client_in cs d).home
   seen_known m d past there = ap (λ x. x.home) (known_then m d past there)
 
-  pub next_fails : (last : ℕ) → IsNumber cs last → (client_in cs last).home ≡ n → with_client (over (last - 1)) last (failed_at (kept last) (client_in (over (last - 1)) last)) ≡ over last
+  pub next_fails : (last : ℕ) → IsNumber cs last → (client_in cs last).home ≡ n →
+      with_client (over (last - 1)) last (failed_at (kept last) (client_in (over (last - 1)) last)) ≡ over last
   next_fails zero there here = absurd (omega (arith, there.some))
   next_fails (suc m) there here =
       let same : client_in (over (suc m - 1)) (suc m) ≡ client_in cs (suc m) = known_then (suc m - 1) (suc m) (omega arith) there in

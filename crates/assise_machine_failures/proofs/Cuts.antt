@@ -22,9 +22,8 @@ use Rattle.assise_machine_state.specs.Observed.{own_node, own_seen, world_of}
 use Rattle.assise_machine_state.specs.Places.{IsNumber}
 use Rattle.assise_machine_state.specs.Invariant.{ShapeInvariant}
 use Rattle.assise_machine_state.specs.StateValues.{StateValue, standings}
-use Rattle.assise_machine_state.proofs.Fullness.{log_is}
 use Rattle.assise_machine_state.proofs.Kept.{kept_from_first}
-use Rattle.assise_machine_state.proofs.OwnLogs.{own_end, own_log}
+use Rattle.assise_machine_state.proofs.OwnLogs.{own_end}
 use Rattle.assise_machine_state.proofs.ItemSeen.{less_one}
 use Rattle.assise_machine_failures.specs.Answers.{loss_of}
 use Rattle.assise_machine_failures.specs.Listing.{kept_inodes, kept_to}
@@ -132,8 +131,7 @@ module _ (s : StateValue) (n c : ℕ) (shape : ShapeInvariant s) (client : IsNum
 
   own_is : own_seen s c ≡ own
   unfolding own_seen
-  own_is =
-      log_is s (own_node (standings s) (client_in s.clients c)) c (own_log s c shape client some)
+  own_is = refl
 
   records_is : (world_of s).records c ≡ own.log.records
   unfolding world_of

@@ -20,7 +20,7 @@ use Rattle.assise_machine_state.specs.NodeValues.{hot_capacities, region_in, wit
 use Rattle.assise_machine_state.specs.Observed.{is_full_in, stands_full, world_of}
 use Rattle.assise_machine_state.specs.Places.{IsNumber}
 use Rattle.assise_machine_state.specs.Invariant.{ShapeInvariant}
-use Rattle.assise_machine_state.specs.StateValues.{StateValue, leases_of, standings}
+use Rattle.assise_machine_state.specs.StateValues.{StateValue, standings}
 use Rattle.assise_machine_state.proofs.Fullness.{full_seen, node_number}
 use Rattle.assise_machine_state.proofs.HotCapacities.{region_keeps}
 use Rattle.assise_machine_state.proofs.AwayObserved.{inode_else, inode_here, inode_rests, inode_shaped}
@@ -79,10 +79,6 @@ rests_more u v w e f = record {
 pub without_is : (s : StateValue) (n : ℕ) (inodes : List ℕ) → without_copies s n inodes ≡ record s { nodes = nodes_without s.nodes n inodes }
 without_is s n [] = refl
 without_is s n (i ∷ inodes) = without_is (after_inode s n i None) n inodes
-
-pub without_leases : (s : StateValue) (n : ℕ) (inodes : List ℕ) → leases_of (without_copies s n inodes) ≡ leases_of s
-unfolding leases_of
-without_leases s n inodes = ap leases_of (without_is s n inodes)
 
 -- ---- the node as the code has it
 

@@ -9,15 +9,15 @@ use Rattle.assise_private_log.specs.NumberedLog.{end as log_end}
 use Rattle.assise_manager.specs.Standings.{Standing, full_nodes}
 use Rattle.assise_model_world.specs.NodeSteps.{kept_at_failure}
 use Rattle.assise_model_world.specs.World.{World, end_of_log, least_of}
-use Rattle.assise_model_world.proofs.WorldObserved.{least_of-above, least_of-below, least_of-end, least_of-same}
+use Rattle.assise_model_world.proofs.WorldObserved.{least_of-above, least_of-below, least_of-end}
 use Rattle.assise_model_history.proofs.FailureList.{cut_there}
 use Rattle.assise_machine_state.specs.ClientValues.{client_in}
-use Rattle.assise_machine_state.specs.NodeValues.{log_in, log_seen}
+use Rattle.assise_machine_state.specs.NodeValues.{log_in}
 use Rattle.assise_machine_state.specs.Observed.{full_in, is_full_in, own_node, world_of}
 use Rattle.assise_machine_state.specs.Places.{IsNumber}
 use Rattle.assise_machine_state.specs.Invariant.{ShapeInvariant}
 use Rattle.assise_machine_state.specs.StateValues.{StateValue, standings}
-use Rattle.assise_machine_state.proofs.Fullness.{full_is, has_log, log_is}
+use Rattle.assise_machine_state.proofs.Fullness.{full_is}
 use Rattle.assise_machine_state.proofs.Kept.{kept_elsewhere}
 use Rattle.assise_machine_state.proofs.OwnLogs.{listed_is, one_more, own_end}
 use Rattle.assise_machine_failures.specs.Listing.{kept_to}
@@ -95,9 +95,7 @@ module _ (s : StateValue) (n c : ℕ) (shape : ShapeInvariant s) (client : IsNum
   least_seen : least_of (others n (full_in (standings s))) (λ m. log_end (log_in s.nodes m c).log) own_place ≡ least_of (others n (world_of s).full) (λ m. (world_of s).received m c) (end_of_log (world_of s) c)
   unfolding world_of
   least_seen =
-      least_of-same (others n (full_in (standings s))) (λ m. log_end (log_in s.nodes m c).log) (λ m. log_end (log_seen s.nodes m c).log) own_place
-      (λ m there. sym (ap (λ l. log_end l.log) (log_is s m c (has_log s m c shape (other_full (standings s) n m there) client))))
-      ∙ ap (λ d. least_of (others n (full_in (standings s))) (λ m. log_end (log_seen s.nodes m c).log) d) (sym (own_end s c shape client some))
+      ap (λ d. least_of (others n (full_in (standings s))) (λ m. log_end (log_in s.nodes m c).log) d) (sym (own_end s c shape client some))
 
   pub kept_least : (client_in s.clients c).failed ≡ false → (client_in s.clients c).home ≡ n → least_of (others n (full_nodes (standings s))) (λ m. log_end (log_in s.nodes m c).log) own_place ≡ kept_at_failure (world_of s) n c
   kept_least unfailed here =

@@ -18,7 +18,7 @@ use Rattle.assise_manager.specs.Standings.{Standing, standing_of}
 use Rattle.assise_model_world.specs.NodeSteps.{kept_at_failure}
 use Rattle.assise_model_world.specs.World.{World, records_between}
 use Rattle.assise_machine_state.specs.ClientValues.{client_in}
-use Rattle.assise_machine_state.specs.NodeValues.{log_seen, region_in}
+use Rattle.assise_machine_state.specs.NodeValues.{log_in, region_in}
 use Rattle.assise_machine_state.specs.Observed.{is_full_in, own_node, own_seen, world_of}
 use Rattle.assise_machine_state.specs.Places.{IsNumber, item_at}
 use Rattle.assise_machine_state.specs.Invariant.{ShapeInvariant}
@@ -58,8 +58,8 @@ not_seen none xs (suc k) other =
       | inr past ↦ get_or_past xs k none past
     ]
 
-no_log_seen : (s : StateValue) (m c : ℕ) → ShapeInvariant s → (IsNumber s.clients c → ⊥) → log_seen s.nodes m c ≡ no_log
-unfolding log_seen
+no_log_seen : (s : StateValue) (m c : ℕ) → ShapeInvariant s → (IsNumber s.clients c → ⊥) → log_in s.nodes m c ≡ no_log
+unfolding log_in
 no_log_seen s m c shape other =
     elim (cases_Bool (is_full_in (standings s) m)) [
       | inl f ↦

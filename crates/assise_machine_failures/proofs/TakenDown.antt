@@ -1,5 +1,5 @@
 -- A full node that is taken down: its logs are gone, and those of its clients are cut where they are kept.
-use Rattle.std.proofs.Common.{◌≡◌, ◌≢◌, ℕ, zero, suc, ◌<◌, ◌≤◌, ◌==◌, true, false, not, ◌&&◌, List, [], ◌∷◌, ◌++◌, length, Some, inl, inr, refl, ap, sym, subst, ◌∙◌, arith, slice_index_or}
+use Rattle.std.proofs.Common.{◌≡◌, ◌≢◌, ℕ, zero, suc, ◌<◌, ◌≤◌, ◌==◌, true, false, not, ◌&&◌, List, [], ◌∷◌, ◌++◌, length, Some, inl, inr, refl, ap, subst, ◌∙◌, arith, slice_index_or}
 use Rattle.std.proofs.Math.Bridge.{le_prop}
 use Rattle.std.proofs.Math.Logic.{∥∥₁_elim, ∥∥₁_map}
 use Rattle.std.proofs.lemmas.Bool.{cases_Bool, ne_eqb}
@@ -21,7 +21,7 @@ use Rattle.assise_model_history.specs.Lost.{losses_of}
 use Rattle.assise_model_events.specs.Machine.{MachineInvariant}
 use Rattle.assise_machine_state.specs.Changes.{after_failure, with_clients_cut, with_clients_failed}
 use Rattle.assise_machine_state.specs.ClientValues.{ClientValue, client_in, failed_at, with_client}
-use Rattle.assise_machine_state.specs.NodeValues.{HasLog, IsUndigestedFrom, log_in, log_seen, region_in, with_tails_cut, without_logs}
+use Rattle.assise_machine_state.specs.NodeValues.{HasLog, IsUndigestedFrom, log_in, region_in, with_tails_cut, without_logs}
 use Rattle.assise_machine_state.specs.Observed.{is_full_in, observed, world_of}
 use Rattle.assise_machine_state.specs.Places.{IsNumber}
 use Rattle.assise_machine_state.specs.Invariant.{ShapeInvariant}
@@ -30,7 +30,6 @@ use Rattle.assise_machine_state.proofs.Fullness.{node_number, seen_full}
 use Rattle.assise_machine_state.proofs.LogChanges.{log_away, region_else, region_here}
 use Rattle.assise_machine_state.proofs.ItemSeen.{less_one}
 use Rattle.assise_machine_failures.specs.Listing.{kept_in, kept_to}
-use Rattle.assise_machine_failures.proofs.CutOff.{seen_in}
 use Rattle.assise_machine_failures.proofs.KeptPlaces.{kept_place}
 
 -- ---- numbers
@@ -85,7 +84,8 @@ module _ (s : StateValue) (n : ℕ) (shape : ShapeInvariant s) (stands : standin
   -- the failed node has no log
   other_node : (k c : ℕ) → HasLog (without_logs s.nodes n) k c → k ≢ n
   other_node k c has same =
-      let none : length (region_in (without_logs s.nodes n) n).logs ≡ 0 = ap (λ r. length r.logs) (region_here s.nodes n (record (region_in s.nodes n) { logs = [] }) number) in
+      let none : length (region_in (without_logs s.nodes n) n).logs ≡ 0 =
+      ap (λ r. length r.logs) (region_here s.nodes n (record (region_in s.nodes n) { logs = [] }) number) in
       let had : c ≤ length (region_in (without_logs s.nodes n) n).logs =
       subst (λ j. c ≤ length (region_in (without_logs s.nodes n) j).logs) same has.client.there in
       absurd (omega (arith, none, had, has.client.some))
@@ -96,7 +96,8 @@ module _ (s : StateValue) (n : ℕ) (shape : ShapeInvariant s) (stands : standin
         | inl f ↦ f
         | inr away ↦
             let differs : k ≢ n = other_node k c has in
-            let same : length (region_in (without_logs s.nodes n) k).logs ≡ length (region_in s.nodes k).logs = ap (λ r. length r.logs) (region_else s.nodes n (record (region_in s.nodes n) { logs = [] }) number k differs) in
+            let same : length (region_in (without_logs s.nodes n) k).logs ≡ length (region_in s.nodes k).logs =
+            ap (λ r. length r.logs) (region_else s.nodes n (record (region_in s.nodes n) { logs = [] }) number k differs) in
             let none : length (region_in s.nodes k).logs ≡ 0 = ap length (shape.no_logs k away) in
             absurd (omega (arith, same, none, has.client.some, has.client.there))
       ]
@@ -107,19 +108,22 @@ module _ (s : StateValue) (n : ℕ) (shape : ShapeInvariant s) (stands : standin
       let low : received_by_all (world_of s) c ≤ kept_at_failure (world_of s) n c = kept_low (world_of s) n c in
       omega (arith, acked, low)
 
-  pub undigested : (ks : List ℕ) → ks ≡ kept_to (world_of s) n (length s.clients) → (k c : ℕ) → IsNumber s.clients c → (client_in s.clients c).home ≡ n → HasLog (without_logs s.nodes n) k c →
+  pub undigested : (ks : List ℕ) → ks ≡ kept_to (world_of s) n (length s.clients) → (k c : ℕ) → IsNumber s.clients c → (client_in s.clients c).home ≡ n →
+      HasLog (without_logs s.nodes n) k c →
       IsUndigestedFrom (log_in (without_logs s.nodes n) k c) (kept_in ks c)
   unfolding world_of
   undigested ks is k c client home has =
       let differs : k ≢ n = other_node k c has in
-      let same : log_in (without_logs s.nodes n) k c ≡ log_seen s.nodes k c =
-      sym (seen_in (without_logs s.nodes n) k c has) ∙ log_away s.nodes n (record (region_in s.nodes n) { logs = [] }) number k c differs in
+      let same : log_in (without_logs s.nodes n) k c ≡ log_in s.nodes k c =
+      log_away s.nodes n (record (region_in s.nodes n) { logs = [] }) number k c differs in
       let elsewhere : (k == (client_in s.clients c).home) ≡ false = ne_eqb k (client_in s.clients c).home (λ e. differs (e ∙ home)) in
-      let low : (log_seen s.nodes k c).digested ≤ kept_at_failure (world_of s) n c = digested_low k c (is_full_there k c has) in
+      let low : (log_in s.nodes k c).digested ≤ kept_at_failure (world_of s) n c = digested_low k c (is_full_there k c has) in
       let place : kept_in ks c ≡ kept_at_failure (world_of s) n c = place_in (world_of s) n (length s.clients) c ks is client.some client.there in
       record {
         elsewhere = ap (λ l. l.at_home) same ∙ shape.at_home k c ∙ ap (λ b. b && not (client_in s.clients c).failed) elsewhere;
-        digested = (let digest : (log_in (without_logs s.nodes n) k c).digested ≡ (log_seen s.nodes k c).digested = ap (λ l. l.digested) same in omega (arith, digest, low, place));
+        digested =
+            let digest : (log_in (without_logs s.nodes n) k c).digested ≡ (log_in s.nodes k c).digested = ap (λ l. l.digested) same in
+            omega (arith, digest, low, place);
       }
 
 -- ---- it is the state after the failure

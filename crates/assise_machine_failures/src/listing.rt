@@ -25,14 +25,14 @@ pub(crate) fn kept<C: Revokes + Drop>(state: &StateOf<C>, node: u32, client: u32
     requires shape { ShapeInvariant (value_of state.now) }
     ensures { result ≡ kept_at_failure (world_of (value_of state.now)) node client }
 {
-    let mut least = state.own_region(client).log(client as usize).end();
+    let mut least = state.own_log(client).end();
     let known = state.clients.get(client);
     if known.has_failed() || known.home() != node {
         return least;
     }
     for other in state.members.full_nodes() {
         if *other != node {
-            let received = state.nodes.region(*other).log(client as usize).end();
+            let received = state.nodes.log(*other, client).end();
             least = least.min(received);
         }
     }
@@ -77,7 +77,7 @@ pub(crate) fn losses<C: Revokes + Drop>(
     let mut losses = Vec::new(alloc);
     for (place, end) in kept.iter().enumerate() {
         let client = place as u32 + 1;
-        let log = state.own_region(client).log(place + 1);
+        let log = state.own_log(client);
         if let Some(lost) = log.get(*end) {
             losses.push((client, lost.call()))?;
         }
@@ -117,7 +117,7 @@ pub(crate) fn touched_inodes<C: Revokes + Drop>(
 {
     let mut inodes = Vec::new(alloc);
     for (place, end) in kept.iter().enumerate() {
-        let log = state.own_region(place as u32 + 1).log(place + 1);
+        let log = state.own_log(place as u32 + 1);
         let first = log.first();
         push_touched_from(&mut inodes, log, first, (*end - first) as usize)?;
     }

@@ -232,7 +232,8 @@ module _ (s : StateValue) (levels : TwoLevels) (asked : List Asked) where
   abbrev after : StateValue
   after = after_asking s levels asked
 
-  stays : {A : Type 0} (f : ClientValue → A) → ((to : ℕ) (x : ClientValue) → f (with_goal to x) ≡ f x) → (d : ℕ) → f (client_in after.clients d) ≡ f (client_in s.clients d)
+  stays : {A : Type 0} (f : ClientValue → A) → ((to : ℕ) (x : ClientValue) → f (with_goal to x) ≡ f x) → (d : ℕ) →
+      f (client_in after.clients d) ≡ f (client_in s.clients d)
   stays f same d = goals_keep f same asked s.clients d
 
   own_stays : (d : ℕ) → own_seen after d ≡ own_seen s d
@@ -370,7 +371,8 @@ module _ (s : StateValue) (c i : ℕ) (mode : Mode) (levels : TwoLevels) (asked 
   unfolding world_of
   runs d h =
       let running : (client_in s.clients d).crashed ≡ false =
-      false_from_ne_true (client_in s.clients d).crashed (λ crashed. not_both (is_revoked (client_lease l d i)) (leases.crashed d i crashed (held d h)) (unrevoked d h)) in
+      false_from_ne_true (client_in s.clients d).crashed
+      (λ crashed. not_both (is_revoked (client_lease l d i)) (leases.crashed d i crashed (held d h)) (unrevoked d h)) in
       rw running (not-true (client_in s.clients d).failed (lives d h))
 
   number : (d : ℕ) → is_asked asked d i ≡ true → IsNumber s.clients d

@@ -10,7 +10,7 @@ use Rattle.assise_model_world.specs.NodeSteps.{Rests}
 use Rattle.assise_model_world.specs.World.{Full}
 use Rattle.assise_machine_state.specs.Changes.{after_inode, after_members}
 use Rattle.assise_machine_state.specs.ClientValues.{client_in}
-use Rattle.assise_machine_state.specs.NodeValues.{log_seen, region_in}
+use Rattle.assise_machine_state.specs.NodeValues.{log_in, region_in}
 use Rattle.assise_machine_state.specs.Observed.{is_full_in, own_node, own_seen, world_of}
 use Rattle.assise_machine_state.specs.Places.{IsNumber, item_at}
 use Rattle.assise_machine_state.specs.Invariant.{ShapeInvariant}
@@ -29,7 +29,7 @@ module _ (s : StateValue) (m : Membership) (long : length m.nodes ≡ length (st
 
   own_stays : (c : ℕ) → own_seen u c ≡ own_seen s c
   unfolding own_seen
-  own_stays c = ap (λ n. log_seen s.nodes n c) (same_own m.nodes (standings s) long same (client_in s.clients c))
+  own_stays c = ap (λ n. log_in s.nodes n c) (same_own m.nodes (standings s) long same (client_in s.clients c))
 
   pub members_rest : Rests (world_of s) (world_of u)
   unfolding world_of
@@ -76,8 +76,8 @@ module _ (s : StateValue) (n i : ℕ) (v : Option Content) (there : IsNumber s.n
   same_logs : (k : ℕ) → (region_in t.nodes k).logs ≡ (region_in s.nodes k).logs
   same_logs k = region_kept s.nodes n changed (λ r. r.logs) refl k
 
-  same_log : (k c : ℕ) → log_seen t.nodes k c ≡ log_seen s.nodes k c
-  unfolding log_seen
+  same_log : (k c : ℕ) → log_in t.nodes k c ≡ log_in s.nodes k c
+  unfolding log_in
   same_log k c = ap (λ ls. item_at no_log ls c) (same_logs k)
 
   own_same : (c : ℕ) → own_seen t c ≡ own_seen s c

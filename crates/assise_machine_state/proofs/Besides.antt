@@ -14,7 +14,7 @@ use Rattle.assise_machine_state.specs.Observed.{full_in, is_full_in, world_of}
 use Rattle.assise_machine_state.specs.Places.{IsNumber}
 use Rattle.assise_machine_state.specs.Invariant.{ShapeInvariant}
 use Rattle.assise_machine_state.specs.StateValues.{StateValue, standings}
-use Rattle.assise_machine_state.proofs.Fullness.{full_is, has_log, log_is}
+use Rattle.assise_machine_state.proofs.Fullness.{full_is}
 use Rattle.assise_machine_state.proofs.Standings.{is_listed, listed_is_full}
 
 -- ---- one node after another
@@ -75,7 +75,7 @@ module _ (s : StateValue) (c : ℕ) (shape : ShapeInvariant s) (client : IsNumbe
 
   received_same : (n : ℕ) → is_full_in (standings s) n ≡ true → (world_of s).received n c ≡ received_in n
   unfolding world_of
-  received_same n full = ap (λ l. log_end l.log) (log_is s n c (has_log s n c shape full client))
+  received_same n full = refl
 
   listed_full : (n : ℕ) → contains (full_nodes (standings s)) n ≡ true → contains (full_in (standings s)) n ≡ true
   listed_full n listed = full_is (standings s) n ∙ listed_is_full (standings s) n listed

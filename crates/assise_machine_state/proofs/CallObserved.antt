@@ -1,7 +1,6 @@
 -- What the laws observe of a call that is answered.
-use Rattle.std.proofs.Common.{◌≡◌, ◌≢◌, ℕ, suc, ◌+◌, ◌-◌, ◌<◌, ◌≤◌, Bool, true, false, not, if◌then◌else◌, List, [], ◌∷◌, ◌++◌, length, inl, inr, refl, ap, sym, subst, ◌∙◌, arith}
+use Rattle.std.proofs.Common.{◌≡◌, ◌≢◌, ℕ, suc, ◌+◌, ◌<◌, ◌≤◌, Bool, true, false, not, if◌then◌else◌, List, [], ◌∷◌, ◌++◌, length, inl, inr, refl, ap, sym, subst, ◌∙◌, arith}
 use Rattle.std.proofs.lemmas.Bool.{cases_Bool, cases_eq}
-use Rattle.std.proofs.lemmas.List.{length-set}
 use Rattle.assise_history.specs.Entries.{calls}
 use Rattle.assise_history.proofs.ClientCounts.{durability-still}
 use Rattle.assise_record.specs.declared.effect.Effect.{Effect}
@@ -11,7 +10,7 @@ use Rattle.assise_inode_table.specs.Numbers.{inode_number}
 use Rattle.assise_inode_table.specs.Traces.{NumberedCall}
 use Rattle.assise_private_log.specs.NumberedLog.{end as log_end, is_border}
 use Rattle.assise_private_log.proofs.Borders.{border_end}
-use Rattle.assise_digest.specs.Region.{ReceivedLog, RegionValue, with_log, with_more}
+use Rattle.assise_digest.specs.Region.{ReceivedLog, RegionValue, with_more}
 use Rattle.assise_model_world.specs.Chances.{MayMakeCall}
 use Rattle.assise_model_world.specs.ClientSteps.{MakesCall}
 use Rattle.assise_model_world.specs.World.{World, call_makes_inode, end_of_log, step_at_home}
@@ -20,13 +19,13 @@ use Rattle.assise_model_history.specs.Numbered.{kept_numbered, made_in, numbered
 use Rattle.assise_model_history.proofs.NumberedCalls.{kept_call}
 use Rattle.assise_machine_state.specs.Changes.{after_call}
 use Rattle.assise_machine_state.specs.ClientValues.{ClientValue, client_in, with_call}
-use Rattle.assise_machine_state.specs.NodeValues.{HasLog, log_in, log_seen, region_in, with_call_in}
+use Rattle.assise_machine_state.specs.NodeValues.{HasLog, log_in, region_in, with_call_in}
 use Rattle.assise_machine_state.specs.Observed.{own_node, own_seen, world_of}
 use Rattle.assise_machine_state.specs.Places.{IsNumber}
 use Rattle.assise_machine_state.specs.Invariant.{IsMarked, ShapeInvariant}
 use Rattle.assise_machine_state.specs.StateValues.{StateValue, standings}
-use Rattle.assise_machine_state.proofs.Fullness.{has_log, home_full, lives_number, lives_unfailed, log_is}
-use Rattle.assise_machine_state.proofs.LogChanges.{log_else, log_here, log_same, none_more, region_kept}
+use Rattle.assise_machine_state.proofs.Fullness.{has_log, home_full, lives_number, lives_unfailed}
+use Rattle.assise_machine_state.proofs.LogChanges.{log_else, log_here, log_same, none_more, region_kept, region_with}
 use Rattle.assise_machine_state.proofs.Marks.{called, called_border, marked_as, marked_called, so_many_marks}
 use Rattle.assise_machine_state.proofs.ItemSeen.{client_else, client_here, client_same, length-with}
 use Rattle.assise_machine_state.proofs.ShapeKept.{AreMarked, own_marked, shaped_as}
@@ -38,14 +37,14 @@ module _ (rs : List RegionValue) (n c call : ℕ) (es : List Effect) where
   abbrev more : ReceivedLog
   more = with_more (log_in rs n c) (record { call = call; effects = es })
 
-  call_here : HasLog rs n c → log_seen rs n c ≡ log_in rs n c → log_seen (with_call_in rs n c call es) n c ≡ called call es (log_seen rs n c)
-  call_here has same =
+  call_here : HasLog rs n c → log_in (with_call_in rs n c call es) n c ≡ called call es (log_in rs n c)
+  call_here has =
       elim (cases_Bool (has_some es)) [
-        | inl some ↦ rw (some, same) (log_here rs n c (region_in rs n).inodes more has)
-        | inr none ↦ rw none (sym (none_more (λ k. true) (log_seen rs n c)))
+        | inl some ↦ rw some (log_here rs n c (region_in rs n).inodes more has)
+        | inr none ↦ rw none (sym (none_more (λ k. true) (log_in rs n c)))
       ]
 
-  call_else : HasLog rs n c → (m d : ℕ) → (m ≡ n → d ≡ c → ⊥) → log_seen (with_call_in rs n c call es) m d ≡ log_seen rs m d
+  call_else : HasLog rs n c → (m d : ℕ) → (m ≡ n → d ≡ c → ⊥) → log_in (with_call_in rs n c call es) m d ≡ log_in rs m d
   call_else has m d other =
       elim (cases_Bool (has_some es)) [
         | inl some ↦ rw some (log_else rs n c (region_in rs n).inodes more has m d other)
@@ -53,30 +52,30 @@ module _ (rs : List RegionValue) (n c call : ℕ) (es : List Effect) where
       ]
 
   -- all but records stay
-  call_log_kept : {A : Type 0} (f : ReceivedLog → A) → f more ≡ f (log_in rs n c) → (m d : ℕ) → f (log_seen (with_call_in rs n c call es) m d) ≡ f (log_seen rs m d)
+  call_log_kept : {A : Type 0} (f : ReceivedLog → A) → f more ≡ f (log_in rs n c) → (m d : ℕ) → f (log_in (with_call_in rs n c call es) m d) ≡ f (log_in rs m d)
   call_log_kept f same m d =
       elim (cases_Bool (has_some es)) [
         | inl some ↦ rw some (log_same rs n c (region_in rs n).inodes more f m d same)
         | inr none ↦ rw none refl
       ]
 
-  call_region_kept : {A : Type 0} (f : RegionValue → A) → f (with_log (region_in rs n) c more) ≡ f (region_in rs n) → (m : ℕ) →
+  call_region_kept : {A : Type 0} (f : RegionValue → A) → f (region_with rs n c (region_in rs n).inodes more) ≡ f (region_in rs n) → (m : ℕ) →
       f (region_in (with_call_in rs n c call es) m) ≡ f (region_in rs m)
   call_region_kept f same m =
       elim (cases_Bool (has_some es)) [
-        | inl some ↦ rw some (region_kept rs n (with_log (region_in rs n) c more) f same m)
+        | inl some ↦ rw some (region_kept rs n (region_with rs n c (region_in rs n).inodes more) f same m)
         | inr none ↦ rw none refl
       ]
 
   so_many_nodes : length (with_call_in rs n c call es) ≡ length rs
   so_many_nodes =
       elim (cases_Bool (has_some es)) [
-        | inl some ↦ rw some (length-with rs n (with_log (region_in rs n) c more))
+        | inl some ↦ rw some (length-with rs n (region_with rs n c (region_in rs n).inodes more))
         | inr none ↦ rw none refl
       ]
 
   so_many_logs : (m : ℕ) → length (region_in (with_call_in rs n c call es) m).logs ≡ length (region_in rs m).logs
-  so_many_logs = call_region_kept (λ r. length r.logs) (length-set (region_in rs n).logs (c - 1) more)
+  so_many_logs = call_region_kept (λ r. length r.logs) (length-with (region_in rs n).logs c more)
 
 -- ---- counts
 
@@ -122,7 +121,7 @@ module _ (s : StateValue) (x : NumberedCall) where
 
   -- logs stay but their records
   kept : {A : Type 0} (f : ReceivedLog → A) → f (with_more (log_in s.nodes home c) (record { call = x.number; effects = es })) ≡ f (log_in s.nodes home c) → (n d : ℕ) →
-      f (log_seen s'.nodes n d) ≡ f (log_seen s.nodes n d)
+      f (log_in s'.nodes n d) ≡ f (log_in s.nodes n d)
   kept f same n d = call_log_kept s.nodes home c x.number es f same n d
 
   so_many_clients : length s'.clients ≡ length s.clients
@@ -132,9 +131,9 @@ module _ (s : StateValue) (x : NumberedCall) where
   stays f same = client_same f s.clients c now same
 
   -- each client's own log is where it was
-  own_now : (d : ℕ) → own_seen s' d ≡ log_seen s'.nodes (own_node (standings s) (client_in s.clients d)) d
+  own_now : (d : ℕ) → own_seen s' d ≡ log_in s'.nodes (own_node (standings s) (client_in s.clients d)) d
   unfolding own_seen
-  own_now d = ap (λ n. log_seen s'.nodes n d) (stays (own_node (standings s)) refl d)
+  own_now d = ap (λ n. log_in s'.nodes n d) (stays (own_node (standings s)) refl d)
 
   own_kept : {A : Type 0} (f : ReceivedLog → A) → f (with_more (log_in s.nodes home c) (record { call = x.number; effects = es })) ≡ f (log_in s.nodes home c) → (d : ℕ) →
       f (own_seen s' d) ≡ f (own_seen s d)
@@ -145,18 +144,18 @@ module _ (s : StateValue) (x : NumberedCall) where
     own_is_home : own_node (standings s) (client_in s.clients c) ≡ home
     own_is_home = rw unfailed refl
 
-    home_log : log_seen s'.nodes home c ≡ called x.number es (log_seen s.nodes home c)
-    home_log = call_here s.nodes home c x.number es has (log_is s home c has)
+    home_log : log_in s'.nodes home c ≡ called x.number es (log_in s.nodes home c)
+    home_log = call_here s.nodes home c x.number es has
 
-    else_log : (n d : ℕ) → (n ≡ home → d ≡ c → ⊥) → log_seen s'.nodes n d ≡ log_seen s.nodes n d
+    else_log : (n d : ℕ) → (n ≡ home → d ≡ c → ⊥) → log_in s'.nodes n d ≡ log_in s.nodes n d
     else_log = call_else s.nodes home c x.number es has
 
-    own_here : own_seen s' c ≡ log_seen s'.nodes home c
-    own_here = own_now c ∙ ap (λ n. log_seen s'.nodes n c) own_is_home
+    own_here : own_seen s' c ≡ log_in s'.nodes home c
+    own_here = own_now c ∙ ap (λ n. log_in s'.nodes n c) own_is_home
 
-    own_before : own_seen s c ≡ log_seen s.nodes home c
+    own_before : own_seen s c ≡ log_in s.nodes home c
     unfolding own_seen
-    own_before = ap (λ n. log_seen s.nodes n c) own_is_home
+    own_before = ap (λ n. log_in s.nodes n c) own_is_home
 
     own_called : own_seen s' c ≡ called x.number es (own_seen s c)
     own_called = own_here ∙ home_log ∙ ap (called x.number es) (sym own_before)
@@ -173,24 +172,25 @@ module _ (s : StateValue) (x : NumberedCall) where
         ap (λ l. is_border l.log k) own_called
         ∙ called_border (own_seen s c) x.number es k (so_many_marks (is_border (own_seen s c).log) (own_seen s c).log (own_marked s all c))
 
-    marked_here : AreMarked s → (n : ℕ) → IsMarked (is_border (own_seen s' c).log) (log_seen s'.nodes n c).log
+    marked_here : AreMarked s → (n : ℕ) → IsMarked (is_border (own_seen s' c).log) (log_in s'.nodes n c).log
     marked_here all n =
         elim (cases_eq n home) [
           | inl is ↦
-              subst (λ m. IsMarked (is_border (own_seen s' c).log) (log_seen s'.nodes m c).log) (sym is)
+              subst (λ m. IsMarked (is_border (own_seen s' c).log) (log_in s'.nodes m c).log) (sym is)
               (subst (λ l. IsMarked (is_border (own_seen s' c).log) l.log) own_here
               (subst (λ l. IsMarked (is_border l.log) l.log) (sym own_called) (marked_called (own_seen s c) x.number es (own_marked s all c))))
           | inr away ↦
               subst (λ l. IsMarked (is_border (own_seen s' c).log) l.log) (sym (else_log n c (λ there same. away there)))
-              (marked_as (is_border (own_seen s c).log) (is_border (own_seen s' c).log) (log_seen s.nodes n c).log (λ k low high. sym (own_borders all k)) (all n c))
+              (marked_as (is_border (own_seen s c).log) (is_border (own_seen s' c).log) (log_in s.nodes n c).log
+              (λ k low high. sym (own_borders all k)) (all n c))
         ]
 
     marked_now : AreMarked s → AreMarked s'
     marked_now all n d =
         elim (cases_eq d c) [
-          | inl is ↦ subst (λ e. IsMarked (is_border (own_seen s' e).log) (log_seen s'.nodes n e).log) (sym is) (marked_here all n)
+          | inl is ↦ subst (λ e. IsMarked (is_border (own_seen s' e).log) (log_in s'.nodes n e).log) (sym is) (marked_here all n)
           | inr other ↦
-              subst (λ l. IsMarked (is_border l.log) (log_seen s'.nodes n d).log) (sym (own_else d other))
+              subst (λ l. IsMarked (is_border l.log) (log_in s'.nodes n d).log) (sym (own_else d other))
               (subst (λ l. IsMarked (is_border (own_seen s d).log) l.log) (sym (else_log n d (λ there same. other same))) (all n d))
         ]
 

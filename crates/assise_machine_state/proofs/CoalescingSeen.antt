@@ -12,7 +12,7 @@ use Rattle.assise_inode_table.specs.Contents.{values}
 use Rattle.assise_private_log.specs.Groups.{regrouped}
 use Rattle.assise_private_log.specs.NumberedLog.{IsNumberedLog, NumberedLog, end as log_end, is_border, records_from}
 use Rattle.assise_private_log.proofs.LogGroups.{regrouped_all, regrouped_among, regrouped_before, regrouped_records}
-use Rattle.assise_digest.specs.Region.{ReceivedLog, regrouped_from, with_log}
+use Rattle.assise_digest.specs.Region.{ReceivedLog, regrouped_from}
 use Rattle.assise_model_world.specs.ClientSteps.{RaisesGoals}
 use Rattle.assise_model_world.specs.Coalescing.{GetsAll, HasNone}
 use Rattle.assise_model_world.specs.Regrouped.{Regroups}
@@ -26,13 +26,13 @@ use Rattle.assise_model_events.specs.Dsyncs.{coalesced_from, new_groups}
 use Rattle.assise_model_events.proofs.Regroupable.{between_length, coalesced_elsewhere, coalesced_first, coalesced_high}
 use Rattle.assise_machine_state.specs.Changes.{after_coalescing, after_regrouping, goal_of}
 use Rattle.assise_machine_state.specs.ClientValues.{client_in}
-use Rattle.assise_machine_state.specs.NodeValues.{HasLog, log_in, log_seen, region_in}
+use Rattle.assise_machine_state.specs.NodeValues.{HasLog, log_in, region_in}
 use Rattle.assise_machine_state.specs.Observed.{is_full_in, own_node, own_seen, world_of}
 use Rattle.assise_machine_state.specs.Places.{IsNumber}
 use Rattle.assise_machine_state.specs.Invariant.{CutsInvariant, IsMarked, ShapeInvariant}
 use Rattle.assise_machine_state.specs.StateValues.{StateValue, standings}
-use Rattle.assise_machine_state.proofs.Fullness.{has_log, home_full, lives_number, lives_unfailed, log_is, no_log_there, seen_full}
-use Rattle.assise_machine_state.proofs.LogChanges.{log_else, log_here, log_same, logs_count, region_kept}
+use Rattle.assise_machine_state.proofs.Fullness.{has_log, home_full, lives_number, lives_unfailed, no_log_there, seen_full}
+use Rattle.assise_machine_state.proofs.LogChanges.{log_else, log_here, log_same, logs_count, region_kept, region_with}
 use Rattle.assise_machine_state.proofs.Marks.{marked_as}
 use Rattle.assise_machine_state.proofs.Noted.{goal_noted}
 use Rattle.assise_machine_state.proofs.GoalObserved.{goal_raised, goal_shaped}
@@ -52,7 +52,7 @@ first_is : (s : StateValue) (c : ℕ) → (world_of s).first c ≡ (own_seen s c
 unfolding world_of
 first_is s c = refl
 
-received_is : (s : StateValue) (n c : ℕ) → (world_of s).received n c ≡ log_end (log_seen s.nodes n c).log
+received_is : (s : StateValue) (n c : ℕ) → (world_of s).received n c ≡ log_end (log_in s.nodes n c).log
 unfolding world_of
 received_is s n c = refl
 
@@ -88,7 +88,7 @@ module _ (s : StateValue) (c from : ℕ) where
   -- areas stay
   area_kept : (n i : ℕ) → u.area n i ≡ w.area n i
   unfolding world_of
-  area_kept n i = ap (λ r. values r i) (region_kept s.nodes home (with_log (region_in s.nodes home) c new) (λ r. r.inodes) refl n)
+  area_kept n i = ap (λ r. values r i) (region_kept s.nodes home (region_with s.nodes home c (region_in s.nodes home).inodes new) (λ r. r.inodes) refl n)
 
   pub coalescing_areas : OtherAreasStay w w'
   unfolding world_of
@@ -107,22 +107,22 @@ module _ (s : StateValue) (c from : ℕ) where
     has : HasLog s.nodes home c
     has = has_log s home c shape (home_full s c shape unfailed) there
 
-    home_now : log_seen t.nodes home c ≡ regrouped_from (log_seen s.nodes home c) from
-    home_now = log_here s.nodes home c (region_in s.nodes home).inodes new has ∙ ap (λ x. regrouped_from x from) (sym (log_is s home c has))
+    home_now : log_in t.nodes home c ≡ regrouped_from (log_in s.nodes home c) from
+    home_now = log_here s.nodes home c (region_in s.nodes home).inodes new has
 
-    else_now : (n d : ℕ) → (n ≡ home → d ≡ c → ⊥) → log_seen t.nodes n d ≡ log_seen s.nodes n d
+    else_now : (n d : ℕ) → (n ≡ home → d ≡ c → ⊥) → log_in t.nodes n d ≡ log_in s.nodes n d
     else_now = log_else s.nodes home c (region_in s.nodes home).inodes new has
 
     own_is_home : own_node (standings s) (client_in s.clients c) ≡ home
     own_is_home = rw unfailed refl
 
-    own_after : own_seen t c ≡ log_seen t.nodes home c
+    own_after : own_seen t c ≡ log_in t.nodes home c
     unfolding own_seen
-    own_after = ap (λ n. log_seen t.nodes n c) own_is_home
+    own_after = ap (λ n. log_in t.nodes n c) own_is_home
 
-    own_before : own_seen s c ≡ log_seen s.nodes home c
+    own_before : own_seen s c ≡ log_in s.nodes home c
     unfolding own_seen
-    own_before = ap (λ n. log_seen s.nodes n c) own_is_home
+    own_before = ap (λ n. log_in s.nodes n c) own_is_home
 
     own_now : own_seen t c ≡ regrouped_from (own_seen s c) from
     own_now = own_after ∙ home_now ∙ ap (λ x. regrouped_from x from) (sym own_before)
@@ -143,26 +143,27 @@ module _ (s : StateValue) (c from : ℕ) where
           | inr other ↦ ap (λ x. x.log.first) (own_else d other)
         ]
 
-    module _ (law : IsNumberedLog l) (high : from ≤ log_end l) (elsewhere : (n : ℕ) → is_full_in (standings s) n ≡ true → n ≢ home → log_end (log_seen s.nodes n c).log ≤ from) where
+    module _ (law : IsNumberedLog l) (high : from ≤ log_end l)
+        (elsewhere : (n : ℕ) → is_full_in (standings s) n ≡ true → n ≢ home → log_end (log_in s.nodes n c).log ≤ from) where
       -- ---- its shape
 
       border_now : (k : ℕ) → k < from → is_border (own_seen t c).log k ≡ is_border l k
       border_now k before = ap (λ x. is_border x.log k) own_now ∙ regrouped_before l from k law high before
 
-      marked_away : (n : ℕ) → n ≢ home → IsMarked (is_border (own_seen t c).log) (log_seen s.nodes n c).log
+      marked_away : (n : ℕ) → n ≢ home → IsMarked (is_border (own_seen t c).log) (log_in s.nodes n c).log
       marked_away n away =
           elim (cases_Bool (is_full_in (standings s) n)) [
             | inl full ↦
-                marked_as (is_border l) (is_border (own_seen t c).log) (log_seen s.nodes n c).log
+                marked_as (is_border l) (is_border (own_seen t c).log) (log_in s.nodes n c).log
                 (λ k low before. (let last = elsewhere n full away in sym (border_now k (omega (arith, last, before))))) (shape.marked n c)
             | inr none ↦ subst (λ x. IsMarked (is_border (own_seen t c).log) x.log) (sym (no_log_there s n c shape none)) refl
           ]
 
-      marked_here : (n : ℕ) → IsMarked (is_border (own_seen t c).log) (log_seen t.nodes n c).log
+      marked_here : (n : ℕ) → IsMarked (is_border (own_seen t c).log) (log_in t.nodes n c).log
       marked_here n =
           elim (cases_eq n home) [
             | inl is ↦
-                subst (λ m. IsMarked (is_border (own_seen t c).log) (log_seen t.nodes m c).log) (sym is)
+                subst (λ m. IsMarked (is_border (own_seen t c).log) (log_in t.nodes m c).log) (sym is)
                 (subst (λ x. IsMarked (is_border (own_seen t c).log) x.log) own_after
                 (subst (λ x. IsMarked (is_border x.log) x.log) (sym own_now) (regrouped_marked l from (own_marked s shape.marked c))))
             | inr away ↦ subst (λ x. IsMarked (is_border (own_seen t c).log) x.log) (sym (else_now n c (λ is _. away is))) (marked_away n away)
@@ -171,9 +172,9 @@ module _ (s : StateValue) (c from : ℕ) where
       marked_now : AreMarked t
       marked_now n d =
           elim (cases_eq d c) [
-            | inl is ↦ subst (λ e. IsMarked (is_border (own_seen t e).log) (log_seen t.nodes n e).log) (sym is) (marked_here n)
+            | inl is ↦ subst (λ e. IsMarked (is_border (own_seen t e).log) (log_in t.nodes n e).log) (sym is) (marked_here n)
             | inr other ↦
-                subst (λ x. IsMarked (is_border x.log) (log_seen t.nodes n d).log) (sym (own_else d other))
+                subst (λ x. IsMarked (is_border x.log) (log_in t.nodes n d).log) (sym (own_else d other))
                 (subst (λ x. IsMarked (is_border (own_seen s d).log) x.log) (sym (else_now n d (λ _ same. other same))) (shape.marked n d))
           ]
 
@@ -357,7 +358,7 @@ module _ (s : StateValue) (c : ℕ) (shape : ShapeInvariant s) (sound : ∥ Worl
   within : start ≤ log_end (own_seen s c).log
   within = omega (arith, start_high, own_ends s c)
 
-  others_end : (n : ℕ) → is_full_in (standings s) n ≡ true → n ≢ (client_in s.clients c).home → log_end (log_seen s.nodes n c).log ≤ start
+  others_end : (n : ℕ) → is_full_in (standings s) n ≡ true → n ≢ (client_in s.clients c).home → log_end (log_in s.nodes n c).log ≤ start
   others_end n full away = (let known = others_low n (seen_full s n full) (away_from s c n away) in omega (arith, known, received_is s n c))
 
   pub regrouped_shape : ShapeInvariant (after_regrouping s c start)

@@ -5,7 +5,7 @@ use Rattle.std.proofs.lemmas.List.{length-map, take_all}
 use Rattle.assise_digest.specs.Region.{ReceivedLog, RegionValue, no_log, up_to_number}
 use Rattle.assise_machine_state.specs.Changes.{with_clients_cut, with_clients_failed}
 use Rattle.assise_machine_state.specs.ClientValues.{ClientValue, client_in, failed_at, no_client}
-use Rattle.assise_machine_state.specs.NodeValues.{changed_in, log_seen, region_in, with_tails_cut, without_logs}
+use Rattle.assise_machine_state.specs.NodeValues.{changed_in, log_in, region_in, with_tails_cut, without_logs}
 use Rattle.assise_machine_state.specs.Places.{IsNumber}
 use Rattle.assise_machine_state.proofs.LogChanges.{beside_seen, count_seen, inodes_seen, log_away, own_changes_all, region_else, region_here, region_kept}
 use Rattle.assise_machine_state.proofs.ItemSeen.{client_else, client_here, length-with, seen_number}
@@ -45,7 +45,8 @@ module _ (n : ℕ) (kept : ℕ → ℕ) (cs : List ClientValue) where
         | inr away ↦ rw away rest
       ]
 
-  failed_last : (m : ℕ) → suc m ≤ length cs → (client_in cs (suc m)).home ≡ n → client_in (over (suc m)) (suc m) ≡ failed_at (kept (suc m)) (client_in cs (suc m))
+  failed_last : (m : ℕ) → suc m ≤ length cs → (client_in cs (suc m)).home ≡ n →
+      client_in (over (suc m)) (suc m) ≡ failed_at (kept (suc m)) (client_in cs (suc m))
   failed_last m few here =
       rw (eq-eqb (client_in cs (suc m)).home n here) (client_here (over m) (suc m) (failed_at (kept (suc m)) (client_in cs (suc m))) (number_over m few))
 
@@ -58,7 +59,8 @@ module _ (n : ℕ) (kept : ℕ → ℕ) (cs : List ClientValue) where
             subst (λ d. client_in (over (suc m)) d ≡ failed_at (kept d) (client_in cs d)) (sym last)
             (failed_last m few (subst (λ d. (client_in cs d).home ≡ n) last here))
         | inr differs ↦
-            let rest : client_in (over m) c ≡ failed_at (kept c) (client_in cs c) = client_fails m c (omega (arith, few)) some (omega (arith, low, differs)) here in
+            let rest : client_in (over m) c ≡ failed_at (kept c) (client_in cs c) =
+            client_fails m c (omega (arith, few)) some (omega (arith, low, differs)) here in
             elim (cases_Bool ((client_in cs (suc m)).home == n)) [
               | inl too ↦ rw too (client_else (over m) (suc m) (failed_at (kept (suc m)) (client_in cs (suc m))) (number_over m few) c differs ∙ rest)
               | inr away ↦ rw away rest
@@ -91,7 +93,8 @@ module _ (n : ℕ) (cs : List ClientValue) (kept : ℕ → ℕ) (rs : List Regio
       ]
 
   -- what each cut leaves of a node they all leave
-  all_cut : {A : Type 0} (f : RegionValue → A) → ((c from : ℕ) (xs : List RegionValue) (k : ℕ) → f (region_in (with_tails_cut xs c from) k) ≡ f (region_in xs k)) →
+  all_cut : {A : Type 0} (f : RegionValue → A) →
+      ((c from : ℕ) (xs : List RegionValue) (k : ℕ) → f (region_in (with_tails_cut xs c from) k) ≡ f (region_in xs k)) →
       (m k : ℕ) → f (region_in (cut m) k) ≡ f (region_in rs k)
   all_cut f one zero k = refl
   all_cut f one (suc m) k =
@@ -107,35 +110,37 @@ module _ (n : ℕ) (cs : List ClientValue) (kept : ℕ → ℕ) (rs : List Regio
   logs_cut = all_cut (λ r. length r.logs) (λ c from xs k. count_seen c (cut_to from) xs k)
 
   -- a log stays of which no client up to here has the number
-  stays_below : (m k d : ℕ) → ((c : ℕ) → c ≤ m → (client_in cs c).home ≡ n → d ≢ c) → log_seen (cut m) k d ≡ log_seen rs k d
+  stays_below : (m k d : ℕ) → ((c : ℕ) → c ≤ m → (client_in cs c).home ≡ n → d ≢ c) → log_in (cut m) k d ≡ log_in rs k d
   stays_below zero k d other = refl
   stays_below (suc m) k d other =
-      let rest : log_seen (cut m) k d ≡ log_seen rs k d = stays_below m k d (λ c low. other c (omega (arith, low))) in
+      let rest : log_in (cut m) k d ≡ log_in rs k d = stays_below m k d (λ c low. other c (omega (arith, low))) in
       elim (cases_Bool ((client_in cs (suc m)).home == n)) [
-        | inl here ↦ rw here (beside_seen (suc m) (cut_to (kept (suc m))) (cut m) k d (omega arith) (other (suc m) (omega arith) (eqb-true (client_in cs (suc m)).home n here)) ∙ rest)
+        | inl here ↦
+            let differs = other (suc m) (omega arith) (eqb-true (client_in cs (suc m)).home n here) in
+            rw here (beside_seen (suc m) (cut_to (kept (suc m))) (cut m) k d (omega arith) differs ∙ rest)
         | inr away ↦ rw away rest
       ]
 
   -- that of a client of another node stays
-  log_stays : (m k d : ℕ) → (client_in cs d).home ≢ n → log_seen (cut m) k d ≡ log_seen rs k d
+  log_stays : (m k d : ℕ) → (client_in cs d).home ≢ n → log_in (cut m) k d ≡ log_in rs k d
   log_stays m k d other = stays_below m k d (λ c low here same. other (ap (λ e. (client_in cs e).home) same ∙ here))
 
-  cut_last : (m k : ℕ) → (client_in cs (suc m)).home ≡ n → log_seen (cut (suc m)) k (suc m) ≡ up_to_number (log_seen rs k (suc m)) (kept (suc m))
+  cut_last : (m k : ℕ) → (client_in cs (suc m)).home ≡ n → log_in (cut (suc m)) k (suc m) ≡ up_to_number (log_in rs k (suc m)) (kept (suc m))
   cut_last m k here =
       rw (eq-eqb (client_in cs (suc m)).home n here)
       (own_changes_all (suc m) (cut_to (kept (suc m))) (omega arith) (cut_none (kept (suc m))) (cut m) k
       ∙ ap (λ l. up_to_number l (kept (suc m))) (stays_below m k (suc m) (λ c low there same. absurd (omega (arith, low, same)))))
 
   -- that of a client of this node is cut
-  log_is_cut : (m k d : ℕ) → 0 < d → d ≤ m → (client_in cs d).home ≡ n → log_seen (cut m) k d ≡ up_to_number (log_seen rs k d) (kept d)
+  log_is_cut : (m k d : ℕ) → 0 < d → d ≤ m → (client_in cs d).home ≡ n → log_in (cut m) k d ≡ up_to_number (log_in rs k d) (kept d)
   log_is_cut zero k d some low here = absurd (omega (arith, some, low))
   log_is_cut (suc m) k d some low here =
       elim (cases_eq d (suc m)) [
         | inl last ↦
-            subst (λ e. log_seen (cut (suc m)) k e ≡ up_to_number (log_seen rs k e) (kept e)) (sym last)
+            subst (λ e. log_in (cut (suc m)) k e ≡ up_to_number (log_in rs k e) (kept e)) (sym last)
             (cut_last m k (subst (λ e. (client_in cs e).home ≡ n) last here))
         | inr differs ↦
-            let rest : log_seen (cut m) k d ≡ up_to_number (log_seen rs k d) (kept d) = log_is_cut m k d some (omega (arith, low, differs)) here in
+            let rest : log_in (cut m) k d ≡ up_to_number (log_in rs k d) (kept d) = log_is_cut m k d some (omega (arith, low, differs)) here in
             elim (cases_Bool ((client_in cs (suc m)).home == n)) [
               | inl too ↦ rw too (beside_seen (suc m) (cut_to (kept (suc m))) (cut m) k d (omega arith) differs ∙ rest)
               | inr away ↦ rw away rest
@@ -163,10 +168,10 @@ module _ (rs : List RegionValue) (n : ℕ) (cs : List ClientValue) (kept : ℕ �
   pub logs_gone : IsNumber rs n → length (region_in left n).logs ≡ 0
   logs_gone there = logs_cut n cs kept (without_logs rs n) (length cs) n ∙ ap (λ r. length r.logs) (region_here rs n emptied there)
 
-  pub log_left : (k c : ℕ) → IsNumber rs n → k ≢ n → (client_in cs c).home ≢ n → log_seen left k c ≡ log_seen rs k c
+  pub log_left : (k c : ℕ) → IsNumber rs n → k ≢ n → (client_in cs c).home ≢ n → log_in left k c ≡ log_in rs k c
   log_left k c there differs other = log_stays n cs kept (without_logs rs n) (length cs) k c other ∙ log_away rs n emptied there k c differs
 
-  pub log_cut_left : (k c : ℕ) → IsNumber rs n → k ≢ n → (client_in cs c).home ≡ n → log_seen left k c ≡ up_to_number (log_seen rs k c) (kept c)
+  pub log_cut_left : (k c : ℕ) → IsNumber rs n → k ≢ n → (client_in cs c).home ≡ n → log_in left k c ≡ up_to_number (log_in rs k c) (kept c)
   log_cut_left k c there differs here =
       let client : IsNumber cs c = home_number cs c (subst (λ h. 0 < h) (sym here) there.some) in
       log_is_cut n cs kept (without_logs rs n) (length cs) k c client.some client.there here ∙ ap (λ l. up_to_number l (kept c)) (log_away rs n emptied there k c differs)

@@ -18,12 +18,12 @@ use Rattle.assise_model_world.specs.World.{Full, World, undigested_below}
 use Rattle.assise_model_members.specs.Returns.{DigestsNoted, OtherAreasStay}
 use Rattle.assise_machine_state.specs.Changes.{after_digest}
 use Rattle.assise_machine_state.specs.ClientValues.{client_in}
-use Rattle.assise_machine_state.specs.NodeValues.{HasLog, log_in, log_seen, region_in}
+use Rattle.assise_machine_state.specs.NodeValues.{HasLog, log_in, region_in}
 use Rattle.assise_machine_state.specs.Observed.{is_full_in, own_node, own_seen, world_of}
 use Rattle.assise_machine_state.specs.Places.{IsNumber}
 use Rattle.assise_machine_state.specs.Invariant.{ShapeInvariant}
 use Rattle.assise_machine_state.specs.StateValues.{StateValue, standings}
-use Rattle.assise_machine_state.proofs.Fullness.{full_seen, has_log, log_is, same_first}
+use Rattle.assise_machine_state.proofs.Fullness.{full_seen, has_log, same_first}
 use Rattle.assise_machine_state.proofs.LogChanges.{log_else, log_here, log_same, region_else, region_here, region_with}
 use Rattle.assise_machine_state.proofs.ReadObserved.{ahead_first}
 use Rattle.assise_machine_state.proofs.ShapeKept.{shaped_log, still_marked}
@@ -54,14 +54,16 @@ inodes_now s n c k = all_applied (region_in s.nodes n).inodes (all_effects (take
 
 -- logs stay but for what is digested of them
 
-same_log : (s : StateValue) (n c k : ℕ) (inodes : set.FinSet nat_cmp) (m d : ℕ) → (log_seen (after_digest s n c k inodes).nodes m d).log ≡ (log_seen s.nodes m d).log
+same_log : (s : StateValue) (n c k : ℕ) (inodes : set.FinSet nat_cmp) (m d : ℕ) →
+    (log_in (after_digest s n c k inodes).nodes m d).log ≡ (log_in s.nodes m d).log
 same_log s n c k inodes m d = log_same s.nodes n c (inodes_now s n c k) (further s n c k) (λ x. x.log) m d refl
 
 own_log : (s : StateValue) (n c k : ℕ) (inodes : set.FinSet nat_cmp) (d : ℕ) → (own_seen (after_digest s n c k inodes) d).log ≡ (own_seen s d).log
 unfolding own_seen
 own_log s n c k inodes d =
     let t : StateValue = after_digest s n c k inodes in
-    ap (λ m. (log_seen t.nodes m d).log) (same_own (standings t) (standings s) (same_count (standings s) n inodes) (still_full (standings s) n inodes) (client_in s.clients d))
+    ap (λ m. (log_in t.nodes m d).log)
+    (same_own (standings t) (standings s) (same_count (standings s) n inodes) (still_full (standings s) n inodes) (client_in s.clients d))
     ∙ same_log s n c k inodes (own_node (standings s) (client_in s.clients d)) d
 
 pub digest_shaped : (s : StateValue) (n c k : ℕ) (inodes : set.FinSet nat_cmp) → ShapeInvariant s → ShapeInvariant (after_digest s n c k inodes)
@@ -69,7 +71,8 @@ digest_shaped s n c k inodes shape =
     shaped_log s (noted s.members n inodes) n c (inodes_now s n c k) (further s n c k) shape refl refl
     (still_marked s (after_digest s n c k inodes) (same_log s n c k inodes) (own_log s n c k inodes)) (same_count (standings s) n inodes) (still_full (standings s) n inodes)
 
-module _ (s : StateValue) (n c k : ℕ) (inodes : set.FinSet nat_cmp) (shape : ShapeInvariant s) (first : (log_seen s.nodes n c).log.first ≡ (world_of s).first c) (client : IsNumber s.clients c) (may : MayDigest (world_of s) n c k) where
+module _ (s : StateValue) (n c k : ℕ) (inodes : set.FinSet nat_cmp) (shape : ShapeInvariant s)
+    (first : (log_in s.nodes n c).log.first ≡ (world_of s).first c) (client : IsNumber s.clients c) (may : MayDigest (world_of s) n c k) where
   abbrev w : World
   w = world_of s
 
@@ -85,23 +88,19 @@ module _ (s : StateValue) (n c k : ℕ) (inodes : set.FinSet nat_cmp) (shape : S
   has : HasLog s.nodes n c
   has = has_log s n c shape (full_seen s n may.full_node) client
 
-  was : log_seen s.nodes n c ≡ log_in s.nodes n c
-  was = log_is s n c has
-
   -- all but the area and the digested number stays
 
   digested_now : w'.digested n c ≡ k
   unfolding world_of
   digested_now =
-      let from : (log_seen s.nodes n c).digested ≤ k = may.from in
-      let same : (log_seen s.nodes n c).digested ≡ (log_in s.nodes n c).digested = ap (λ x. x.digested) was in
-      let sum : (log_in s.nodes n c).digested + (k - (log_in s.nodes n c).digested) ≡ k = omega (arith, from, same) in
+      let from : (log_in s.nodes n c).digested ≤ k = may.from in
+      let sum : (log_in s.nodes n c).digested + (k - (log_in s.nodes n c).digested) ≡ k = omega (arith, from) in
       ap (λ x. x.digested) (log_here s.nodes n c (inodes_now s n c k) (further s n c k) has) ∙ sum
 
   -- the area has what the observed records make of it
   below_is : undigested_below w n c k ≡ take (k - (log_in s.nodes n c).digested) (ahead (log_in s.nodes n c))
   unfolding undigested_below world_of
-  below_is = ap (take (k - (log_seen s.nodes n c).digested)) (ahead_first s n c first) ∙ ap (λ x. take (k - x.digested) (ahead x)) was
+  below_is = ap (take (k - (log_in s.nodes n c).digested)) (ahead_first s n c first)
 
   area_now : (i : ℕ) → w'.area n i ≡ value_after i (w.area n i) (all_effects (undigested_below w n c k))
   unfolding world_of

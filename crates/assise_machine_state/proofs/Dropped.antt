@@ -15,25 +15,28 @@ use Rattle.assise_model_world.proofs.WorldObserved.{digested_by_all-below, least
 use Rattle.assise_model_events.proofs.Failable.{digested_border}
 use Rattle.assise_machine_state.specs.Changes.{after_drop, drops_to, first_but}
 use Rattle.assise_machine_state.specs.ClientValues.{client_in}
-use Rattle.assise_machine_state.specs.NodeValues.{AreDigested, IsDigestedTo, hot_capacities, log_in, log_seen, no_region, region_in}
+use Rattle.assise_machine_state.specs.NodeValues.{AreDigested, IsDigestedTo, hot_capacities, log_in, no_region, region_in}
 use Rattle.assise_machine_state.specs.Observed.{is_full_in, own_node, own_seen, world_of}
 use Rattle.assise_machine_state.specs.Places.{IsNumber, item_at}
 use Rattle.assise_machine_state.specs.Invariant.{ShapeInvariant}
 use Rattle.assise_machine_state.specs.StateValues.{StateValue, standings}
 use Rattle.assise_machine_state.proofs.Prefixes.{HasPrefixes, drop_areas, drop_shaped, dropped_prefixes, dropped_twice, has_prefixes, same_digested}
-use Rattle.assise_machine_state.proofs.Fullness.{has_log, log_is, no_log_there, seen_full}
+use Rattle.assise_machine_state.proofs.Fullness.{no_log_there, seen_full}
 use Rattle.assise_machine_state.proofs.HotCapacities.{prefixes_keep}
 use Rattle.assise_machine_state.proofs.ItemSeen.{seen_past}
 use Rattle.assise_machine_state.proofs.SameObserved.{clients_as, goals_as, leases_as}
+use Rattle.assise_machine_state.proofs.LogChanges.{log_found}
 
 -- ---- who is no client has no log
 
 module _ (s : StateValue) (shape : ShapeInvariant s) where
-  nothing_seen : (n c : ℕ) → (length s.clients < c) ⊎ (c ≡ 0) → log_seen s.nodes n c ≡ no_log
-  unfolding log_seen item_at
+  nothing_seen : (n c : ℕ) → (length s.clients < c) ⊎ (c ≡ 0) → log_in s.nodes n c ≡ no_log
+  unfolding log_in item_at
   nothing_seen n c (inl past) =
       elim (cases_Bool (is_full_in (standings s) n)) [
-        | inl full ↦ (let logs : length (region_in s.nodes n).logs ≡ length s.clients = shape.logs n full in seen_past no_log (region_in s.nodes n).logs c (omega (arith, logs, past)))
+        | inl full ↦
+            let logs : length (region_in s.nodes n).logs ≡ length s.clients = shape.logs n full in
+            seen_past no_log (region_in s.nodes n).logs c (omega (arith, logs, past))
         | inr away ↦ no_log_there s n c shape away
       ]
   nothing_seen n c (inr none) = rw none refl
@@ -41,7 +44,8 @@ module _ (s : StateValue) (shape : ShapeInvariant s) where
   nothing_owned : (c : ℕ) → (length s.clients < c) ⊎ (c ≡ 0) → (world_of s).first c ≡ digested_by_all (world_of s) c
   unfolding world_of own_seen digested_by_all end_of_log
   nothing_owned c beyond =
-      let none : log_seen s.nodes (own_node (standings s) (client_in s.clients c)) c ≡ no_log = nothing_seen (own_node (standings s) (client_in s.clients c)) c beyond in
+      let none : log_in s.nodes (own_node (standings s) (client_in s.clients c)) c ≡ no_log =
+      nothing_seen (own_node (standings s) (client_in s.clients c)) c beyond in
       let high = least_of-end (world_of s).full (λ n. (world_of s).digested n c) (end_of_log (world_of s) c) in
       let first : (world_of s).first c ≡ 0 = ap (λ l. l.log.first) none in
       let ends : end_of_log (world_of s) c ≡ 0 = ap (λ l. log_end l.log) none in
@@ -90,12 +94,9 @@ module _ (s : StateValue) (c : ℕ) (shape : ShapeInvariant s) (sound : ∥ Worl
   digested_here n here =
       let full = seen_full s n here in
       let prefixes = prefixes_of s c sound in
-      let was : log_seen s.nodes n c ≡ log_in s.nodes n c = log_is s n c (has_log s n c shape here client) in
-      let first : (log_seen s.nodes n c).log.first ≡ (world_of s).first c = prefixes.first n full in
-      let same : (log_seen s.nodes n c).log.first ≡ (log_in s.nodes n c).log.first = ap (λ l. l.log.first) was in
+      let first : (log_in s.nodes n c).log.first ≡ (world_of s).first c = prefixes.first n full in
       let low : digested_by_all (world_of s) c ≤ (world_of s).digested n c = digested_by_all-below (world_of s) n c full in
-      let there : (log_seen s.nodes n c).digested ≡ (log_in s.nodes n c).digested = ap (λ l. l.digested) was in
-      record { from_first = omega (arith, first, same, prefixes.begun c); digested = omega (arith, low, there) }
+      record { from_first = omega (arith, first, prefixes.begun c); digested = low }
 
   -- who has the log is full
   digested_there : (n : ℕ) → IsNumber s.nodes n → HasClient (region_in s.nodes n) c → IsDigestedTo (log_in s.nodes n c) (digested_by_all (world_of s) c)
@@ -109,7 +110,10 @@ module _ (s : StateValue) (c : ℕ) (shape : ShapeInvariant s) (sound : ∥ Worl
 
   pub are_digested : AreDigested s.nodes c (digested_by_all (world_of s) c)
   unfolding region_in item_at
-  are_digested = each_digested s.nodes c (digested_by_all (world_of s) c) (λ k low. digested_there (suc k) (record { some = omega arith; there = omega (arith, low) }))
+  are_digested = each_digested s.nodes c (digested_by_all (world_of s) c) (λ k low has.
+      let node : IsNumber s.nodes (suc k) = record { some = omega arith; there = omega (arith, low) } in
+      subst (λ l. IsDigestedTo l (digested_by_all (world_of s) c)) (sym (log_found s.nodes (suc k) c (record { node = node; client = has }) refl))
+      (digested_there (suc k) node has))
 
 -- ---- one client after another
 

@@ -36,7 +36,7 @@ use Rattle.assise_model_history.proofs.FailureKeeps.{failure_takes}
 use Rattle.assise_model_history.proofs.NumberedCalls.{kept_fail}
 use Rattle.assise_machine_state.specs.Changes.{after_failure}
 use Rattle.assise_machine_state.specs.ClientValues.{ClientValue, client_in, cut_of, failed_at}
-use Rattle.assise_machine_state.specs.NodeValues.{log_seen, region_in}
+use Rattle.assise_machine_state.specs.NodeValues.{log_in, region_in}
 use Rattle.assise_machine_state.specs.Observed.{is_full_in, own_seen, world_of}
 use Rattle.assise_machine_state.specs.Places.{IsNumber}
 use Rattle.assise_machine_state.specs.Invariant.{AreLeft, IsMarked, ShapeInvariant}
@@ -100,7 +100,8 @@ module _ (s : StateValue) (n : ℕ) (inodes : set.FinSet nat_cmp) (levels : TwoL
       let client : IsNumber s.clients c = home_number s.clients c (subst (λ h. 0 < h) (sym here) failed_there.some) in
       client_fails n kept s.clients (length s.clients) c (omega arith) client.some client.there here
 
-  client_keeps : {A : Type 0} (f : ClientValue → A) → ((k : ℕ) (x : ClientValue) → f (failed_at k x) ≡ f x) → (c : ℕ) → f (client_in t.clients c) ≡ f (client_in s.clients c)
+  client_keeps : {A : Type 0} (f : ClientValue → A) → ((k : ℕ) (x : ClientValue) → f (failed_at k x) ≡ f x) → (c : ℕ) →
+      f (client_in t.clients c) ≡ f (client_in s.clients c)
   client_keeps f same c =
       elim (cases_eq (client_in s.clients c).home n) [
         | inl here ↦ ap f (client_over c here) ∙ same (kept c) (client_in s.clients c)
@@ -108,10 +109,10 @@ module _ (s : StateValue) (n : ℕ) (inodes : set.FinSet nat_cmp) (levels : TwoL
       ]
 
   -- logs of the nodes that are left
-  log_there : (m c : ℕ) → m ≢ n → (client_in s.clients c).home ≡ n → log_seen t.nodes m c ≡ up_to_number (log_seen s.nodes m c) (kept c)
+  log_there : (m c : ℕ) → m ≢ n → (client_in s.clients c).home ≡ n → log_in t.nodes m c ≡ up_to_number (log_in s.nodes m c) (kept c)
   log_there m c differs here = log_cut_left s.nodes n s.clients kept m c failed_there differs here
 
-  log_same : (m c : ℕ) → m ≢ n → (client_in s.clients c).home ≢ n → log_seen t.nodes m c ≡ log_seen s.nodes m c
+  log_same : (m c : ℕ) → m ≢ n → (client_in s.clients c).home ≢ n → log_in t.nodes m c ≡ log_in s.nodes m c
   log_same m c differs other = log_left s.nodes n s.clients kept m c failed_there differs other
 
   -- ---- parts of its shape
@@ -130,7 +131,9 @@ module _ (s : StateValue) (n : ℕ) (inodes : set.FinSet nat_cmp) (levels : TwoL
   left_none : (k : ℕ) → is_full_in (standings t) k ≡ false → (region_in t.nodes k).logs ≡ []
   left_none k away = elim (cases_eq k n) [
     | inl is ↦ subst (λ m. (region_in t.nodes m).logs ≡ []) (sym is) emptied
-    | inr other ↦ nil_from_length (region_in t.nodes k).logs (logs_left s.nodes n s.clients kept k failed_there other ∙ ap length (shape.no_logs k (sym (else_stands k other) ∙ away)))
+    | inr other ↦
+        nil_from_length (region_in t.nodes k).logs
+        (logs_left s.nodes n s.clients kept k failed_there other ∙ ap length (shape.no_logs k (sym (else_stands k other) ∙ away)))
   ]
 
   -- no client lives at the node, and the others live where they did
@@ -150,13 +153,13 @@ module _ (s : StateValue) (n : ℕ) (inodes : set.FinSet nat_cmp) (levels : TwoL
     | inr other ↦ rw (log_same k c differs other, client_same c other) (shape.at_home k c)
   ]
 
-  same_limit : (k c : ℕ) → k ≢ n → (log_seen t.nodes k c).log.limit ≡ (log_seen s.nodes k c).log.limit
+  same_limit : (k c : ℕ) → k ≢ n → (log_in t.nodes k c).log.limit ≡ (log_in s.nodes k c).log.limit
   same_limit k c differs = elim (cases_eq (client_in s.clients c).home n) [
     | inl here ↦ ap (λ l. l.log.limit) (log_there k c differs here)
     | inr other ↦ ap (λ l. l.log.limit) (log_same k c differs other)
   ]
 
-  left_limit : (k c : ℕ) → is_full_in (standings t) k ≡ true → IsNumber t.clients c → (log_seen t.nodes k c).log.limit ≡ s.limit
+  left_limit : (k c : ℕ) → is_full_in (standings t) k ≡ true → IsNumber t.clients c → (log_in t.nodes k c).log.limit ≡ s.limit
   left_limit k c f client =
       let other : k ≢ n = not_failed k f in
       same_limit k c other ∙ limit_seen s k c shape (sym (else_stands k other) ∙ f) record { some = client.some; there = subst (λ m. c ≤ m) clients_left client.there }
@@ -176,11 +179,11 @@ module _ (s : StateValue) (n : ℕ) (inodes : set.FinSet nat_cmp) (levels : TwoL
         elim (cases_eq (client_in s.clients c).home n) [
           | inl here ↦
               ap (λ l. l.log.records) (log_there m c (not_failed m f) here)
-              ∙ ap (λ k. take (kept c - k) (log_seen s.nodes m c).log.records) (same_first s m c sound (was_full m f))
+              ∙ ap (λ k. take (kept c - k) (log_in s.nodes m c).log.records) (same_first s m c sound (was_full m f))
           | inr other ↦ ap (λ l. l.log.records) (log_same m c (not_failed m f) other) ∙ sym (prefix_whole w n m c sound (was_full m f) (kept_elsewhere w n c other))
         ]
 
-    cut_first : (m c : ℕ) → is_full_in (standings t) m ≡ true → (log_seen t.nodes m c).log.first ≡ w.first c
+    cut_first : (m c : ℕ) → is_full_in (standings t) m ≡ true → (log_in t.nodes m c).log.first ≡ w.first c
     cut_first m c f =
         elim (cases_eq (client_in s.clients c).home n) [
           | inl here ↦ ap (λ l. l.log.first) (log_there m c (not_failed m f) here) ∙ same_first s m c sound (was_full m f)
@@ -192,8 +195,9 @@ module _ (s : StateValue) (n : ℕ) (inodes : set.FinSet nat_cmp) (levels : TwoL
     cut_received m c f =
         elim (cases_eq (client_in s.clients c).home n) [
           | inl here ↦
-              let low : (log_seen s.nodes m c).log.first ≤ kept c = subst (λ k. k ≤ kept c) (sym (same_first s m c sound (was_full m f))) (kept_from_first w n c sound) in
-              ap (λ l. log_end l.log) (log_there m c (not_failed m f) here) ∙ end_cut (log_seen s.nodes m c).log (kept c) low
+              let low : (log_in s.nodes m c).log.first ≤ kept c =
+              subst (λ k. k ≤ kept c) (sym (same_first s m c sound (was_full m f))) (kept_from_first w n c sound) in
+              ap (λ l. log_end l.log) (log_there m c (not_failed m f) here) ∙ end_cut (log_in s.nodes m c).log (kept c) low
           | inr other ↦
               let all : kept c ≡ end_of_log w c = kept_elsewhere w n c other in
               let known : w.received m c ≤ end_of_log w c = (sound.coherent.order m c (was_full m f)).known in
@@ -248,7 +252,7 @@ module _ (s : StateValue) (n : ℕ) (inodes : set.FinSet nat_cmp) (levels : TwoL
             | inr other ↦ inl (ap (λ x. not x.failed) (sym (client_same c other)) ∙ ap not over)
           ]
 
-      own_once_over : (c : ℕ) → (client_in t.clients c).failed ≡ true → own_seen t c ≡ log_seen t.nodes low c
+      own_once_over : (c : ℕ) → (client_in t.clients c).failed ≡ true → own_seen t c ≡ log_in t.nodes low c
       unfolding own_seen
       own_once_over c over = rw over refl
 
@@ -267,7 +271,7 @@ module _ (s : StateValue) (n : ℕ) (inodes : set.FinSet nat_cmp) (levels : TwoL
           let differs : (client_in s.clients c).home ≢ n = home_differs c unfailed in
           let before : (client_in s.clients c).failed ≡ false = ap (λ x. x.failed) (sym (client_same c differs)) ∙ unfailed in
           rw (unfailed, before)
-          (ap (λ x. log_seen t.nodes x.home c) (client_same c differs) ∙ log_same (client_in s.clients c).home c differs differs)
+          (ap (λ x. log_in t.nodes x.home c) (client_same c differs) ∙ log_same (client_in s.clients c).home c differs differs)
 
       own_records : (c : ℕ) → w'.records c ≡ take (kept c - w.first c) (w.records c)
       unfolding world_of
@@ -302,7 +306,7 @@ module _ (s : StateValue) (n : ℕ) (inodes : set.FinSet nat_cmp) (levels : TwoL
       own_marks c = so_many_marks (is_border (own c)) (own c) (own_marked s shape.marked c)
 
       abbrev lowest : ℕ → NumberedLog
-      lowest c = (log_seen s.nodes low c).log
+      lowest c = (log_in s.nodes low c).log
 
       lowest_first : (c : ℕ) → (lowest c).first ≡ (own c).first
       unfolding world_of
@@ -320,7 +324,8 @@ module _ (s : StateValue) (n : ℕ) (inodes : set.FinSet nat_cmp) (levels : TwoL
           ]
 
       -- of a client whose node fails now
-      cut_border : (c k : ℕ) → (client_in t.clients c).failed ≡ true → (client_in s.clients c).home ≡ n → k ≤ kept c → is_border (own_seen t c).log k ≡ is_border (own c) k
+      cut_border : (c k : ℕ) → (client_in t.clients c).failed ≡ true → (client_in s.clients c).home ≡ n → k ≤ kept c →
+          is_border (own_seen t c).log k ≡ is_border (own c) k
       unfolding world_of
       cut_border c k over here high =
           let cut : NumberedLog = without_tail (lowest c) (kept c) in
@@ -356,27 +361,29 @@ module _ (s : StateValue) (n : ℕ) (inodes : set.FinSet nat_cmp) (levels : TwoL
           ]
 
       -- a log that is cut has the groups that are left
-      marked_cut : (k c : ℕ) → k ≢ n → (client_in s.clients c).home ≡ n → IsMarked (is_border (own_seen t c).log) (log_seen t.nodes k c).log
+      marked_cut : (k c : ℕ) → k ≢ n → (client_in s.clients c).home ≡ n → IsMarked (is_border (own_seen t c).log) (log_in t.nodes k c).log
       marked_cut k c differs here =
-          let l : NumberedLog = (log_seen s.nodes k c).log in
+          let l : NumberedLog = (log_in s.nodes k c).log in
           let cut : NumberedLog = without_tail l (kept c) in
           subst (λ x. IsMarked (is_border (own_seen t c).log) x.log) (sym (log_there k c differs here))
           (marked_as (is_border (own c)) (is_border (own_seen t c).log) cut
           (λ j low high. sym (own_border c j (omega (arith, low, high, length-take (kept c - l.first) l.records))))
           (marked_tail (is_border (own c)) l (kept c) (shape.marked k c)))
 
-      marked_left : (k c : ℕ) → k ≢ n → (client_in s.clients c).home ≢ n → IsMarked (is_border (own_seen t c).log) (log_seen t.nodes k c).log
+      marked_left : (k c : ℕ) → k ≢ n → (client_in s.clients c).home ≢ n → IsMarked (is_border (own_seen t c).log) (log_in t.nodes k c).log
       marked_left k c differs other =
-          let l : NumberedLog = (log_seen s.nodes k c).log in
+          let l : NumberedLog = (log_in s.nodes k c).log in
           subst (λ x. IsMarked (is_border (own_seen t c).log) x.log) (sym (log_same k c differs other))
           (elim (cases_Bool (client_in t.clients c).failed) [
             | inl over ↦ marked_as (is_border (own c)) (is_border (own_seen t c).log) l (λ j low high. sym (left_border c j over other)) (shape.marked k c)
             | inr unfailed ↦ subst (λ x. IsMarked (is_border x.log) l) (sym (own_while_lives c unfailed)) (shape.marked k c)
           ])
 
-      left_marked : (k c : ℕ) → IsMarked (is_border (own_seen t c).log) (log_seen t.nodes k c).log
+      left_marked : (k c : ℕ) → IsMarked (is_border (own_seen t c).log) (log_in t.nodes k c).log
       left_marked k c = elim (cases_eq k n) [
-        | inl is ↦ subst (λ m. IsMarked (is_border (own_seen t c).log) (log_seen t.nodes m c).log) (sym is) (subst (λ l. IsMarked (is_border (own_seen t c).log) l.log) (sym (no_log_in t.nodes n c emptied)) refl)
+        | inl is ↦
+            subst (λ m. IsMarked (is_border (own_seen t c).log) (log_in t.nodes m c).log) (sym is)
+            (subst (λ l. IsMarked (is_border (own_seen t c).log) l.log) (sym (no_log_in t.nodes n c emptied)) refl)
         | inr differs ↦ (elim (cases_eq (client_in s.clients c).home n) [
           | inl here ↦ marked_cut k c differs here
           | inr other ↦ marked_left k c differs other
@@ -441,10 +448,12 @@ module _ (s : StateValue) (n : ℕ) (inodes : set.FinSet nat_cmp) (levels : TwoL
           home = homes;
           clients = revoked;
           nodes = nodes;
-          cut_here = λ c i here. ap (λ x. cut_of t.cuts c x i) (client_over c here) ∙ cut_once_failed t.cuts c (kept c) (client_in s.clients c) i ∙ sym (own_end c);
+          cut_here =
+              λ c i here. ap (λ x. cut_of t.cuts c x i) (client_over c here) ∙ cut_once_failed t.cuts c (kept c) (client_in s.clients c) i ∙ sym (own_end c);
           cut_else = λ c i other.
               ap (λ x. cut_of t.cuts c x i) (client_same c other)
-              ∙ unasked_cut s.cuts asked c (client_in s.clients c) i (left_else s (λ d. lives s.levels.home d n) asked left c i (lives_elsewhere s n c leases other));
+              ∙ unasked_cut s.cuts asked c (client_in s.clients c) i
+              (left_else s (λ d. lives s.levels.home d n) asked left c i (lives_elsewhere s n c leases other));
         }
 
   -- ---- its shape is one

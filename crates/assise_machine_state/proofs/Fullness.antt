@@ -12,13 +12,12 @@ use Rattle.assise_model_world.proofs.WorldObserved.{received_by_all-below}
 use Rattle.assise_model_history.specs.State.{down_from}
 use Rattle.assise_model_history.proofs.TracesKeep.{of_node}
 use Rattle.assise_machine_state.specs.ClientValues.{ClientValue, client_in, no_client}
-use Rattle.assise_machine_state.specs.NodeValues.{HasLog, log_in, log_seen, region_in}
+use Rattle.assise_machine_state.specs.NodeValues.{HasLog, log_in, region_in}
 use Rattle.assise_machine_state.specs.Observed.{full_in, is_full_in, observed, world_of}
 use Rattle.assise_machine_state.specs.Places.{IsNumber, item_at}
 use Rattle.assise_machine_state.specs.Invariant.{ShapeInvariant}
 use Rattle.assise_machine_state.specs.StateValues.{StateValue, standings}
-use Rattle.assise_machine_state.proofs.LogChanges.{log_number}
-use Rattle.assise_machine_state.proofs.ItemSeen.{is_seen, seen_nothing, seen_number}
+use Rattle.assise_machine_state.proofs.ItemSeen.{seen_nothing, seen_number}
 use Rattle.assise_machine_state.proofs.Standings.{numbers, stands_so}
 
 -- ---- the list of full nodes
@@ -57,16 +56,12 @@ has_log s n c shape f client =
     let all : length (region_in s.nodes n).logs ≡ length s.clients = shape.logs n f in
     record { node = there; client = record { some = client.some; there = subst (λ k. c ≤ k) (sym all) client.there } }
 
-pub log_is : (s : StateValue) (n c : ℕ) → HasLog s.nodes n c → log_seen s.nodes n c ≡ log_in s.nodes n c
-unfolding log_seen
-log_is s n c has = is_seen no_log (region_in s.nodes n).logs c (log_number s.nodes n c has)
-
 -- a node that isn't full has no log
-pub no_log_in : (rs : List RegionValue) (n c : ℕ) → (region_in rs n).logs ≡ [] → log_seen rs n c ≡ no_log
-unfolding log_seen
+pub no_log_in : (rs : List RegionValue) (n c : ℕ) → (region_in rs n).logs ≡ [] → log_in rs n c ≡ no_log
+unfolding log_in
 no_log_in rs n c none = ap (λ ls. item_at no_log ls c) none ∙ seen_nothing no_log c
 
-pub no_log_there : (s : StateValue) (n c : ℕ) → ShapeInvariant s → is_full_in (standings s) n ≡ false → log_seen s.nodes n c ≡ no_log
+pub no_log_there : (s : StateValue) (n c : ℕ) → ShapeInvariant s → is_full_in (standings s) n ≡ false → log_in s.nodes n c ≡ no_log
 no_log_there s n c shape away = no_log_in s.nodes n c (shape.no_logs n away)
 
 -- ---- clients that live
@@ -83,13 +78,14 @@ pub lives_number : (s : StateValue) (c : ℕ) → (world_of s).lives c ≡ true 
 lives_number s c lives = unfailed_number s.clients c (lives_unfailed s c lives)
 
 -- its home is full
-pub home_full : (s : StateValue) (c : ℕ) → ShapeInvariant s → (client_in s.clients c).failed ≡ false → is_full_in (standings s) (client_in s.clients c).home ≡ true
+pub home_full : (s : StateValue) (c : ℕ) → ShapeInvariant s → (client_in s.clients c).failed ≡ false →
+    is_full_in (standings s) (client_in s.clients c).home ≡ true
 home_full s c shape unfailed =
     let home : ℕ = (client_in s.clients c).home in
-    let here : (log_seen s.nodes home c).at_home ≡ true = shape.at_home home c ∙ rw (unfailed, eq-eqb home home refl) refl in
+    let here : (log_in s.nodes home c).at_home ≡ true = shape.at_home home c ∙ rw (unfailed, eq-eqb home home refl) refl in
     elim (cases_Bool (is_full_in (standings s) home)) [
       | inl f ↦ f
-      | inr away ↦ (let none : log_seen s.nodes home c ≡ no_log = no_log_there s home c shape away in absurd (cc (ap (λ l. l.at_home) none, here)))
+      | inr away ↦ (let none : log_in s.nodes home c ≡ no_log = no_log_there s home c shape away in absurd (cc (ap (λ l. l.at_home) none, here)))
     ]
 
 -- ---- a full node's log of a client is a prefix of the client's own, and begins where that does
@@ -97,7 +93,7 @@ home_full s c shape unfailed =
 pub prefix_length : (w : World) (n c : ℕ) → WorldInvariant w → Full w n → length (w.log n c) ≡ min (w.received n c - w.first c) (length (w.records c))
 prefix_length w n c sound f = ap length (sound.prefixes n c f) ∙ length-take (w.received n c - w.first c) (w.records c)
 
-pub same_first : (s : StateValue) (n c : ℕ) → WorldInvariant (world_of s) → Full (world_of s) n → (log_seen s.nodes n c).log.first ≡ (world_of s).first c
+pub same_first : (s : StateValue) (n c : ℕ) → WorldInvariant (world_of s) → Full (world_of s) n → (log_in s.nodes n c).log.first ≡ (world_of s).first c
 unfolding world_of end_of_log
 same_first s n c sound f =
     let order = sound.coherent.order n c f in

@@ -9,6 +9,7 @@ use Rattle.assise_machine_state.specs.ClientValues.{ClientValue, client_in}
 use Rattle.assise_machine_state.specs.NodeValues.{begun_log, changed_in, hot_capacities, new_regions, no_region, region_in, with_call_in, with_hot_in, with_log_in, with_logs_begun, with_prefixes_dropped, with_region, with_tails_cut, without_logs}
 use Rattle.assise_machine_state.specs.Places.{IsNumber, item_at}
 use Rattle.assise_machine_state.proofs.ItemSeen.{is_seen, is_set}
+use Rattle.assise_machine_state.proofs.LogChanges.{region_with}
 
 -- ---- at one node
 
@@ -23,16 +24,18 @@ region_keeps rs zero r same = refl
 region_keeps rs (suc k) r same = kept_at rs k r same
 
 pub log_keeps : (rs : List RegionValue) (n c : ℕ) (l : ReceivedLog) → hot_capacities (with_log_in rs n c l) ≡ hot_capacities rs
-log_keeps rs n c l = region_keeps rs n (with_log (region_in rs n) c l) refl
+log_keeps rs n c l = region_keeps rs n (region_with rs n c (region_in rs n).inodes l) refl
 
 pub set_at : (rs : List RegionValue) (n capacity : ℕ) → hot_capacities (with_hot_in rs n capacity) ≡ slice_set (hot_capacities rs) (n - 1) capacity
 set_at rs n capacity = map-set (λ r. r.capacity) rs (n - 1) (with_hot_capacity (slice_index_or rs (n - 1) no_region) capacity)
 
 -- as the code sets it
-pub hot_as : (rs : List RegionValue) (n capacity : ℕ) → IsNumber rs n → with_region rs n (with_hot_capacity (region_in rs n) capacity) ≡ with_hot_in rs n capacity
+pub hot_as : (rs : List RegionValue) (n capacity : ℕ) → IsNumber rs n →
+    with_region rs n (with_hot_capacity (region_in rs n) capacity) ≡ with_hot_in rs n capacity
 unfolding region_in
 hot_as rs n capacity there =
-    sym (is_set (with_hot_capacity (region_in rs n) capacity) rs n there) ∙ ap (λ r. slice_set rs (n - 1) (with_hot_capacity r capacity)) (is_seen no_region rs n there)
+    sym (is_set (with_hot_capacity (region_in rs n) capacity) rs n there)
+    ∙ ap (λ r. slice_set rs (n - 1) (with_hot_capacity r capacity)) (is_seen no_region rs n there)
 
 -- ---- where something is so, or nothing changes
 

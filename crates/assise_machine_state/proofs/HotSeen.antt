@@ -9,7 +9,7 @@ use Rattle.assise_model_history.specs.Numbered.{kept_numbered}
 use Rattle.assise_model_events.specs.Machine.{Machine, with_hot}
 use Rattle.assise_machine_state.specs.Changes.{after_hot}
 use Rattle.assise_machine_state.specs.ClientValues.{client_in}
-use Rattle.assise_machine_state.specs.NodeValues.{log_seen, no_region, region_in}
+use Rattle.assise_machine_state.specs.NodeValues.{log_in, no_region, region_in}
 use Rattle.assise_machine_state.specs.Observed.{full_in, observed, own_node, own_seen, world_of}
 use Rattle.assise_machine_state.specs.Places.{item_at}
 use Rattle.assise_machine_state.specs.Invariant.{CutsInvariant, ShapeInvariant}
@@ -64,11 +64,11 @@ module _ (s : StateValue) (n capacity : ℕ) where
   logs_same k = place_kept (λ r. r.logs) no_region changed s.nodes (n - 1) k refl
 
   pub machine_set : observed t ≡ with_hot (observed s) n capacity
-  unfolding observed world_of own_seen log_seen observed_by leases_of
+  unfolding observed world_of own_seen log_in observed_by leases_of
   machine_set = λ i. observed_by s (set_at s.nodes n capacity i) (λ k. inodes_same k i) (λ k. logs_same k i)
 
   pub shape_kept : ShapeInvariant s → ShapeInvariant t
-  unfolding log_seen own_seen
+  unfolding log_in own_seen
   shape_kept shape = shaped_as s t shape record {
     nodes = length-set s.nodes (n - 1) changed;
     members = refl;

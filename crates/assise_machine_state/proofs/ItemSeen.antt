@@ -1,5 +1,5 @@
 -- What is seen of a list after a change of the item of one number.
-use Rattle.std.proofs.Common.{◌≡◌, ◌≢◌, ◌⊎◌, ℕ, zero, suc, ◌-◌, ◌<◌, ◌≤◌, List, [], ◌∷◌, ◌++◌, get_or, length, set, inl, inr, refl, ap, sym, subst, ◌∙◌, arith}
+use Rattle.std.proofs.Common.{◌≡◌, ◌≢◌, ℕ, zero, suc, ◌-◌, ◌<◌, ◌≤◌, List, [], ◌∷◌, ◌++◌, get_or, length, set, inl, inr, refl, ap, sym, subst, ◌∙◌, arith}
 use Rattle.std.proofs.lemmas.Bool.{cases_eq, cases_lt}
 use Rattle.std.proofs.lemmas.List.{get_or-set_other, get_or-set_same, get_or_append_left, get_or_default, get_or_past, get_or_push, length-set, length_push, set-get_or, set-set, set_past}
 use Rattle.assise_machine_state.specs.ClientValues.{ClientValue, client_in, no_client, with_client}
@@ -42,7 +42,8 @@ seen_else none x xs (suc k) (suc j) there other = get_or-set_other xs k j x none
 pub seen_found : {X : Type 0} (none x : X) (items xs : List X) (n : ℕ) → items ≡ xs → IsNumber xs n → x ≡ get_or items (n - 1) x → x ≡ item_at none xs n
 unfolding item_at
 seen_found none x items xs zero same n is = absurd (omega (arith, n.some))
-seen_found none x items xs (suc k) same n is = is ∙ ap (λ ys. get_or ys (suc k - 1) x) same ∙ rw (less_one k) (get_or_default xs k x none (omega (arith, n.there)))
+seen_found none x items xs (suc k) same n is =
+    is ∙ ap (λ ys. get_or ys (suc k - 1) x) same ∙ rw (less_one k) (get_or_default xs k x none (omega (arith, n.there)))
 
 -- an item that is put where it is
 pub seen_back : {X : Type 0} (none : X) (xs : List X) (n : ℕ) → with_item xs n (item_at none xs n) ≡ xs
@@ -64,30 +65,17 @@ kept_at f none x xs k j same =
     ]
 
 -- the same of a place
-pub place_kept : {X A : Type 0} (f : X → A) (none x : X) (xs : List X) (k d : ℕ) → f x ≡ f (get_or xs k none) → f (item_at none (set xs k x) d) ≡ f (item_at none xs d)
+pub place_kept : {X A : Type 0} (f : X → A) (none x : X) (xs : List X) (k d : ℕ) → f x ≡ f (get_or xs k none) →
+    f (item_at none (set xs k x) d) ≡ f (item_at none xs d)
 unfolding item_at
 place_kept f none x xs k zero same = refl
 place_kept f none x xs k (suc j) same = kept_at f none x xs k j same
 
-pub seen_kept : {X A : Type 0} (f : X → A) (none x : X) (xs : List X) (n d : ℕ) → f x ≡ f (item_at none xs n) → f (item_at none (with_item xs n x) d) ≡ f (item_at none xs d)
+pub seen_kept : {X A : Type 0} (f : X → A) (none x : X) (xs : List X) (n d : ℕ) → f x ≡ f (item_at none xs n) →
+    f (item_at none (with_item xs n x) d) ≡ f (item_at none xs d)
 unfolding item_at
 seen_kept f none x xs zero d same = refl
 seen_kept f none x xs (suc k) d same = place_kept f none x xs k d same
-
--- each item is the new one or the old one
-seen_either : {X : Type 0} (none x : X) (xs : List X) (n d : ℕ) → (item_at none (with_item xs n x) d ≡ x) ⊎ (item_at none (with_item xs n x) d ≡ item_at none xs d)
-unfolding item_at
-seen_either none x xs n zero = inr refl
-seen_either none x xs zero (suc j) = inr refl
-seen_either none x xs (suc k) (suc j) =
-    elim (cases_eq j k) [
-      | inl is ↦
-          elim (cases_lt k (length xs)) [
-            | inl low ↦ inl (subst (λ i. get_or (set xs k x) i none ≡ x) (sym is) (get_or-set_same xs k x none low))
-            | inr past ↦ inr (ap (λ ys. get_or ys j none) (set_past xs k x past))
-          ]
-      | inr other ↦ inr (get_or-set_other xs k j x none other)
-    ]
 
 -- ---- where there is no item
 
@@ -129,10 +117,6 @@ pub client_same : {A : Type 0} (f : ClientValue → A) (cs : List ClientValue) (
     f (client_in (with_client cs c x) d) ≡ f (client_in cs d)
 unfolding client_in
 client_same f cs c x same d = seen_kept f no_client x cs c d same
-
-pub client_either : (cs : List ClientValue) (c : ℕ) (x : ClientValue) (d : ℕ) → (client_in (with_client cs c x) d ≡ x) ⊎ (client_in (with_client cs c x) d ≡ client_in cs d)
-unfolding client_in
-client_either cs c x d = seen_either no_client x cs c d
 
 -- ---- one item more
 

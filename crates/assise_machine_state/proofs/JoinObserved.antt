@@ -24,7 +24,7 @@ use Rattle.assise_model_members.specs.Returns.{Rejoins}
 use Rattle.assise_model_history.proofs.NumberedCalls.{kept_return}
 use Rattle.assise_machine_state.specs.Changes.{after_join}
 use Rattle.assise_machine_state.specs.ClientValues.{client_in}
-use Rattle.assise_machine_state.specs.NodeValues.{away, log_seen, region_in}
+use Rattle.assise_machine_state.specs.NodeValues.{away, log_in, region_in}
 use Rattle.assise_machine_state.specs.Observed.{is_full_in, own_seen, world_of}
 use Rattle.assise_machine_state.specs.Places.{IsNumber, item_at}
 use Rattle.assise_machine_state.specs.Invariant.{IsMarked, ShapeInvariant}
@@ -40,7 +40,7 @@ use Rattle.assise_machine_state.proofs.ItemSeen.{length-with}
 -- ---- a client whose node failed: all full nodes have all that is left
 
 left_records : (s : StateValue) (m c : ℕ) → WorldInvariant (world_of s) → is_full_in (standings s) m ≡ true → (client_in s.clients c).failed ≡ true →
-    (log_seen s.nodes m c).log.records ≡ (world_of s).records c
+    (log_in s.nodes m c).log.records ≡ (world_of s).records c
 unfolding world_of end_of_log
 left_records s m c sound f over =
     let w : World = world_of s in
@@ -92,15 +92,15 @@ module _ (s : StateValue) (n since donor : ℕ) (stale : set.FinSet nat_cmp) (sh
   inodes_stay : (k : ℕ) → (region_in t.nodes k).inodes ≡ (region_in s.nodes k).inodes
   inodes_stay k = region_kept s.nodes n filled (λ r. r.inodes) refl k
 
-  log_stays : (k c : ℕ) → k ≢ n → log_seen t.nodes k c ≡ log_seen s.nodes k c
+  log_stays : (k c : ℕ) → k ≢ n → log_in t.nodes k c ≡ log_in s.nodes k c
   log_stays k c other = log_away s.nodes n filled node_there k c other
 
   all_away : (ls : List ReceivedLog) (c : ℕ) → item_at no_log (map away ls) c ≡ away (item_at no_log ls c)
   unfolding item_at
   all_away ls c = get_or-map away (no_log ∷ ls) c no_log
 
-  log_filled : (c : ℕ) → log_seen t.nodes n c ≡ away (log_seen s.nodes donor c)
-  unfolding log_seen
+  log_filled : (c : ℕ) → log_in t.nodes n c ≡ away (log_in s.nodes donor c)
+  unfolding log_in
   log_filled c =
       ap (λ r. item_at no_log r.logs c) filled_seen
       ∙ all_away (region_in s.nodes donor).logs c
@@ -128,10 +128,10 @@ module _ (s : StateValue) (n since donor : ℕ) (stale : set.FinSet nat_cmp) (sh
     | inr other ↦ ap (λ r. r.logs) (region_stays k other) ∙ shape.no_logs k (sym (full_same k other) ∙ away)
   ]
 
-  limits : (k c : ℕ) → is_full_in (standings t) k ≡ true → IsNumber s.clients c → (log_seen t.nodes k c).log.limit ≡ s.limit
+  limits : (k c : ℕ) → is_full_in (standings t) k ≡ true → IsNumber s.clients c → (log_in t.nodes k c).log.limit ≡ s.limit
   limits k c f client = elim (cases_eq k n) [
     | inl is ↦
-        subst (λ m. (log_seen t.nodes m c).log.limit ≡ s.limit) (sym is)
+        subst (λ m. (log_in t.nodes m c).log.limit ≡ s.limit) (sym is)
         (ap (λ l. l.log.limit) (log_filled c) ∙ limit_seen s donor c shape donor_stands client)
     | inr other ↦ ap (λ l. l.log.limit) (log_stays k c other) ∙ limit_seen s k c shape (sym (full_same k other) ∙ f) client
   ]
@@ -156,20 +156,22 @@ module _ (s : StateValue) (n since donor : ℕ) (stale : set.FinSet nat_cmp) (sh
 
   -- each client's own log stays
   module _ (sound : WorldInvariant w) where
-    from_first : (m c : ℕ) → is_full_in (standings s) m ≡ true → (log_seen s.nodes m c).log.first ≡ w.first c
+    from_first : (m c : ℕ) → is_full_in (standings s) m ≡ true → (log_in s.nodes m c).log.first ≡ w.first c
     from_first m c f = same_first s m c sound (seen_full s m f)
 
-    full_records : (m c : ℕ) → is_full_in (standings t) m ≡ true → (client_in s.clients c).failed ≡ true → (log_seen t.nodes m c).log.records ≡ w.records c
+    full_records : (m c : ℕ) → is_full_in (standings t) m ≡ true → (client_in s.clients c).failed ≡ true → (log_in t.nodes m c).log.records ≡ w.records c
     full_records m c f over =
         elim (cases_eq m n) [
-          | inl is ↦ subst (λ k. (log_seen t.nodes k c).log.records ≡ w.records c) (sym is) (ap (λ l. l.log.records) (log_filled c) ∙ left_records s donor c sound donor_stands over)
+          | inl is ↦
+              subst (λ k. (log_in t.nodes k c).log.records ≡ w.records c) (sym is)
+              (ap (λ l. l.log.records) (log_filled c) ∙ left_records s donor c sound donor_stands over)
           | inr other ↦ ap (λ l. l.log.records) (log_stays m c other) ∙ left_records s m c sound (sym (full_same m other) ∙ f) over
         ]
 
-    full_first : (m c : ℕ) → is_full_in (standings t) m ≡ true → (log_seen t.nodes m c).log.first ≡ w.first c
+    full_first : (m c : ℕ) → is_full_in (standings t) m ≡ true → (log_in t.nodes m c).log.first ≡ w.first c
     full_first m c f =
         elim (cases_eq m n) [
-          | inl is ↦ subst (λ k. (log_seen t.nodes k c).log.first ≡ w.first c) (sym is) (ap (λ l. l.log.first) (log_filled c) ∙ from_first donor c donor_stands)
+          | inl is ↦ subst (λ k. (log_in t.nodes k c).log.first ≡ w.first c) (sym is) (ap (λ l. l.log.first) (log_filled c) ∙ from_first donor c donor_stands)
           | inr other ↦ ap (λ l. l.log.first) (log_stays m c other) ∙ from_first m c (sym (full_same m other) ∙ f)
         ]
 
@@ -180,7 +182,7 @@ module _ (s : StateValue) (n since donor : ℕ) (stale : set.FinSet nat_cmp) (sh
     unfolding own_seen
     at_home c unfailed = rw unfailed (log_stays (client_in s.clients c).home c (differs (client_in s.clients c).home (home_full s c shape unfailed)))
 
-    own_left : (c : ℕ) → (client_in s.clients c).failed ≡ true → own_seen t c ≡ log_seen t.nodes (lowest_full (standings t)) c
+    own_left : (c : ℕ) → (client_in s.clients c).failed ≡ true → own_seen t c ≡ log_in t.nodes (lowest_full (standings t)) c
     unfolding own_seen
     own_left c over = rw over refl
 
@@ -203,16 +205,21 @@ module _ (s : StateValue) (n since donor : ℕ) (stale : set.FinSet nat_cmp) (sh
     -- ---- groups
 
     -- all full nodes have all of a log whose client's node failed, so each has its borders
-    left_border : (m c k : ℕ) → is_full_in (standings s) m ≡ true → (client_in s.clients c).failed ≡ true → is_border (log_seen s.nodes m c).log k ≡ is_border (own_seen s c).log k
+    left_border : (m c k : ℕ) → is_full_in (standings s) m ≡ true → (client_in s.clients c).failed ≡ true →
+        is_border (log_in s.nodes m c).log k ≡ is_border (own_seen s c).log k
     unfolding world_of end_of_log
     left_border m c k f over =
         let all : w.received m c ≡ end_of_log w c = sound.left m c (ap not over) (seen_full s m f) in
-        borders_same (own_seen s c).log (log_seen s.nodes m c).log k (so_many_marks (is_border (own_seen s c).log) (own_seen s c).log (own_marked s shape.marked c)) (shape.marked m c) (from_first m c f) all
+        borders_same (own_seen s c).log (log_in s.nodes m c).log k
+        (so_many_marks (is_border (own_seen s c).log) (own_seen s c).log (own_marked s shape.marked c)) (shape.marked m c) (from_first m c f) all
 
-    full_border : (m c k : ℕ) → is_full_in (standings t) m ≡ true → (client_in s.clients c).failed ≡ true → is_border (log_seen t.nodes m c).log k ≡ is_border (own_seen s c).log k
+    full_border : (m c k : ℕ) → is_full_in (standings t) m ≡ true → (client_in s.clients c).failed ≡ true →
+        is_border (log_in t.nodes m c).log k ≡ is_border (own_seen s c).log k
     full_border m c k f over =
         elim (cases_eq m n) [
-          | inl is ↦ subst (λ j. is_border (log_seen t.nodes j c).log k ≡ is_border (own_seen s c).log k) (sym is) (ap (λ l. is_border l.log k) (log_filled c) ∙ left_border donor c k donor_stands over)
+          | inl is ↦
+              subst (λ j. is_border (log_in t.nodes j c).log k ≡ is_border (own_seen s c).log k) (sym is)
+              (ap (λ l. is_border l.log k) (log_filled c) ∙ left_border donor c k donor_stands over)
           | inr other ↦ ap (λ l. is_border l.log k) (log_stays m c other) ∙ left_border m c k (sym (full_same m other) ∙ f) over
         ]
 
@@ -224,13 +231,16 @@ module _ (s : StateValue) (n since donor : ℕ) (stale : set.FinSet nat_cmp) (sh
         ]
 
     -- the node's logs have them too
-    marked_then : (k c : ℕ) → IsMarked (is_border (own_seen t c).log) (log_seen t.nodes k c).log
+    marked_then : (k c : ℕ) → IsMarked (is_border (own_seen t c).log) (log_in t.nodes k c).log
     marked_then k c =
         let again : (l : NumberedLog) → IsMarked (is_border (own_seen s c).log) l → IsMarked (is_border (own_seen t c).log) l =
         λ l. marked_as (is_border (own_seen s c).log) (is_border (own_seen t c).log) l (λ j low high. sym (own_border c j)) in
         elim (cases_eq k n) [
-          | inl is ↦ subst (λ m. IsMarked (is_border (own_seen t c).log) (log_seen t.nodes m c).log) (sym is) (subst (λ l. IsMarked (is_border (own_seen t c).log) l.log) (sym (log_filled c)) (again (log_seen s.nodes donor c).log (shape.marked donor c)))
-          | inr other ↦ subst (λ l. IsMarked (is_border (own_seen t c).log) l.log) (sym (log_stays k c other)) (again (log_seen s.nodes k c).log (shape.marked k c))
+          | inl is ↦
+              subst (λ m. IsMarked (is_border (own_seen t c).log) (log_in t.nodes m c).log) (sym is)
+              (subst (λ l. IsMarked (is_border (own_seen t c).log) l.log) (sym (log_filled c)) (again (log_in s.nodes donor c).log (shape.marked donor c)))
+          | inr other ↦
+              subst (λ l. IsMarked (is_border (own_seen t c).log) l.log) (sym (log_stays k c other)) (again (log_in s.nodes k c).log (shape.marked k c))
         ]
 
     -- who is full then

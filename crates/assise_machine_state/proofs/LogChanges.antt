@@ -1,14 +1,16 @@
 -- What is seen of nodes after a change of one of them, of one of its logs, or of one client's logs at all of them.
-use Rattle.std.proofs.Common.{◌≡◌, ◌≢◌, ℕ, ◌-◌, ◌<◌, nat_le, Bool, List, [], ◌∷◌, length, get_or, map, inl, inr, refl, ap, sym, subst, ◌∙◌, append-nil, Result, OnErr, set}
+use Rattle.std.proofs.Common.{◌≡◌, ◌≢◌, ℕ, ◌-◌, ◌<◌, nat_le, Bool, List, [], ◌∷◌, length, get_or, map, inl, inr, refl, ap, sym, subst, ◌∙◌, append-nil, Result, OnErr, set, take}
 use Rattle.std.proofs.Math.ListN.{get_or-map}
 use Rattle.std.proofs.lemmas.Bool.{cases_Bool, cases_eq, le-leb, leb-false, leb-true}
 use Rattle.std.proofs.lemmas.List.{length-set}
 use Rattle.std.proofs.lemmas.Result.{on_err_weaker}
 use Rattle.assise_inode_table.specs.Contents.{InodeMap}
-use Rattle.assise_digest.specs.Region.{ReceivedLog, RegionValue, log_of, no_log}
-use Rattle.assise_machine_state.specs.NodeValues.{HasLog, changed_in, log_in, log_seen, no_region, region_in, with_records, with_region}
-use Rattle.assise_machine_state.specs.Places.{IsNumber, item_at}
-use Rattle.assise_machine_state.proofs.ItemSeen.{is_seen, is_set, place_kept, seen_back, seen_else, seen_found, seen_here, seen_kept, seen_past}
+use Rattle.assise_inode_table.specs.Effects.{all_applied}
+use Rattle.assise_digest.specs.Region.{ReceivedLog, RegionValue, ahead, digested_by, digested_further, log_of, no_log, with_log}
+use Rattle.assise_machine_state.specs.NodeValues.{HasLog, changed_in, log_in, no_region, region_in, with_digested_in, with_log_in, with_records, with_region}
+use Rattle.assise_machine_state.specs.Places.{IsNumber, item_at, with_item}
+use Rattle.assise_machine_state.proofs.ItemSeen.{is_seen, is_set, length-with, place_kept, seen_back, seen_else, seen_found, seen_here, seen_kept, seen_past}
+use Rattle.assise_record.specs.Records.{all_effects}
 
 -- a log into which nothing comes stays
 pub none_more : (border : ℕ → Bool) (l : ReceivedLog) → with_records border l [] ≡ l
@@ -39,8 +41,8 @@ module _ (rs : List RegionValue) (n : ℕ) (r : RegionValue) where
     unfolding region_in
     region_else m other = seen_else no_region r rs n m there other
 
-    pub log_away : (m d : ℕ) → m ≢ n → log_seen (with_region rs n r) m d ≡ log_seen rs m d
-    unfolding log_seen
+    pub log_away : (m d : ℕ) → m ≢ n → log_in (with_region rs n r) m d ≡ log_in rs m d
+    unfolding log_in
     log_away m d other = ap (λ x. item_at no_log x.logs d) (region_else m other)
 
 -- what is found of node n
@@ -53,11 +55,16 @@ pub region_back : (rs : List RegionValue) (n : ℕ) → with_region rs n (region
 unfolding region_in
 region_back rs n = seen_back no_region rs n
 
+pub log_back : (rs : List RegionValue) (n c : ℕ) → with_log_in rs n c (log_in rs n c) ≡ rs
+unfolding log_in
+log_back rs n c = ap (λ ls. with_region rs n (record (region_in rs n) { logs = ls })) (seen_back no_log (region_in rs n).logs c) ∙ region_back rs n
+
 -- what is refused changes nothing
-pub refused_back : {T E : Type 0} (a : Result T E) (rs : List RegionValue) (n : ℕ) (now : RegionValue) {was : RegionValue} → was ≡ region_in rs n → OnErr a (now ≡ was) → OnErr a (with_region rs n now ≡ rs)
+pub refused_back : {T E : Type 0} (a : Result T E) (rs : List RegionValue) (n : ℕ) (now : RegionValue) {was : RegionValue} → was ≡ region_in rs n →
+    OnErr a (now ≡ was) → OnErr a (with_region rs n now ≡ rs)
 refused_back a rs n now found kept = on_err_weaker a (λ same. ap (with_region rs n) (same ∙ found) ∙ region_back rs n) kept
 
--- ---- one log of a node changes
+-- ---- one log of a region
 
 log_set : (l : ReceivedLog) (ls : List ReceivedLog) (c : ℕ) → IsNumber ls c → item_at no_log (set ls (c - 1) l) c ≡ l
 log_set l ls c has = ap (λ ks. item_at no_log ks c) (is_set l ls c has) ∙ seen_here no_log l ls c has
@@ -65,38 +72,61 @@ log_set l ls c has = ap (λ ks. item_at no_log ks c) (is_set l ls c has) ∙ see
 log_other : (l : ReceivedLog) (ls : List ReceivedLog) (c d : ℕ) → IsNumber ls c → d ≢ c → item_at no_log (set ls (c - 1) l) d ≡ item_at no_log ls d
 log_other l ls c d has other = ap (λ ks. item_at no_log ks d) (is_set l ls c has) ∙ seen_else no_log l ls c d has other
 
+-- the log that the code finds in a region
+pub log_found : (rs : List RegionValue) (n c : ℕ) {r : RegionValue} → HasLog rs n c → r ≡ region_in rs n → log_of r c ≡ log_in rs n c
+unfolding log_in
+log_found rs n c has found = ap (λ r. log_of r c) found ∙ sym (is_seen no_log (region_in rs n).logs c (log_number rs n c has))
+
+-- and the change of it
+pub log_put : (rs : List RegionValue) (n c : ℕ) {r : RegionValue} (l : ReceivedLog) → HasLog rs n c → r ≡ region_in rs n →
+    with_region rs n (with_log r c l) ≡ with_log_in rs n c l
+log_put rs n c l has found =
+    ap (λ r. with_region rs n (with_log r c l)) found
+    ∙ ap (λ ls. with_region rs n (record (region_in rs n) { logs = ls })) (is_set l (region_in rs n).logs c (log_number rs n c has))
+
+pub digested_put : (rs : List RegionValue) (n c count : ℕ) {r : RegionValue} → HasLog rs n c → r ≡ region_in rs n →
+    with_region rs n (digested_by r c count) ≡ with_digested_in rs n c count
+digested_put rs n c count has found =
+    let is = log_found rs n c has refl in
+    ap (λ r. with_region rs n (digested_by r c count)) found
+    ∙ (λ i. with_region rs n (record (region_in rs n) {
+      inodes = all_applied (region_in rs n).inodes (all_effects (take count (ahead (is i))));
+      logs = is_set (digested_further (is i) count) (region_in rs n).logs c (log_number rs n c has) i;
+    }))
+
 -- ---- node n has these inodes, and this log of client c
 
 abbrev pub region_with : List RegionValue → (n c : ℕ) → InodeMap → ReceivedLog → RegionValue
-region_with rs n c inodes l = record (region_in rs n) { inodes = inodes; logs = set (region_in rs n).logs (c - 1) l }
+region_with rs n c inodes l = record (region_in rs n) { inodes = inodes; logs = with_item (region_in rs n).logs c l }
 
 abbrev pub log_changed : List RegionValue → (n c : ℕ) → InodeMap → ReceivedLog → List RegionValue
 log_changed rs n c inodes l = with_region rs n (region_with rs n c inodes l)
 
 module _ (rs : List RegionValue) (n c : ℕ) (inodes : InodeMap) (l : ReceivedLog) where
   pub logs_count : (m : ℕ) → length (region_in (log_changed rs n c inodes l) m).logs ≡ length (region_in rs m).logs
-  logs_count m = region_kept rs n (region_with rs n c inodes l) (λ r. length r.logs) (length-set (region_in rs n).logs (c - 1) l) m
+  logs_count m = region_kept rs n (region_with rs n c inodes l) (λ r. length r.logs) (length-with (region_in rs n).logs c l) m
 
   -- what the log keeps stays of all logs
-  pub log_same : {A : Type 0} (f : ReceivedLog → A) (m d : ℕ) → f l ≡ f (log_in rs n c) → f (log_seen (log_changed rs n c inodes l) m d) ≡ f (log_seen rs m d)
-  unfolding log_seen
-  log_same f m d same = region_kept rs n (region_with rs n c inodes l) (λ r. f (item_at no_log r.logs d)) (place_kept f no_log l (region_in rs n).logs (c - 1) d same) m
+  pub log_same : {A : Type 0} (f : ReceivedLog → A) (m d : ℕ) → f l ≡ f (log_in rs n c) → f (log_in (log_changed rs n c inodes l) m d) ≡ f (log_in rs m d)
+  unfolding log_in
+  log_same f m d same = region_kept rs n (region_with rs n c inodes l) (λ r. f (item_at no_log r.logs d)) (seen_kept f no_log l (region_in rs n).logs c d same) m
 
   module _ (has : HasLog rs n c) where
-    pub log_here : log_seen (log_changed rs n c inodes l) n c ≡ l
-    unfolding log_seen
-    log_here = ap (λ r. item_at no_log r.logs c) (region_here rs n (region_with rs n c inodes l) has.node) ∙ log_set l (region_in rs n).logs c (log_number rs n c has)
+    pub log_here : log_in (log_changed rs n c inodes l) n c ≡ l
+    unfolding log_in
+    log_here = ap (λ r. item_at no_log r.logs c) (region_here rs n (region_with rs n c inodes l) has.node) ∙ seen_here no_log l (region_in rs n).logs c (log_number rs n c has)
 
-    log_beside : (d : ℕ) → d ≢ c → log_seen (log_changed rs n c inodes l) n d ≡ log_seen rs n d
-    unfolding log_seen
+    log_beside : (d : ℕ) → d ≢ c → log_in (log_changed rs n c inodes l) n d ≡ log_in rs n d
+    unfolding log_in
     log_beside d other =
-        ap (λ r. item_at no_log r.logs d) (region_here rs n (region_with rs n c inodes l) has.node) ∙ log_other l (region_in rs n).logs c d (log_number rs n c has) other
+        ap (λ r. item_at no_log r.logs d) (region_here rs n (region_with rs n c inodes l) has.node)
+        ∙ seen_else no_log l (region_in rs n).logs c d (log_number rs n c has) other
 
     -- each other log stays
-    pub log_else : (m d : ℕ) → (m ≡ n → d ≡ c → ⊥) → log_seen (log_changed rs n c inodes l) m d ≡ log_seen rs m d
+    pub log_else : (m d : ℕ) → (m ≡ n → d ≡ c → ⊥) → log_in (log_changed rs n c inodes l) m d ≡ log_in rs m d
     log_else m d other =
         elim (cases_eq m n) [
-          | inl is ↦ subst (λ j. log_seen (log_changed rs n c inodes l) j d ≡ log_seen rs j d) (sym is) (log_beside d (λ same. other is same))
+          | inl is ↦ subst (λ j. log_in (log_changed rs n c inodes l) j d ≡ log_in rs j d) (sym is) (log_beside d (λ same. other is same))
           | inr away ↦ log_away rs n (region_with rs n c inodes l) has.node m d away
         ]
 
@@ -156,22 +186,23 @@ module _ (c : ℕ) (g : ReceivedLog → ReceivedLog) where
   pub count_seen : (rs : List RegionValue) (n : ℕ) → length (region_in (map (changed_in c g) rs) n).logs ≡ length (region_in rs n).logs
   count_seen rs n = ap (λ r. length r.logs) (region_changed rs n) ∙ count_kept (region_in rs n)
 
-  pub part_seen : {A : Type 0} (f : ReceivedLog → A) (rs : List RegionValue) (n d : ℕ) → ((l : ReceivedLog) → f (g l) ≡ f l) → f (log_seen (map (changed_in c g) rs) n d) ≡ f (log_seen rs n d)
-  unfolding log_seen
+  pub part_seen : {A : Type 0} (f : ReceivedLog → A) (rs : List RegionValue) (n d : ℕ) → ((l : ReceivedLog) → f (g l) ≡ f l) →
+      f (log_in (map (changed_in c g) rs) n d) ≡ f (log_in rs n d)
+  unfolding log_in
   part_seen f rs n d same = ap (λ r. f (item_at no_log r.logs d)) (region_changed rs n) ∙ part_kept f (region_in rs n) d same
 
-  pub beside_seen : (rs : List RegionValue) (n d : ℕ) → 0 < c → d ≢ c → log_seen (map (changed_in c g) rs) n d ≡ log_seen rs n d
-  unfolding log_seen
+  pub beside_seen : (rs : List RegionValue) (n d : ℕ) → 0 < c → d ≢ c → log_in (map (changed_in c g) rs) n d ≡ log_in rs n d
+  unfolding log_in
   beside_seen rs n d some other = ap (λ r. item_at no_log r.logs d) (region_changed rs n) ∙ beside_kept (region_in rs n) d some other
 
-  pub own_changes : (rs : List RegionValue) (n : ℕ) → HasLog rs n c → log_seen (map (changed_in c g) rs) n c ≡ g (log_seen rs n c)
-  unfolding log_seen
+  pub own_changes : (rs : List RegionValue) (n : ℕ) → HasLog rs n c → log_in (map (changed_in c g) rs) n c ≡ g (log_in rs n c)
+  unfolding log_in
   own_changes rs n has =
       ap (λ r. item_at no_log r.logs c) (region_changed rs n) ∙ own_changed (region_in rs n) (log_number rs n c has)
 
   -- of a change that leaves the log of no client
-  pub own_changes_all : 0 < c → g no_log ≡ no_log → (rs : List RegionValue) (n : ℕ) → log_seen (map (changed_in c g) rs) n c ≡ g (log_seen rs n c)
-  unfolding log_seen
+  pub own_changes_all : 0 < c → g no_log ≡ no_log → (rs : List RegionValue) (n : ℕ) → log_in (map (changed_in c g) rs) n c ≡ g (log_in rs n c)
+  unfolding log_in
   own_changes_all some none rs n =
       let r : RegionValue = region_in rs n in
       ap (λ x. item_at no_log x.logs c) (region_changed rs n)

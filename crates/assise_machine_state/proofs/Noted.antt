@@ -209,7 +209,8 @@ module _ (s t : StateValue) (who : ℕ → Bool) (choice : Lease → Bool) (aske
 pub crash_noted : (s : StateValue) (c : ℕ) (levels : TwoLevels) (asked : List Asked) → CutsInvariant s → AreLeases (world_of s) (leases_of s) → IsRevoked s.levels levels c → AreLeft s (λ d. d == c) asked →
     CutsInvariant (after_crash s c levels asked)
 crash_noted s c levels asked noted leases revoked left =
-    more_noted s (after_crash s c levels asked) (λ d. d == c) (is_own c) asked refl (omega (arith, length-with s.clients c (crashed_at (end_of_log (world_of s) c) (client_in s.clients c)))) leases left noted
+    more_noted s (after_crash s c levels asked) (λ d. d == c) (is_own c) asked refl
+    (omega (arith, length-with s.clients c (crashed_at (end_of_log (world_of s) c) (client_in s.clients c)))) leases left noted
     revoked.clients (λ d i a is. ap (λ h. h == c) (lease_among (s.levels.clients i) d a is).1)
 
 pub failure_noted : (s : StateValue) (n : ℕ) (inodes : set.FinSet nat_cmp) (levels : TwoLevels) (asked : List Asked) → CutsInvariant s → AreLeases (world_of s) (leases_of s) →

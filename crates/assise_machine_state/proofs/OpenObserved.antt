@@ -19,7 +19,7 @@ use Rattle.assise_model_members.specs.Returns.{OtherAreasStay}
 use Rattle.assise_model_history.proofs.NumberedCalls.{kept_open}
 use Rattle.assise_machine_state.specs.Changes.{after_open}
 use Rattle.assise_machine_state.specs.ClientValues.{ClientValue, client_in, cut_of, no_client, opened_on}
-use Rattle.assise_machine_state.specs.NodeValues.{begun_log, log_seen, no_region, region_in, with_logs_begun}
+use Rattle.assise_machine_state.specs.NodeValues.{begun_log, log_in, no_region, region_in, with_logs_begun}
 use Rattle.assise_machine_state.specs.Observed.{is_full_in, own_node, own_seen, world_of}
 use Rattle.assise_machine_state.specs.Places.{IsNumber, item_at}
 use Rattle.assise_machine_state.specs.Invariant.{CutsInvariant, IsMarked, ShapeInvariant}
@@ -80,8 +80,8 @@ module _ (full : ℕ → Bool) (limit home : ℕ) where
 
   -- what a log that is begun has as none does
   log_kept : {A : Type 0} (f : ReceivedLog → A) → ((b : Bool) → f (begun_log limit b) ≡ f no_log) →
-      (rs : List RegionValue) (m d : ℕ) → f (log_seen (with_logs_begun full limit home 1 rs) m d) ≡ f (log_seen rs m d)
-  unfolding log_seen
+      (rs : List RegionValue) (m d : ℕ) → f (log_in (with_logs_begun full limit home 1 rs) m d) ≡ f (log_in rs m d)
+  unfolding log_in
   log_kept f same rs m d = region_kept (λ r. f (item_at no_log r.logs d)) (λ r b. pushed_kept f no_log (begun_log limit b) r.logs d (same b)) rs m
 
 -- ---- the state
@@ -125,16 +125,18 @@ module _ (s : StateValue) (n : ℕ) (u : Durability) (levels : TwoLevels) where
   open_areas k i away = area_kept k i
 
   -- logs
-  kept : {A : Type 0} (f : ReceivedLog → A) → ((b : Bool) → f (begun_log s.limit b) ≡ f no_log) → (m d : ℕ) → f (log_seen s'.nodes m d) ≡ f (log_seen s.nodes m d)
+  kept : {A : Type 0} (f : ReceivedLog → A) → ((b : Bool) → f (begun_log s.limit b) ≡ f no_log) → (m d : ℕ) → f (log_in s'.nodes m d) ≡ f (log_in s.nodes m d)
   kept f same m d = log_kept (is_full_in (standings s)) s.limit n f same s.nodes m d
 
   module _ (shape : ShapeInvariant s) where
     -- no node had a log of it
-    no_log_before : (m : ℕ) → log_seen s.nodes m next ≡ no_log
-    unfolding log_seen
+    no_log_before : (m : ℕ) → log_in s.nodes m next ≡ no_log
+    unfolding log_in
     no_log_before m =
         elim (cases_Bool (is_full_in (standings s) m)) [
-          | inl f ↦ (let all : length (region_in s.nodes m).logs ≡ length s.clients = shape.logs m f in seen_past no_log (region_in s.nodes m).logs next (omega (arith, all)))
+          | inl f ↦
+              let all : length (region_in s.nodes m).logs ≡ length s.clients = shape.logs m f in
+              seen_past no_log (region_in s.nodes m).logs next (omega (arith, all))
           | inr away ↦ no_log_there s m next shape away
         ]
 
@@ -144,9 +146,10 @@ module _ (s : StateValue) (n : ℕ) (u : Durability) (levels : TwoLevels) where
         kept f same (own_node (standings s) (client_in s'.clients d)) d
         ∙ elim (cases_eq d next) [
           | inl is ↦
-              subst (λ k. f (log_seen s.nodes (own_node (standings s) (client_in s'.clients k)) k) ≡ f (log_seen s.nodes (own_node (standings s) (client_in s.clients k)) k)) (sym is)
-              (ap f (no_log_before (own_node (standings s) (client_in s'.clients next)) ∙ sym (no_log_before (own_node (standings s) (client_in s.clients next)))))
-          | inr other ↦ ap (λ y. f (log_seen s.nodes (own_node (standings s) y) d)) (other_client d other)
+              let own : List ClientValue → ℕ → ReceivedLog = λ cs k. log_in s.nodes (own_node (standings s) (client_in cs k)) k in
+              let before = λ (cs : List ClientValue). no_log_before (own_node (standings s) (client_in cs next)) in
+              subst (λ k. f (own s'.clients k) ≡ f (own s.clients k)) (sym is) (ap f (before s'.clients ∙ sym (before s.clients)))
+          | inr other ↦ ap (λ y. f (log_in s.nodes (own_node (standings s) y) d)) (other_client d other)
         ]
 
     logs_stay : SameLogs w w'
@@ -214,15 +217,15 @@ module _ (s : StateValue) (n : ℕ) (u : Durability) (levels : TwoLevels) where
     same_region : (m : ℕ) → is_full_in (standings s) m ≡ false → region_in s'.nodes m ≡ region_in s.nodes m
     same_region m away = region_away (is_full_in (standings s)) s.limit n s.nodes m away
 
-    begun_now : (m : ℕ) → is_full_in (standings s) m ≡ true → log_seen s'.nodes m next ≡ begun_log s.limit (m == n)
-    unfolding log_seen
+    begun_now : (m : ℕ) → is_full_in (standings s) m ≡ true → log_in s'.nodes m next ≡ begun_log s.limit (m == n)
+    unfolding log_in
     begun_now m f =
         ap (λ r. item_at no_log r.logs next) (begun_region m f)
         ∙ subst (λ k. item_at no_log ((region_in s.nodes m).logs ++ begun_log s.limit (m == n) ∷ []) (suc k) ≡ begun_log s.limit (m == n)) (shape.logs m f)
         (pushed_here no_log (begun_log s.limit (m == n)) (region_in s.nodes m).logs)
 
-    same_log : (m d : ℕ) → d ≢ next → log_seen s'.nodes m d ≡ log_seen s.nodes m d
-    unfolding log_seen
+    same_log : (m d : ℕ) → d ≢ next → log_in s'.nodes m d ≡ log_in s.nodes m d
+    unfolding log_in
     same_log m d other =
         elim (cases_Bool (is_full_in (standings s) m)) [
           | inl f ↦
@@ -234,7 +237,9 @@ module _ (s : StateValue) (n : ℕ) (u : Durability) (levels : TwoLevels) where
     so_many_logs : (m : ℕ) → is_full_in (standings s) m ≡ true → length (region_in s'.nodes m).logs ≡ next
     so_many_logs m f =
         let more : (k : ℕ) → k ≡ length s.clients → k + 1 ≡ next = λ k is. omega (arith, is) in
-        ap (λ r. length r.logs) (begun_region m f) ∙ length_push (region_in s.nodes m).logs (begun_log s.limit (m == n)) ∙ more (length (region_in s.nodes m).logs) (shape.logs m f)
+        ap (λ r. length r.logs) (begun_region m f)
+        ∙ length_push (region_in s.nodes m).logs (begun_log s.limit (m == n))
+        ∙ more (length (region_in s.nodes m).logs) (shape.logs m f)
 
     no_logs_there : (m : ℕ) → is_full_in (standings s) m ≡ false → (region_in s'.nodes m).logs ≡ []
     no_logs_there m away = ap (λ r. r.logs) (same_region m away) ∙ shape.no_logs m away
@@ -258,26 +263,26 @@ module _ (s : StateValue) (n : ℕ) (u : Durability) (levels : TwoLevels) where
     own_other : (d : ℕ) → d ≢ next → own_seen s' d ≡ own_seen s d
     unfolding own_seen
     own_other d other =
-        ap (λ y. log_seen s'.nodes (own_node (standings s) y) d) (other_client d other) ∙ same_log (own_node (standings s) (client_in s.clients d)) d other
+        ap (λ y. log_in s'.nodes (own_node (standings s) y) d) (other_client d other) ∙ same_log (own_node (standings s) (client_in s.clients d)) d other
 
-    marked_new : (m : ℕ) → IsMarked (is_border (own_seen s' next).log) (log_seen s'.nodes m next).log
+    marked_new : (m : ℕ) → IsMarked (is_border (own_seen s' next).log) (log_in s'.nodes m next).log
     marked_new m = elim (cases_Bool (is_full_in (standings s) m)) [
       | inl f ↦ subst (λ l. IsMarked (is_border (own_seen s' next).log) l.log) (sym (begun_now m f)) refl
       | inr away ↦ subst (λ l. IsMarked (is_border (own_seen s' next).log) l.log) (sym (no_log_in s'.nodes m next (no_logs_there m away))) refl
     ]
 
-    marked_now : (m d : ℕ) → IsMarked (is_border (own_seen s' d).log) (log_seen s'.nodes m d).log
+    marked_now : (m d : ℕ) → IsMarked (is_border (own_seen s' d).log) (log_in s'.nodes m d).log
     marked_now m d = elim (cases_eq d next) [
-      | inl is ↦ subst (λ k. IsMarked (is_border (own_seen s' k).log) (log_seen s'.nodes m k).log) (sym is) (marked_new m)
+      | inl is ↦ subst (λ k. IsMarked (is_border (own_seen s' k).log) (log_in s'.nodes m k).log) (sym is) (marked_new m)
       | inr other ↦
-          subst (λ l. IsMarked (is_border l.log) (log_seen s'.nodes m d).log) (sym (own_other d other))
+          subst (λ l. IsMarked (is_border l.log) (log_in s'.nodes m d).log) (sym (own_other d other))
           (subst (λ l. IsMarked (is_border (own_seen s d).log) l.log) (sym (same_log m d other)) (shape.marked m d))
     ]
 
-    limit_now : (m d : ℕ) → is_full_in (standings s) m ≡ true → IsNumber s'.clients d → (log_seen s'.nodes m d).log.limit ≡ s.limit
+    limit_now : (m d : ℕ) → is_full_in (standings s) m ≡ true → IsNumber s'.clients d → (log_in s'.nodes m d).log.limit ≡ s.limit
     limit_now m d f client =
         elim (cases_eq d next) [
-          | inl is ↦ subst (λ k. (log_seen s'.nodes m k).log.limit ≡ s.limit) (sym is) (ap (λ l. l.log.limit) (begun_now m f))
+          | inl is ↦ subst (λ k. (log_in s'.nodes m k).log.limit ≡ s.limit) (sym is) (ap (λ l. l.log.limit) (begun_now m f))
           | inr other ↦
               let old : IsNumber s.clients d = record { some = client.some; there = omega (arith, so_many_clients, client.there, other) } in
               ap (λ l. l.log.limit) (same_log m d other) ∙ limit_seen s m d shape f old
@@ -298,7 +303,9 @@ module _ (s : StateValue) (n : ℕ) (u : Durability) (levels : TwoLevels) where
       most_limit = shape.most_limit;
       marked = marked_now;
       durabilities = λ d. elim (cases_eq next d) [
-        | inl is ↦ subst (λ k. (client_in s'.clients k).durability ≡ durability_of k s'.history) is (ap (λ y. y.durability) new_client ∙ sym (durability-opened s.history next n u))
+        | inl is ↦
+            subst (λ k. (client_in s'.clients k).durability ≡ durability_of k s'.history) is
+            (ap (λ y. y.durability) new_client ∙ sym (durability-opened s.history next n u))
         | inr other ↦ ap (λ y. y.durability) (other_client d (λ is. other (sym is))) ∙ shape.durabilities d ∙ sym (durability-other s.history d next n u (ne_eqb next d other))
       ];
     }

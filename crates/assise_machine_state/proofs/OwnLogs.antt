@@ -7,28 +7,23 @@ use Rattle.assise_private_log.specs.NumberedLog.{end as log_end}
 use Rattle.assise_manager.specs.Membership.{lowest_full}
 use Rattle.assise_manager.specs.Standings.{Standing, full_nodes}
 use Rattle.assise_model_world.specs.World.{digested_by_all, end_of_log, least_of, received_by_all}
-use Rattle.assise_model_world.proofs.WorldObserved.{least_of-above, least_of-below, least_of-end, least_of-same}
+use Rattle.assise_model_world.proofs.WorldObserved.{least_of-above, least_of-below, least_of-end}
 use Rattle.assise_machine_state.specs.ClientValues.{ClientValue, client_in}
-use Rattle.assise_machine_state.specs.NodeValues.{HasLog, log_in, log_seen}
+use Rattle.assise_machine_state.specs.NodeValues.{HasLog, log_in}
 use Rattle.assise_machine_state.specs.Observed.{full_in, is_full_in, own_node, own_seen, world_of}
 use Rattle.assise_machine_state.specs.Places.{IsNumber}
 use Rattle.assise_machine_state.specs.Invariant.{ShapeInvariant}
 use Rattle.assise_machine_state.specs.StateValues.{StateValue, standings}
-use Rattle.assise_machine_state.proofs.Fullness.{full_is, has_log, home_full, log_is}
+use Rattle.assise_machine_state.proofs.Fullness.{full_is, has_log, home_full}
 use Rattle.assise_machine_state.proofs.Standings.{is_listed, listed_is_full, lowest_listed}
 
 -- ---- the own node
-
--- the home of a client that lives is full
-full_home : (s : StateValue) (c : ℕ) → ShapeInvariant s → IsNumber s.clients c → (client_in s.clients c).failed ≡ false → is_full_in (standings s) (client_in s.clients c).home ≡ true
-full_home s c shape client unfailed =
-    home_full s c shape unfailed
 
 pub own_full : (s : StateValue) (c : ℕ) → ShapeInvariant s → IsNumber s.clients c → 0 < length (full_nodes (standings s)) → is_full_in (standings s) (own_node (standings s) (client_in s.clients c)) ≡ true
 own_full s c shape client some =
     elim (cases_Bool (client_in s.clients c).failed) [
       | inl failed ↦ rw failed (lowest_listed (standings s) some)
-      | inr unfailed ↦ rw unfailed (full_home s c shape client unfailed)
+      | inr unfailed ↦ rw unfailed (home_full s c shape unfailed)
     ]
 
 pub own_log : (s : StateValue) (c : ℕ) → ShapeInvariant s → IsNumber s.clients c → 0 < length (full_nodes (standings s)) → HasLog s.nodes (own_node (standings s) (client_in s.clients c)) c
@@ -45,14 +40,12 @@ own_of_unfailed nodes x unfailed = rw unfailed refl
 
 -- the log of a client that lives is known at its home as that of one that lives there
 pub home_log : (s : StateValue) (c : ℕ) → ShapeInvariant s → IsNumber s.clients c → (client_in s.clients c).failed ≡ false → HasLog s.nodes (client_in s.clients c).home c
-home_log s c shape client unfailed = has_log s (client_in s.clients c).home c shape (full_home s c shape client unfailed) client
+home_log s c shape client unfailed = has_log s (client_in s.clients c).home c shape (home_full s c shape unfailed) client
 
 pub home_known : (s : StateValue) (c : ℕ) → ShapeInvariant s → IsNumber s.clients c → (client_in s.clients c).failed ≡ false → (log_in s.nodes (client_in s.clients c).home c).at_home ≡ true
 home_known s c shape client unfailed =
     let home : ℕ = (client_in s.clients c).home in
-    ap (λ l. l.at_home) (sym (log_is s home c (home_log s c shape client unfailed)))
-    ∙ shape.at_home home c
-    ∙ rw (unfailed, eq-eqb home home refl) refl
+    shape.at_home home c ∙ rw (unfailed, eq-eqb home home refl) refl
 
 -- ---- the least place
 
@@ -82,26 +75,21 @@ either_order nodes f d =
 pub own_end : (s : StateValue) (c : ℕ) → ShapeInvariant s → IsNumber s.clients c → 0 < length (full_nodes (standings s)) →
     end_of_log (world_of s) c ≡ log_end (log_in s.nodes (own_node (standings s) (client_in s.clients c)) c).log
 unfolding world_of end_of_log own_seen
-own_end s c shape client some =
-    ap (λ l. log_end l.log) (log_is s (own_node (standings s) (client_in s.clients c)) c (own_log s c shape client some))
+own_end s c shape client some = refl
 
 pub least_received : (s : StateValue) (c : ℕ) → ShapeInvariant s → IsNumber s.clients c → 0 < length (full_nodes (standings s)) →
     least_of (full_nodes (standings s)) (λ n. log_end (log_in s.nodes n c).log) (log_end (log_in s.nodes (own_node (standings s) (client_in s.clients c)) c).log) ≡ received_by_all (world_of s) c
 unfolding world_of received_by_all
 least_received s c shape client some =
     either_order (standings s) (λ n. log_end (log_in s.nodes n c).log) (log_end (log_in s.nodes (own_node (standings s) (client_in s.clients c)) c).log)
-    ∙ least_of-same (full_in (standings s)) (λ n. log_end (log_in s.nodes n c).log) (λ n. log_end (log_seen s.nodes n c).log) (log_end (log_in s.nodes (own_node (standings s) (client_in s.clients c)) c).log)
-    (λ n there. sym (ap (λ l. log_end l.log) (log_is s n c (has_log s n c shape (sym (full_is (standings s) n) ∙ there) client))))
-    ∙ ap (λ d. least_of (full_in (standings s)) (λ n. log_end (log_seen s.nodes n c).log) d) (sym (own_end s c shape client some))
+    ∙ ap (λ d. least_of (full_in (standings s)) (λ n. log_end (log_in s.nodes n c).log) d) (sym (own_end s c shape client some))
 
 pub least_digested : (s : StateValue) (c : ℕ) → ShapeInvariant s → IsNumber s.clients c → 0 < length (full_nodes (standings s)) →
     least_of (full_nodes (standings s)) (λ n. (log_in s.nodes n c).digested) (log_end (log_in s.nodes (own_node (standings s) (client_in s.clients c)) c).log) ≡ digested_by_all (world_of s) c
 unfolding world_of digested_by_all
 least_digested s c shape client some =
     either_order (standings s) (λ n. (log_in s.nodes n c).digested) (log_end (log_in s.nodes (own_node (standings s) (client_in s.clients c)) c).log)
-    ∙ least_of-same (full_in (standings s)) (λ n. (log_in s.nodes n c).digested) (λ n. (log_seen s.nodes n c).digested) (log_end (log_in s.nodes (own_node (standings s) (client_in s.clients c)) c).log)
-    (λ n there. sym (ap (λ l. l.digested) (log_is s n c (has_log s n c shape (sym (full_is (standings s) n) ∙ there) client))))
-    ∙ ap (λ d. least_of (full_in (standings s)) (λ n. (log_seen s.nodes n c).digested) d) (sym (own_end s c shape client some))
+    ∙ ap (λ d. least_of (full_in (standings s)) (λ n. (log_in s.nodes n c).digested) d) (sym (own_end s c shape client some))
 
 -- ---- one full node after another
 

@@ -15,7 +15,7 @@ use Rattle.assise_model_world.proofs.WorldObserved.{digested_by_all-below, diges
 use Rattle.assise_model_events.proofs.LeaseSteps.{clients_after, full_after}
 use Rattle.assise_machine_state.specs.Changes.{after_drop, first_but}
 use Rattle.assise_machine_state.specs.ClientValues.{client_in}
-use Rattle.assise_machine_state.specs.NodeValues.{log_seen, region_in}
+use Rattle.assise_machine_state.specs.NodeValues.{log_in, region_in}
 use Rattle.assise_machine_state.specs.Observed.{is_full_in, own_node, own_seen, world_of}
 use Rattle.assise_machine_state.specs.Places.{IsNumber}
 use Rattle.assise_machine_state.specs.Invariant.{IsMarked, ShapeInvariant}
@@ -39,7 +39,7 @@ digested_by_all-end w c = least_of-end w.full (λ m. w.digested m c) (end_of_log
 -- full nodes' logs of a client begin where its own does, they digested only what they received, and each log begins where all
 -- digested what went
 pub record HasPrefixes (s : StateValue) (c : ℕ) : Type 0 where
-  pub first : (n : ℕ) → Full (world_of s) n → (log_seen s.nodes n c).log.first ≡ (world_of s).first c
+  pub first : (n : ℕ) → Full (world_of s) n → (log_in s.nodes n c).log.first ≡ (world_of s).first c
   pub known : (n : ℕ) → Full (world_of s) n → (world_of s).digested n c ≤ (world_of s).received n c
   pub begun : (d : ℕ) → (world_of s).first d ≤ digested_by_all (world_of s) d
 
@@ -63,11 +63,11 @@ module _ (s : StateValue) (c to : ℕ) (shape : ShapeInvariant s) (prefixes : Ha
 
   -- a full node's log of the client begins there, and so does the client's own
 
-  begins : (n : ℕ) → is_full_in (standings s) n ≡ true → log_seen (after_drop s c to).nodes n c ≡ from_number (log_seen s.nodes n c) to
+  begins : (n : ℕ) → is_full_in (standings s) n ≡ true → log_in (after_drop s c to).nodes n c ≡ from_number (log_in s.nodes n c) to
   begins n full = own_changes c (λ l. from_number l to) s.nodes n (has_log s n c shape full client)
 
   -- where no node has it, there is nothing to drop
-  nowhere : log_seen s.nodes (own_node (standings s) (client_in s.clients c)) c ≡ no_log → to ≡ 0
+  nowhere : log_in s.nodes (own_node (standings s) (client_in s.clients c)) c ≡ no_log → to ≡ 0
   unfolding end_of_log world_of own_seen
   nowhere none =
       let high : to ≤ end_of_log w c = omega (arith, all_digested, digested_by_all-end w c) in
@@ -81,11 +81,11 @@ module _ (s : StateValue) (c to : ℕ) (shape : ShapeInvariant s) (prefixes : Ha
       elim (cases_Bool (is_full_in (standings s) own)) [
         | inl full ↦ begins own full
         | inr away ↦
-            let none : log_seen s.nodes own c ≡ no_log = no_log_there s own c shape away in
+            let none : log_in s.nodes own c ≡ no_log = no_log_there s own c shape away in
             own_changes_all c (λ l. from_number l to) client.some (subst (λ k. from_number no_log k ≡ no_log) (sym (nowhere none)) refl) s.nodes own
       ]
 
-  beside : (n d : ℕ) → d ≢ c → log_seen (after_drop s c to).nodes n d ≡ log_seen s.nodes n d
+  beside : (n d : ℕ) → d ≢ c → log_in (after_drop s c to).nodes n d ≡ log_in s.nodes n d
   beside n d other = beside_seen c (λ l. from_number l to) s.nodes n d client.some other
 
   own_beside : (d : ℕ) → d ≢ c → own_seen (after_drop s c to) d ≡ own_seen s d
@@ -95,27 +95,30 @@ module _ (s : StateValue) (c to : ℕ) (shape : ShapeInvariant s) (prefixes : Ha
   -- ---- its shape
 
   -- all logs of the client begin there then, in its groups
-  marked_here : AreMarked s → (n : ℕ) → IsMarked (is_border (own_seen (after_drop s c to) c).log) (log_seen (after_drop s c to).nodes n c).log
+  marked_here : AreMarked s → (n : ℕ) → IsMarked (is_border (own_seen (after_drop s c to) c).log) (log_in (after_drop s c to).nodes n c).log
   unfolding world_of
   marked_here all n =
-      subst (λ l. IsMarked (is_border l.log) (log_seen (after_drop s c to).nodes n c).log) (sym own_begins)
+      subst (λ l. IsMarked (is_border l.log) (log_in (after_drop s c to).nodes n c).log) (sym own_begins)
       (elim (cases_Bool (is_full_in (standings s) n)) [
         | inl full ↦
-            let low : (log_seen s.nodes n c).log.first ≤ to = subst (λ k. k ≤ to) (sym (prefixes.first n (seen_full s n full))) from_first in
+            let low : (log_in s.nodes n c).log.first ≤ to = subst (λ k. k ≤ to) (sym (prefixes.first n (seen_full s n full))) from_first in
             subst (λ l. IsMarked (is_border (from_number (own_seen s c) to).log) l.log) (sym (begins n full))
-            (marked_prefix (own_seen s c).log (log_seen s.nodes n c).log to from_first at_border low (all n c))
+            (marked_prefix (own_seen s c).log (log_in s.nodes n c).log to from_first at_border low (all n c))
         | inr away ↦
-            let none : log_seen (after_drop s c to).nodes n c ≡ no_log =
-            no_log_in (after_drop s c to).nodes n c (nil_from_length (region_in (after_drop s c to).nodes n).logs (count_seen c (λ l. from_number l to) s.nodes n ∙ ap length (shape.no_logs n away))) in
+            let none : log_in (after_drop s c to).nodes n c ≡ no_log =
+            no_log_in (after_drop s c to).nodes n c
+            (nil_from_length (region_in (after_drop s c to).nodes n).logs
+            (count_seen c (λ l. from_number l to) s.nodes n ∙ ap length (shape.no_logs n away))) in
             subst (λ l. IsMarked (is_border (from_number (own_seen s c) to).log) l.log) (sym none) refl
       ])
 
   marked_now : AreMarked s → AreMarked (after_drop s c to)
   marked_now all n d =
       elim (cases_eq d c) [
-        | inl is ↦ subst (λ e. IsMarked (is_border (own_seen (after_drop s c to) e).log) (log_seen (after_drop s c to).nodes n e).log) (sym is) (marked_here all n)
+        | inl is ↦
+            subst (λ e. IsMarked (is_border (own_seen (after_drop s c to) e).log) (log_in (after_drop s c to).nodes n e).log) (sym is) (marked_here all n)
         | inr other ↦
-            subst (λ l. IsMarked (is_border l.log) (log_seen (after_drop s c to).nodes n d).log) (sym (own_beside d other))
+            subst (λ l. IsMarked (is_border l.log) (log_in (after_drop s c to).nodes n d).log) (sym (own_beside d other))
             (subst (λ l. IsMarked (is_border (own_seen s d).log) l.log) (sym (beside n d other)) (all n d))
       ]
 
@@ -167,11 +170,11 @@ module _ (s : StateValue) (c to : ℕ) (shape : ShapeInvariant s) (prefixes : Ha
   received_now n d full =
       elim (cases_eq d c) [
         | inl is ↦ subst (λ e. w'.received n e ≡ w.received n e) (sym is) (
-            let first : w.first c ≡ (log_seen s.nodes n c).log.first = sym (prefixes.first n full) in
-            let low : (log_seen s.nodes n c).log.first ≤ to = subst (λ k. k ≤ to) first from_first in
-            let high : to ≤ log_end (log_seen s.nodes n c).log =
+            let first : w.first c ≡ (log_in s.nodes n c).log.first = sym (prefixes.first n full) in
+            let low : (log_in s.nodes n c).log.first ≤ to = subst (λ k. k ≤ to) first from_first in
+            let high : to ≤ log_end (log_in s.nodes n c).log =
             omega (arith, all_digested, digested_by_all-below w n c full, prefixes.known n full) in
-            ap (λ x. log_end x.log) (begins n (full_seen s n full)) ∙ ends (log_seen s.nodes n c).log.first to (log_seen s.nodes n c).log.records low high)
+            ap (λ x. log_end x.log) (begins n (full_seen s n full)) ∙ ends (log_in s.nodes n c).log.first to (log_in s.nodes n c).log.records low high)
         | inr other ↦ ap (λ x. log_end x.log) (beside n d other)
       ]
 

@@ -10,20 +10,21 @@ use Rattle.assise_digest.specs.Region.{ReceivedLog, ahead, ahead_below, all_ahea
 use Rattle.assise_model_world.specs.Invariant.{WorldInvariant}
 use Rattle.assise_model_world.specs.World.{Full, World, undigested_records as ahead_observed, undigested_below as below_observed, all_undigested_records as all_observed, alone_at as alone_observed, received_by_all, view}
 use Rattle.assise_machine_state.specs.ClientValues.{client_in}
-use Rattle.assise_machine_state.specs.NodeValues.{HasLog, log_in, log_seen, region_in}
+use Rattle.assise_machine_state.specs.NodeValues.{HasLog, log_in, region_in}
 use Rattle.assise_machine_state.specs.Observed.{inodes_read, is_full_in, world_of}
 use Rattle.assise_machine_state.specs.Places.{item_at}
 use Rattle.assise_machine_state.specs.Invariant.{ShapeInvariant}
 use Rattle.assise_machine_state.specs.StateValues.{StateValue, standings}
-use Rattle.assise_machine_state.proofs.Fullness.{full_seen, has_log, home_full, lives_number, lives_unfailed, log_is, same_first}
+use Rattle.assise_machine_state.proofs.Fullness.{full_seen, has_log, home_full, lives_number, lives_unfailed, same_first}
 
 -- ---- what a full node has ahead of a client
 
-pub ahead_first : (s : StateValue) (n c : ℕ) → (log_seen s.nodes n c).log.first ≡ (world_of s).first c → ahead_observed (world_of s) n c ≡ ahead (log_seen s.nodes n c)
+pub ahead_first : (s : StateValue) (n c : ℕ) → (log_in s.nodes n c).log.first ≡ (world_of s).first c →
+    ahead_observed (world_of s) n c ≡ ahead (log_in s.nodes n c)
 unfolding ahead_observed world_of
-ahead_first s n c first = ap (λ k. drop ((log_seen s.nodes n c).digested - k) (log_seen s.nodes n c).log.records) (sym first)
+ahead_first s n c first = ap (λ k. drop ((log_in s.nodes n c).digested - k) (log_in s.nodes n c).log.records) (sym first)
 
-ahead_is : (s : StateValue) (n c : ℕ) → WorldInvariant (world_of s) → Full (world_of s) n → ahead_observed (world_of s) n c ≡ ahead (log_seen s.nodes n c)
+ahead_is : (s : StateValue) (n c : ℕ) → WorldInvariant (world_of s) → Full (world_of s) n → ahead_observed (world_of s) n c ≡ ahead (log_in s.nodes n c)
 ahead_is s n c sound f = ahead_first s n c (same_first s n c sound f)
 
 -- ---- by a client at its home
@@ -33,8 +34,7 @@ seen_there : (s : StateValue) (n c i : ℕ) → WorldInvariant (world_of s) → 
     → value_after i (map.get (region_in s.nodes n).inodes i) (all_effects (ahead (log_in s.nodes n c))) ≡ view (world_of s) n c i
 unfolding view world_of
 seen_there s n c i sound f has =
-    ap (λ l. value_after i (values (region_in s.nodes n).inodes i) (all_effects (ahead l))) (sym (log_is s n c has))
-    ∙ ap (λ rs. value_after i (values (region_in s.nodes n).inodes i) (all_effects rs)) (sym (ahead_is s n c sound f))
+    ap (λ rs. value_after i (values (region_in s.nodes n).inodes i) (all_effects rs)) (sym (ahead_is s n c sound f))
 
 pub read_at_home : (s : StateValue) (c i : ℕ) → ShapeInvariant s → WorldInvariant (world_of s) → (world_of s).lives c ≡ true → map.get (inodes_read s c) i ≡ view (world_of s) ((world_of s).home c) c i
 unfolding world_of
@@ -68,7 +68,7 @@ module _ (s : StateValue) (n : ℕ) (acked : List ℕ) (shape : ShapeInvariant s
   all_logs = shape.logs n (full_seen s n full)
 
   same_below : (m : ℕ) → m < length s.clients → ahead_below (get_or ls m no_log) (get_or acked m 0) ≡ below_observed w n (suc m) (received_by_all w (suc m))
-  unfolding below_observed world_of log_seen item_at
+  unfolding below_observed world_of log_in item_at
   same_below m low =
       ap (ahead_below (get_or ls m no_log)) (received m low)
       ∙ ap (take (received_by_all w (suc m) - (get_or ls m no_log).digested)) (sym (ahead_is s n (suc m) sound full))

@@ -5,7 +5,7 @@ use Rattle.std.proofs.lemmas.List.{length-append, length-drop, length-take}
 use Rattle.assise_record.specs.LogRecord.{LogRecord}
 use Rattle.assise_inode_table.specs.Contents.{values}
 use Rattle.assise_private_log.specs.NumberedLog.{end as log_end, is_border}
-use Rattle.assise_digest.specs.Region.{ReceivedLog, with_log}
+use Rattle.assise_digest.specs.Region.{ReceivedLog}
 use Rattle.assise_model_world.specs.Chances.{MayDeliver}
 use Rattle.assise_model_world.specs.NodeSteps.{Delivers}
 use Rattle.assise_model_world.specs.Invariant.{WorldInvariant}
@@ -13,13 +13,13 @@ use Rattle.assise_model_world.specs.World.{Full, World, end_of_log, records_betw
 use Rattle.assise_model_members.specs.Returns.{OtherAreasStay}
 use Rattle.assise_machine_state.specs.Changes.{after_delivery}
 use Rattle.assise_machine_state.specs.ClientValues.{client_in}
-use Rattle.assise_machine_state.specs.NodeValues.{HasLog, log_in, log_seen, region_in, with_records}
+use Rattle.assise_machine_state.specs.NodeValues.{HasLog, log_in, region_in, with_records}
 use Rattle.assise_machine_state.specs.Observed.{own_node, own_seen, world_of}
 use Rattle.assise_machine_state.specs.Places.{IsNumber}
 use Rattle.assise_machine_state.specs.Invariant.{IsMarked, ShapeInvariant}
 use Rattle.assise_machine_state.specs.StateValues.{StateValue, standings}
-use Rattle.assise_machine_state.proofs.Fullness.{full_seen, has_log, log_is, same_first}
-use Rattle.assise_machine_state.proofs.LogChanges.{log_else, log_here, log_same, none_more, region_kept}
+use Rattle.assise_machine_state.proofs.Fullness.{full_seen, has_log, same_first}
+use Rattle.assise_machine_state.proofs.LogChanges.{log_else, log_here, log_same, none_more, region_kept, region_with}
 use Rattle.assise_machine_state.proofs.Marks.{marked_more}
 use Rattle.assise_machine_state.proofs.ShapeKept.{AreMarked, shaped_log}
 use Rattle.assise_machine_state.proofs.SameObserved.{clients_as, goals_as, leases_as, logs_as}
@@ -31,7 +31,7 @@ delivered_log s n c k = with_records (is_border (own_seen s c).log) (log_in s.no
 -- the areas of all nodes stay
 same_area : (s : StateValue) (n c k m i : ℕ) → (world_of (after_delivery s n c k)).area m i ≡ (world_of s).area m i
 unfolding world_of
-same_area s n c k m i = region_kept s.nodes n (with_log (region_in s.nodes n) c (delivered_log s n c k)) (λ r. values r.inodes i) refl m
+same_area s n c k m i = region_kept s.nodes n (region_with s.nodes n c (region_in s.nodes n).inodes (delivered_log s n c k)) (λ r. values r.inodes i) refl m
 
 pub other_areas : (s : StateValue) (n c k : ℕ) → OtherAreasStay (world_of s) (world_of (after_delivery s n c k))
 other_areas s n c k m i else = same_area s n c k m i
@@ -39,7 +39,7 @@ other_areas s n c k m i else = same_area s n c k m i
 -- what a node has of a log that is a client's own is all of it, and its log of the client begins where the own one does
 pub record HasPrefix (s : StateValue) (n c : ℕ) : Type 0 where
   pub all_there : own_node (standings s) (client_in s.clients c) ≡ n → (world_of s).received n c ≡ end_of_log (world_of s) c
-  pub first : (log_seen s.nodes n c).log.first ≡ (world_of s).first c
+  pub first : (log_in s.nodes n c).log.first ≡ (world_of s).first c
 
 pub has_prefix : (s : StateValue) (n c : ℕ) → WorldInvariant (world_of s) → Full (world_of s) n → HasPrefix s n c
 unfolding world_of
@@ -72,9 +72,6 @@ module _ (s : StateValue) (n c k : ℕ) (shape : ShapeInvariant s) (prefix : Has
   has : HasLog s.nodes n c
   has = has_log s n c shape (full_seen s n may.full_node) client
 
-  was : log_seen s.nodes n c ≡ log_in s.nodes n c
-  was = log_is s n c has
-
   -- ---- the client's own log stays: where it is this node's, nothing is missing there
 
   no_more : w.received n c ≡ end_of_log w c → longer ≡ log_in s.nodes n c
@@ -84,10 +81,10 @@ module _ (s : StateValue) (n c k : ℕ) (shape : ShapeInvariant s) (prefix : Has
       let nothing : take (k - w.received n c) (drop (w.received n c - w.first c) (w.records c)) ≡ [] = ap (λ j. take j (drop (w.received n c - w.first c) (w.records c))) none in
       ap (with_records (is_border (own_seen s c).log) (log_in s.nodes n c)) nothing ∙ none_more (is_border (own_seen s c).log) (log_in s.nodes n c)
 
-  same_here : own_node (standings s) (client_in s.clients c) ≡ n → (m d : ℕ) → log_seen t.nodes m d ≡ log_seen s.nodes m d
+  same_here : own_node (standings s) (client_in s.clients c) ≡ n → (m d : ℕ) → log_in t.nodes m d ≡ log_in s.nodes m d
   same_here own m d = log_same s.nodes n c (region_in s.nodes n).inodes longer (λ x. x) m d (no_more (prefix.all_there own))
 
-  same_else : (m d : ℕ) → (m ≡ n → d ≡ c → ⊥) → log_seen t.nodes m d ≡ log_seen s.nodes m d
+  same_else : (m d : ℕ) → (m ≡ n → d ≡ c → ⊥) → log_in t.nodes m d ≡ log_in s.nodes m d
   same_else m d other = log_else s.nodes n c (region_in s.nodes n).inodes longer has m d other
 
   same_own : (d : ℕ) → own_seen t d ≡ own_seen s d
@@ -96,7 +93,9 @@ module _ (s : StateValue) (n c k : ℕ) (shape : ShapeInvariant s) (prefix : Has
       elim (cases_eq d c) [
         | inl is ↦ (elim (cases_eq (own_node (standings s) (client_in s.clients c)) n) [
           | inl own ↦ same_here own (own_node (standings s) (client_in s.clients d)) d
-          | inr other ↦ same_else (own_node (standings s) (client_in s.clients d)) d (λ there same. other (ap (λ e. own_node (standings s) (client_in s.clients e)) (sym same) ∙ there))
+          | inr other ↦
+              same_else (own_node (standings s) (client_in s.clients d)) d
+              (λ there same. other (ap (λ e. own_node (standings s) (client_in s.clients e)) (sym same) ∙ there))
         ])
         | inr other ↦ same_else (own_node (standings s) (client_in s.clients d)) d (λ there same. other same)
       ]
@@ -104,14 +103,14 @@ module _ (s : StateValue) (n c k : ℕ) (shape : ShapeInvariant s) (prefix : Has
   -- and this node's log has its groups
   marked_now : AreMarked s → AreMarked t
   marked_now all m d =
-      subst (λ l. IsMarked (is_border l.log) (log_seen t.nodes m d).log) (sym (same_own d))
+      subst (λ l. IsMarked (is_border l.log) (log_in t.nodes m d).log) (sym (same_own d))
       (elim (cases_eq d c) [
         | inl of_client ↦ (elim (cases_eq m n) [
           | inl here ↦
-              subst (λ e. IsMarked (is_border (own_seen s e).log) (log_seen t.nodes m e).log) (sym of_client)
-              (subst (λ j. IsMarked (is_border (own_seen s c).log) (log_seen t.nodes j c).log) (sym here)
+              subst (λ e. IsMarked (is_border (own_seen s e).log) (log_in t.nodes m e).log) (sym of_client)
+              (subst (λ j. IsMarked (is_border (own_seen s c).log) (log_in t.nodes j c).log) (sym here)
               (subst (λ l. IsMarked (is_border (own_seen s c).log) l.log) (sym (log_here s.nodes n c (region_in s.nodes n).inodes longer has))
-              (marked_more (is_border (own_seen s c).log) (log_in s.nodes n c) more (subst (λ l. IsMarked (is_border (own_seen s c).log) l.log) was (all n c)))))
+              (marked_more (is_border (own_seen s c).log) (log_in s.nodes n c) more (all n c))))
           | inr away ↦ subst (λ l. IsMarked (is_border (own_seen s d).log) l.log) (sym (same_else m d (λ there same. away there))) (all m d)
         ])
         | inr other ↦ subst (λ l. IsMarked (is_border (own_seen s d).log) l.log) (sym (same_else m d (λ there same. other same))) (all m d)
@@ -124,14 +123,15 @@ module _ (s : StateValue) (n c k : ℕ) (shape : ShapeInvariant s) (prefix : Has
 
   log_now : w'.log n c ≡ w.log n c ++ more
   unfolding world_of
-  log_now = ap (λ x. x.log.records) (log_here s.nodes n c (region_in s.nodes n).inodes longer has) ∙ ap (λ x. x.log.records ++ more) (sym was)
+  log_now = ap (λ x. x.log.records) (log_here s.nodes n c (region_in s.nodes n).inodes longer has)
 
   -- the number behind the last record
 
-  counted : (log_seen s.nodes n c).log.first + length ((log_seen s.nodes n c).log.records ++ more) ≡ k
+  counted : (log_in s.nodes n c).log.first + length ((log_in s.nodes n c).log.records ++ more) ≡ k
   unfolding world_of end_of_log records_between
   counted =
-      let both : length ((log_seen s.nodes n c).log.records ++ more) ≡ length (log_seen s.nodes n c).log.records + length more = length-append (log_seen s.nodes n c).log.records more in
+      let both : length ((log_in s.nodes n c).log.records ++ more) ≡ length (log_in s.nodes n c).log.records + length more =
+      length-append (log_in s.nodes n c).log.records more in
       let part : length more ≡ min (k - w.received n c) (length (drop (w.received n c - w.first c) (w.records c))) =
       length-take (k - w.received n c) (drop (w.received n c - w.first c) (w.records c)) in
       let rest : length (drop (w.received n c - w.first c) (w.records c)) ≡ length (w.records c) - (w.received n c - w.first c) = length-drop (w.received n c - w.first c) (w.records c) in
@@ -141,7 +141,6 @@ module _ (s : StateValue) (n c k : ℕ) (shape : ShapeInvariant s) (prefix : Has
   unfolding world_of
   received_now =
       ap (λ x. log_end x.log) (log_here s.nodes n c (region_in s.nodes n).inodes longer has)
-      ∙ ap (λ x. x.log.first + length (x.log.records ++ more)) (sym was)
       ∙ counted
 
   pub delivered_prefix : Delivers w n c k w'

@@ -1,14 +1,15 @@
 -- Records and logs come to a region one after another.
-use Rattle.std.proofs.Common.{◌≡◌, ◌≢◌, ℕ, suc, ◌+◌, ◌-◌, ◌<◌, ◌≤◌, Bool, List, [], ◌∷◌, ◌++◌, false, length, map, take, take-suc, take_all, get_or, inl, inr, ap, sym, subst, ◌∙◌, arith}
+use Rattle.std.proofs.Common.{◌≡◌, ◌≢◌, ℕ, suc, ◌+◌, ◌<◌, ◌≤◌, Bool, List, [], ◌∷◌, ◌++◌, false, length, map, take, take-suc, get_or, inl, inr, ap, sym, subst, ◌∙◌, arith}
 use Rattle.std.proofs.lemmas.Bool.{cases_eq}
-use Rattle.std.proofs.lemmas.List.{append_assoc, get_or-set_same, length-set, length_push, map-append, set-get_or, set-set}
+use Rattle.std.proofs.lemmas.List.{append_assoc, length_push, map-append}
 use Rattle.assise_record.specs.LogRecord.{LogRecord}
 use Rattle.assise_private_log.specs.NumberedLog.{NumberedLog, end, is_border, with_grouped}
 use Rattle.assise_private_log.proofs.Borders.{border_end, border_grouped}
-use Rattle.assise_digest.specs.Region.{AreWhole, HasClient, IsBegun, ReceivedLog, RegionValue, log_of, no_log, with_log, with_one}
+use Rattle.assise_digest.specs.Region.{AreWhole, HasClient, IsBegun, ReceivedLog, RegionValue, no_log, with_one}
 use Rattle.assise_model_events.specs.NodeEvents.{border_marks}
 use Rattle.assise_machine_state.specs.NodeValues.{AreTaken, HasGroupsOf, HasLog, away, copied, log_in, region_in, with_log_in, with_next, with_records, with_region}
-use Rattle.assise_machine_state.proofs.LogChanges.{none_more, region_back, region_else, region_here}
+use Rattle.assise_machine_state.specs.Places.{with_item}
+use Rattle.assise_machine_state.proofs.LogChanges.{log_back, log_else, log_here, none_more, region_else, region_here, region_with}
 use Rattle.assise_machine_state.proofs.ItemSeen.{length-with, with-with}
 
 -- ---- records
@@ -27,53 +28,52 @@ one_then_others border l a rest =
       at_home = l.at_home;
     }
 
-in_region : (border : ℕ → Bool) (r : RegionValue) (c : ℕ) (a : LogRecord) (rest : List LogRecord) → HasClient r c →
-    let one : ReceivedLog = with_one (log_of r c) a (border (end (log_of r c).log)) in
-    with_log (with_log r c one) c (with_records border (log_of (with_log r c one) c) rest) ≡ with_log r c (with_records border (log_of r c) (a ∷ rest))
-in_region border r c a rest there =
-    let more : ReceivedLog = with_one (log_of r c) a (border (end (log_of r c).log)) in
-    let here : log_of (with_log r c more) c ≡ more = get_or-set_same r.logs (c - 1) more no_log (omega (arith, there.some, there.there)) in
-    ap (λ l. with_log (with_log r c more) c (with_records border l rest)) here
-    ∙ ap (λ ls. record r { logs = ls }) (set-set r.logs (c - 1) more (with_records border more rest))
-    ∙ ap (λ l. with_log r c l) (one_then_others border (log_of r c) a rest)
+-- a later change of the log stands
+put_again : (rs : List RegionValue) (n c : ℕ) (l m : ReceivedLog) → HasLog rs n c → with_log_in (with_log_in rs n c l) n c m ≡ with_log_in rs n c m
+put_again rs n c l m has =
+    ap (λ r. with_region (with_log_in rs n c l) n (record r { logs = with_item r.logs c m }))
+    (region_here rs n (region_with rs n c (region_in rs n).inodes l) has.node)
+    ∙ with-with rs n _ _ ∙ ap (λ ls. with_region rs n (record (region_in rs n) { logs = ls })) (with-with (region_in rs n).logs c l m)
 
 region_then : (border : ℕ → Bool) (rs : List RegionValue) (n c : ℕ) (a : LogRecord) → HasLog rs n c →
-    region_in (with_next border rs n c a) n ≡ with_log (region_in rs n) c (with_one (log_in rs n c) a (border (end (log_in rs n c).log)))
+    region_in (with_next border rs n c a) n ≡ region_with rs n c (region_in rs n).inodes (with_one (log_in rs n c) a (border (end (log_in rs n c).log)))
 region_then border rs n c a has =
-    region_here rs n (with_log (region_in rs n) c (with_one (log_in rs n c) a (border (end (log_in rs n c).log)))) has.node
+    region_here rs n (region_with rs n c (region_in rs n).inodes (with_one (log_in rs n c) a (border (end (log_in rs n c).log)))) has.node
 
-log_then : (border : ℕ → Bool) (rs : List RegionValue) (n c : ℕ) (a : LogRecord) → HasLog rs n c → log_in (with_next border rs n c a) n c ≡ with_one (log_in rs n c) a (border (end (log_in rs n c).log))
+log_then : (border : ℕ → Bool) (rs : List RegionValue) (n c : ℕ) (a : LogRecord) → HasLog rs n c →
+    log_in (with_next border rs n c a) n c ≡ with_one (log_in rs n c) a (border (end (log_in rs n c).log))
 log_then border rs n c a has =
-    ap (λ r. log_of r c) (region_then border rs n c a has)
-    ∙ get_or-set_same (region_in rs n).logs (c - 1) (with_one (log_in rs n c) a (border (end (log_in rs n c).log))) no_log (omega (arith, has.client.some, has.client.there))
+    log_here rs n c (region_in rs n).inodes (with_one (log_in rs n c) a (border (end (log_in rs n c).log))) has
 
 has_then : (border : ℕ → Bool) (rs : List RegionValue) (n c : ℕ) (a : LogRecord) → HasLog rs n c → HasLog (with_next border rs n c a) n c
 has_then border rs n c a has =
     let more : ReceivedLog = with_one (log_in rs n c) a (border (end (log_in rs n c).log)) in
-    let nodes : length (with_next border rs n c a) ≡ length rs = length-with rs n (with_log (region_in rs n) c more) in
+    let nodes : length (with_next border rs n c a) ≡ length rs = length-with rs n (region_with rs n c (region_in rs n).inodes more) in
     let logs : length (region_in (with_next border rs n c a) n).logs ≡ length (region_in rs n).logs =
-    ap (λ r. length r.logs) (region_then border rs n c a has) ∙ length-set (region_in rs n).logs (c - 1) more in
+    ap (λ r. length r.logs) (region_then border rs n c a has) ∙ length-with (region_in rs n).logs c more in
     record {
       node = record { some = has.node.some; there = subst (λ k. n ≤ k) (sym nodes) has.node.there };
       client = record { some = has.client.some; there = subst (λ k. c ≤ k) (sym logs) has.client.there };
     }
 
 -- another node's log stays
-log_beside : (border : ℕ → Bool) (rs : List RegionValue) (n m c : ℕ) (a : LogRecord) → HasLog rs n c → m ≢ n → log_in (with_next border rs n c a) m c ≡ log_in rs m c
+log_beside : (border : ℕ → Bool) (rs : List RegionValue) (n m c : ℕ) (a : LogRecord) → HasLog rs n c → m ≢ n →
+    log_in (with_next border rs n c a) m c ≡ log_in rs m c
 log_beside border rs n m c a has differs =
-    ap (λ r. log_of r c) (region_else rs n (with_log (region_in rs n) c (with_one (log_in rs n c) a (border (end (log_in rs n c).log)))) has.node m differs)
+    log_else rs n c (region_in rs n).inodes (with_one (log_in rs n c) a (border (end (log_in rs n c).log))) has m c (λ is same. differs is)
 
 pub one_taken : (border : ℕ → Bool) (rs : List RegionValue) (n c : ℕ) (a : LogRecord) (rest : List LogRecord) → HasLog rs n c →
     with_log_in (with_next border rs n c a) n c (with_records border (log_in (with_next border rs n c a) n c) rest) ≡ with_log_in rs n c (with_records border (log_in rs n c) (a ∷ rest))
 one_taken border rs n c a rest has =
-    let one : RegionValue = with_log (region_in rs n) c (with_one (log_in rs n c) a (border (end (log_in rs n c).log))) in
-    ap (λ r. with_region (with_next border rs n c a) n (with_log r c (with_records border (log_of r c) rest))) (region_then border rs n c a has)
-    ∙ with-with rs n one (with_log one c (with_records border (log_of one c) rest))
-    ∙ ap (with_region rs n) (in_region border (region_in rs n) c a rest has.client)
+    let one : ReceivedLog = with_one (log_in rs n c) a (border (end (log_in rs n c).log)) in
+    ap (λ l. with_log_in (with_next border rs n c a) n c (with_records border l rest)) (log_then border rs n c a has)
+    ∙ put_again rs n c one (with_records border one rest) has
+    ∙ ap (with_log_in rs n c) (one_then_others border (log_in rs n c) a rest)
 
-has_beside : (border : ℕ → Bool) (rs : List RegionValue) (n m c : ℕ) (a : LogRecord) → HasLog rs n c → HasLog rs m c → m ≢ n → HasLog (with_next border rs n c a) m c
+has_beside : (border : ℕ → Bool) (rs : List RegionValue) (n m c : ℕ) (a : LogRecord) → HasLog rs n c → HasLog rs m c → m ≢ n →
+    HasLog (with_next border rs n c a) m c
 has_beside border rs n m c a has other differs =
-    let more : RegionValue = with_log (region_in rs n) c (with_one (log_in rs n c) a (border (end (log_in rs n c).log))) in
+    let more : RegionValue = region_with rs n c (region_in rs n).inodes (with_one (log_in rs n c) a (border (end (log_in rs n c).log))) in
     let nodes : length (with_next border rs n c a) ≡ length rs = length-with rs n more in
     let region : region_in (with_next border rs n c a) m ≡ region_in rs m = region_else rs n more has.node m differs in
     record {
@@ -106,7 +106,8 @@ pub record TakesOne (rs ss : List RegionValue) (n own c : ℕ) : Type 0 where
   pub longer : length (log_in ss n c).log.records ≡ length (log_in rs n c).log.records + 1
   pub end : end (log_in ss n c).log ≡ end (log_in rs n c).log + 1
 
-pub takes_one : (rs : List RegionValue) (n own c : ℕ) (a : LogRecord) → HasLog rs n c → HasLog rs own c → own ≢ n → HasGroupsOf (log_in rs own c).log (log_in rs n c).log → (log_in rs n c).at_home ≡ false →
+pub takes_one : (rs : List RegionValue) (n own c : ℕ) (a : LogRecord) → HasLog rs n c → HasLog rs own c → own ≢ n →
+    HasGroupsOf (log_in rs own c).log (log_in rs n c).log → (log_in rs n c).at_home ≡ false →
     TakesOne rs (with_next (is_border (log_in rs own c).log) rs n c a) n own c
 takes_one rs n own c a has own_has other groups elsewhere =
     let l : ReceivedLog = log_in rs n c in
@@ -127,9 +128,7 @@ takes_one rs n own c a has own_has other groups elsewhere =
 
 -- where none comes nothing changes
 pub none_taken : (border : ℕ → Bool) (rs : List RegionValue) (n c : ℕ) → with_log_in rs n c (with_records border (log_in rs n c) []) ≡ rs
-none_taken border rs n c =
-    let r : RegionValue = region_in rs n in
-    ap (λ l. with_region rs n (with_log r c l)) (none_more border (log_of r c)) ∙ ap (λ ls. with_region rs n (record r { logs = ls })) (set-get_or r.logs (c - 1) no_log) ∙ region_back rs n
+none_taken border rs n c = ap (with_log_in rs n c) (none_more border (log_in rs n c)) ∙ log_back rs n c
 
 -- ---- copies
 
@@ -150,6 +149,3 @@ one_copied xs ls k l d same low log digested =
 pub one_sound : (xs : List (NumberedLog × ℕ)) (l : NumberedLog) (d : ℕ) → AreTaken xs → IsBegun (copied (l, d)) → AreWhole l.records → AreTaken (xs ++ (l, d) ∷ [])
 one_sound [] l d all begun whole = (begun, whole, tt)
 one_sound (x ∷ xs) l d (b, w, all) begun whole = (b, w, one_sound xs l d all begun whole)
-
-pub all_copied : (xs : List (NumberedLog × ℕ)) (ls : List ReceivedLog) (k : ℕ) → map copied xs ≡ map away (take k ls) → length ls ≤ k → map copied xs ≡ map away ls
-all_copied xs ls k same past = same ∙ ap (map away) (take_all k ls past)

@@ -9,7 +9,7 @@ use Rattle.assise_model_leases.specs.Leases.{is_held, is_written}
 use Rattle.assise_model_leases.proofs.LookUps.{revoke_of, held_one, written_one}
 use Rattle.assise_model_history.specs.Numbered.{kept_numbered}
 use Rattle.assise_machine_state.specs.ClientValues.{client_in}
-use Rattle.assise_machine_state.specs.NodeValues.{log_seen, region_in}
+use Rattle.assise_machine_state.specs.NodeValues.{log_in, region_in}
 use Rattle.assise_machine_state.specs.Observed.{own_seen, world_of}
 use Rattle.assise_machine_state.specs.StateValues.{StateValue, leases_of}
 
@@ -43,7 +43,8 @@ module _ (s t : StateValue) where
   }
 
   -- one node
-  pub node_as : (n : ℕ) → ((i : ℕ) → values (region_in t.nodes n).inodes i ≡ values (region_in s.nodes n).inodes i) → ((c : ℕ) → log_seen t.nodes n c ≡ log_seen s.nodes n c) →
+  pub node_as : (n : ℕ) → ((i : ℕ) → values (region_in t.nodes n).inodes i ≡ values (region_in s.nodes n).inodes i) →
+      ((c : ℕ) → log_in t.nodes n c ≡ log_in s.nodes n c) →
       SameNode (world_of s) (world_of t) n
   unfolding world_of
   node_as n inodes logs = record {

@@ -9,30 +9,30 @@ use Rattle.assise_private_log.specs.NumberedLog.{is_border}
 use Rattle.assise_digest.specs.Region.{ReceivedLog}
 use Rattle.assise_manager.specs.Membership.{Membership}
 use Rattle.assise_machine_state.specs.ClientValues.{client_in}
-use Rattle.assise_machine_state.specs.NodeValues.{HasLog, changed_in, log_in, log_seen, region_in}
+use Rattle.assise_machine_state.specs.NodeValues.{HasLog, changed_in, log_in, region_in}
 use Rattle.assise_machine_state.specs.Observed.{is_full_in, own_node, own_seen}
 use Rattle.assise_machine_state.specs.Places.{IsNumber}
 use Rattle.assise_machine_state.specs.Invariant.{IsMarked, ShapeInvariant}
 use Rattle.assise_machine_state.specs.StateValues.{StateValue, standings}
-use Rattle.assise_machine_state.proofs.Fullness.{has_log, log_is}
+use Rattle.assise_machine_state.proofs.Fullness.{has_log}
 use Rattle.assise_machine_state.proofs.LogChanges.{count_seen, log_changed, log_same, logs_count, part_seen, region_with}
 use Rattle.assise_machine_state.proofs.ItemSeen.{length-with}
 
 -- ---- limits
 
 -- a full node's log of a client has the limit
-pub limit_seen : (s : StateValue) (n c : ℕ) → ShapeInvariant s → is_full_in (standings s) n ≡ true → IsNumber s.clients c → (log_seen s.nodes n c).log.limit ≡ s.limit
-limit_seen s n c shape f client = (let has : HasLog s.nodes n c = has_log s n c shape f client in ap (λ l. l.log.limit) (log_is s n c has) ∙ shape.limits n c has)
+pub limit_seen : (s : StateValue) (n c : ℕ) → ShapeInvariant s → is_full_in (standings s) n ≡ true → IsNumber s.clients c →
+    (log_in s.nodes n c).log.limit ≡ s.limit
+limit_seen s n c shape f client = shape.limits n c (has_log s n c shape f client)
 
 -- so have all logs, where only full nodes have some, of clients
 pub limits_all : (s : StateValue) → ((n : ℕ) → is_full_in (standings s) n ≡ true → length (region_in s.nodes n).logs ≡ length s.clients) →
     ((n : ℕ) → is_full_in (standings s) n ≡ false → (region_in s.nodes n).logs ≡ []) →
-    ((n c : ℕ) → is_full_in (standings s) n ≡ true → IsNumber s.clients c → (log_seen s.nodes n c).log.limit ≡ s.limit) →
+    ((n c : ℕ) → is_full_in (standings s) n ≡ true → IsNumber s.clients c → (log_in s.nodes n c).log.limit ≡ s.limit) →
     (n c : ℕ) → HasLog s.nodes n c → (log_in s.nodes n c).log.limit ≡ s.limit
 limits_all s logs no_logs seen n c has =
     let few : c ≤ length (region_in s.nodes n).logs = has.client.there in
-    ap (λ l. l.log.limit) (sym (log_is s n c has))
-    ∙ elim (cases_Bool (is_full_in (standings s) n)) [
+    elim (cases_Bool (is_full_in (standings s) n)) [
       | inl f ↦ seen n c f record { some = has.client.some; there = subst (λ k. c ≤ k) (logs n f) few }
       | inr away ↦ (let none : c ≤ 0 = subst (λ ls. c ≤ length ls) (no_logs n away) few in absurd (omega (arith, none, has.client.some)))
     ]
@@ -41,13 +41,13 @@ limits_all s logs no_logs seen n c has =
 
 -- a node knows whether a client lives there
 abbrev pub KnowsHome : StateValue → ℕ → ℕ → Type 0
-KnowsHome s n c = (log_seen s.nodes n c).at_home ≡ ((n == (client_in s.clients c).home) && not (client_in s.clients c).failed)
+KnowsHome s n c = (log_in s.nodes n c).at_home ≡ ((n == (client_in s.clients c).home) && not (client_in s.clients c).failed)
 
 -- ---- groups
 
 -- each node's log of a client has the groups of the client's own
 abbrev pub AreMarked : StateValue → Type 0
-AreMarked s = (n c : ℕ) → IsMarked (is_border (own_seen s c).log) (log_seen s.nodes n c).log
+AreMarked s = (n c : ℕ) → IsMarked (is_border (own_seen s c).log) (log_in s.nodes n c).log
 
 -- the client's own among them
 pub own_marked : (s : StateValue) → AreMarked s → (c : ℕ) → IsMarked (is_border (own_seen s c).log) (own_seen s c).log
@@ -55,9 +55,10 @@ unfolding own_seen
 own_marked s all c = all (own_node (standings s) (client_in s.clients c)) c
 
 -- so it is where logs stay
-pub still_marked : (s t : StateValue) → ((n c : ℕ) → (log_seen t.nodes n c).log ≡ (log_seen s.nodes n c).log) → ((c : ℕ) → (own_seen t c).log ≡ (own_seen s c).log) → AreMarked s → AreMarked t
+pub still_marked : (s t : StateValue) → ((n c : ℕ) → (log_in t.nodes n c).log ≡ (log_in s.nodes n c).log) →
+    ((c : ℕ) → (own_seen t c).log ≡ (own_seen s c).log) → AreMarked s → AreMarked t
 still_marked s t logs own all n c =
-    subst (IsMarked (is_border (own_seen t c).log)) (sym (logs n c)) (subst (λ l. IsMarked (is_border l) (log_seen s.nodes n c).log) (sym (own c)) (all n c))
+    subst (IsMarked (is_border (own_seen t c).log)) (sym (logs n c)) (subst (λ l. IsMarked (is_border l) (log_in s.nodes n c).log) (sym (own c)) (all n c))
 
 -- ---- the same nodes are full and have as many logs, and limits and homes stay
 
@@ -70,8 +71,8 @@ pub record KeepsShape (s t : StateValue) : Type 0 where
   pub home : (c : ℕ) → (client_in t.clients c).home ≡ (client_in s.clients c).home
   pub failed : (c : ℕ) → (client_in t.clients c).failed ≡ (client_in s.clients c).failed
   pub limit : t.limit ≡ s.limit
-  pub limits : (n c : ℕ) → (log_seen t.nodes n c).log.limit ≡ (log_seen s.nodes n c).log.limit
-  pub at_home : (n c : ℕ) → (log_seen t.nodes n c).at_home ≡ (log_seen s.nodes n c).at_home
+  pub limits : (n c : ℕ) → (log_in t.nodes n c).log.limit ≡ (log_in s.nodes n c).log.limit
+  pub at_home : (n c : ℕ) → (log_in t.nodes n c).at_home ≡ (log_in s.nodes n c).at_home
   pub durability : (c : ℕ) → (client_in t.clients c).durability ≡ (client_in s.clients c).durability
   pub marked : AreMarked s → AreMarked t
   pub opened : (c : ℕ) → durability_of c t.history ≡ durability_of c s.history
@@ -79,7 +80,8 @@ pub record KeepsShape (s t : StateValue) : Type 0 where
 pub shaped_as : (s t : StateValue) → ShapeInvariant s → KeepsShape s t → ShapeInvariant t
 shaped_as s t shape same =
     let was_full : (n : ℕ) → is_full_in (standings t) n ≡ true → is_full_in (standings s) n ≡ true = λ n f. sym (same.full n) ∙ f in
-    let logs : (n : ℕ) → is_full_in (standings t) n ≡ true → length (region_in t.nodes n).logs ≡ length t.clients = λ n f. same.logs n ∙ shape.logs n (was_full n f) ∙ sym same.clients in
+    let logs : (n : ℕ) → is_full_in (standings t) n ≡ true → length (region_in t.nodes n).logs ≡ length t.clients =
+    λ n f. same.logs n ∙ shape.logs n (was_full n f) ∙ sym same.clients in
     let no_logs : (n : ℕ) → is_full_in (standings t) n ≡ false → (region_in t.nodes n).logs ≡ [] =
     λ n away. nil_from_length (region_in t.nodes n).logs (same.logs n ∙ ap length (shape.no_logs n (sym (same.full n) ∙ away))) in
     let was_client : (c : ℕ) → IsNumber t.clients c → IsNumber s.clients c = λ c client. record { some = client.some; there = subst (λ k. c ≤ k) same.clients client.there } in

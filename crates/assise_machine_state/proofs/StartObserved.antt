@@ -13,7 +13,7 @@ use Rattle.assise_model_world.specs.Runs.{begun}
 use Rattle.assise_model_history.specs.State.{down_from}
 use Rattle.assise_model_events.specs.Machine.{begun_as}
 use Rattle.assise_machine_state.specs.ClientValues.{client_in, cut_of, no_client}
-use Rattle.assise_machine_state.specs.NodeValues.{HasLog, log_seen, new_region, new_regions, no_region, region_in}
+use Rattle.assise_machine_state.specs.NodeValues.{HasLog, log_in, new_region, new_regions, no_region, region_in}
 use Rattle.assise_machine_state.specs.Observed.{full_in, is_full_in, observed, own_node, own_seen, world_of}
 use Rattle.assise_machine_state.specs.Places.{item_at}
 use Rattle.assise_machine_state.specs.Invariant.{IsMarked, ShapeInvariant}
@@ -34,8 +34,8 @@ unfolding region_in item_at
 new_seen f n hot zero same = refl
 new_seen f n hot (suc k) same = same_regions f n hot k same
 
-no_log_seen : (n hot k c : ℕ) → log_seen (new_regions n hot) k c ≡ no_log
-unfolding log_seen
+no_log_seen : (n hot k c : ℕ) → log_in (new_regions n hot) k c ≡ no_log
+unfolding log_in
 no_log_seen n hot k c = ap (λ ls. item_at no_log ls c) (new_seen (λ r. r.logs) n hot k refl) ∙ seen_nothing no_log c
 
 nobody_seen : (c : ℕ) → client_in [] c ≡ no_client
@@ -139,7 +139,9 @@ begun_shaped n hot limit few least most = record {
     as_many m = many_regions m ∙ sym (so_many m)
 
     has_none : (m k c : ℕ) → HasLog (new_regions m hot) k c → ⊥
-    has_none m k c has = (let none : length (region_in (new_regions m hot) k).logs ≡ 0 = ap length (new_seen (λ r. r.logs) m hot k refl) in absurd (omega (arith, none, has.client.some, has.client.there)))
+    has_none m k c has =
+        let none : length (region_in (new_regions m hot) k).logs ≡ 0 = ap length (new_seen (λ r. r.logs) m hot k refl) in
+        absurd (omega (arith, none, has.client.some, has.client.there))
 
 pub starts_shaped : (s : StateValue) (n hot : ℕ) → s.nodes ≡ new_regions n hot → s.members ≡ all_full n → s.clients ≡ [] → SameLevels nobody s.levels → s.cuts ≡ [] → s.history ≡ [] → n ≤ MOST_NODES → 8 ≤ s.limit → s.limit ≤ 4096 → ShapeInvariant s
 starts_shaped s n hot nodes members none levels unasked nothing few least most = subst ShapeInvariant (sym (parts s n hot nodes members none levels unasked nothing)) (begun_shaped n hot s.limit few least most)

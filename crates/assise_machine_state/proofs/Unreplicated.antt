@@ -1,5 +1,5 @@
 -- The first call of which some full node may lack a record, as a client's own log has it.
-use Rattle.std.proofs.Common.{◌≡◌, ℕ, zero, suc, ◌-◌, ◌<◌, List, [], ◌∷◌, length, drop, refl, ap, sym, ◌∙◌}
+use Rattle.std.proofs.Common.{◌≡◌, ℕ, zero, suc, ◌-◌, ◌<◌, List, [], ◌∷◌, length, drop, refl, sym, ◌∙◌}
 use Rattle.assise_record.specs.LogRecord.{LogRecord}
 use Rattle.assise_record.specs.Records.{call_of}
 use Rattle.assise_private_log.specs.NumberedLog.{NumberedLog, records_from}
@@ -11,8 +11,6 @@ use Rattle.assise_machine_state.specs.Observed.{own_node, own_seen, world_of}
 use Rattle.assise_machine_state.specs.Places.{IsNumber}
 use Rattle.assise_machine_state.specs.Invariant.{ShapeInvariant}
 use Rattle.assise_machine_state.specs.StateValues.{StateValue, standings}
-use Rattle.assise_machine_state.proofs.Fullness.{log_is}
-use Rattle.assise_machine_state.proofs.OwnLogs.{own_log}
 
 call_behind : (rs : List LogRecord) (k next : ℕ) → call_of rs k next ≡ call_of (drop k rs) 0 next
 call_behind [] zero next = refl
@@ -25,7 +23,6 @@ pub first_behind : (s : StateValue) (c : ℕ) → ShapeInvariant s → IsNumber 
     call_of (records_from l place) 0 (client_in s.clients c).next ≡ first_unreplicated (world_of s) c
 unfolding world_of own_seen call_at first_unreplicated
 first_behind s c shape client some l is place acked =
-    let own = log_is s (own_node (standings s) (client_in s.clients c)) c (own_log s c shape client some) in
-    let same : l ≡ (own_seen s c).log = is ∙ sym (ap (λ x. x.log) own) in
+    let same : l ≡ (own_seen s c).log = is in
     (λ i. call_of (drop (acked i - (same i).first) (same i).records) 0 (client_in s.clients c).next)
     ∙ sym (call_behind ((world_of s).records c) (received_by_all (world_of s) c - (world_of s).first c) ((world_of s).next c))

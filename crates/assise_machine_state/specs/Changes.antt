@@ -8,7 +8,7 @@ use Rattle.assise_history.specs.Entries.{calls, crashes, fails, opens, returns}
 use Rattle.assise_inode_table.specs.Contents.{Content}
 use Rattle.assise_inode_table.specs.Traces.{NumberedCall}
 use Rattle.assise_private_log.specs.NumberedLog.{is_border}
-use Rattle.assise_digest.specs.Region.{RegionValue, digested_by, regrouped_from, with_inode}
+use Rattle.assise_digest.specs.Region.{RegionValue, regrouped_from, with_inode}
 use Rattle.assise_lease_table.specs.declared.lease.Asked.{Asked}
 use Rattle.assise_lease_tree.specs.TwoLevels.{TwoLevels}
 use Rattle.assise_manager.specs.Changes.{failed, joined, noted}
@@ -18,7 +18,7 @@ use Rattle.assise_model_world.specs.World.{World, call_makes_inode, digested_by_
 use Rattle.assise_model_history.specs.Lost.{losses_of}
 use Rattle.assise_model_history.specs.Numbered.{plain_call}
 use Rattle.assise_machine_state.specs.ClientValues.{ClientValue, client_in, crashed_at, failed_at, opened_on, with_call, with_client, with_goal}
-use Rattle.assise_machine_state.specs.NodeValues.{log_in, region_in, with_call_in, with_prefixes_dropped, with_hot_in, with_log_in, with_logs_begun, with_logs_of, with_records, with_region, with_tails_cut, without_logs}
+use Rattle.assise_machine_state.specs.NodeValues.{log_in, region_in, with_call_in, with_digested_in, with_prefixes_dropped, with_hot_in, with_log_in, with_logs_begun, with_logs_of, with_records, with_region, with_tails_cut, without_logs}
 use Rattle.assise_machine_state.specs.Observed.{is_full_in, own_seen, world_of}
 use Rattle.assise_machine_state.specs.StateValues.{StateValue, standings}
 
@@ -93,7 +93,7 @@ after_delivery s n c k = record s { nodes = with_log_in s.nodes n c (with_record
 -- node n digests client c's records below place k, and the manager notes these inodes
 abbrev pub after_digest : StateValue → (n c k : ℕ) → set.FinSet nat_cmp → StateValue
 after_digest s n c k inodes = record s {
-  nodes = with_region s.nodes n (digested_by (region_in s.nodes n) c (k - (log_in s.nodes n c).digested));
+  nodes = with_digested_in s.nodes n c (k - (log_in s.nodes n c).digested);
   members = noted s.members n inodes;
 }
 
@@ -120,13 +120,15 @@ first_but w c to d = if d == c then to else w.first d
 abbrev pub with_clients_cut : (home : ℕ) (clients : List ClientValue) (kept : ℕ → ℕ) → ℕ → List RegionValue → List RegionValue
 with_clients_cut home cs kept zero rs = rs
 with_clients_cut home cs kept (suc c) rs =
-    if (client_in cs (suc c)).home == home then with_tails_cut (with_clients_cut home cs kept c rs) (suc c) (kept (suc c)) else with_clients_cut home cs kept c rs
+    if (client_in cs (suc c)).home == home then with_tails_cut (with_clients_cut home cs kept c rs) (suc c) (kept (suc c)) else with_clients_cut home cs kept c
+    rs
 
 -- their node failed
 abbrev pub with_clients_failed : (home : ℕ) (kept : ℕ → ℕ) → ℕ → List ClientValue → List ClientValue
 with_clients_failed home kept zero cs = cs
 with_clients_failed home kept (suc c) cs =
-    if (client_in cs (suc c)).home == home then with_client (with_clients_failed home kept c cs) (suc c) (failed_at (kept (suc c)) (client_in cs (suc c))) else with_clients_failed home kept c cs
+    if (client_in cs (suc c)).home == home then with_client (with_clients_failed home kept c cs) (suc c) (failed_at (kept (suc c)) (client_in cs (suc c))) else
+    with_clients_failed home kept c cs
 
 -- node n fails: its logs are gone, those of its clients are cut elsewhere, the manager lists these inodes, and these are the
 -- leases then, with its clients' answers for those that they were not asked for

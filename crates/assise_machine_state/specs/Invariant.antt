@@ -15,7 +15,7 @@ use Rattle.assise_model_world.specs.Invariant.{WorldInvariant}
 use Rattle.assise_model_events.specs.NodeEvents.{border_marks}
 use Rattle.assise_machine_state.specs.ClientValues.{client_in}
 use Rattle.assise_lease_table.specs.Cuts.{are_once, is_asked, is_unasked}
-use Rattle.assise_machine_state.specs.NodeValues.{HasLog, log_in, log_seen, region_in}
+use Rattle.assise_machine_state.specs.NodeValues.{HasLog, log_in, region_in}
 use Rattle.assise_machine_state.specs.Observed.{is_full_in, own_seen, world_of}
 use Rattle.assise_machine_state.specs.Places.{IsNumber}
 use Rattle.assise_machine_state.specs.StateValues.{StateValue, standings}
@@ -32,13 +32,13 @@ pub record ShapeInvariant (s : StateValue) : Type 0 where
   pub logs : (n : ℕ) → is_full_in (standings s) n ≡ true → length (region_in s.nodes n).logs ≡ length s.clients
   pub no_logs : (n : ℕ) → is_full_in (standings s) n ≡ false → (region_in s.nodes n).logs ≡ []
   -- at a client's home its log is known as that of a client that lives there, until the node fails, and nowhere else
-  pub at_home : (n c : ℕ) → (log_seen s.nodes n c).at_home ≡ ((n == (client_in s.clients c).home) && not (client_in s.clients c).failed)
+  pub at_home : (n c : ℕ) → (log_in s.nodes n c).at_home ≡ ((n == (client_in s.clients c).home) && not (client_in s.clients c).failed)
   -- all logs have one limit, 8 to 4,096 records
   pub limits : (n c : ℕ) → HasLog s.nodes n c → (log_in s.nodes n c).log.limit ≡ s.limit
   pub least_limit : 8 ≤ s.limit
   pub most_limit : s.limit ≤ 4096
   -- each node's log of a client has the groups of the client's own
-  pub marked : (n c : ℕ) → IsMarked (is_border (own_seen s c).log) (log_seen s.nodes n c).log
+  pub marked : (n c : ℕ) → IsMarked (is_border (own_seen s c).log) (log_in s.nodes n c).log
   -- each client is known as it was opened
   pub durabilities : (c : ℕ) → (client_in s.clients c).durability ≡ durability_of c s.history
 

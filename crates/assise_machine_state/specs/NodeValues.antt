@@ -1,12 +1,13 @@
 -- What nodes have: for each its inodes, and the logs that it received.
 -- Assise (OSDI 2020), section 3 (CC-NVM: update logs, shared areas, recovery).
-use Rattle.std.specs.Prelude.{◌≡◌, ℕ, zero, suc, ◌-◌, ◌<◌, ◌≤◌, nat_le, Bool, true, false, ◌==◌, if◌then◌else◌, List, [], ◌∷◌, ◌++◌, length, map, slice_index_or, slice_set}
-use Rattle.assise_record.specs.Records.{has_some}
+use Rattle.std.specs.Prelude.{◌≡◌, ℕ, zero, suc, ◌-◌, ◌<◌, ◌≤◌, nat_le, Bool, true, false, ◌==◌, if◌then◌else◌, List, [], ◌∷◌, ◌++◌, length, map, slice_index_or, slice_set, take}
+use Rattle.assise_record.specs.Records.{all_effects, has_some}
+use Rattle.assise_inode_table.specs.Effects.{all_applied}
 use Rattle.assise_inode_table.specs.Opening.{opening_inodes}
 use Rattle.assise_record.specs.declared.effect.Effect.{Effect}
 use Rattle.assise_record.specs.LogRecord.{LogRecord}
 use Rattle.assise_private_log.specs.NumberedLog.{NumberedLog, empty_log, end, is_border}
-use Rattle.assise_digest.specs.Region.{AreWhole, HasClient, IsBegun, ReceivedLog, RegionValue, from_number, log_of, no_log, up_to_number, region_with_client, with_hot_capacity, with_log, with_more, with_one, without_clients, without_last_client}
+use Rattle.assise_digest.specs.Region.{AreWhole, HasClient, IsBegun, ReceivedLog, RegionValue, ahead, digested_further, from_number, log_of, no_log, up_to_number, region_with_client, with_hot_capacity, with_log, with_more, with_one, without_clients, without_last_client}
 use Rattle.assise_model_events.specs.NodeEvents.{border_marks}
 use Rattle.assise_machine_state.specs.Places.{IsNumber, item_at, with_item}
 
@@ -31,17 +32,13 @@ abbrev pub hot_capacities : List RegionValue → List ℕ
 hot_capacities rs = map (λ r. r.capacity) rs
 
 -- what node n has of client c's log
-abbrev pub log_in : List RegionValue → ℕ → ℕ → ReceivedLog
-log_in rs n c = log_of (region_in rs n) c
+unfoldable pub log_in : List RegionValue → ℕ → ℕ → ReceivedLog
+log_in rs n c = item_at no_log (region_in rs n).logs c
 
 -- node n has a log of client c
 pub record HasLog (rs : List RegionValue) (n c : ℕ) : Type 0 where
   pub node : IsNumber rs n
   pub client : HasClient (region_in rs n) c
-
--- the same of a client of any number
-unfoldable pub log_seen : List RegionValue → ℕ → ℕ → ReceivedLog
-log_seen rs n c = item_at no_log (region_in rs n).logs c
 
 -- ---- changes at one node
 
@@ -49,7 +46,7 @@ abbrev pub with_region : List RegionValue → ℕ → RegionValue → List Regio
 with_region rs n r = with_item rs n r
 
 abbrev pub with_log_in : List RegionValue → ℕ → ℕ → ReceivedLog → List RegionValue
-with_log_in rs n c l = with_region rs n (with_log (region_in rs n) c l)
+with_log_in rs n c l = with_region rs n (record (region_in rs n) { logs = with_item (region_in rs n).logs c l })
 
 -- `capacity` inodes may be hot at node n
 abbrev pub with_hot_in : List RegionValue → ℕ → (capacity : ℕ) → List RegionValue
@@ -58,6 +55,13 @@ with_hot_in rs n capacity = slice_set rs (n - 1) (with_hot_capacity (slice_index
 -- the effects of a call, if it has some, are a record more of the client's log
 abbrev pub with_call_in : List RegionValue → ℕ → ℕ → ℕ → List Effect → List RegionValue
 with_call_in rs n c call es = if has_some es then with_log_in rs n c (with_more (log_in rs n c) (record { call = call; effects = es })) else rs
+
+-- the first of client c's records that aren't digested, a number of them, are made of node n's inodes
+abbrev pub with_digested_in : List RegionValue → ℕ → ℕ → ℕ → List RegionValue
+with_digested_in rs n c count = with_region rs n (record (region_in rs n) {
+  inodes = all_applied (region_in rs n).inodes (all_effects (take count (ahead (log_in rs n c))));
+  logs = with_item (region_in rs n).logs c (digested_further (log_in rs n c) count);
+})
 
 -- records come in behind the last, in groups between these borders
 abbrev pub with_records : (ℕ → Bool) → ReceivedLog → List LogRecord → ReceivedLog

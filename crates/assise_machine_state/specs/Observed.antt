@@ -14,7 +14,7 @@ use Rattle.assise_model_history.specs.Numbered.{kept_numbered}
 use Rattle.assise_model_history.specs.State.{down_from}
 use Rattle.assise_model_events.specs.Machine.{Machine}
 use Rattle.assise_machine_state.specs.ClientValues.{ClientValue, client_in}
-use Rattle.assise_machine_state.specs.NodeValues.{hot_capacities, log_in, log_seen, region_in}
+use Rattle.assise_machine_state.specs.NodeValues.{hot_capacities, log_in, region_in}
 use Rattle.assise_machine_state.specs.StateValues.{StateValue, leases_of, standings}
 
 -- ---- nodes
@@ -38,7 +38,7 @@ abbrev pub own_node : List Standing → ClientValue → ℕ
 own_node nodes c = if c.failed then lowest_full nodes else c.home
 
 unfoldable pub own_seen : StateValue → ℕ → ReceivedLog
-own_seen s c = log_seen s.nodes (own_node (standings s) (client_in s.clients c)) c
+own_seen s c = log_in s.nodes (own_node (standings s) (client_in s.clients c)) c
 
 -- ---- what is read
 
@@ -54,9 +54,9 @@ unfoldable pub world_of : StateValue → World
 world_of s = record {
   full = full_in (standings s);
   area = λ n. values (region_in s.nodes n).inodes;
-  log = λ n c. (log_seen s.nodes n c).log.records;
-  received = λ n c. end (log_seen s.nodes n c).log;
-  digested = λ n c. (log_seen s.nodes n c).digested;
+  log = λ n c. (log_in s.nodes n c).log.records;
+  received = λ n c. end (log_in s.nodes n c).log;
+  digested = λ n c. (log_in s.nodes n c).digested;
   clients = length s.clients;
   home = λ c. (client_in s.clients c).home;
   lives = λ c. not (client_in s.clients c).failed;

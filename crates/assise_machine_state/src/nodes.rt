@@ -6,10 +6,10 @@ ghost use Rattle.assise_names.specs.declared.refusal.Refusal.TheVariants.{LogFul
 ghost use Rattle.assise_inode_table.specs.Whole.{CanBeMadeWhole};
 ghost use Rattle.assise_record.specs.Groups.{AllHaveEffects};
 ghost use Rattle.assise_private_log.specs.NumberedLog.{IsNumberedLog, end, is_border, records_from};
-ghost use Rattle.assise_digest.specs.Region.{AreWhole, HasClient, LogHasRoom, IsLogFull, IsQuiet, ReceivedLog, TouchDisjoint, ahead_below, digested_by, from_number, log_of, regrouped_from, up_to_number, whole_ahead, region_with_client, with_inode, with_log, with_more, without_clients};
+ghost use Rattle.assise_digest.specs.Region.{AreWhole, HasClient, LogHasRoom, IsLogFull, IsQuiet, ReceivedLog, TouchDisjoint, ahead_below, from_number, log_of, regrouped_from, up_to_number, whole_ahead, region_with_client, with_inode, with_log, with_more, without_clients};
 ghost use Rattle.assise_digest.specs.contracts.region.Region.{the_row as region_row};
 ghost use Rattle.assise_manager.specs.Whole.{membership};
-ghost use Rattle.assise_machine_state.specs.NodeValues.{AreDigested, AreTaken, AreUndigested, HasGroupsOf, HasLog, IsDigestedTo, IsUndigestedFrom, away, begun_log, changed_in, copied, log_in, new_regions, region_in, with_copies, with_prefixes_dropped, with_hot_in, with_log_in, with_logs_begun, with_logs_ended, with_logs_of, with_next, with_records, with_region, with_tails_cut, without_log_of, without_logs};
+ghost use Rattle.assise_machine_state.specs.NodeValues.{AreDigested, AreTaken, AreUndigested, HasGroupsOf, HasLog, IsDigestedTo, IsUndigestedFrom, away, begun_log, changed_in, copied, log_in, new_regions, region_in, with_copies, with_digested_in, with_prefixes_dropped, with_hot_in, with_log_in, with_logs_begun, with_logs_ended, with_logs_of, with_next, with_records, with_region, with_tails_cut, without_log_of, without_logs};
 ghost use Rattle.assise_machine_state.specs.contracts.nodes.Nodes.{the_row};
 ghost use Rattle.assise_machine_state.specs.Observed.{is_full_in};
 ghost use Rattle.assise_machine_state.specs.Places.{IsNumber};
@@ -83,6 +83,23 @@ impl Nodes {
         ensures value { result.now ≡ region_in self.old node }
     {
         &mut self.regions[node as usize - 1]
+    }
+
+    /// A node's log of a client.
+    pub fn log(&self, node: u32, client: u32) -> &Log
+        requires there { HasLog self.now node client }
+        ensures log { result.now ≡ (log_in self.now node client).log }
+        ensures whole { AreWhole result.now.records }
+    {
+        self.region(node).log(client as usize)
+    }
+
+    /// The place up to which a node has digested a client's log.
+    pub fn digested(&self, node: u32, client: u32) -> u64
+        requires there { HasLog self.now node client }
+        ensures { result ≡ (log_in self.now node client).digested }
+    {
+        self.region(node).digested(client as usize)
     }
 
     /// All full nodes begin a log of the next client, which lives on one of them, of 8 to 4,096 records at most. The one
@@ -194,8 +211,8 @@ impl Nodes {
         ensures end { end (log_in self.new node client).log ≡
             end (log_in self.old node client).log + 1 }
     {
-        let number = self.region(node).log(client as usize).end();
-        let begins = self.region(own).log(client as usize).is_border(number);
+        let number = self.log(node, client).end();
+        let begins = self.log(own, client).is_border(number);
         let region = self.region_mut(node);
         let Ok(()) = region.append_grouped(client as usize, added, begins) else {
             unreachable!()
@@ -292,8 +309,7 @@ impl Nodes {
     ) -> Result<usize, Refusal>
         requires there { HasLog self.old node client }
         requires disjoint { TouchDisjoint (region_in self.old node) }
-        ensures ok { IfOk result (λ n. self.new ≡ with_region self.old node
-            (digested_by (region_in self.old node) client n)) }
+        ensures ok { IfOk result (λ n. self.new ≡ with_digested_in self.old node client n) }
         ensures at_most { IfOk result (λ n. n ≤ at_most) }
         ensures acked { IfOk result (λ n. n ≤ length
             (ahead_below (log_in self.old node client) acked)) }

@@ -5,13 +5,13 @@ ghost use Rattle.assise_names.specs.declared.refusal.Refusal.TheVariants.{OutOfM
 use crate::client_view::ClientView;
 use crate::clients::Clients;
 use crate::nodes::Nodes;
-use assise_digest::region::Region;
 use assise_history::history::History;
 use assise_lease_table::lease::Asked;
 use assise_lease_table::revoker::{Revoker, Revokes};
 use assise_lease_tree::lease_tree::LeaseTreeOf;
 use assise_manager::members::Members;
 use assise_names::refusal::Refusal;
+use assise_private_log::log::Log;
 use std::alloc::Global;
 
 /// The whole state of a cluster, level by level (Assise, OSDI 2020, section 3). Nodes and clients are numbered from 1.
@@ -54,7 +54,7 @@ impl<C: Revokes + Drop> StateOf<C> {
     ghost use Rattle.std.specs.Prelude.{◌≡◌, ◌<◌, ◌≤◌, IfOk, IsOkUnless, false};
     ghost use Rattle.assise_names.specs.declared.refusal.Refusal.TheVariants.{OutOfMemory};
     ghost use Rattle.assise_names.specs.declared.limits.TheConstants.{MOST_NODES};
-    ghost use Rattle.assise_digest.specs.Region.{HasClient};
+    ghost use Rattle.assise_digest.specs.Region.{AreWhole};
     ghost use Rattle.assise_private_log.specs.NumberedLog.{end};
     ghost use Rattle.assise_manager.specs.Standings.{full_nodes};
     ghost use Rattle.assise_manager.specs.Whole.{membership};
@@ -62,7 +62,7 @@ impl<C: Revokes + Drop> StateOf<C> {
     ghost use Rattle.assise_model_events.specs.Dsyncs.{besides, coalesced_from, most_of};
     ghost use Rattle.assise_model_events.specs.Machine.{begun_as};
     ghost use Rattle.assise_machine_state.specs.ClientValues.{client_in};
-    ghost use Rattle.assise_machine_state.specs.NodeValues.{HasLog, log_in, new_regions, region_in};
+    ghost use Rattle.assise_machine_state.specs.NodeValues.{HasLog, log_in, new_regions};
     ghost use Rattle.assise_machine_state.specs.Observed.{inodes_read, own_node, world_of};
     ghost use Rattle.assise_machine_state.specs.Places.{IsNumber};
     ghost use Rattle.assise_machine_state.specs.Invariant.{CutsInvariant, ShapeInvariant};
@@ -105,9 +105,9 @@ impl<C: Revokes + Drop> StateOf<C> {
         requires shape { ShapeInvariant (value_of self.now) }
         ensures { result ≡ received_by_all (world_of (value_of self.now)) client }
     {
-        let mut least = self.own_region(client).log(client as usize).end();
+        let mut least = self.own_log(client).end();
         for node in self.members.full_nodes() {
-            let received = self.nodes.region(*node).log(client as usize).end();
+            let received = self.nodes.log(*node, client).end();
             least = least.min(received);
         }
         least
@@ -120,7 +120,7 @@ impl<C: Revokes + Drop> StateOf<C> {
         requires shape { ShapeInvariant (value_of self.now) }
         ensures { result ≡ first_unreplicated (world_of (value_of self.now)) client }
     {
-        let log = self.own_region(client).log(client as usize);
+        let log = self.own_log(client);
         match log.since(self.acked(client)).next() {
             Some(record) => record.call(),
             None => self.clients.get(client).next(),
@@ -133,9 +133,9 @@ impl<C: Revokes + Drop> StateOf<C> {
         requires shape { ShapeInvariant (value_of self.now) }
         ensures { result ≡ digested_by_all (world_of (value_of self.now)) client }
     {
-        let mut least = self.own_region(client).log(client as usize).end();
+        let mut least = self.own_log(client).end();
         for node in self.members.full_nodes() {
-            let digested = self.nodes.region(*node).digested(client as usize);
+            let digested = self.nodes.digested(*node, client);
             least = least.min(digested);
         }
         least
@@ -164,7 +164,7 @@ impl<C: Revokes + Drop> StateOf<C> {
         let mut most = 0u64;
         for node in self.members.full_nodes() {
             if *node != home {
-                let received = self.nodes.region(*node).log(client as usize).end();
+                let received = self.nodes.log(*node, client).end();
                 most = most.max(received);
             }
         }
@@ -188,15 +188,15 @@ impl<C: Revokes + Drop> StateOf<C> {
         }
     }
 
-    /// The region of that node.
-    pub fn own_region(&self, client: u32) -> &Region
+    /// That log.
+    pub fn own_log(&self, client: u32) -> &Log
         requires client { IsNumber self.now.clients client }
         requires shape { ShapeInvariant (value_of self.now) }
-        ensures region { result.now ≡ region_in self.now.nodes
-            (own_node (membership self.now.members).nodes (client_in self.now.clients client)) }
-        ensures log { HasClient result.now client }
+        ensures log { result.now ≡ (log_in self.now.nodes (own_node
+            (membership self.now.members).nodes (client_in self.now.clients client)) client).log }
+        ensures whole { AreWhole result.now.records }
     {
-        self.nodes.region(self.own_node(client))
+        self.nodes.log(self.own_node(client), client)
     }
 
     /// What a client reads whose node hasn't failed since it was opened, with its leases.

@@ -35,7 +35,7 @@ pub(crate) fn append(
     inode: u64,
 ) -> Option<()> {
     let added = record_of(alloc, inode)?;
-    if !has_log(nodes, node, client) || nodes.region(node).log(client as usize).end() == u64::MAX {
+    if !has_log(nodes, node, client) || nodes.log(node, client).end() == u64::MAX {
         return None;
     }
     nodes.append(node, client, added).ok()

@@ -1,7 +1,6 @@
 use Rattle.std.proofs.Common.{◌≡◌, ◌+◌, ◌<◌, ◌≤◌, ◌∙◌, length, refl, ap, sym, subst, arith}
-use Rattle.assise_digest.specs.Region.{HasClient, log_of}
 use Rattle.assise_model_events.specs.NodeEvents.{is_refused, is_stale}
-use Rattle.assise_machine_state.specs.NodeValues.{region_in}
+use Rattle.assise_machine_state.specs.NodeValues.{HasLog}
 use Rattle.assise_machine_state.specs.Places.{IsNumber}
 use Rattle.assise_machine_state.specs.Whole.{value_of}
 use Rattle.assise_machine.specs.Taking.{own_log}
@@ -13,20 +12,11 @@ use Rattle.assise_machine.proofs.delivery.deliver.Goals as goal
 pub returns-in-Some-clause-happens : goal.returns-in-Some-clause-happens
 returns-in-Some-clause-happens g c = is_refused c.in-Some.refusal (sym c.delivery_refusal.ensures ∙ c.in-Some.is) refl refl
 
-pub region-requires : goal.region-requires
-region-requires g c =
-    let s = value_of c.args.sound.now.state in
-    record {
-      node = (has s c.args.frame c.args.node c.args.sound.now.invariant.shape c.args.sound.now.invariant.holds c.args.sound.now.state.members.lawful.some_full (sym c.delivery_refusal.ensures ∙ c.in_default.is)).node;
-    }
-
 pub log-requires : goal.log-requires
 log-requires g c =
     let s = value_of c.args.sound.now.state in
     let there = has s c.args.frame c.args.node c.args.sound.now.invariant.shape c.args.sound.now.invariant.holds c.args.sound.now.state.members.lawful.some_full (sym c.delivery_refusal.ensures ∙ c.in_default.is) in
-    record {
-      client = subst (λ r. HasClient r c.client-client.result) (sym c.region.ensures) (subst (λ k. HasClient (region_in s.nodes c.args.node) k) (sym c.client-client.ensures.client) there.client);
-    }
+    record { there = subst (HasLog s.nodes c.args.node) (sym c.client-client.ensures.client) there }
 
 pub is_next-requires-clause-client : goal.is_next-requires-clause-client
 is_next-requires-clause-client g c = fine_client (value_of c.args.sound.now.state) c.args.frame c.args.node (sym c.delivery_refusal.ensures ∙ c.in_default.is)
@@ -35,21 +25,21 @@ pub is_next-requires-clause-begun : goal.is_next-requires-clause-begun
 is_next-requires-clause-begun g c =
     let fine = sym c.delivery_refusal.ensures ∙ c.in_default.is in
     let is = received_as (value_of c.args.sound.now.state) c.args.frame c.args.node c.args.sound.now.invariant.shape c.args.sound.now.invariant.holds c.args.sound.now.state.members.lawful.some_full fine
-    c.region.result.now c.log.result.now c.client-client.result c.end-received.result c.end-received.ensures.end c.log.ensures.log c.region.ensures c.client-client.ensures.client in
+    c.log.result.now c.client-client.result c.end-received.result c.end-received.ensures.end c.log.ensures.log c.client-client.ensures.client in
     begun (value_of c.args.sound.now.state) c.args.frame c.args.node c.args.sound.now.invariant.shape c.args.sound.now.invariant.holds c.args.sound.now.state.members.lawful.some_full fine c.end-received.result is
 
 pub returns-then-not-is_next-clause-happens : goal.returns-then-not-is_next-clause-happens
 returns-then-not-is_next-clause-happens g c =
     let fine = sym c.delivery_refusal.ensures ∙ c.in_default.is in
     let is = received_as (value_of c.args.sound.now.state) c.args.frame c.args.node c.args.sound.now.invariant.shape c.args.sound.now.invariant.holds c.args.sound.now.state.members.lawful.some_full fine
-    c.region.result.now c.log.result.now c.client-client.result c.end-received.result c.end-received.ensures.end c.log.ensures.log c.region.ensures c.client-client.ensures.client in
+    c.log.result.now c.client-client.result c.end-received.result c.end-received.ensures.end c.log.ensures.log c.client-client.ensures.client in
     is_stale fine (not_timely (value_of c.args.sound.now.state) c.args.frame c.args.node c.args.sound.now.invariant.shape c.args.sound.now.invariant.holds c.args.sound.now.state.members.lawful.some_full fine c.end-received.result is (c.is_next.ensures.stale c.if-not-is_next.true)) refl refl
 
 pub returns-then-place-received-clause-happens : goal.returns-then-place-received-clause-happens
 returns-then-place-received-clause-happens g c =
     let fine = sym c.delivery_refusal.ensures ∙ c.in_default.is in
     let is = received_as (value_of c.args.sound.now.state) c.args.frame c.args.node c.args.sound.now.invariant.shape c.args.sound.now.invariant.holds c.args.sound.now.state.members.lawful.some_full fine
-    c.region.result.now c.log.result.now c.client-client.result c.end-received.result c.end-received.ensures.end c.log.ensures.log c.region.ensures c.client-client.ensures.client in
+    c.log.result.now c.client-client.result c.end-received.result c.end-received.ensures.end c.log.ensures.log c.client-client.ensures.client in
     let old : c.args.frame.first + length c.args.frame.records ≤ c.end-received.result = omega (arith, c.if-place-received.true, c.first.ensures.first, ap length c.records.ensures.records) in
     nothing_new (value_of c.args.sound.now.state) c.args.frame c.args.node c.args.sound.now.invariant.shape c.args.sound.now.invariant.holds c.args.sound.now.state.members.lawful.some_full fine c.end-received.result is (c.is_next.ensures.timely c.if-not-is_next.false) old
 
@@ -57,8 +47,8 @@ pub own_node-own-requires-clause-client : goal.own_node-own-requires-clause-clie
 own_node-own-requires-clause-client g c =
     subst (IsNumber (value_of c.args.sound.now.state).clients) (sym c.client-client.ensures.client) (fine_client (value_of c.args.sound.now.state) c.args.frame c.args.node (sym c.delivery_refusal.ensures ∙ c.in_default.is))
 
-pub own_region-requires-clause-client : goal.own_region-requires-clause-client
-own_region-requires-clause-client g c =
+pub own_log-log-requires-clause-client : goal.own_log-log-requires-clause-client
+own_log-log-requires-clause-client g c =
     subst (IsNumber (value_of c.args.sound.now.state).clients) (sym c.client-client.ensures.client) (fine_client (value_of c.args.sound.now.state) c.args.frame c.args.node (sym c.delivery_refusal.ensures ∙ c.in_default.is))
 
 pub with_own_payloads-records-requires-clause-begun : goal.with_own_payloads-records-requires-clause-begun
@@ -66,9 +56,9 @@ with_own_payloads-records-requires-clause-begun g c =
     let s = value_of c.args.sound.now.state in
     let fine = sym c.delivery_refusal.ensures ∙ c.in_default.is in
     let is = received_as s c.args.frame c.args.node c.args.sound.now.invariant.shape c.args.sound.now.invariant.holds c.args.sound.now.state.members.lawful.some_full fine
-    c.region.result.now c.log.result.now c.client-client.result c.end-received.result c.end-received.ensures.end c.log.ensures.log c.region.ensures c.client-client.ensures.client in
-    let own : c.log-log.result.now ≡ own_log s c.args.frame.client =
-    c.log-log.ensures.log ∙ ap (λ q. (log_of q c.client-client.result).log) c.own_region.ensures.region ∙ ap (own_log s) c.client-client.ensures.client in
+    c.log.result.now c.client-client.result c.end-received.result c.end-received.ensures.end c.log.ensures.log c.client-client.ensures.client in
+    let own : c.own_log-log.result.now ≡ own_log s c.args.frame.client =
+    c.own_log-log.ensures.log ∙ ap (own_log s) c.client-client.ensures.client in
     subst (λ l. l.first ≤ c.end-received.result) (sym own)
     (begun s c.args.frame c.args.node c.args.sound.now.invariant.shape c.args.sound.now.invariant.holds c.args.sound.now.state.members.lawful.some_full fine c.end-received.result is)
 
@@ -76,7 +66,7 @@ pub extend-requires-clause-there : goal.extend-requires-clause-there
 extend-requires-clause-there g c =
     let fine = sym c.delivery_refusal.ensures ∙ c.in_default.is in
     let is = received_as (value_of c.args.sound.now.state) c.args.frame c.args.node c.args.sound.now.invariant.shape c.args.sound.now.invariant.holds c.args.sound.now.state.members.lawful.some_full fine
-    c.region.result.now c.log.result.now c.client-client.result c.end-received.result c.end-received.ensures.end c.log.ensures.log c.region.ensures c.client-client.ensures.client in
+    c.log.result.now c.client-client.result c.end-received.result c.end-received.ensures.end c.log.ensures.log c.client-client.ensures.client in
     let past : c.end-received.result < c.args.frame.first + length c.args.frame.records = omega (arith, c.if-place-received.false, c.first.ensures.first, ap length c.records.ensures.records) in
     let next = c.is_next.ensures.timely c.if-not-is_next.false in
     there_as (value_of c.args.sound.now.state) c.args.frame c.args.node c.args.sound.now.invariant.shape c.args.sound.now.invariant.holds c.args.sound.now.state.members.lawful.some_full fine c.end-received.result is next past c.client-client.result c.first-2.result c.with_own_payloads-records.result.items c.client-client.ensures.client c.first-2.ensures.first c.with_own_payloads-records.ensures
@@ -85,7 +75,7 @@ pub extend-requires-clause-elsewhere : goal.extend-requires-clause-elsewhere
 extend-requires-clause-elsewhere g c =
     let fine = sym c.delivery_refusal.ensures ∙ c.in_default.is in
     let is = received_as (value_of c.args.sound.now.state) c.args.frame c.args.node c.args.sound.now.invariant.shape c.args.sound.now.invariant.holds c.args.sound.now.state.members.lawful.some_full fine
-    c.region.result.now c.log.result.now c.client-client.result c.end-received.result c.end-received.ensures.end c.log.ensures.log c.region.ensures c.client-client.ensures.client in
+    c.log.result.now c.client-client.result c.end-received.result c.end-received.ensures.end c.log.ensures.log c.client-client.ensures.client in
     let past : c.end-received.result < c.args.frame.first + length c.args.frame.records = omega (arith, c.if-place-received.false, c.first.ensures.first, ap length c.records.ensures.records) in
     let next = c.is_next.ensures.timely c.if-not-is_next.false in
     elsewhere_as (value_of c.args.sound.now.state) c.args.frame c.args.node c.args.sound.now.invariant.shape c.args.sound.now.invariant.holds c.args.sound.now.state.members.lawful.some_full fine c.end-received.result is next past c.client-client.result c.first-2.result c.with_own_payloads-records.result.items c.client-client.ensures.client c.first-2.ensures.first c.with_own_payloads-records.ensures
@@ -94,7 +84,7 @@ pub extend-requires-clause-other : goal.extend-requires-clause-other
 extend-requires-clause-other g c =
     let fine = sym c.delivery_refusal.ensures ∙ c.in_default.is in
     let is = received_as (value_of c.args.sound.now.state) c.args.frame c.args.node c.args.sound.now.invariant.shape c.args.sound.now.invariant.holds c.args.sound.now.state.members.lawful.some_full fine
-    c.region.result.now c.log.result.now c.client-client.result c.end-received.result c.end-received.ensures.end c.log.ensures.log c.region.ensures c.client-client.ensures.client in
+    c.log.result.now c.client-client.result c.end-received.result c.end-received.ensures.end c.log.ensures.log c.client-client.ensures.client in
     let past : c.end-received.result < c.args.frame.first + length c.args.frame.records = omega (arith, c.if-place-received.false, c.first.ensures.first, ap length c.records.ensures.records) in
     let next = c.is_next.ensures.timely c.if-not-is_next.false in
     other_as (value_of c.args.sound.now.state) c.args.frame c.args.node c.args.sound.now.invariant.shape c.args.sound.now.invariant.holds c.args.sound.now.state.members.lawful.some_full fine c.end-received.result is next past c.client-client.result c.first-2.result c.with_own_payloads-records.result.items c.client-client.ensures.client c.first-2.ensures.first c.with_own_payloads-records.ensures
@@ -104,7 +94,7 @@ pub extend-requires-clause-groups : goal.extend-requires-clause-groups
 extend-requires-clause-groups g c =
     let fine = sym c.delivery_refusal.ensures ∙ c.in_default.is in
     let is = received_as (value_of c.args.sound.now.state) c.args.frame c.args.node c.args.sound.now.invariant.shape c.args.sound.now.invariant.holds c.args.sound.now.state.members.lawful.some_full fine
-    c.region.result.now c.log.result.now c.client-client.result c.end-received.result c.end-received.ensures.end c.log.ensures.log c.region.ensures c.client-client.ensures.client in
+    c.log.result.now c.client-client.result c.end-received.result c.end-received.ensures.end c.log.ensures.log c.client-client.ensures.client in
     let past : c.end-received.result < c.args.frame.first + length c.args.frame.records = omega (arith, c.if-place-received.false, c.first.ensures.first, ap length c.records.ensures.records) in
     let next = c.is_next.ensures.timely c.if-not-is_next.false in
     groups_as (value_of c.args.sound.now.state) c.args.frame c.args.node c.args.sound.now.invariant.shape c.args.sound.now.invariant.holds c.args.sound.now.state.members.lawful.some_full fine c.end-received.result is next past c.client-client.result c.first-2.result c.with_own_payloads-records.result.items c.client-client.ensures.client c.first-2.ensures.first c.with_own_payloads-records.ensures
@@ -114,7 +104,7 @@ pub extend-requires-clause-room : goal.extend-requires-clause-room
 extend-requires-clause-room g c =
     let fine = sym c.delivery_refusal.ensures ∙ c.in_default.is in
     let is = received_as (value_of c.args.sound.now.state) c.args.frame c.args.node c.args.sound.now.invariant.shape c.args.sound.now.invariant.holds c.args.sound.now.state.members.lawful.some_full fine
-    c.region.result.now c.log.result.now c.client-client.result c.end-received.result c.end-received.ensures.end c.log.ensures.log c.region.ensures c.client-client.ensures.client in
+    c.log.result.now c.client-client.result c.end-received.result c.end-received.ensures.end c.log.ensures.log c.client-client.ensures.client in
     let past : c.end-received.result < c.args.frame.first + length c.args.frame.records = omega (arith, c.if-place-received.false, c.first.ensures.first, ap length c.records.ensures.records) in
     let next = c.is_next.ensures.timely c.if-not-is_next.false in
     let some = some_new (value_of c.args.sound.now.state) c.args.frame c.args.node c.args.sound.now.invariant.shape c.args.sound.now.invariant.holds c.args.sound.now.state.members.lawful.some_full fine c.end-received.result is next past in
@@ -124,7 +114,7 @@ pub extend-requires-clause-whole : goal.extend-requires-clause-whole
 extend-requires-clause-whole g c =
     let fine = sym c.delivery_refusal.ensures ∙ c.in_default.is in
     let is = received_as (value_of c.args.sound.now.state) c.args.frame c.args.node c.args.sound.now.invariant.shape c.args.sound.now.invariant.holds c.args.sound.now.state.members.lawful.some_full fine
-    c.region.result.now c.log.result.now c.client-client.result c.end-received.result c.end-received.ensures.end c.log.ensures.log c.region.ensures c.client-client.ensures.client in
+    c.log.result.now c.client-client.result c.end-received.result c.end-received.ensures.end c.log.ensures.log c.client-client.ensures.client in
     let past : c.end-received.result < c.args.frame.first + length c.args.frame.records = omega (arith, c.if-place-received.false, c.first.ensures.first, ap length c.records.ensures.records) in
     let next = c.is_next.ensures.timely c.if-not-is_next.false in
     whole_as (value_of c.args.sound.now.state) c.args.frame c.args.node c.args.sound.now.invariant.shape c.args.sound.now.invariant.holds c.args.sound.now.state.members.lawful.some_full fine c.end-received.result is next past c.client-client.result c.first-2.result c.with_own_payloads-records.result.items c.client-client.ensures.client c.first-2.ensures.first c.with_own_payloads-records.ensures (c.is_next.ensures.whole c.if-not-is_next.false)
@@ -134,7 +124,7 @@ given_now : (g : given.Over) (c : goal.After-extend g) →
 given_now g c =
     let fine = sym c.delivery_refusal.ensures ∙ c.in_default.is in
     let is = received_as (value_of c.args.sound.now.state) c.args.frame c.args.node c.args.sound.now.invariant.shape c.args.sound.now.invariant.holds c.args.sound.now.state.members.lawful.some_full fine
-    c.region.result.now c.log.result.now c.client-client.result c.end-received.result c.end-received.ensures.end c.log.ensures.log c.region.ensures c.client-client.ensures.client in
+    c.log.result.now c.client-client.result c.end-received.result c.end-received.ensures.end c.log.ensures.log c.client-client.ensures.client in
     let past : c.end-received.result < c.args.frame.first + length c.args.frame.records = omega (arith, c.if-place-received.false, c.first.ensures.first, ap length c.records.ensures.records) in
     let place : c.first.result + length c.records.result.now ≡ c.args.frame.first + length c.args.frame.records = omega (arith, c.first.ensures.first, ap length c.records.ensures.records) in
     given_as (value_of c.args.sound.now.state) c.args.frame c.args.node c.args.sound.now.invariant.shape c.args.sound.now.invariant.holds c.args.sound.now.state.members.lawful.some_full fine c.end-received.result is (c.is_next.ensures.timely c.if-not-is_next.false) past

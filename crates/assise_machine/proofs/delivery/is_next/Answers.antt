@@ -1,10 +1,10 @@
-use Rattle.std.proofs.Common.{◌-◌, drop, ap, sym, subst}
+use Rattle.std.proofs.Common.{◌-◌, drop, subst}
 use Rattle.assise_digest.specs.Region.{AreWhole}
 use Rattle.assise_machine.proofs.LogAgrees.{whole_new}
 use Rattle.assise_machine.proofs.delivery.is_next.Goals as goal
 
 pub returns-then-is_border-clause-whole : goal.returns-then-is_border-clause-whole
 returns-then-is_border-clause-whole g c all =
-    let whole = subst AreWhole (ap (λ l. l.records) (sym c.log-own.ensures.log)) c.log-own.ensures.whole in
     subst AreWhole (λ i. drop (c.args.received - c.first.ensures.first i) (c.records-2.ensures.records i))
-    (whole_new c.log-own.result.now c.args.received (c.args.received - c.first.result) c.records-2.result.now whole (c.goes_on_with.ensures.same all))
+    (whole_new c.own_log-own.result.now c.args.received (c.args.received - c.first.result) c.records-2.result.now c.own_log-own.ensures.whole
+    (c.goes_on_with.ensures.same all))

@@ -5,7 +5,7 @@ use Rattle.assise_record.specs.Records.{all_effects}
 use Rattle.assise_inode_table.specs.Effects.{touched}
 use Rattle.assise_record.specs.Touched.{touched_by}
 use Rattle.assise_private_log.specs.NumberedLog.{records_from}
-use Rattle.assise_digest.specs.Region.{HasClient, ahead, log_of}
+use Rattle.assise_digest.specs.Region.{ahead}
 use Rattle.assise_manager.specs.Changes.{noted}
 use Rattle.assise_manager.specs.Whole.{membership}
 use Rattle.assise_machine_state.specs.NodeValues.{HasLog, log_in}
@@ -18,19 +18,15 @@ use Rattle.assise_machine.proofs.digesting.digest_noted.Goals as goal
 
 -- the node's log of the client, before the digest and after it
 
-has_now : (g : given.Over) (c : goal.After-region-region g) → HasLog (value_of c.args.state.now).nodes c.args.node c.args.client
-has_now g c = has_here (value_of c.args.state.now) c.args.node c.args.client c.requires.parts.shape c.requires.parts.world c.requires.full c.requires.client
-
-pub region-region-requires : goal.region-region-requires
-region-region-requires g c = record {
-  node = (has_here (value_of c.args.state.now) c.args.node c.args.client c.requires.parts.shape c.requires.parts.world c.requires.full c.requires.client).node;
+pub digested-from-requires : goal.digested-from-requires
+digested-from-requires g c = record {
+  there = has_here (value_of c.args.state.now) c.args.node c.args.client c.requires.parts.shape c.requires.parts.world c.requires.full c.requires.client;
 }
 
-pub digested-from-requires : goal.digested-from-requires
-digested-from-requires g c = record { client = subst (λ r. HasClient r c.args.client) (sym c.region-region.ensures) (has_now g c).client }
-
 pub log-requires : goal.log-requires
-log-requires g c = digested-from-requires g c.before.before.before
+log-requires g c = record {
+  there = has_here (value_of c.args.state.now) c.args.node c.args.client c.requires.parts.shape c.requires.parts.world c.requires.full c.requires.client;
+}
 
 pub digest_some-requires-clause-there : goal.digest_some-requires-clause-there
 digest_some-requires-clause-there g c = has_here (value_of c.args.state.now) c.args.node c.args.client c.requires.parts.shape c.requires.parts.world c.requires.full c.requires.client
@@ -38,17 +34,14 @@ digest_some-requires-clause-there g c = has_here (value_of c.args.state.now) c.a
 pub digest_some-requires-clause-disjoint : goal.digest_some-requires-clause-disjoint
 digest_some-requires-clause-disjoint g c = touch_disjoint (value_of c.args.state.now) c.args.node c.args.client c.requires.parts.shape c.requires.parts.world c.requires.full c.requires.client
 
-then_has : (g : given.Over) (c : goal.After-region-arg-2-1 g) → HasLog c.digest_some.new.self c.args.node c.args.client
-then_has g c =
-    let s = value_of c.args.state.now in
-    subst (λ rs. HasLog rs c.args.node c.args.client) (sym c.in_ok-count.ensures.ok)
-    (has_after s.nodes c.args.node c.args.client c.in_ok-count.count (has_here s c.args.node c.args.client c.requires.parts.shape c.requires.parts.world c.requires.full c.requires.client))
-
-pub region-requires : goal.region-requires
-region-requires g c = record { node = (then_has g c).node }
-
 pub log-requires-2 : goal.log-requires-2
-log-requires-2 g c = record { client = subst (λ r. HasClient r c.args.client) (sym c.region.ensures) (then_has g c.before).client }
+log-requires-2 g c =
+    let s = value_of c.args.state.now in
+    record {
+      there = subst (λ rs. HasLog rs c.args.node c.args.client) (sym c.in_ok-count.ensures.ok)
+          (has_after s.nodes c.args.node c.args.client c.in_ok-count.count
+          (has_here s c.args.node c.args.client c.requires.parts.shape c.requires.parts.world c.requires.full c.requires.client));
+    }
 
 pub effects_from-written-requires : goal.effects_from-written-requires
 effects_from-written-requires g c = record { few = omega (arith, c.in_ok-count.ensures.at_most, c.requires.few_wanted) }
@@ -58,8 +51,8 @@ effects_from-written-requires g c = record { few = omega (arith, c.in_ok-count.e
 all_touched : (g : given.Over) (c : goal.After-deref g) →
     c.deref.result.now ≡ touched (all_effects (take c.args.wanted (ahead (log_in (value_of c.args.state.now).nodes c.args.node c.args.client))))
 all_touched g c =
-    let log = c.log.ensures.log ∙ ap (λ r. (log_of r c.args.client).log) c.region-region.ensures in
-    let from = c.digested-from.ensures.value ∙ ap (λ r. (log_of r c.args.client).digested) c.region-region.ensures in
+    let log = c.log.ensures.log in
+    let from = c.digested-from.ensures in
     let added = c.in_ok-push_touched_from.ensures.added ∙ ap (λ xs. xs ++ touched (all_effects (take c.args.wanted (records_from c.log.result.now c.digested-from.result)))) c.new-inodes.ensures.items in
     c.deref.ensures.value ∙ added ∙ (λ i. touched (all_effects (take c.args.wanted (records_from (log i) (from i)))))
 
@@ -70,10 +63,9 @@ counted_now g c =
     let has = has_here s c.args.node c.args.client c.requires.parts.shape c.requires.parts.world c.requires.full c.requires.client in
     let log =
     c.log-2.ensures.log
-    ∙ ap (λ r. (log_of r c.args.client).log) c.region.ensures
     ∙ ap (λ rs. (log_in rs c.args.node c.args.client).log) c.in_ok-count.ensures.ok
     ∙ ap (λ l. l.log) (log_after s.nodes c.args.node c.args.client c.in_ok-count.count has) in
-    let from = c.digested-from.ensures.value ∙ ap (λ r. (log_of r c.args.client).digested) c.region-region.ensures in
+    let from = c.digested-from.ensures in
     c.effects_from-written.ensures ∙ (λ i. length (all_effects (take c.in_ok-count.count (records_from (log i) (from i)))))
 
 low_now : (g : given.Over) (c : goal.After-deref g) → c.effects_from-written.result ≤ length c.deref.result.now

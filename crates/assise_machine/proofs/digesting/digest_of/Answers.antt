@@ -1,6 +1,5 @@
-use Rattle.std.proofs.Common.{◌≡◌, ◌<◌, min, ap, sym, subst, ◌∙◌, arith}
+use Rattle.std.proofs.Common.{◌≡◌, ◌<◌, min, sym, ◌∙◌, arith}
 use Rattle.std.proofs.lemmas.Bool.{ltb-false, ltb-true}
-use Rattle.assise_digest.specs.Region.{HasClient, log_of}
 use Rattle.assise_model_events.specs.NodeEvents.{undigested}
 use Rattle.assise_machine_state.specs.Observed.{world_of}
 use Rattle.assise_machine_state.specs.Whole.{value_of}
@@ -8,44 +7,38 @@ use Rattle.assise_machine.proofs.Digested.{replicated, digested_is, has_here, no
 use Rattle.assise_machine.proofs.digesting.digest_of.Given as given
 use Rattle.assise_machine.proofs.digesting.digest_of.Goals as goal
 
-pub region-region-requires : goal.region-region-requires
-region-region-requires g c = record {
-  node = (has_here (value_of c.args.state.now) c.args.node c.args.client c.requires.parts.shape c.requires.parts.world c.requires.full c.requires.client).node;
-}
-
 pub digested-from-requires : goal.digested-from-requires
 digested-from-requires g c = record {
-  client =
-      subst (λ r. HasClient r c.args.client) (sym c.region-region.ensures)
-      (has_here (value_of c.args.state.now) c.args.node c.args.client c.requires.parts.shape c.requires.parts.world c.requires.full c.requires.client).client;
+  there = has_here (value_of c.args.state.now) c.args.node c.args.client c.requires.parts.shape c.requires.parts.world c.requires.full c.requires.client;
 }
 
 pub overflow_sub-acked : goal.overflow_sub-acked
 overflow_sub-acked g c =
     let s = value_of c.args.state.now in
     let low = replicated s c.args.node c.args.client c.requires.parts.shape c.requires.parts.world c.requires.full c.requires.client in
-    let from = c.digested-from.ensures.value ∙ ap (λ r. (log_of r c.args.client).digested) c.region-region.ensures in
+    let from = c.digested-from.ensures in
     let there = digested_is s c.args.node c.args.client c.requires.parts.shape c.requires.parts.world c.requires.full c.requires.client in
     omega (arith, low, from, there, c.acked-acked.ensures)
 
 pub log-requires : goal.log-requires
 log-requires g c = record {
-  client =
-      subst (λ r. HasClient r c.args.client) (sym c.region-region.ensures)
-      (has_here (value_of c.args.state.now) c.args.node c.args.client c.requires.parts.shape c.requires.parts.world c.requires.full c.requires.client).client;
+  there = has_here (value_of c.args.state.now) c.args.node c.args.client c.requires.parts.shape c.requires.parts.world c.requires.full c.requires.client;
 }
 
 -- the most that may be digested; some of these end with a group where there are 64
 
 most_then : (g : given.Over) (c : goal.Then-wanted-eq0 g) → c.min-most.result ≡ min c.args.at_most (undigested (world_of (value_of c.args.state.now)) c.args.node c.args.client)
 most_then g c =
-    wanted_as (value_of c.args.state.now) c.args.node c.args.client c.requires.parts.shape c.requires.parts.world c.requires.full c.requires.client c.region-region.result.now c.digested-from.result c.acked-acked.result c.args.at_most c.min-most.result
-    c.digested-from.ensures.value c.region-region.ensures c.acked-acked.ensures c.min-most.ensures
+    wanted_as (value_of c.args.state.now) c.args.node c.args.client c.requires.parts.shape c.requires.parts.world c.requires.full c.requires.client
+    c.digested-from.result c.acked-acked.result c.args.at_most c.min-most.result
+    c.digested-from.ensures c.acked-acked.ensures c.min-most.ensures
 
 some_then : (g : given.Over) (c : goal.Then-wanted-eq0 g) → c.args.at_most ≡ 64 → 0 < undigested (world_of (value_of c.args.state.now)) c.args.node c.args.client → 0 < c.whole_count-wanted.result
 some_then g c =
-    some_wanted (value_of c.args.state.now) c.args.node c.args.client c.requires.parts.shape c.requires.parts.world c.requires.full c.requires.client c.region-region.result.now c.log.result.now c.digested-from.result c.acked-acked.result c.args.at_most
-    c.min-most.result c.whole_count-wanted.result c.digested-from.ensures.value c.log.ensures.log c.region-region.ensures c.acked-acked.ensures c.min-most.ensures c.whole_count-wanted.ensures.count c.whole_count-wanted.ensures.some
+    some_wanted (value_of c.args.state.now) c.args.node c.args.client c.requires.parts.shape c.requires.parts.world c.requires.full c.requires.client
+    c.log.result.now c.digested-from.result c.acked-acked.result c.args.at_most
+    c.min-most.result c.whole_count-wanted.result c.digested-from.ensures c.log.ensures.log c.acked-acked.ensures c.min-most.ensures
+    c.whole_count-wanted.ensures.count c.whole_count-wanted.ensures.some
 
 pub returns-then-wanted-eq0-clause-digests : goal.returns-then-wanted-eq0-clause-digests
 returns-then-wanted-eq0-clause-digests g c =
@@ -67,8 +60,9 @@ returns-then-wanted-eq0-clause-some g c fine all left = (let some = some_then g 
 pub digest_wanted-requires-clause-wanted : goal.digest_wanted-requires-clause-wanted
 digest_wanted-requires-clause-wanted g c =
     let most =
-    wanted_as (value_of c.args.state.now) c.args.node c.args.client c.requires.parts.shape c.requires.parts.world c.requires.full c.requires.client c.region-region.result.now c.digested-from.result c.acked-acked.result c.args.at_most c.min-most.result
-    c.digested-from.ensures.value c.region-region.ensures c.acked-acked.ensures c.min-most.ensures in
+    wanted_as (value_of c.args.state.now) c.args.node c.args.client c.requires.parts.shape c.requires.parts.world c.requires.full c.requires.client
+    c.digested-from.result c.acked-acked.result c.args.at_most c.min-most.result
+    c.digested-from.ensures c.acked-acked.ensures c.min-most.ensures in
     omega (arith, most, c.whole_count-wanted.ensures.within)
 
 pub digest_wanted-requires-clause-few_wanted : goal.digest_wanted-requires-clause-few_wanted
@@ -76,8 +70,9 @@ digest_wanted-requires-clause-few_wanted g c = omega (arith, c.min-most.ensures,
 
 most_ok : (g : given.Over) (c : goal.In-Ok g) → c.min-most.result ≡ min c.args.at_most (undigested (world_of (value_of c.args.state.now)) c.args.node c.args.client)
 most_ok g c =
-    wanted_as (value_of c.args.state.now) c.args.node c.args.client c.requires.parts.shape c.requires.parts.world c.requires.full c.requires.client c.region-region.result.now c.digested-from.result c.acked-acked.result c.args.at_most c.min-most.result
-    c.digested-from.ensures.value c.region-region.ensures c.acked-acked.ensures c.min-most.ensures
+    wanted_as (value_of c.args.state.now) c.args.node c.args.client c.requires.parts.shape c.requires.parts.world c.requires.full c.requires.client
+    c.digested-from.result c.acked-acked.result c.args.at_most c.min-most.result
+    c.digested-from.ensures c.acked-acked.ensures c.min-most.ensures
 
 pub returns-in-Ok-clause-few : goal.returns-in-Ok-clause-few
 returns-in-Ok-clause-few g c = omega (arith, most_ok g c, c.in-Ok.ensures.few, c.whole_count-wanted.ensures.within)
@@ -93,15 +88,18 @@ returns-in-Ok-clause-ended g c ended = (let low = ltb-true c.in-Ok.count c.min-m
 pub returns-in-Ok-clause-some : goal.returns-in-Ok-clause-some
 returns-in-Ok-clause-some g c fine all left =
     let some =
-    some_wanted (value_of c.args.state.now) c.args.node c.args.client c.requires.parts.shape c.requires.parts.world c.requires.full c.requires.client c.region-region.result.now c.log.result.now c.digested-from.result c.acked-acked.result c.args.at_most
-    c.min-most.result c.whole_count-wanted.result c.digested-from.ensures.value c.log.ensures.log c.region-region.ensures c.acked-acked.ensures c.min-most.ensures c.whole_count-wanted.ensures.count c.whole_count-wanted.ensures.some all left in
+    some_wanted (value_of c.args.state.now) c.args.node c.args.client c.requires.parts.shape c.requires.parts.world c.requires.full c.requires.client
+    c.log.result.now c.digested-from.result c.acked-acked.result c.args.at_most
+    c.min-most.result c.whole_count-wanted.result c.digested-from.ensures c.log.ensures.log c.acked-acked.ensures c.min-most.ensures
+    c.whole_count-wanted.ensures.count c.whole_count-wanted.ensures.some all left in
     let high = ltb-false c.in-Ok.count c.whole_count-wanted.result fine in
     omega (arith, some, high)
 
 most_err : (g : given.Over) (c : goal.In-Err g) → c.min-most.result ≡ min c.args.at_most (undigested (world_of (value_of c.args.state.now)) c.args.node c.args.client)
 most_err g c =
-    wanted_as (value_of c.args.state.now) c.args.node c.args.client c.requires.parts.shape c.requires.parts.world c.requires.full c.requires.client c.region-region.result.now c.digested-from.result c.acked-acked.result c.args.at_most c.min-most.result
-    c.digested-from.ensures.value c.region-region.ensures c.acked-acked.ensures c.min-most.ensures
+    wanted_as (value_of c.args.state.now) c.args.node c.args.client c.requires.parts.shape c.requires.parts.world c.requires.full c.requires.client
+    c.digested-from.result c.acked-acked.result c.args.at_most c.min-most.result
+    c.digested-from.ensures c.acked-acked.ensures c.min-most.ensures
 
 pub returns-in-Err-clause-digests : goal.returns-in-Err-clause-digests
 returns-in-Err-clause-digests g c =

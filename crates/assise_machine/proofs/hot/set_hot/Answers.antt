@@ -27,4 +27,5 @@ pub returns-clause-happens : goal.returns-clause-happens
 returns-clause-happens g c = (set_now g c.before).happens
 
 pub returns-clause-asked : goal.returns-clause-asked
-returns-clause-asked g c = λ is. subst (λ x. OnErr x (c.args.capacity < (region_in c.args.sound.now.state.nodes c.args.node).capacity)) is c.set_hot_capacity.ensures.asked
+returns-clause-asked g c =
+    λ is. subst (λ x. OnErr x (c.args.capacity < (region_in c.args.sound.now.state.nodes c.args.node).capacity)) is c.set_hot_capacity.ensures.asked

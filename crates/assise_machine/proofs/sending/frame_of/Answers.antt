@@ -1,8 +1,7 @@
-use Rattle.std.proofs.Common.{◌≡◌, ◌∙◌, min, ap, rules, sym, subst}
+use Rattle.std.proofs.Common.{◌≡◌, ◌∙◌, min, ap, rules, sym}
 use Rattle.std.specs.Option.{option_to_list}
 use Rattle.assise_private_log.specs.NumberedLog.{end}
 use Rattle.assise_chain.specs.Messages.{message_of, sent}
-use Rattle.assise_digest.specs.Region.{HasClient, log_of}
 use Rattle.assise_manager.specs.NodeLevels.{sends_marks}
 use Rattle.assise_model_events.specs.NodeEvents.{for_node}
 use Rattle.assise_machine_state.specs.NodeValues.{log_in}
@@ -19,28 +18,17 @@ returns-in_default-clause-frame g c =
     c.successor.ensures c.full_nodes.ensures c.home.ensures c.get-known.ensures in
     none_sent s c.args.node c.args.client c.args.sound.now.invariant.shape c.args.sound.now.invariant.holds c.requires.client (sym c.in_default.is ∙ is)
 
-pub region-requires : goal.region-requires
-region-requires g c = record { node = (has_log (value_of c.args.sound.now.state) c.args.node c.args.client c.args.sound.now.invariant.shape c.requires.full c.requires.client).node }
-
 pub log-log-requires : goal.log-log-requires
 log-log-requires g c =
-    record { client = subst (λ r. HasClient r c.args.client) (sym c.region.ensures) (has_log (value_of c.args.sound.now.state) c.args.node c.args.client c.args.sound.now.invariant.shape c.requires.full c.requires.client).client }
-
-pub region-requires-2 : goal.region-requires-2
-region-requires-2 g c =
-    let s = value_of c.args.sound.now.state in
-    let is = next_as s c.args.node c.args.client c.args.sound.now.invariant.shape c.args.sound.now.invariant.holds c.requires.client c.successor.result c.full_nodes.result.now c.home.result c.get-known.result.now
-    c.successor.ensures c.full_nodes.ensures c.home.ensures c.get-known.ensures in
-    record { node = (next_log s c.args.node c.args.client c.args.sound.now.invariant.shape c.args.sound.now.invariant.holds c.requires.client c.in-Some.next (sym is ∙ c.in-Some.is)).node }
+    record { there = has_log (value_of c.args.sound.now.state) c.args.node c.args.client c.args.sound.now.invariant.shape c.requires.full c.requires.client }
 
 pub log-requires : goal.log-requires
 log-requires g c =
     let s = value_of c.args.sound.now.state in
     let is = next_as s c.args.node c.args.client c.args.sound.now.invariant.shape c.args.sound.now.invariant.holds c.requires.client c.successor.result c.full_nodes.result.now c.home.result c.get-known.result.now
     c.successor.ensures c.full_nodes.ensures c.home.ensures c.get-known.ensures in
-    record {
-      client = subst (λ r. HasClient r c.args.client) (sym c.region-2.ensures) (next_log s c.args.node c.args.client c.args.sound.now.invariant.shape c.args.sound.now.invariant.holds c.requires.client c.in-Some.next (sym is ∙ c.in-Some.is)).client;
-    }
+    let x = c.args.sound.now in
+    record { there = next_log s c.args.node c.args.client x.invariant.shape x.invariant.holds c.requires.client c.in-Some.next (sym is ∙ c.in-Some.is) }
 
 pub returns-clause-frame : goal.returns-clause-frame
 returns-clause-frame g c =
@@ -48,9 +36,9 @@ returns-clause-frame g c =
     let is = next_as s c.args.node c.args.client c.args.sound.now.invariant.shape c.args.sound.now.invariant.holds c.requires.client c.successor.result c.full_nodes.result.now c.home.result c.get-known.result.now
     c.successor.ensures c.full_nodes.ensures c.home.ensures c.get-known.ensures in
     let mapped : option_to_list c.map.result ≡ for_node c.in-Some.next c.in_ok-frame.frame = search rules in
-    let log : c.log-log.result.now ≡ (log_in s.nodes c.args.node c.args.client).log = c.log-log.ensures.log ∙ ap (λ r. (log_of r c.args.client).log) c.region.ensures in
+    let log : c.log-log.result.now ≡ (log_in s.nodes c.args.node c.args.client).log = c.log-log.ensures.log in
     let from : c.end-from.result ≡ end (log_in s.nodes c.in-Some.next c.args.client).log =
-    c.end-from.ensures.end ∙ ap end (c.log.ensures.log ∙ ap (λ r. (log_of r c.args.client).log) c.region-2.ensures) in
+    c.end-from.ensures.end ∙ ap end c.log.ensures.log in
     let to : c.min-to.result ≡ min (client_in s.clients c.args.client).goal (end (log_in s.nodes c.args.node c.args.client).log) =
     c.min-to.ensures ∙ (λ i. min ((c.goal.ensures ∙ ap (λ x. x.goal) c.get-known.ensures) i) ((c.end.ensures.end ∙ ap end log) i)) in
     mapped
@@ -62,9 +50,9 @@ returns-in_err-frame-clause-nothing_asked g c = λ none.
     let s = value_of c.args.sound.now.state in
     let is = next_as s c.args.node c.args.client c.args.sound.now.invariant.shape c.args.sound.now.invariant.holds c.requires.client c.successor.result c.full_nodes.result.now c.home.result c.get-known.result.now
     c.successor.ensures c.full_nodes.ensures c.home.ensures c.get-known.ensures in
-    let log : c.log-log.result.now ≡ (log_in s.nodes c.args.node c.args.client).log = c.log-log.ensures.log ∙ ap (λ r. (log_of r c.args.client).log) c.region.ensures in
+    let log : c.log-log.result.now ≡ (log_in s.nodes c.args.node c.args.client).log = c.log-log.ensures.log in
     let from : c.end-from.result ≡ end (log_in s.nodes c.in-Some.next c.args.client).log =
-    c.end-from.ensures.end ∙ ap end (c.log.ensures.log ∙ ap (λ r. (log_of r c.args.client).log) c.region-2.ensures) in
+    c.end-from.ensures.end ∙ ap end c.log.ensures.log in
     let to : c.min-to.result ≡ min (client_in s.clients c.args.client).goal (end (log_in s.nodes c.args.node c.args.client).log) =
     c.min-to.ensures ∙ (λ i. min ((c.goal.ensures ∙ ap (λ x. x.goal) c.get-known.ensures) i) ((c.end.ensures.end ∙ ap end log) i)) in
     let there = some_sent s c.args.node c.args.client c.args.sound.now.invariant.shape c.args.sound.now.invariant.holds c.requires.client c.requires.full c.in-Some.next (sym is ∙ c.in-Some.is) in

@@ -15,8 +15,8 @@ use Rattle.assise_machine_calls.proofs.crash.crash.Goals as goal
 pub returns-in-Some-clause-happens : goal.returns-in-Some-clause-happens
 returns-in-Some-clause-happens g c = is_refused c.in-Some.refusal (sym c.client_refusal.ensures ∙ c.in-Some.is) refl refl
 
-pub own_region-requires-clause-client : goal.own_region-requires-clause-client
-own_region-requires-clause-client g c = fine_number (value_of c.args.sound.now.state) c.args.client (sym c.client_refusal.ensures ∙ c.in_default.is)
+pub own_log-requires-clause-client : goal.own_log-requires-clause-client
+own_log-requires-clause-client g c = fine_number (value_of c.args.sound.now.state) c.args.client (sym c.client_refusal.ensures ∙ c.in_default.is)
 
 pub crash-requires : goal.crash-requires
 crash-requires g c = record { client = fine_number (value_of c.args.sound.now.state) c.args.client (sym c.client_refusal.ensures ∙ c.in_default.is) }
@@ -28,8 +28,8 @@ has_crashed g c =
     let s : StateValue = value_of c.args.sound.now.state in
     let fine : client_fault (observed s) c.args.client ≡ None = sym c.client_refusal.ensures ∙ c.in_default.is in
     let place : c.end-end.result ≡ end_of_log (world_of s) c.args.client =
-    place_is s c.args.client c.end-end.result c.own_region.result.now c.log.result.now c.args.sound.now.invariant.shape fine c.args.sound.now.state.members.lawful.some_full
-    c.own_region.ensures.region c.log.ensures.log c.end-end.ensures.end in
+    place_is s c.args.client c.end-end.result c.own_log.result.now c.args.sound.now.invariant.shape fine c.args.sound.now.state.members.lawful.some_full
+    c.own_log.ensures.log c.end-end.ensures.end in
     record {
       holds = c.args.sound.now.invariant.holds;
       shape = c.args.sound.now.invariant.shape;

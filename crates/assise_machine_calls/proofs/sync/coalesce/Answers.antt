@@ -1,7 +1,6 @@
 use Rattle.std.proofs.Common.{ap, refl, subst, sym, ◌∙◌}
 use Rattle.std.proofs.lemmas.Result.{err_from_is_err_and}
 use Rattle.assise_private_log.specs.NumberedLog.{end}
-use Rattle.assise_digest.specs.Region.{HasClient, log_of}
 use Rattle.assise_model_events.specs.Dsyncs.Coalescing.{lacks_memory}
 use Rattle.assise_model_events.specs.Events.{refused}
 use Rattle.assise_model_events.specs.Machine.{MachineInvariant}
@@ -30,19 +29,17 @@ coalesce-requires g c =
       to_end = from_high s c.args.client x.invariant.shape c.requires.fine c.home-home.result home x.invariant.holds c.coalesced_from-from.result c.coalesced_from-from.ensures;
     }
 
-pub region-requires : goal.region-requires
-region-requires g c =
-    let s = value_of c.args.sound.now.state in
-    let home = c.home-home.ensures ∙ ap (λ y. y.home) c.get.ensures in
-    let has = still_log s c.args.client c.args.sound.now.invariant.shape c.requires.fine c.home-home.result home c.args.sound.now.invariant.holds c.coalesced_from-from.result c.coalesced_from-from.ensures c.coalesce.ensures.lawful c.coalesce.new.self c.in_ok-coalesce.ensures.ok in
-    record { node = has.node }
-
 pub log-requires : goal.log-requires
 log-requires g c =
     let s = value_of c.args.sound.now.state in
     let home = c.home-home.ensures ∙ ap (λ y. y.home) c.get.ensures in
-    let has = still_log s c.args.client c.args.sound.now.invariant.shape c.requires.fine c.home-home.result home c.args.sound.now.invariant.holds c.coalesced_from-from.result c.coalesced_from-from.ensures c.coalesce.ensures.lawful c.coalesce.new.self c.in_ok-coalesce.ensures.ok in
-    record { client = subst (λ r. HasClient r c.args.client) (sym c.region.ensures) has.client }
+    let x = c.args.sound.now in
+    record {
+      there =
+          still_log s c.args.client x.invariant.shape c.requires.fine c.home-home.result home x.invariant.holds c.coalesced_from-from.result
+          c.coalesced_from-from.ensures
+          c.coalesce.ensures.lawful c.coalesce.new.self c.in_ok-coalesce.ensures.ok;
+    }
 
 pub raise_goal-requires : goal.raise_goal-requires
 raise_goal-requires g c = record { client = fine_number (value_of c.args.sound.now.state) c.args.client c.requires.fine }
@@ -75,7 +72,7 @@ invariant_of-sound-2 g c =
     let s = value_of c.args.sound.now.state in
     let x = c.args.sound.now in
     let home = c.home-home.ensures ∙ ap (λ y. y.home) c.get.ensures in
-    let place = c.end-end.ensures.end ∙ ap end c.log.ensures.log ∙ ap (λ r. end (log_of r c.args.client).log) c.region.ensures in
+    let place = c.end-end.ensures.end ∙ ap end c.log.ensures.log in
     let given = coalesced_given s c.args.client x.invariant.shape c.requires.fine c.home-home.result home x.invariant.holds c.coalesced_from-from.result c.coalesced_from-from.ensures c.coalesce.ensures.lawful
     x.invariant.noted (lacking_seen s c.args.client c.requires.lacking) c.in_ok-coalesce.ensures.effects x.state.members.lawful.some_full c.coalesce.new.self c.end-end.result c.raise_goal.new.self c.in_ok-coalesce.ensures.ok place c.raise_goal.ensures in
     record { invariant = record { holds = given.holds; shape = given.shape; noted = given.noted } }
@@ -85,7 +82,7 @@ returns g c =
     let s = value_of c.args.sound.now.state in
     let x = c.args.sound.now in
     let home = c.home-home.ensures ∙ ap (λ y. y.home) c.get.ensures in
-    let place = c.end-end.ensures.end ∙ ap end c.log.ensures.log ∙ ap (λ r. end (log_of r c.args.client).log) c.region.ensures in
+    let place = c.end-end.ensures.end ∙ ap end c.log.ensures.log in
     let given = coalesced_given s c.args.client x.invariant.shape c.requires.fine c.home-home.result home x.invariant.holds c.coalesced_from-from.result c.coalesced_from-from.ensures c.coalesce.ensures.lawful
     x.invariant.noted (lacking_seen s c.args.client c.requires.lacking) c.in_ok-coalesce.ensures.effects x.state.members.lawful.some_full c.coalesce.new.self c.end-end.result c.raise_goal.new.self c.in_ok-coalesce.ensures.ok place c.raise_goal.ensures in
     record { happens = given.happens; revokers = λ d. refl }

@@ -32,7 +32,8 @@ note_call-requires-clause-next g c =
     let s = value_of c.args.sound.now.state in
     let more : length c.push.new.self.events ≡ length s.history + 1 =
     ap length (c.push.ensures.grown ∙ ap (λ h. h ++ c.call.result ∷ []) c.reserve.ensures.same) ∙ length_push s.history c.call.result in
-    next_fits s c.args.client c.requires.fine c.args.sound.now.invariant.holds (client_in s.clients c.args.client) refl (omega (arith, more, c.push.ensures.few))
+    next_fits s c.args.client c.requires.fine c.args.sound.now.invariant.holds (client_in s.clients c.args.client) refl
+    (omega (arith, more, c.push.ensures.few))
 
 pub note_call-requires-clause-made : goal.note_call-requires-clause-made
 note_call-requires-clause-made g c =

@@ -14,8 +14,8 @@ use Rattle.assise_machine_calls.proofs.SyncChanges.{all_received, answered_given
 use Rattle.assise_machine_calls.specs.SyncCalls.{op_of}
 use Rattle.assise_machine_calls.proofs.sync.sync.Goals as goal
 
-pub own_region-requires-clause-client : goal.own_region-requires-clause-client
-own_region-requires-clause-client g c = fine_number (value_of c.args.sound.now.state) c.args.client c.requires.fine
+pub own_log-requires-clause-client : goal.own_log-requires-clause-client
+own_log-requires-clause-client g c = fine_number (value_of c.args.sound.now.state) c.args.client c.requires.fine
 
 pub acked-requires-clause-client : goal.acked-requires-clause-client
 acked-requires-clause-client g c = fine_number (value_of c.args.sound.now.state) c.args.client c.requires.fine
@@ -27,8 +27,9 @@ pub invariant_of-sound : goal.invariant_of-sound
 invariant_of-sound g c =
     let s = value_of c.args.sound.now.state in
     let place : c.end-end.result ≡ end_of_log (world_of s) c.args.client =
-    place_is s c.args.client c.end-end.result c.own_region.result.now c.log.result.now c.args.sound.now.invariant.shape c.requires.fine c.args.sound.now.state.members.lawful.some_full
-    c.own_region.ensures.region c.log.ensures.log c.end-end.ensures.end in
+    place_is s c.args.client c.end-end.result c.own_log.result.now c.args.sound.now.invariant.shape c.requires.fine
+    c.args.sound.now.state.members.lawful.some_full
+    c.own_log.ensures.log c.end-end.ensures.end in
     let given = awaited_given s c.args.client (op_of c.args.which) c.end-end.result c.raise_goal.new.self c.args.sound.now.invariant.shape c.requires.fine c.args.sound.now.invariant.holds c.raise_goal.ensures
     place (syncs_some c.args.which) c.args.sound.now.invariant.noted c.acked.result c.acked.ensures c.if-acked-end.true in
     record { invariant = record { holds = given.holds; shape = given.shape; noted = given.noted } }
@@ -37,8 +38,9 @@ pub returns-then-acked-end : goal.returns-then-acked-end
 returns-then-acked-end g c =
     let s = value_of c.args.sound.now.state in
     let place : c.end-end.result ≡ end_of_log (world_of s) c.args.client =
-    place_is s c.args.client c.end-end.result c.own_region.result.now c.log.result.now c.args.sound.now.invariant.shape c.requires.fine c.args.sound.now.state.members.lawful.some_full
-    c.own_region.ensures.region c.log.ensures.log c.end-end.ensures.end in
+    place_is s c.args.client c.end-end.result c.own_log.result.now c.args.sound.now.invariant.shape c.requires.fine
+    c.args.sound.now.state.members.lawful.some_full
+    c.own_log.ensures.log c.end-end.ensures.end in
     let given = awaited_given s c.args.client (op_of c.args.which) c.end-end.result c.raise_goal.new.self c.args.sound.now.invariant.shape c.requires.fine c.args.sound.now.invariant.holds c.raise_goal.ensures
     place (syncs_some c.args.which) c.args.sound.now.invariant.noted c.acked.result c.acked.ensures c.if-acked-end.true in
     record { happens = given.happens; revokers = λ d. refl }
@@ -48,8 +50,9 @@ unfolding observed
 returns-in_err-reserve g c =
     let s = value_of c.args.sound.now.state in
     let place : c.end-end.result ≡ end_of_log (world_of s) c.args.client =
-    place_is s c.args.client c.end-end.result c.own_region.result.now c.log.result.now c.args.sound.now.invariant.shape c.requires.fine c.args.sound.now.state.members.lawful.some_full
-    c.own_region.ensures.region c.log.ensures.log c.end-end.ensures.end in
+    place_is s c.args.client c.end-end.result c.own_log.result.now c.args.sound.now.invariant.shape c.requires.fine
+    c.args.sound.now.state.members.lawful.some_full
+    c.own_log.ensures.log c.end-end.ensures.end in
     let all : received_by_all (world_of s) c.args.client ≡ end_of_log (world_of s) c.args.client =
     all_received s c.args.client c.acked.result c.end-end.result c.acked.ensures place c.if-acked-end.false in
     let error = err_from_is_err_and c.from_residual.result c.from_residual.ensures.1 in
@@ -88,8 +91,9 @@ pub invariant_of-sound-2 : goal.invariant_of-sound-2
 invariant_of-sound-2 g c =
     let s = value_of c.args.sound.now.state in
     let place : c.end-end.result ≡ end_of_log (world_of s) c.args.client =
-    place_is s c.args.client c.end-end.result c.own_region.result.now c.log.result.now c.args.sound.now.invariant.shape c.requires.fine c.args.sound.now.state.members.lawful.some_full
-    c.own_region.ensures.region c.log.ensures.log c.end-end.ensures.end in
+    place_is s c.args.client c.end-end.result c.own_log.result.now c.args.sound.now.invariant.shape c.requires.fine
+    c.args.sound.now.state.members.lawful.some_full
+    c.own_log.ensures.log c.end-end.ensures.end in
     let all : received_by_all (world_of s) c.args.client ≡ end_of_log (world_of s) c.args.client =
     all_received s c.args.client c.acked.result c.end-end.result c.acked.ensures place c.if-acked-end.false in
     let given =
@@ -103,8 +107,9 @@ pub returns : goal.returns
 returns g c =
     let s = value_of c.args.sound.now.state in
     let place : c.end-end.result ≡ end_of_log (world_of s) c.args.client =
-    place_is s c.args.client c.end-end.result c.own_region.result.now c.log.result.now c.args.sound.now.invariant.shape c.requires.fine c.args.sound.now.state.members.lawful.some_full
-    c.own_region.ensures.region c.log.ensures.log c.end-end.ensures.end in
+    place_is s c.args.client c.end-end.result c.own_log.result.now c.args.sound.now.invariant.shape c.requires.fine
+    c.args.sound.now.state.members.lawful.some_full
+    c.own_log.ensures.log c.end-end.ensures.end in
     let all : received_by_all (world_of s) c.args.client ≡ end_of_log (world_of s) c.args.client =
     all_received s c.args.client c.acked.result c.end-end.result c.acked.ensures place c.if-acked-end.false in
     let given =

@@ -1,6 +1,5 @@
-use Rattle.std.proofs.Common.{◌≡◌, ℕ, ◌+◌, ◌∙◌, min, take, get_or, ap, sym, subst}
+use Rattle.std.proofs.Common.{◌≡◌, ℕ, ◌+◌, ◌∙◌, min, take, get_or, ap, sym}
 use Rattle.assise_private_log.specs.NumberedLog.{end}
-use Rattle.assise_digest.specs.Region.{HasClient, log_of}
 use Rattle.assise_manager.specs.Whole.{membership}
 use Rattle.assise_model_world.specs.World.{least_of}
 use Rattle.assise_machine_state.specs.ClientValues.{client_in}
@@ -15,22 +14,19 @@ use Rattle.assise_machine_failures.proofs.listing.kept.Goals.{then-has_failed-vi
 pub returns-then-has_failed : goal.returns-then-has_failed
 returns-then-has_failed g c =
     let s = value_of c.args.state.now in
-    let own = c.end-least.ensures.end ∙ ap end (c.log.ensures.log ∙ ap (λ r. (log_of r c.args.client).log) c.own_region.ensures.region) in
+    let own = c.end-least.ensures.end ∙ ap end c.own_log.ensures.log in
     let some = c.args.state.now.members.lawful.some_full in
     elim c.then-has_failed.branch [
       | then-has_failed-via-then-has_failed w ↦ own ∙ kept_over s c.args.node c.args.client c.requires.shape c.requires.client some (ap (λ x. x.failed) (sym c.get-known.ensures) ∙ sym c.has_failed.ensures ∙ w.if-has_failed.true)
       | then-has_failed-via-else-has_failed+then-home-node w ↦ own ∙ kept_other s c.args.node c.args.client c.requires.shape c.requires.client some (λ is. w.if-home-node.true (w.home.ensures ∙ ap (λ x. x.home) c.get-known.ensures ∙ is))
     ]
 
-pub region-requires : goal.region-requires
-region-requires g c =
-    let has = next_log (value_of c.args.state.now) c.args.client c.loop-other.other-index c.full_nodes-other-items.result.now c.requires.shape c.requires.client c.full_nodes-other-items.ensures c.loop-other-test.true in
-    record { node = has.node }
-
-pub log-requires-then-other-node : goal.log-requires-then-other-node
-log-requires-then-other-node g c =
-    let has = next_log (value_of c.args.state.now) c.args.client c.loop-other.other-index c.full_nodes-other-items.result.now c.requires.shape c.requires.client c.full_nodes-other-items.ensures c.loop-other-test.true in
-    record { client = subst (λ r. HasClient r c.args.client) (sym c.region.ensures) has.client }
+pub log-requires : goal.log-requires
+log-requires g c = record {
+  there =
+      next_log (value_of c.args.state.now) c.args.client c.loop-other.other-index c.full_nodes-other-items.result.now c.requires.shape c.requires.client
+      c.full_nodes-other-items.ensures c.loop-other-test.true;
+}
 
 pub loop-other-preserved : goal.loop-other-preserved
 loop-other-preserved g c =
@@ -46,7 +42,7 @@ loop-other-preserved g c =
     let listed = ap (λ ms. least_of (others n (take (i + 1) ms)) f d) c.full_nodes-other-items.ensures in
     elim c.if-other-node.branch [
       | then-other-node w ↦
-          let received : w.end-received.result ≡ f node = w.end-received.ensures.end ∙ ap end w.log-then-other-node.ensures.log ∙ ap (λ r. end (log_of r c.args.client).log) w.region.ensures in
+          let received : w.end-received.result ≡ f node = w.end-received.ensures.end ∙ ap end w.log.ensures.log in
           w.least-is ∙ w.min-least.ensures ∙ (λ j. min (before j) (received j)) ∙ sym (next_other n ns i f d c.loop-other-test.true w.if-other-node.true) ∙ listed
       | else-other-node w ↦ w.least-is ∙ before ∙ sym (next_itself n ns i f d c.loop-other-test.true w.if-other-node.false) ∙ listed
     ]

@@ -1,6 +1,5 @@
 use Rattle.std.proofs.Common.{◌≡◌, ◌+◌, option_copied, ap, sym, ◌∙◌, arith}
 use Rattle.assise_private_log.specs.NumberedLog.{record_at}
-use Rattle.assise_digest.specs.Region.{log_of}
 use Rattle.assise_model_world.specs.NodeSteps.{kept_at_failure}
 use Rattle.assise_model_history.specs.Lost.{losses_to}
 use Rattle.assise_machine_state.specs.Observed.{world_of}
@@ -15,8 +14,9 @@ overflow_cast-client g c = omega (arith, c.requires.few, place_within (value_of 
 pub overflow_add-client : goal.overflow_add-client
 overflow_add-client g c = omega (arith, c.requires.few, place_within (value_of c.args.state.now) c.args.node c.args.kept.now c.requires.kept c.loop-place.place c.loop-place-test.true)
 
-pub own_region-requires-clause-client : goal.own_region-requires-clause-client
-own_region-requires-clause-client g c = place_client (value_of c.args.state.now) c.args.node c.args.kept.now c.requires.kept c.loop-place.place c.loop-place-test.true
+pub own_log-log-requires-clause-client : goal.own_log-log-requires-clause-client
+own_log-log-requires-clause-client g c =
+    place_client (value_of c.args.state.now) c.args.node c.args.kept.now c.requires.kept c.loop-place.place c.loop-place-test.true
 
 pub loop-place-preserved : goal.loop-place-preserved
 loop-place-preserved g c =
@@ -25,16 +25,19 @@ loop-place-preserved g c =
     let n = c.args.node in
     let k = c.loop-place.place in
     let client = place_client s n c.args.kept.now c.requires.kept k c.loop-place-test.true in
-    let log = c.log-log.ensures.log ∙ ap (λ r. (log_of r (k + 1)).log) c.own_region.ensures.region in
-    let get : option_copied c.get.result ≡ record_at c.log-log.result.now (kept_at_failure w n (k + 1)) =
-    c.get.ensures ∙ ap (record_at c.log-log.result.now) (place_kept s n c.args.kept.now c.requires.kept k c.loop-place-test.true) in
+    let log = c.own_log-log.ensures.log in
+    let get : option_copied c.get.result ≡ record_at c.own_log-log.result.now (kept_at_failure w n (k + 1)) =
+    c.get.ensures ∙ ap (record_at c.own_log-log.result.now) (place_kept s n c.args.kept.now c.requires.kept k c.loop-place-test.true) in
     let some = c.args.state.now.members.lawful.some_full in
     elim c.match-get.branch [
       | in-Some+in_ok-push b ↦
-          let lost = lost_here s n (k + 1) c.requires.parts.shape client some c.log-log.result.now b.in-Some.lost.now log (sym get ∙ ap option_copied b.in-Some.is) in
+          let lost =
+          lost_here s n (k + 1) c.requires.parts.shape client some c.own_log-log.result.now b.in-Some.lost.now log (sym get ∙ ap option_copied b.in-Some.is) in
           one_lost w n k b.call.result c.loop-place.losses.items c.match-get.losses.items c.loop-place.invariant (ap (λ v. v.items) b.losses-is ∙ b.in_ok-push.ensures.items) lost.0 (lost.1 ∙ sym b.call.ensures)
       | in_default b ↦
-          let whole = whole_here s n (k + 1) c.requires.parts.shape client some c.log-log.result.now c.requires.parts.world log (sym get ∙ ap option_copied b.in_default.is) in
+          let whole =
+          whole_here s n (k + 1) c.requires.parts.shape client some c.own_log-log.result.now c.requires.parts.world log
+          (sym get ∙ ap option_copied b.in_default.is) in
           none_lost w n k c.loop-place.losses.items c.match-get.losses.items c.loop-place.invariant (ap (λ v. v.items) b.losses-is) whole
     ]
 

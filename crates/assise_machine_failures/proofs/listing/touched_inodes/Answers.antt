@@ -2,7 +2,6 @@ use Rattle.std.proofs.Common.{◌+◌, ◌-◌, ◌++◌, take, ap, ◌∙◌, a
 use Rattle.assise_record.specs.Records.{all_effects}
 use Rattle.assise_inode_table.specs.Effects.{touched}
 use Rattle.assise_private_log.specs.NumberedLog.{records_from}
-use Rattle.assise_digest.specs.Region.{log_of}
 use Rattle.assise_machine_state.specs.Observed.{world_of}
 use Rattle.assise_machine_state.specs.Whole.{value_of}
 use Rattle.assise_machine_failures.specs.Listing.{kept_inodes}
@@ -15,15 +14,16 @@ overflow_cast-place g c = omega (arith, c.requires.few, place_within (value_of c
 pub overflow_add-place : goal.overflow_add-place
 overflow_add-place g c = omega (arith, c.requires.few, place_within (value_of c.args.state.now) c.args.node c.args.kept.now c.requires.kept c.loop-place.place c.loop-place-test.true)
 
-pub own_region-requires-clause-client : goal.own_region-requires-clause-client
-own_region-requires-clause-client g c = place_client (value_of c.args.state.now) c.args.node c.args.kept.now c.requires.kept c.loop-place.place c.loop-place-test.true
+pub own_log-log-requires-clause-client : goal.own_log-log-requires-clause-client
+own_log-log-requires-clause-client g c =
+    place_client (value_of c.args.state.now) c.args.node c.args.kept.now c.requires.kept c.loop-place.place c.loop-place-test.true
 
 pub overflow_sub-end : goal.overflow_sub-end
 overflow_sub-end g c =
     let s = value_of c.args.state.now in
     let k = c.loop-place.place in
     let client = place_client s c.args.node c.args.kept.now c.requires.kept k c.loop-place-test.true in
-    let log = c.log-log.ensures.log ∙ ap (λ r. (log_of r (k + 1)).log) c.own_region.ensures.region in
+    let log = c.own_log-log.ensures.log in
     let low = first_kept s c.args.node (k + 1) c.requires.parts.shape client c.args.state.now.members.lawful.some_full c.requires.parts.world in
     omega (arith, low, c.first-first.ensures, ap (λ l. l.first) log, place_kept s c.args.node c.args.kept.now c.requires.kept k c.loop-place-test.true)
 
@@ -33,8 +33,8 @@ loop-place-preserved g c =
     let n = c.args.node in
     let k = c.loop-place.place in
     let client = place_client s n c.args.kept.now c.requires.kept k c.loop-place-test.true in
-    let log = c.log-log.ensures.log ∙ ap (λ r. (log_of r (k + 1)).log) c.own_region.ensures.region in
-    let own = c.log-log.result.now in
+    let log = c.own_log-log.ensures.log in
+    let own = c.own_log-log.result.now in
     let kept = place_kept s n c.args.kept.now c.requires.kept k c.loop-place-test.true in
     let first = c.first-first.ensures in
     let added = (λ i. touched (all_effects (take (kept i - first i) (records_from own (first i))))) ∙ touched_here s n (k + 1) c.requires.parts.shape client c.args.state.now.members.lawful.some_full own log in

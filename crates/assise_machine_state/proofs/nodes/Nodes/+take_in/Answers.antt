@@ -14,7 +14,8 @@ returns-in_default t c =
     let border : ℕ → Bool = is_border (log_in rs c.args.own client).log in
     let none : c.args.records.rest.items ≡ [] = nil_from_length c.args.records.rest.items (omega (arith, c.in_default.ensures.cases.0)) in
     sym (none_taken border rs n client)
-    ∙ ap (λ more. with_log_in rs n client (with_records border (log_in rs n client) more)) (sym (ap (drop c.args.skipped) none ∙ drop_all c.args.skipped [] (omega arith)))
+    ∙ ap (λ more. with_log_in rs n client (with_records border (log_in rs n client) more))
+    (sym (ap (drop c.args.skipped) none ∙ drop_all c.args.skipped [] (omega arith)))
 
 pub returns : goal.returns
 returns t c =

@@ -1,6 +1,5 @@
-use Rattle.std.proofs.Common.{◌≡◌, ℕ, ◌+◌, ◌∙◌, min, take, get_or, ap, sym, subst}
+use Rattle.std.proofs.Common.{◌≡◌, ℕ, ◌+◌, ◌∙◌, min, take, get_or, ap, sym}
 use Rattle.assise_private_log.specs.NumberedLog.{end}
-use Rattle.assise_digest.specs.Region.{HasClient, log_of}
 use Rattle.assise_manager.specs.Standings.{full_nodes}
 use Rattle.assise_manager.specs.Whole.{membership}
 use Rattle.assise_model_world.specs.World.{least_of}
@@ -11,15 +10,12 @@ use Rattle.assise_machine_state.specs.Whole.{value_of}
 use Rattle.assise_machine_state.proofs.OwnLogs.{all_taken, least_digested, next_least, next_log}
 use Rattle.assise_machine_state.proofs.state.StateOf.digested.Goals as goal
 
-pub region-requires : goal.region-requires
-region-requires g c =
-    let has = next_log (value_of c.args.self.now) c.args.client c.loop-node.node-index c.full_nodes-node-items.result.now c.requires.shape c.requires.client c.full_nodes-node-items.ensures c.loop-node-test.true in
-    record { node = has.node }
-
 pub digested-digested-requires : goal.digested-digested-requires
-digested-digested-requires g c =
-    let has = next_log (value_of c.args.self.now) c.args.client c.loop-node.node-index c.full_nodes-node-items.result.now c.requires.shape c.requires.client c.full_nodes-node-items.ensures c.loop-node-test.true in
-    record { client = subst (λ r. HasClient r c.args.client) (sym c.region.ensures) has.client }
+digested-digested-requires g c = record {
+  there =
+      next_log (value_of c.args.self.now) c.args.client c.loop-node.node-index c.full_nodes-node-items.result.now c.requires.shape c.requires.client
+      c.full_nodes-node-items.ensures c.loop-node-test.true;
+}
 
 pub loop-node-preserved : goal.loop-node-preserved
 loop-node-preserved g c =
@@ -27,7 +23,7 @@ loop-node-preserved g c =
     let nodes = (membership c.args.self.now.members).nodes in
     let node = get_or c.full_nodes-node-items.result.now c.loop-node.node-index 0 in
     let digested : c.digested-digested.result ≡ (log_in s.nodes node c.args.client).digested =
-    c.digested-digested.ensures.value ∙ ap (λ r. (log_of r c.args.client).digested) c.region.ensures in
+    c.digested-digested.ensures in
     let f : ℕ → ℕ = λ n. (log_in s.nodes n c.args.client).digested in
     let d : ℕ = end (log_in s.nodes (own_node nodes (client_in s.clients c.args.client)) c.args.client).log in
     let next : least_of (take (c.loop-node.node-index + 1) c.full_nodes-node-items.result.now) f d ≡ min (least_of (take c.loop-node.node-index c.full_nodes-node-items.result.now) f d) (f node) =

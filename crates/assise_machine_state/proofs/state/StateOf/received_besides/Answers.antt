@@ -1,7 +1,6 @@
-use Rattle.std.proofs.Common.{◌≡◌, ℕ, ◌+◌, ◌∙◌, take, get_or, ap, sym, subst, arith}
+use Rattle.std.proofs.Common.{◌≡◌, ℕ, ◌+◌, ◌∙◌, take, get_or, ap, sym, arith}
 use Rattle.std.proofs.lemmas.Bool.{eq-eqb, ne_eqb}
 use Rattle.assise_private_log.specs.NumberedLog.{end}
-use Rattle.assise_digest.specs.Region.{HasClient, log_of}
 use Rattle.assise_model_events.specs.Dsyncs.{besides, most_of}
 use Rattle.assise_machine_state.specs.NodeValues.{log_in}
 use Rattle.assise_machine_state.specs.Whole.{value_of}
@@ -10,15 +9,12 @@ use Rattle.assise_machine_state.proofs.OwnLogs.{all_taken, next_log}
 use Rattle.assise_machine_state.proofs.state.StateOf.received_besides.Goals as goal
 use Rattle.assise_machine_state.proofs.state.StateOf.received_besides.Goals.{then-node-home, else-node-home}
 
-pub region-requires : goal.region-requires
-region-requires g c =
-    let has = next_log (value_of c.args.self.now) c.args.client c.loop-node.node-index c.full_nodes-node-items.result.now c.requires.shape c.requires.client c.full_nodes-node-items.ensures c.loop-node-test.true in
-    record { node = has.node }
-
 pub log-requires : goal.log-requires
-log-requires g c =
-    let has = next_log (value_of c.args.self.now) c.args.client c.loop-node.node-index c.full_nodes-node-items.result.now c.requires.shape c.requires.client c.full_nodes-node-items.ensures c.loop-node-test.true in
-    record { client = subst (λ r. HasClient r c.args.client) (sym c.region.ensures) has.client }
+log-requires g c = record {
+  there =
+      next_log (value_of c.args.self.now) c.args.client c.loop-node.node-index c.full_nodes-node-items.result.now c.requires.shape c.requires.client
+      c.full_nodes-node-items.ensures c.loop-node-test.true;
+}
 
 pub loop-node-preserved : goal.loop-node-preserved
 loop-node-preserved g c =
@@ -30,7 +26,7 @@ loop-node-preserved g c =
     let after : c.if-node-home.most ≡ most_of (besides home (take (i + 1) ns)) f =
     elim c.if-node-home.branch [
       | then-node-home w ↦
-          let received : w.end-received.result ≡ f (get_or ns i 0) = w.end-received.ensures.end ∙ ap end w.log.ensures.log ∙ ap (λ r. end (log_of r c.args.client).log) w.region.ensures in
+          let received : w.end-received.result ≡ f (get_or ns i 0) = w.end-received.ensures.end ∙ ap end w.log.ensures.log in
           omega (arith, w.most-is, w.max-most.ensures, received, before, next_most home f ns i c.loop-node-test.true (ne_eqb (get_or ns i 0) home w.if-node-home.true))
       | else-node-home w ↦ omega (arith, w.most-is, before, next_same home f ns i c.loop-node-test.true (eq-eqb (get_or ns i 0) home w.if-node-home.false))
     ] in

@@ -1,7 +1,6 @@
 use Rattle.std.proofs.Common.{◌≡◌, [], ◌∷◌, ap, sym, ◌∙◌}
 use Rattle.assise_record.specs.Records.{call_of}
 use Rattle.assise_private_log.specs.NumberedLog.{records_from}
-use Rattle.assise_digest.specs.Region.{log_of}
 use Rattle.assise_machine_state.specs.ClientValues.{client_in}
 use Rattle.assise_machine_state.specs.Whole.{value_of}
 use Rattle.assise_machine_state.proofs.Unreplicated.{first_behind}
@@ -10,18 +9,19 @@ use Rattle.assise_machine_state.proofs.state.StateOf.replicated_to.Goals as goal
 pub returns-in-Some : goal.returns-in-Some
 returns-in-Some g c =
     let s = value_of c.args.self.now in
-    let log = c.log-log.ensures.log ∙ ap (λ r. (log_of r c.args.client).log) c.own_region.ensures.region in
-    let rest : records_from c.log-log.result.now c.acked.result ≡ c.in-Some.record.now ∷ c.next.new.self = sym c.since.ensures.rest ∙ c.in-Some.ensures.steps in
+    let rest : records_from c.own_log-log.result.now c.acked.result ≡ c.in-Some.record.now ∷ c.next.new.self =
+    sym c.since.ensures.rest ∙ c.in-Some.ensures.steps in
     c.call.ensures
     ∙ ap (λ rs. call_of rs 0 (client_in s.clients c.args.client).next) (sym rest)
-    ∙ first_behind s c.args.client c.requires.shape c.requires.client c.args.self.now.members.lawful.some_full c.log-log.result.now log c.acked.result c.acked.ensures
+    ∙ first_behind s c.args.client c.requires.shape c.requires.client c.args.self.now.members.lawful.some_full c.own_log-log.result.now
+    c.own_log-log.ensures.log c.acked.result c.acked.ensures
 
 pub returns-in-None : goal.returns-in-None
 returns-in-None g c =
     let s = value_of c.args.self.now in
-    let log = c.log-log.ensures.log ∙ ap (λ r. (log_of r c.args.client).log) c.own_region.ensures.region in
-    let rest : records_from c.log-log.result.now c.acked.result ≡ [] = sym c.since.ensures.rest ∙ c.in-None.ensures.steps.0 in
+    let rest : records_from c.own_log-log.result.now c.acked.result ≡ [] = sym c.since.ensures.rest ∙ c.in-None.ensures.steps.0 in
     c.next-in-None.ensures
     ∙ ap (λ x. x.next) c.get.ensures
     ∙ ap (λ rs. call_of rs 0 (client_in s.clients c.args.client).next) (sym rest)
-    ∙ first_behind s c.args.client c.requires.shape c.requires.client c.args.self.now.members.lawful.some_full c.log-log.result.now log c.acked.result c.acked.ensures
+    ∙ first_behind s c.args.client c.requires.shape c.requires.client c.args.self.now.members.lawful.some_full c.own_log-log.result.now
+    c.own_log-log.ensures.log c.acked.result c.acked.ensures

@@ -1,5 +1,13 @@
+use Rattle.std.proofs.Common.{◌≡◌, ◌∙◌}
+use Rattle.assise_record.specs.Records.{all_effects}
+use Rattle.assise_inode_table.specs.Effects.{all_applied}
+use Rattle.assise_digest.specs.Region.{ahead, log_of}
+use Rattle.assise_machine_state.specs.ClientValues.{client_in}
+use Rattle.assise_machine_state.specs.NodeValues.{log_in}
 use Rattle.assise_machine_state.specs.Whole.{value_of}
+use Rattle.assise_machine_state.proofs.LogChanges.{log_found}
 use Rattle.assise_machine_state.proofs.OwnLogs.{home_known, home_log}
+use Rattle.assise_machine_state.proofs.state.StateOf.view.Given as given
 use Rattle.assise_machine_state.proofs.state.StateOf.view.Goals as goal
 
 pub region-requires : goal.region-requires
@@ -14,7 +22,20 @@ inodes_of-requires-clause-client g c =
     let has = home_log s c.args.client c.requires.shape c.requires.client c.requires.lives in
     rw (c.region.ensures, c.home-home.ensures, c.get.ensures) has.client
 
+-- its log there
+
+log_is : (g : given.Over) (c : goal.After-region g) →
+    log_of c.region.result.now c.args.client ≡ log_in c.args.self.now.nodes (client_in c.args.self.now.clients c.args.client).home c.args.client
+log_is g c =
+    let has = home_log (value_of c.args.self.now) c.args.client c.requires.shape c.requires.client c.requires.lives in
+    log_found c.args.self.now.nodes (client_in c.args.self.now.clients c.args.client).home c.args.client has
+    (rw (c.home-home.ensures, c.get.ensures) at c.region.ensures)
+
 pub inodes_of-requires-clause-at_home : goal.inodes_of-requires-clause-at_home
 inodes_of-requires-clause-at_home g c =
-    let s = value_of c.args.self.now in
-    rw (c.region.ensures, c.home-home.ensures, c.get.ensures) (home_known s c.args.client c.requires.shape c.requires.client c.requires.lives)
+    rw (log_is g c) (home_known (value_of c.args.self.now) c.args.client c.requires.shape c.requires.client c.requires.lives)
+
+pub returns-clause-inodes : goal.returns-clause-inodes
+returns-clause-inodes g c =
+    let region = rw (c.home-home.ensures, c.get.ensures) at c.region.ensures in
+    c.inodes_of.ensures ∙ (λ i. all_applied (region i).inodes (all_effects (ahead (log_is g c.before i))))
