@@ -311,9 +311,7 @@ pub rings_grouped : (first : ℕ) (records : Buffer LogRecord) (begins : Buffer 
     → records' ≡ buffer (records.items ++ r ∷ []) records.capacity → begins' ≡ buffer (begins.items ++ b ∷ []) begins.capacity
     → IsNumberedLog (of_rings first records' begins') × (begins'.capacity ≡ records'.capacity)
 rings_grouped first records begins r b records' begins' law room_in_group fits room more marked =
-    subst (λ a. IsNumberedLog (of_rings first a begins') × (begins'.capacity ≡ a.capacity)) (sym more)
-    (subst (λ a. IsNumberedLog (of_rings first (buffer (records.items ++ r ∷ []) records.capacity) a) × (a.capacity ≡ records.capacity)) (sym marked)
-    (lawful_grouped (of_rings first records begins) r b law.0 room_in_group fits room, law.1))
+    rw (more, marked) (lawful_grouped (of_rings first records begins) r b law.0 room_in_group fits room, law.1)
 
 pub rings_prefix : (first to kept : ℕ) (records : Buffer LogRecord) (begins : Buffer Bool) (records' : Buffer LogRecord) (begins' : Buffer Bool)
     → IsNumberedLog (of_rings first records begins) × (begins.capacity ≡ records.capacity) → first ≤ to → to ≤ first + length records.items
@@ -321,23 +319,13 @@ pub rings_prefix : (first to kept : ℕ) (records : Buffer LogRecord) (begins : 
     → records' ≡ buffer (keep_last kept records.items) records.capacity → begins' ≡ buffer (keep_last kept begins.items) begins.capacity
     → IsNumberedLog (of_rings to records' begins') × (begins'.capacity ≡ records'.capacity)
 rings_prefix first to kept records begins records' begins' law from_first to_end keeps less marked =
-    let l : NumberedLog = of_rings first records begins in
     let gone : length records.items - kept ≡ to - first = omega arith in
     let unmarked : length begins.items - kept ≡ to - first = omega (arith, law.0.marks) in
-    let fewer : records' ≡ buffer (drop (to - first) records.items) records.capacity = less ∙ ap (λ n. buffer (drop n records.items) records.capacity) gone in
-    let marks : begins' ≡ buffer (drop (to - first) begins.items) begins.capacity = marked ∙ ap (λ n. buffer (drop n begins.items) begins.capacity) unmarked in
-    subst (λ a. IsNumberedLog (of_rings to a begins') × (begins'.capacity ≡ a.capacity)) (sym fewer)
-    (subst (λ a. IsNumberedLog (of_rings to (buffer (drop (to - first) records.items) records.capacity) a) × (a.capacity ≡ records.capacity)) (sym marks)
-    (lawful_prefix l to law.0 from_first to_end, law.1))
+    rw (less, marked, gone, unmarked) (lawful_prefix (of_rings first records begins) to law.0 from_first to_end, law.1)
 
 pub rings_tail : (first from kept : ℕ) (records : Buffer LogRecord) (begins : Buffer Bool) (records' : Buffer LogRecord) (begins' : Buffer Bool)
     → IsNumberedLog (of_rings first records begins) × (begins.capacity ≡ records.capacity) → kept ≡ from - first
     → records' ≡ buffer (take kept records.items) records.capacity → begins' ≡ buffer (take kept begins.items) begins.capacity
     → IsNumberedLog (of_rings first records' begins') × (begins'.capacity ≡ records'.capacity)
 rings_tail first from kept records begins records' begins' law keeps less marked =
-    let l : NumberedLog = of_rings first records begins in
-    let fewer : records' ≡ buffer (take (from - first) records.items) records.capacity = less ∙ ap (λ n. buffer (take n records.items) records.capacity) keeps in
-    let marks : begins' ≡ buffer (take (from - first) begins.items) begins.capacity = marked ∙ ap (λ n. buffer (take n begins.items) begins.capacity) keeps in
-    subst (λ a. IsNumberedLog (of_rings first a begins') × (begins'.capacity ≡ a.capacity)) (sym fewer)
-    (subst (λ a. IsNumberedLog (of_rings first (buffer (take (from - first) records.items) records.capacity) a) × (a.capacity ≡ records.capacity)) (sym marks)
-    (lawful_tail l from law.0, law.1))
+    rw (less, marked, keeps) (lawful_tail (of_rings first records begins) from law.0, law.1)
