@@ -21,11 +21,11 @@ use Rattle.assise_lease_table.proofs.Elements.{all_among, among_all, among_any, 
 use Rattle.assise_lease_tree.specs.Levels.{in_way, is_revoked}
 use Rattle.assise_lease_tree.specs.TwoLevels.{IsAskedFor, TwoLevels, is_free_for}
 use Rattle.assise_model_world.specs.ClientSteps.{RaisesGoals}
-use Rattle.assise_model_world.specs.Staying.{SameClients, KeepsLeases, SameLogs, SameNodes}
+use Rattle.assise_model_world.specs.Staying.{KeepsLeases}
 use Rattle.assise_model_world.specs.World.{end_of_log}
 use Rattle.assise_model_world.proofs.Logs.{contains-all_effects}
 use Rattle.assise_model_leases.specs.Handing.{Asks, asked_goal, is_newly_revoked}
-use Rattle.assise_model_leases.specs.Leases.{AreLeases, CoversFrom, IsRevokedLease, Leases, client_lease, is_held, is_written, client_records_from}
+use Rattle.assise_model_leases.specs.Leases.{AreLeases, CoversFrom, Leases, client_lease, is_held, is_written, client_records_from}
 use Rattle.assise_model_leases.proofs.LookUps.{revoke_of, revoked_held, revoked_one, held_one, still_revoked, written_one}
 use Rattle.assise_machine_state.specs.Changes.{after_asking, with_goals}
 use Rattle.assise_machine_state.specs.ClientValues.{ClientValue, client_in, is_over, with_client, with_goal}
@@ -36,9 +36,8 @@ use Rattle.assise_machine_state.specs.Invariant.{AreAnswers, CutsInvariant, Shap
 use Rattle.assise_machine_state.specs.StateValues.{StateValue, leases_of}
 use Rattle.assise_machine_state.proofs.Fullness.{lives_number}
 use Rattle.assise_machine_state.proofs.Noted.{asked_either, cut_before, none_cut, once_both}
-use Rattle.assise_machine_state.proofs.ItemSeen.{client_else, client_here, client_same, length-with}
-use Rattle.assise_machine_state.proofs.ShapeKept.{shaped_as, still_marked}
-use Rattle.assise_machine_state.proofs.SameObserved.{node_as}
+use Rattle.assise_machine_state.proofs.ItemSeen.{client_else, client_here, client_same, each_number, length-with}
+use Rattle.assise_machine_state.proofs.ShapedClients.{Remain, clients_stay, logs_stay, nodes_stay, still_shaped}
 
 -- ---- the holders that are left of compatible leases
 
@@ -228,58 +227,18 @@ log_covers s c i cut covers =
 
 -- ---- what stays
 
-module _ (s : StateValue) (levels : TwoLevels) (asked : List Asked) where
-  abbrev after : StateValue
-  after = after_asking s levels asked
+remain : (asked : List Asked) (cs : List ClientValue) → Remain cs (with_goals asked cs)
+remain asked cs = record {
+  count = count_kept asked cs;
+  home = goals_keep (λ x. x.home) (λ to x. refl) asked cs;
+  failed = goals_keep (λ x. x.failed) (λ to x. refl) asked cs;
+  next = goals_keep (λ x. x.next) (λ to x. refl) asked cs;
+  made = goals_keep (λ x. x.made) (λ to x. refl) asked cs;
+  durability = goals_keep (λ x. x.durability) (λ to x. refl) asked cs;
+}
 
-  stays : {A : Type 0} (f : ClientValue → A) → ((to : ℕ) (x : ClientValue) → f (with_goal to x) ≡ f x) → (d : ℕ) →
-      f (client_in after.clients d) ≡ f (client_in s.clients d)
-  stays f same d = goals_keep f same asked s.clients d
-
-  own_stays : (d : ℕ) → own_seen after d ≡ own_seen s d
-  unfolding own_seen
-  own_stays d = rw (stays (λ x. x.home) (λ to x. refl) d, stays (λ x. x.failed) (λ to x. refl) d) refl
-
-  logs_stay : SameLogs (world_of s) (world_of after)
-  unfolding world_of
-  logs_stay = record {
-    calls = refl;
-    records = λ d. ap (λ l. l.log.records) (own_stays d);
-    first = λ d. ap (λ l. l.log.first) (own_stays d);
-    next = stays (λ x. x.next) (λ to x. refl);
-    border = λ d k. ap (λ l. is_border l.log k) (own_stays d);
-    made = stays (λ x. x.made) (λ to x. refl);
-  }
-
-  clients_stay : SameClients (world_of s) (world_of after)
-  unfolding world_of
-  clients_stay = record {
-    clients = count_kept asked s.clients;
-    home = stays (λ x. x.home) (λ to x. refl);
-    lives = stays (λ x. not x.failed) (λ to x. refl);
-    crashed = stays (λ x. x.crashed) (λ to x. refl);
-  }
-
-  nodes_stay : SameNodes (world_of s) (world_of after)
-  unfolding world_of
-  nodes_stay = record { full = refl; same = λ n f. node_as s after n (λ j. refl) (λ d. refl) }
-
-  pub asking_shaped : ShapeInvariant s → ShapeInvariant after
-  asking_shaped shape = shaped_as s after shape record {
-    nodes = refl;
-    members = refl;
-    full = λ n. refl;
-    logs = λ n. refl;
-    clients = count_kept asked s.clients;
-    home = stays (λ x. x.home) (λ to x. refl);
-    failed = stays (λ x. x.failed) (λ to x. refl);
-    limit = refl;
-    limits = λ n d. refl;
-    at_home = λ n d. refl;
-    marked = still_marked s after (λ n d. refl) (λ d. ap (λ l. l.log) (own_stays d));
-    durability = stays (λ x. x.durability) (λ to x. refl);
-    opened = λ d. refl;
-  }
+pub asking_shaped : (s : StateValue) (levels : TwoLevels) (asked : List Asked) → ShapeInvariant s → ShapeInvariant (after_asking s levels asked)
+asking_shaped s levels asked = still_shaped s (with_goals asked s.clients) levels (s.cuts ++ asked) s.history (remain asked s.clients) (λ d. refl)
 
 -- ---- leases that are asked for
 
@@ -287,6 +246,9 @@ module _ (s : StateValue) (c i : ℕ) (mode : Mode) (levels : TwoLevels) (asked 
     (asks : IsAskedFor s.levels levels c (client_in s.clients c).home i mode) (answers : AreAnswers s c i mode asked) where
   abbrev way : Lease → Bool
   way = in_way s.levels.home (s.levels.nodes i) c (client_in s.clients c).home mode
+
+  abbrev cs : List ClientValue
+  cs = with_goals asked s.clients
 
   abbrev l : Leases
   l = leases_of s
@@ -306,10 +268,8 @@ module _ (s : StateValue) (c i : ℕ) (mode : Mode) (levels : TwoLevels) (asked 
   of_each : (P : Option Lease → Option Lease → Type 0) → ((o : Option Lease) → P (revoked_one way o) o) → ((o : Option Lease) → P o o) →
       (d j : ℕ) → P (client_lease l' d j) (client_lease l d j)
   of_each P one same d j =
-      elim (cases_eq j i) [
-        | inl is ↦ subst (λ k. P (client_lease l' d k) (client_lease l d k)) (sym is) (subst (λ o. P o (client_lease l d i)) (sym (here d)) (one (client_lease l d i)))
-        | inr other ↦ subst (λ o. P o (client_lease l d j)) (sym (elsewhere d j other)) (same (client_lease l d j))
-      ]
+      each_number (λ k. P (client_lease l' d k) (client_lease l d k)) i j (subst (λ o. P o (client_lease l d i)) (sym (here d)) (one (client_lease l d i)))
+      (λ other. subst (λ o. P o (client_lease l d j)) (sym (elsewhere d j other)) (same (client_lease l d j)))
 
   same_held : (d j : ℕ) → is_held (client_lease l' d j) ≡ is_held (client_lease l d j)
   same_held = of_each (λ x y. is_held x ≡ is_held y) (held_one way) (λ o. refl)
@@ -320,9 +280,6 @@ module _ (s : StateValue) (c i : ℕ) (mode : Mode) (levels : TwoLevels) (asked 
     holds = same_held;
     writes = of_each (λ x y. is_written x ≡ is_written y) (written_one way) (λ o. refl);
   }
-
-  revoked_stays : (d j : ℕ) → IsRevokedLease l d j → IsRevokedLease l' d j
-  revoked_stays = of_each (λ x y. is_revoked y ≡ true → is_revoked x ≡ true) (still_revoked way) (λ o revoked. revoked)
 
   -- ---- who is asked
 
@@ -349,14 +306,13 @@ module _ (s : StateValue) (c i : ℕ) (mode : Mode) (levels : TwoLevels) (asked 
   asked_here : (d j : ℕ) → is_asked asked d j ≡ true → is_asked asked d i ≡ true
   asked_here d j h = subst (λ k. is_asked asked d k ≡ true) (at_inode d j h) h
 
-  revoked_now : (d : ℕ) → is_asked asked d i ≡ true → IsRevokedLease l' d i
-  revoked_now d h = (and_parts (not (is_revoked (client_lease l d i))) (is_revoked (client_lease l' d i)) (newly d ∙ h)).1
-
   unrevoked : (d : ℕ) → is_asked asked d i ≡ true → is_revoked (client_lease l d i) ≡ false
   unrevoked d h = not-true (is_revoked (client_lease l d i)) (and_parts (not (is_revoked (client_lease l d i))) (is_revoked (client_lease l' d i)) (newly d ∙ h)).0
 
   held : (d : ℕ) → is_asked asked d i ≡ true → is_held (client_lease l d i) ≡ true
-  held d h = sym (same_held d i) ∙ revoked_held (client_lease l' d i) (revoked_now d h)
+  held d h =
+      sym (same_held d i)
+      ∙ revoked_held (client_lease l' d i) (and_parts (not (is_revoked (client_lease l d i))) (is_revoked (client_lease l' d i)) (newly d ∙ h)).1
 
   -- who is asked isn't over
 
@@ -386,7 +342,7 @@ module _ (s : StateValue) (c i : ℕ) (mode : Mode) (levels : TwoLevels) (asked 
   -- ---- cuts
 
   same_over : (d : ℕ) → is_over (client_in (with_goals asked s.clients) d) ≡ is_over (client_in s.clients d)
-  same_over = stays s levels asked is_over (λ to x. refl)
+  same_over = goals_keep is_over (λ to x. refl) asked s.clients
 
   cut_now : (d : ℕ) → is_asked asked d i ≡ true → l'.cut d i ≡ cut_in asked d i
   unfolding leases_of
@@ -396,7 +352,7 @@ module _ (s : StateValue) (c i : ℕ) (mode : Mode) (levels : TwoLevels) (asked 
 
   cut_stays : (d j : ℕ) → is_asked asked d j ≡ false → l'.cut d j ≡ l.cut d j
   unfolding leases_of
-  cut_stays d j none = λ k. if same_over d k then stays s levels asked (λ x. x.last_cut) (λ to x. refl) d k else cut_before s.cuts asked d j none k
+  cut_stays d j none = λ k. if same_over d k then goals_keep (λ x. x.last_cut) (λ to x. refl) asked s.clients d k else cut_before s.cuts asked d j none k
 
   goal_is : (d : ℕ) → asked_goal l l' i d ≡ cut_in asked d i
   goal_is d =
@@ -405,17 +361,14 @@ module _ (s : StateValue) (c i : ℕ) (mode : Mode) (levels : TwoLevels) (asked 
         | inr none ↦ rw (newly d ∙ none) (sym (none_cut asked d i none))
       ]
 
+  answered : (d : ℕ) → is_asked asked d i ≡ true → (a : Asked) × Among asked a × (a.client ≡ d) × (l'.cut d i ≡ a.cut)
+  answered d h = (let a = answer_of asked d i h in (a.0, a.1, a.2, cut_now d h ∙ a.3))
+
   covers : (d : ℕ) → is_asked asked d i ≡ true → CoversLog (own_seen s d).log i (l'.cut d i)
-  covers d h =
-      let a = answer_of asked d i h in
-      subst (λ e. CoversLog (own_seen s e).log i (l'.cut d i)) a.2
-      (subst (λ k. CoversLog (own_seen s a.0.client).log i k) (sym (cut_now d h ∙ a.3)) (answers.covers a.0 a.1))
+  covers d h = (let a = answered d h in subst (λ e. CoversLog (own_seen s e).log i (l'.cut d i)) a.2 (rw a.3 (answers.covers a.0 a.1)))
 
   at_border : (d : ℕ) → is_asked asked d i ≡ true → is_border (own_seen s d).log (l'.cut d i) ≡ true
-  at_border d h =
-      let a = answer_of asked d i h in
-      subst (λ e. is_border (own_seen s e).log (l'.cut d i) ≡ true) a.2
-      (subst (λ k. is_border (own_seen s a.0.client).log k ≡ true) (sym (cut_now d h ∙ a.3)) (answers.borders a.0 a.1))
+  at_border d h = (let a = answered d h in subst (λ e. is_border (own_seen s e).log (l'.cut d i) ≡ true) a.2 (rw a.3 (answers.borders a.0 a.1)))
 
   goals_known : (d : ℕ) → asked_goal l l' i d ≤ end_of_log (world_of s) d
   goals_known d =
@@ -432,9 +385,9 @@ module _ (s : StateValue) (c i : ℕ) (mode : Mode) (levels : TwoLevels) (asked 
   unfolding world_of
   raises = record {
     there = goals_known;
-    logs = logs_stay s levels asked;
-    clients = clients_stay s levels asked;
-    nodes = nodes_stay s levels asked;
+    logs = logs_stay s cs levels (s.cuts ++ asked) s.history (remain asked s.clients) refl;
+    clients = clients_stay s cs levels (s.cuts ++ asked) s.history (remain asked s.clients) (goals_keep (λ x. x.crashed) (λ to x. refl) asked s.clients);
+    nodes = nodes_stay s cs levels (s.cuts ++ asked) s.history;
     leases = leases_stay;
     goals = λ d. goals_raised asked s.clients i d answers.inodes distinct asked_number ∙ ap (max (client_in s.clients d).goal) (sym (goal_is d));
   }
@@ -460,8 +413,7 @@ module _ (s : StateValue) (c i : ℕ) (mode : Mode) (levels : TwoLevels) (asked 
       elim (cases_eq j i) [
         | inl is ↦
             let h : is_asked asked d i ≡ true = sym (newly d) ∙ subst (λ k. is_newly_revoked l l' d k ≡ true) is fresh in
-            let a = answer_of asked d i h in
-            (is, (a.0, a.1, a.2, cut_now d h ∙ a.3))
+            (is, answered d h)
         | inr other ↦
             let parts = and_parts (not (is_revoked (client_lease l d j))) (is_revoked (client_lease l' d j)) fresh in
             not_both (is_revoked (client_lease l d j)) (sym (ap is_revoked (elsewhere d j other)) ∙ parts.1) (not-true (is_revoked (client_lease l d j)) parts.0)
@@ -472,12 +424,12 @@ module _ (s : StateValue) (c i : ℕ) (mode : Mode) (levels : TwoLevels) (asked 
   -- what is revoked was so before, or was asked for
   revoked_or_asked : (d j : ℕ) → is_revoked (client_lease l' d j) ≡ (is_revoked (client_lease l d j) || is_asked asked d j)
   revoked_or_asked d j =
-      elim (cases_eq j i) [
-        | inl is ↦
-            subst (λ k. is_revoked (client_lease l' d k) ≡ (is_revoked (client_lease l d k) || is_asked asked d k)) (sym is)
-            (was_or_new (is_revoked (client_lease l d i)) (is_revoked (client_lease l' d i)) (revoked_stays d i) ∙ ap (λ b. is_revoked (client_lease l d i) || b) (newly d))
-        | inr other ↦ ap is_revoked (elsewhere d j other) ∙ sym (ap (λ b. is_revoked (client_lease l d j) || b) (unasked_elsewhere asked i d j answers.inodes other) ∙ or-false (is_revoked (client_lease l d j)))
-      ]
+      each_number (λ k. is_revoked (client_lease l' d k) ≡ (is_revoked (client_lease l d k) || is_asked asked d k)) i j
+      (was_or_new (is_revoked (client_lease l d i)) (is_revoked (client_lease l' d i))
+      (of_each (λ x y. is_revoked y ≡ true → is_revoked x ≡ true) (still_revoked way) (λ o revoked. revoked) d i)
+      ∙ ap (λ b. is_revoked (client_lease l d i) || b) (newly d))
+      (λ other. ap is_revoked (elsewhere d j other)
+      ∙ sym (ap (λ b. is_revoked (client_lease l d j) || b) (unasked_elsewhere asked i d j answers.inodes other) ∙ or-false (is_revoked (client_lease l d j))))
     where
       was_or_new : (was now : Bool) → (was ≡ true → now ≡ true) → now ≡ (was || (not was && now))
       was_or_new true now stays = stays refl

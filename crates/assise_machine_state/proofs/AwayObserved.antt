@@ -100,9 +100,7 @@ module _ (s : StateValue) (n i : ℕ) (v : Option Content) (there : IsNumber s.n
   pub inode_else : (k j : ℕ) → (k ≡ n → j ≡ i → ⊥) → (world_of t).area k j ≡ (world_of s).area k j
   inode_else k j other =
       elim (cases_eq k n) [
-        | inl is ↦
-            let differs : i ≢ j = λ e. other is (sym e) in
-            subst (λ m. (world_of t).area m j ≡ (world_of s).area m j) (sym is) (area_at j ∙ rw (ne_eqb i j differs) refl)
+        | inl is ↦ subst (λ m. (world_of t).area m j ≡ (world_of s).area m j) (sym is) (area_at j ∙ rw (ne_eqb i j (λ e. other is (sym e))) refl)
         | inr differs ↦ area_else k j differs
       ]
 

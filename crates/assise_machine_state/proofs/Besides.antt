@@ -10,7 +10,7 @@ use Rattle.assise_model_events.specs.Dsyncs.{besides, coalesced_from, full_elsew
 use Rattle.assise_model_events.proofs.Regroupable.{most-above, most-below}
 use Rattle.assise_machine_state.specs.ClientValues.{client_in}
 use Rattle.assise_machine_state.specs.NodeValues.{log_in}
-use Rattle.assise_machine_state.specs.Observed.{full_in, is_full_in, world_of}
+use Rattle.assise_machine_state.specs.Observed.{full_in, world_of}
 use Rattle.assise_machine_state.specs.Places.{IsNumber}
 use Rattle.assise_machine_state.specs.Invariant.{ShapeInvariant}
 use Rattle.assise_machine_state.specs.StateValues.{StateValue, standings}
@@ -41,11 +41,17 @@ module _ (home : ℕ) (f : ℕ → ℕ) where
   taken_more : (ns : List ℕ) (i : ℕ) → i < length ns → take (i + 1) ns ≡ take i ns ++ get_or ns i 0 ∷ []
   taken_more ns i low = (let next : i + 1 ≡ suc i = omega arith in ap (λ k. take k ns) next ∙ take-suc ns i 0 low)
 
-  pub next_most : (ns : List ℕ) (i : ℕ) → i < length ns → (get_or ns i 0 == home) ≡ false → most_of (besides home (take (i + 1) ns)) f ≡ max (most_of (besides home (take i ns)) f) (f (get_or ns i 0))
-  next_most ns i low other = ap (λ ms. most_of (besides home ms) f) (taken_more ns i low) ∙ one_more (take i ns) (get_or ns i 0) other
+  pub next_most : (ns all : List ℕ) (i most found now : ℕ) → ns ≡ all → i < length ns → most ≡ most_of (besides home (take i all)) f →
+      (get_or ns i 0 == home) ≡ false → found ≡ f (get_or ns i 0) → now ≡ max most found → now ≡ most_of (besides home (take (i + 1) all)) f
+  next_most ns all i most found now same low before other is taken =
+      let more = ap (λ ms. most_of (besides home ms) f) (taken_more ns i low) ∙ one_more (take i ns) (get_or ns i 0) other in
+      rw (← same) (omega (arith, taken, is, more, rw (← same) at before))
 
-  pub next_same : (ns : List ℕ) (i : ℕ) → i < length ns → (get_or ns i 0 == home) ≡ true → most_of (besides home (take (i + 1) ns)) f ≡ most_of (besides home (take i ns)) f
-  next_same ns i low is = ap (λ ms. most_of (besides home ms) f) (taken_more ns i low) ∙ no_more (take i ns) (get_or ns i 0) is
+  pub next_same : (ns all : List ℕ) (i most : ℕ) → ns ≡ all → i < length ns → most ≡ most_of (besides home (take i all)) f →
+      (get_or ns i 0 == home) ≡ true → most ≡ most_of (besides home (take (i + 1) all)) f
+  next_same ns all i most same low before is =
+      let more = ap (λ ms. most_of (besides home ms) f) (taken_more ns i low) ∙ no_more (take i ns) (get_or ns i 0) is in
+      rw (← same) (omega (arith, more, rw (← same) at before))
 
 -- ---- the order in which full nodes are listed doesn't matter
 
@@ -73,22 +79,14 @@ module _ (s : StateValue) (c : ℕ) (shape : ShapeInvariant s) (client : IsNumbe
   abbrev received_in : ℕ → ℕ
   received_in n = log_end (log_in s.nodes n c).log
 
-  received_same : (n : ℕ) → is_full_in (standings s) n ≡ true → (world_of s).received n c ≡ received_in n
-  unfolding world_of
-  received_same n full = refl
-
-  listed_full : (n : ℕ) → contains (full_nodes (standings s)) n ≡ true → contains (full_in (standings s)) n ≡ true
-  listed_full n listed = full_is (standings s) n ∙ listed_is_full (standings s) n listed
-
-  full_listed : (n : ℕ) → contains (full_in (standings s)) n ≡ true → contains (full_nodes (standings s)) n ≡ true
-  full_listed n full = is_listed (standings s) n (sym (full_is (standings s) n) ∙ full)
-
   most_besides : most_of (besides (client_in s.clients c).home (full_nodes (standings s))) received_in ≡ most_of (full_elsewhere (world_of s) c) (λ n. (world_of s).received n c)
   unfolding world_of
   most_besides =
       let home : ℕ = (client_in s.clients c).home in
-      let low = no_less home (full_nodes (standings s)) (full_in (standings s)) received_in (λ n. (world_of s).received n c) listed_full (λ n listed. sym (received_same n (listed_is_full (standings s) n listed))) in
-      let high = no_less home (full_in (standings s)) (full_nodes (standings s)) (λ n. (world_of s).received n c) received_in full_listed (λ n full. received_same n (sym (full_is (standings s) n) ∙ full)) in
+      let low = no_less home (full_nodes (standings s)) (full_in (standings s)) received_in (λ n. (world_of s).received n c)
+      (λ n listed. full_is (standings s) n ∙ listed_is_full (standings s) n listed) (λ n listed. refl) in
+      let high = no_less home (full_in (standings s)) (full_nodes (standings s)) (λ n. (world_of s).received n c) received_in
+      (λ n full. is_listed (standings s) n (sym (full_is (standings s) n) ∙ full)) (λ n full. refl) in
       omega (arith, low, high)
 
   pub coalesced_place : (goal acked most : ℕ) → goal ≡ (client_in s.clients c).goal → acked ≡ received_by_all (world_of s) c →

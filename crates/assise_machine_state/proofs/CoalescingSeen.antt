@@ -37,28 +37,10 @@ use Rattle.assise_machine_state.proofs.Marks.{marked_as}
 use Rattle.assise_machine_state.proofs.Noted.{goal_noted}
 use Rattle.assise_machine_state.proofs.GoalObserved.{goal_raised, goal_shaped}
 use Rattle.assise_machine_state.proofs.RegroupedMarks.{regrouped_marked}
-use Rattle.assise_machine_state.proofs.ShapeKept.{AreMarked, own_marked, shaped_as}
+use Rattle.assise_machine_state.proofs.ShapeKept.{AreMarked, kept_marks, own_marked, shaped_as}
 use Rattle.assise_machine_state.proofs.ShapedClients.{areas_stay}
 use Rattle.assise_machine_state.proofs.SameObserved.{leases_as}
-use Rattle.assise_machine_state.proofs.ItemSeen.{length-with}
-
--- ---- what is observed of a client's log
-
-own_ends : (s : StateValue) (c : ℕ) → end_of_log (world_of s) c ≡ log_end (own_seen s c).log
-unfolding world_of end_of_log
-own_ends s c = refl
-
-first_is : (s : StateValue) (c : ℕ) → (world_of s).first c ≡ (own_seen s c).log.first
-unfolding world_of
-first_is s c = refl
-
-received_is : (s : StateValue) (n c : ℕ) → (world_of s).received n c ≡ log_end (log_in s.nodes n c).log
-unfolding world_of
-received_is s n c = refl
-
-away_from : (s : StateValue) (c n : ℕ) → n ≢ (client_in s.clients c).home → n ≢ (world_of s).home c
-unfolding world_of
-away_from s c n away = away
+use Rattle.assise_machine_state.proofs.ItemSeen.{each_number, length-with}
 
 module _ (s : StateValue) (c from : ℕ) where
   abbrev home : ℕ
@@ -107,9 +89,6 @@ module _ (s : StateValue) (c from : ℕ) where
     has : HasLog s.nodes home c
     has = has_log s home c shape (home_full s c shape unfailed) there
 
-    home_now : log_in t.nodes home c ≡ regrouped_from (log_in s.nodes home c) from
-    home_now = log_here s.nodes home c (region_in s.nodes home).inodes new has
-
     else_now : (n d : ℕ) → (n ≡ home → d ≡ c → ⊥) → log_in t.nodes n d ≡ log_in s.nodes n d
     else_now = log_else s.nodes home c (region_in s.nodes home).inodes new has
 
@@ -125,7 +104,7 @@ module _ (s : StateValue) (c from : ℕ) where
     own_before = ap (λ n. log_in s.nodes n c) own_is_home
 
     own_now : own_seen t c ≡ regrouped_from (own_seen s c) from
-    own_now = own_after ∙ home_now ∙ ap (λ x. regrouped_from x from) (sym own_before)
+    own_now = own_after ∙ log_here s.nodes home c (region_in s.nodes home).inodes new has ∙ ap (λ x. regrouped_from x from) (sym own_before)
 
     own_else : (d : ℕ) → d ≢ c → own_seen t d ≡ own_seen s d
     unfolding own_seen
@@ -138,10 +117,8 @@ module _ (s : StateValue) (c from : ℕ) where
     first_kept : (d : ℕ) → u.first d ≡ w.first d
     unfolding world_of
     first_kept d =
-        elim (cases_eq d c) [
-          | inl is ↦ subst (λ e. u.first e ≡ w.first e) (sym is) (ap (λ x. x.log.first) own_now ∙ ap (λ m. m.first) (regrouped_all l from))
-          | inr other ↦ ap (λ x. x.log.first) (own_else d other)
-        ]
+        each_number (λ e. u.first e ≡ w.first e) c d
+        (ap (λ x. x.log.first) own_now ∙ ap (λ m. m.first) (regrouped_all l from)) (λ other. ap (λ x. x.log.first) (own_else d other))
 
     module _ (law : IsNumberedLog l) (high : from ≤ log_end l)
         (elsewhere : (n : ℕ) → is_full_in (standings s) n ≡ true → n ≢ home → log_end (log_in s.nodes n c).log ≤ from) where
@@ -161,22 +138,15 @@ module _ (s : StateValue) (c from : ℕ) where
 
       marked_here : (n : ℕ) → IsMarked (is_border (own_seen t c).log) (log_in t.nodes n c).log
       marked_here n =
-          elim (cases_eq n home) [
-            | inl is ↦
-                subst (λ m. IsMarked (is_border (own_seen t c).log) (log_in t.nodes m c).log) (sym is)
-                (subst (λ x. IsMarked (is_border (own_seen t c).log) x.log) own_after
-                (subst (λ x. IsMarked (is_border x.log) x.log) (sym own_now) (regrouped_marked l from (own_marked s shape.marked c))))
-            | inr away ↦ subst (λ x. IsMarked (is_border (own_seen t c).log) x.log) (sym (else_now n c (λ is _. away is))) (marked_away n away)
-          ]
+          each_number (λ m. IsMarked (is_border (own_seen t c).log) (log_in t.nodes m c).log) home n
+          (subst (λ x. IsMarked (is_border (own_seen t c).log) x.log) own_after
+          (subst (λ x. IsMarked (is_border x.log) x.log) (sym own_now) (regrouped_marked l from (own_marked s shape.marked c))))
+          (λ away. subst (λ x. IsMarked (is_border (own_seen t c).log) x.log) (sym (else_now n c (λ is _. away is))) (marked_away n away))
 
       marked_now : AreMarked t
       marked_now n d =
-          elim (cases_eq d c) [
-            | inl is ↦ subst (λ e. IsMarked (is_border (own_seen t e).log) (log_in t.nodes n e).log) (sym is) (marked_here n)
-            | inr other ↦
-                subst (λ x. IsMarked (is_border x.log) (log_in t.nodes n d).log) (sym (own_else d other))
-                (subst (λ x. IsMarked (is_border (own_seen s d).log) x.log) (sym (else_now n d (λ _ same. other same))) (shape.marked n d))
-          ]
+          each_number (λ e. IsMarked (is_border (own_seen t e).log) (log_in t.nodes n e).log) c d (marked_here n)
+          (λ other. kept_marks _ _ _ _ (own_else d other) (else_now n d (λ _ same. other same)) (shape.marked n d))
 
       regrouped_shaped : ShapeInvariant t
       regrouped_shaped = shaped_as s t shape record {
@@ -253,10 +223,6 @@ module _ (s : StateValue) (c from : ℕ) where
               | inr other ↦ border_now k (omega (arith, old, other))
             ]
 
-        received_now : u.received home c ≡ end_of_log u c
-        unfolding world_of end_of_log
-        received_now = ap (λ x. log_end x.log) (sym own_after)
-
         raised : RaisesGoals u (goal_of c (end_of_log u c)) w'
         raised = goal_raised t c (end_of_log u c) there (omega arith)
 
@@ -268,9 +234,9 @@ module _ (s : StateValue) (c from : ℕ) where
         ends_same = end-same u w' raised.logs c
 
         gets : Full w home → GetsAll home c w'
-        unfolding world_of
+        unfolding world_of end_of_log
         gets f = record {
-          received = (raised.nodes.same home (still_full home f)).received c ∙ received_now ∙ sym ends_same;
+          received = (raised.nodes.same home (still_full home f)).received c ∙ ap (λ x. log_end x.log) (sym own_after) ∙ sym ends_same;
           log = (raised.nodes.same home (still_full home f)).log c ∙ ap (λ x. x.log.records) (sym own_after) ∙ sym (raised.logs.records c);
         }
 
@@ -356,10 +322,16 @@ module _ (s : StateValue) (c : ℕ) (shape : ShapeInvariant s) (sound : ∥ Worl
   others_low n full away = ∥∥₁_elim sound (search props) (λ h. coalesced_elsewhere (world_of s) c h n full away)
 
   within : start ≤ log_end (own_seen s c).log
-  within = omega (arith, start_high, own_ends s c)
+  unfolding world_of end_of_log
+  within = start_high
+
+  first_low : (own_seen s c).log.first ≤ start
+  unfolding world_of
+  first_low = start_first
 
   others_end : (n : ℕ) → is_full_in (standings s) n ≡ true → n ≢ (client_in s.clients c).home → log_end (log_in s.nodes n c).log ≤ start
-  others_end n full away = (let known = others_low n (seen_full s n full) (away_from s c n away) in omega (arith, known, received_is s n c))
+  unfolding world_of
+  others_end n full = others_low n (seen_full s n full)
 
   pub regrouped_shape : ShapeInvariant (after_regrouping s c start)
   regrouped_shape = regrouped_shaped s c start shape lives law within others_end
@@ -367,13 +339,11 @@ module _ (s : StateValue) (c : ℕ) (shape : ShapeInvariant s) (sound : ∥ Worl
   pub coalesced_shape : ShapeInvariant (after_coalescing s c start)
   coalesced_shape = coalescing_shaped s c start shape lives law within others_end
 
-  pub coalesced_groups : AllHaveEffects (records_from (own_seen s c).log start) → Regroups (world_of s) c start (new_groups (world_of s) c) (world_of (after_coalescing s c start))
-  coalesced_groups some =
-      let first : (own_seen s c).log.first ≤ start = omega (arith, start_first, first_is s c) in
-      regroups s c start shape lives law within others_end first some start_low goal_low start_border others_low
+  pub coalesced_groups : AllHaveEffects (records_from (own_seen s c).log start) →
+      Regroups (world_of s) c start (new_groups (world_of s) c) (world_of (after_coalescing s c start))
+  coalesced_groups some = regroups s c start shape lives law within others_end first_low some start_low goal_low start_border others_low
 
-  pub coalesced_none : AllHaveEffects (records_from (own_seen s c).log start) → (n : ℕ) → Full (world_of s) n → n ≢ (world_of s).home c → HasNone (world_of s) n c start (world_of (after_coalescing s c start))
+  pub coalesced_none : AllHaveEffects (records_from (own_seen s c).log start) → (n : ℕ) → Full (world_of s) n → n ≢ (world_of s).home c →
+      HasNone (world_of s) n c start (world_of (after_coalescing s c start))
   unfolding world_of
-  coalesced_none some n full away =
-      let first : (own_seen s c).log.first ≤ start = omega (arith, start_first, first_is s c) in
-      has_none s c start shape lives law within others_end first some start_low goal_low start_border others_low n full away
+  coalesced_none some = has_none s c start shape lives law within others_end first_low some start_low goal_low start_border others_low

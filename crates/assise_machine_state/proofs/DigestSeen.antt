@@ -15,7 +15,7 @@ use Rattle.assise_model_world.specs.Chances.{MayDigest}
 use Rattle.assise_model_world.specs.NodeSteps.{Digests}
 use Rattle.assise_model_world.specs.Invariant.{WorldInvariant}
 use Rattle.assise_model_world.specs.World.{Full, World, undigested_below}
-use Rattle.assise_model_members.specs.Returns.{DigestsNoted, OtherAreasStay}
+use Rattle.assise_model_members.specs.Returns.{DigestsNoted}
 use Rattle.assise_machine_state.specs.Changes.{after_digest}
 use Rattle.assise_machine_state.specs.ClientValues.{client_in}
 use Rattle.assise_machine_state.specs.NodeValues.{HasLog, log_in, region_in}
@@ -98,16 +98,12 @@ module _ (s : StateValue) (n c k : ℕ) (inodes : set.FinSet nat_cmp) (shape : S
       ap (λ x. x.digested) (log_here s.nodes n c (inodes_now s n c k) (further s n c k) has) ∙ sum
 
   -- the area has what the observed records make of it
-  below_is : undigested_below w n c k ≡ take (k - (log_in s.nodes n c).digested) (ahead (log_in s.nodes n c))
-  unfolding undigested_below world_of
-  below_is = ap (take (k - (log_in s.nodes n c).digested)) (ahead_first s n c first)
-
   area_now : (i : ℕ) → w'.area n i ≡ value_after i (w.area n i) (all_effects (undigested_below w n c k))
-  unfolding world_of
+  unfolding undigested_below world_of
   area_now i =
       ap (λ r. values r.inodes i) (region_here s.nodes n now has.node)
       ∙ get-all_applied (region_in s.nodes n).inodes (all_effects (take (k - (log_in s.nodes n c).digested) (ahead (log_in s.nodes n c)))) i
-      ∙ ap (λ rs. value_after i (w.area n i) (all_effects rs)) (sym below_is)
+      ∙ ap (λ rs. value_after i (w.area n i) (all_effects (take (k - (log_in s.nodes n c).digested) rs))) (sym (ahead_first s n c first))
 
   area_beside : (m i : ℕ) → m ≢ n → w'.area m i ≡ w.area m i
   unfolding world_of
@@ -134,11 +130,13 @@ module _ (s : StateValue) (n c k : ℕ) (inodes : set.FinSet nat_cmp) (shape : S
     area_else = λ m i f other. area_beside m i other;
   }
 
-  other_areas : OtherAreasStay w w'
-  other_areas m i away = area_beside m i (λ is. away (subst (λ j. Full w j) (sym is) may.full_node))
-
   pub noted_prefix : ((i : ℕ) → set.contains inodes i ≡ contains (touched (all_effects (undigested_below w n c k))) i) → DigestsNoted w s.members n c k inodes w' t.members
-  noted_prefix touches = record { digests = digested; touches = touches; members = refl; others = other_areas }
+  noted_prefix touches = record {
+    digests = digested;
+    touches = touches;
+    members = refl;
+    others = λ m i away. area_beside m i (λ is. away (subst (λ j. Full w j) (sym is) may.full_node));
+  }
 
 pub digest_noted : (s : StateValue) (n c k : ℕ) (inodes : set.FinSet nat_cmp) → ShapeInvariant s → WorldInvariant (world_of s) → IsNumber s.clients c → MayDigest (world_of s) n c k →
     ((i : ℕ) → set.contains inodes i ≡ contains (touched (all_effects (undigested_below (world_of s) n c k))) i) →

@@ -1,9 +1,9 @@
 -- Prefixes that are dropped of one client's logs after another's, as the laws have it.
-use Rattle.std.proofs.Common.{◌≡◌, ◌≢◌, ◌⊎◌, ℕ, zero, suc, ◌-◌, ◌<◌, ◌≤◌, ◌==◌, true, if◌then◌else◌, List, [], ◌∷◌, length, drop, slice_index_or, inl, inr, refl, ap, sym, subst, ◌∙◌, arith, eq-eqb}
+use Rattle.std.proofs.Common.{◌≡◌, ◌≢◌, ◌⊎◌, ℕ, zero, suc, ◌-◌, ◌<◌, ◌≤◌, ◌==◌, true, if◌then◌else◌, List, [], ◌∷◌, length, slice_index_or, inl, inr, refl, ap}
+use Rattle.std.proofs.Common.{sym, subst, ◌∙◌, arith, eq-eqb}
 use Rattle.std.proofs.Math.Logic.{∥∥₁_elim, ∥∥₁_map}
 use Rattle.std.proofs.Props.{props}
 use Rattle.std.proofs.lemmas.Bool.{cases_Bool, cases_eq, ne_eqb}
-use Rattle.assise_record.specs.LogRecord.{LogRecord}
 use Rattle.assise_private_log.specs.NumberedLog.{end as log_end}
 use Rattle.assise_private_log.proofs.Borders.{border_first}
 use Rattle.assise_digest.specs.Region.{HasClient, RegionValue, log_of, no_log}
@@ -20,7 +20,8 @@ use Rattle.assise_machine_state.specs.Observed.{is_full_in, own_node, own_seen, 
 use Rattle.assise_machine_state.specs.Places.{IsNumber, item_at}
 use Rattle.assise_machine_state.specs.Invariant.{ShapeInvariant}
 use Rattle.assise_machine_state.specs.StateValues.{StateValue, standings}
-use Rattle.assise_machine_state.proofs.Prefixes.{HasPrefixes, drop_areas, drop_shaped, dropped_prefixes, dropped_twice, has_prefixes, same_digested}
+use Rattle.assise_machine_state.proofs.Prefixes.{HasPrefixes, drop_areas, drop_shaped, dropped_prefixes, dropped_twice, has_prefixes, none_dropped}
+use Rattle.assise_machine_state.proofs.Prefixes.{same_digested}
 use Rattle.assise_machine_state.proofs.Fullness.{no_log_there, seen_full}
 use Rattle.assise_machine_state.proofs.HotCapacities.{prefixes_keep}
 use Rattle.assise_machine_state.proofs.ItemSeen.{seen_past}
@@ -65,6 +66,12 @@ pub record StillDropping (s t : StateValue) : Type 0 where
   pub shape : ShapeInvariant t
   pub sound : ∥ WorldInvariant (world_of t) ∥₁
 
+-- the next client's logs can be dropped up to where all full nodes have digested them
+pub record Droppable (t : StateValue) (c : ℕ) : Type 0 where
+  pub client : IsNumber t.clients c
+  pub shape : ShapeInvariant t
+  pub digested : AreDigested t.nodes c (digested_by_all (world_of t) c)
+
 -- of clients 1 to m the logs begin where all full nodes have digested them, and the others' where they began
 abbrev first_to : World → ℕ → ℕ → ℕ
 first_to w zero d = w.first d
@@ -73,11 +80,7 @@ first_to w (suc m) d = if d == suc m then digested_by_all w (suc m) else first_t
 -- ---- where a log begins, at each full node
 
 prefixes_of : (s : StateValue) (c : ℕ) → ∥ WorldInvariant (world_of s) ∥₁ → HasPrefixes s c
-prefixes_of s c sound = record {
-  first = λ n full. ∥∥₁_elim sound (search props) (λ h. (has_prefixes s c h).first n full);
-  known = λ n full. ∥∥₁_elim sound (search props) (λ h. (has_prefixes s c h).known n full);
-  begun = λ d. ∥∥₁_elim sound (search props) (λ h. (has_prefixes s c h).begun d);
-}
+prefixes_of s c sound = ∥∥₁_elim sound (hlevel props) (has_prefixes s c)
 
 -- what all full nodes have digested ends at a border
 to_border : (s : StateValue) (c : ℕ) → ∥ WorldInvariant (world_of s) ∥₁ → (world_of s).border c (digested_by_all (world_of s) c) ≡ true
@@ -116,9 +119,6 @@ module _ (s : StateValue) (c : ℕ) (shape : ShapeInvariant s) (sound : ∥ Worl
       (digested_there (suc k) node has))
 
 -- ---- one client after another
-
-none_dropped : (k : ℕ) (rs : List LogRecord) → rs ≡ drop (k - k) rs
-none_dropped k rs = (let none : k - k ≡ 0 = omega arith in ap (λ j. drop j rs) (sym none))
 
 module _ (s : StateValue) (shape : ShapeInvariant s) (sound : ∥ WorldInvariant (world_of s) ∥₁) where
   abbrev w : World
@@ -222,18 +222,8 @@ module _ (s : StateValue) (shape : ShapeInvariant s) (sound : ∥ WorldInvariant
 
   -- ---- as the code finds it
 
-  module _ (last m : ℕ) (next : suc m ≡ last) (there : last ≤ length s.clients) (t : StateValue) (is : t ≡ drops_to s m) where
-    low : m < length s.clients
-    low = omega (arith, next, there)
-
-    same_as : StillDropping s t
-    same_as = subst (StillDropping s) (sym is) (same_dropping m (omega (arith, low)))
-
-    pub client_as : IsNumber t.clients last
-    client_as = subst (IsNumber t.clients) next (next_client t m same_as low)
-
-    pub shape_as : ShapeInvariant t
-    shape_as = same_as.shape
-
-    pub digested_as : AreDigested t.nodes last (digested_by_all (world_of t) last)
-    digested_as = are_digested t last same_as.shape same_as.sound client_as
+  pub found : (last : ℕ) → 0 < last → last ≤ length s.clients → (t : StateValue) → t ≡ drops_to s (last - 1) → Droppable t last
+  found last some there t is =
+      let same : StillDropping s t = subst (StillDropping s) (sym is) (same_dropping (last - 1) (omega arith)) in
+      let client : IsNumber t.clients last = record { some = some; there = omega (arith, there, ap length same.clients) } in
+      record { client = client; shape = same.shape; digested = are_digested t last same.shape same.sound client }

@@ -1,5 +1,6 @@
 -- How many inodes may be hot at each node stays where its inodes and logs change.
-use Rattle.std.proofs.Common.{◌≡◌, ℕ, zero, suc, ◌-◌, ◌==◌, Bool, true, false, if◌then◌else◌, List, [], ◌∷◌, map, replicate, slice_index_or, slice_set, refl, ap, ◌∙◌, sym}
+use Rattle.std.proofs.Common.{◌≡◌, ℕ, zero, suc, ◌-◌, ◌==◌, Bool, List, [], ◌∷◌, map, replicate, slice_index_or, slice_set, refl, ap, ◌∙◌, sym}
+use Rattle.std.proofs.lemmas.Bool.{cond_both}
 use Rattle.std.proofs.lemmas.List.{map-set}
 use Rattle.assise_record.specs.Records.{has_some}
 use Rattle.assise_record.specs.declared.effect.Effect.{Effect}
@@ -37,18 +38,9 @@ hot_as rs n capacity there =
     sym (is_set (with_hot_capacity (region_in rs n) capacity) rs n there)
     ∙ ap (λ r. slice_set rs (n - 1) (with_hot_capacity r capacity)) (is_seen no_region rs n there)
 
--- ---- where something is so, or nothing changes
-
-region_either : (b : Bool) (r s : RegionValue) → r.capacity ≡ s.capacity → (if b then r else s).capacity ≡ s.capacity
-region_either true r s same = same
-region_either false r s same = refl
-
-either : (b : Bool) (rs ss : List RegionValue) → hot_capacities rs ≡ hot_capacities ss → hot_capacities (if b then rs else ss) ≡ hot_capacities ss
-either true rs ss same = same
-either false rs ss same = refl
-
 pub call_keeps : (rs : List RegionValue) (n c call : ℕ) (es : List Effect) → hot_capacities (with_call_in rs n c call es) ≡ hot_capacities rs
-call_keeps rs n c call es = either (has_some es) (with_log_in rs n c _) rs (log_keeps rs n c _)
+call_keeps rs n c call es =
+    cond_both (has_some es) (with_log_in rs n c _) rs (λ qs. hot_capacities qs ≡ hot_capacities rs) (λ _. log_keeps rs n c _) (λ _. refl)
 
 -- ---- at all nodes
 
@@ -57,7 +49,8 @@ each_keeps f same [] = refl
 each_keeps f same (r ∷ rs) = (λ i. same r i ∷ each_keeps f same rs i)
 
 changed_keeps : (c : ℕ) (f : ReceivedLog → ReceivedLog) (rs : List RegionValue) → hot_capacities (map (changed_in c f) rs) ≡ hot_capacities rs
-changed_keeps c f = each_keeps (changed_in c f) (λ r. region_either _ (with_log r c (f (log_of r c))) r refl)
+changed_keeps c f =
+    each_keeps (changed_in c f) (λ r. cond_both _ (with_log r c (f (log_of r c))) r (λ q. q.capacity ≡ r.capacity) (λ _. refl) (λ _. refl))
 
 pub prefixes_keep : (rs : List RegionValue) (c to : ℕ) → hot_capacities (with_prefixes_dropped rs c to) ≡ hot_capacities rs
 prefixes_keep rs c to = changed_keeps c (λ l. from_number l to) rs
@@ -68,13 +61,15 @@ tails_keep rs c from = changed_keeps c (λ l. up_to_number l from) rs
 pub begun_keeps : (full : ℕ → Bool) (limit home n : ℕ) (rs : List RegionValue) → hot_capacities (with_logs_begun full limit home n rs) ≡ hot_capacities rs
 begun_keeps full limit home n [] = refl
 begun_keeps full limit home n (r ∷ rs) =
-    (λ i. region_either (full n) (region_with_client r (begun_log limit (n == home))) r refl i ∷ begun_keeps full limit home (suc n) rs i)
+    let begun : RegionValue = region_with_client r (begun_log limit (n == home)) in
+    (λ i. cond_both (full n) begun r (λ q. q.capacity ≡ r.capacity) (λ _. refl) (λ _. refl) i ∷ begun_keeps full limit home (suc n) rs i)
 
 cut_keeps : (home : ℕ) (cs : List ClientValue) (kept : ℕ → ℕ) (m : ℕ) (rs : List RegionValue) → hot_capacities (with_clients_cut home cs kept m rs) ≡ hot_capacities rs
 cut_keeps home cs kept zero rs = refl
 cut_keeps home cs kept (suc c) rs =
     let before : List RegionValue = with_clients_cut home cs kept c rs in
-    either ((client_in cs (suc c)).home == home) (with_tails_cut before (suc c) (kept (suc c))) before (tails_keep before (suc c) (kept (suc c)))
+    cond_both ((client_in cs (suc c)).home == home) (with_tails_cut before (suc c) (kept (suc c))) before (λ qs. hot_capacities qs ≡ hot_capacities before)
+    (λ _. tails_keep before (suc c) (kept (suc c))) (λ _. refl)
     ∙ cut_keeps home cs kept c rs
 
 -- a node fails

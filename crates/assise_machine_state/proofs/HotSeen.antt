@@ -55,17 +55,14 @@ module _ (s : StateValue) (n capacity : ℕ) where
   abbrev changed : RegionValue
   changed = with_hot_capacity (slice_index_or s.nodes (n - 1) no_region) capacity
 
-  inodes_same : (k : ℕ) → (region_in t.nodes k).inodes ≡ (region_in s.nodes k).inodes
-  unfolding region_in
-  inodes_same k = place_kept (λ r. r.inodes) no_region changed s.nodes (n - 1) k refl
-
   logs_same : (k : ℕ) → (region_in t.nodes k).logs ≡ (region_in s.nodes k).logs
   unfolding region_in
   logs_same k = place_kept (λ r. r.logs) no_region changed s.nodes (n - 1) k refl
 
   pub machine_set : observed t ≡ with_hot (observed s) n capacity
-  unfolding observed world_of own_seen log_in observed_by leases_of
-  machine_set = λ i. observed_by s (set_at s.nodes n capacity i) (λ k. inodes_same k i) (λ k. logs_same k i)
+  unfolding observed world_of own_seen log_in observed_by leases_of region_in
+  machine_set = λ i. observed_by s (set_at s.nodes n capacity i) (λ k. place_kept (λ r. r.inodes) no_region changed s.nodes (n - 1) k refl i)
+      (λ k. logs_same k i)
 
   pub shape_kept : ShapeInvariant s → ShapeInvariant t
   unfolding log_in own_seen

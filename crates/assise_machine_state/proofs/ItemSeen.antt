@@ -5,6 +5,10 @@ use Rattle.std.proofs.lemmas.List.{get_or-set_other, get_or-set_same, get_or_app
 use Rattle.assise_machine_state.specs.ClientValues.{ClientValue, client_in, no_client, with_client}
 use Rattle.assise_machine_state.specs.Places.{IsNumber, item_at, with_item}
 
+-- what holds of one number, and of any other, holds of each
+pub each_number : (P : ℕ → Type 0) (n k : ℕ) → P n → (k ≢ n → P k) → P k
+each_number P n k here else = elim (cases_eq k n) [ inl is ↦ subst P (sym is) here | inr other ↦ else other ]
+
 pub less_one : (k : ℕ) → suc k - 1 ≡ k
 less_one k = omega arith
 
@@ -138,9 +142,6 @@ pushed_else none y xs (suc k) other =
 
 pub pushed_kept : {X A : Type 0} (f : X → A) (none y : X) (xs : List X) (d : ℕ) → f y ≡ f none → f (item_at none (xs ++ y ∷ []) d) ≡ f (item_at none xs d)
 pushed_kept f none y xs d same =
-    elim (cases_eq d (suc (length xs))) [
-      | inl is ↦
-          subst (λ k. f (item_at none (xs ++ y ∷ []) k) ≡ f (item_at none xs k)) (sym is)
-          (ap f (pushed_here none y xs) ∙ same ∙ sym (ap f (seen_past none xs (suc (length xs)) (omega arith))))
-      | inr other ↦ ap f (pushed_else none y xs d other)
-    ]
+    each_number (λ k. f (item_at none (xs ++ y ∷ []) k) ≡ f (item_at none xs k)) (suc (length xs)) d
+    (ap f (pushed_here none y xs) ∙ same ∙ sym (ap f (seen_past none xs (suc (length xs)) (omega arith))))
+    (λ other. ap f (pushed_else none y xs d other))

@@ -1,9 +1,10 @@
 -- What is seen of nodes after a change of one of them, of one of its logs, or of one client's logs at all of them.
-use Rattle.std.proofs.Common.{◌≡◌, ◌≢◌, ℕ, ◌-◌, ◌<◌, nat_le, Bool, List, [], ◌∷◌, length, get_or, map, inl, inr, refl, ap, sym, subst, ◌∙◌, append-nil, Result, OnErr, set, take}
+use Rattle.std.proofs.Common.{◌≡◌, ◌≢◌, ℕ, ◌-◌, ◌<◌, ◌≤◌, nat_le, Bool, List, [], ◌∷◌, length, get_or, map, inl, inr, refl, ap, sym, subst, ◌∙◌, append-nil}
+use Rattle.std.proofs.Common.{Result, OnErr, OnOk, set, take}
 use Rattle.std.proofs.Math.ListN.{get_or-map}
-use Rattle.std.proofs.lemmas.Bool.{cases_Bool, cases_eq, le-leb, leb-false, leb-true}
+use Rattle.std.proofs.lemmas.Bool.{cases_Bool, cases_eq, cond_both, le-leb, leb-false, leb-true}
 use Rattle.std.proofs.lemmas.List.{length-set}
-use Rattle.std.proofs.lemmas.Result.{on_err_weaker}
+use Rattle.std.proofs.lemmas.Result.{on_err_weaker, on_ok_weaker}
 use Rattle.assise_inode_table.specs.Contents.{InodeMap}
 use Rattle.assise_inode_table.specs.Effects.{all_applied}
 use Rattle.assise_digest.specs.Region.{ReceivedLog, RegionValue, ahead, digested_by, digested_further, log_of, no_log, with_log}
@@ -84,6 +85,11 @@ log_put rs n c l has found =
     ap (λ r. with_region rs n (with_log r c l)) found
     ∙ ap (λ ls. with_region rs n (record (region_in rs n) { logs = ls })) (is_set l (region_in rs n).logs c (log_number rs n c has))
 
+pub changed_log : {T E : Type 0} (a : Result T E) (f : ReceivedLog → ReceivedLog) (now : RegionValue) {rs : List RegionValue} {n c : ℕ} {r : RegionValue} →
+    HasLog rs n c → r ≡ region_in rs n → OnOk a (now ≡ with_log r c (f (log_of r c))) → OnOk a (with_region rs n now ≡ with_log_in rs n c (f (log_in rs n c)))
+changed_log a f now {rs} {n} {c} has found =
+    on_ok_weaker a (λ ok. ap (with_region rs n) ok ∙ log_put rs n c _ has found ∙ ap (λ l. with_log_in rs n c (f l)) (log_found rs n c has found))
+
 pub digested_put : (rs : List RegionValue) (n c count : ℕ) {r : RegionValue} → HasLog rs n c → r ≡ region_in rs n →
     with_region rs n (digested_by r c count) ≡ with_digested_in rs n c count
 digested_put rs n c count has found =
@@ -134,66 +140,40 @@ module _ (rs : List RegionValue) (n c : ℕ) (inodes : InodeMap) (l : ReceivedLo
 
 module _ (c : ℕ) (g : ReceivedLog → ReceivedLog) where
   none_changed : changed_in c g no_region ≡ no_region
-  none_changed =
-      elim (cases_Bool (nat_le c 0)) [
-        | inl e ↦ rw e refl
-        | inr e ↦ rw e refl
-      ]
+  none_changed = cond_both (nat_le c 0) (with_log no_region c (g (log_of no_region c))) no_region (λ r. r ≡ no_region) (λ _. refl) (λ _. refl)
 
   region_changed : (rs : List RegionValue) (n : ℕ) → region_in (map (changed_in c g) rs) n ≡ changed_in c g (region_in rs n)
   unfolding region_in item_at
   region_changed rs n = ap (λ r. get_or (r ∷ map (changed_in c g) rs) n r) (sym none_changed) ∙ get_or-map (changed_in c g) (no_region ∷ rs) n no_region
 
-  -- a region's inodes stay, the count of its logs, and what each log keeps
-
-  inodes_kept : (r : RegionValue) → (changed_in c g r).inodes ≡ r.inodes
-  inodes_kept r =
-      elim (cases_Bool (nat_le c (length r.logs))) [
-        | inl e ↦ rw e refl
-        | inr e ↦ rw e refl
-      ]
-
-  count_kept : (r : RegionValue) → length (changed_in c g r).logs ≡ length r.logs
-  count_kept r =
-      elim (cases_Bool (nat_le c (length r.logs))) [
-        | inl e ↦ rw e (length-set r.logs (c - 1) (g (log_of r c)))
-        | inr e ↦ rw e refl
-      ]
-
-  part_kept : {A : Type 0} (f : ReceivedLog → A) (r : RegionValue) (d : ℕ) → ((l : ReceivedLog) → f (g l) ≡ f l) → f (item_at no_log (changed_in c g r).logs d) ≡ f (item_at no_log r.logs d)
-  part_kept f r d same =
-      elim (cases_Bool (nat_le c (length r.logs))) [
-        | inl e ↦ rw e (place_kept f no_log (g (log_of r c)) r.logs (c - 1) d (same (log_of r c)))
-        | inr e ↦ rw e refl
-      ]
-
-  beside_kept : (r : RegionValue) (d : ℕ) → 0 < c → d ≢ c → item_at no_log (changed_in c g r).logs d ≡ item_at no_log r.logs d
-  beside_kept r d some other =
-      elim (cases_Bool (nat_le c (length r.logs))) [
-        | inl e ↦ rw e (log_other (g (log_of r c)) r.logs c d record { some = some; there = leb-true c (length r.logs) e } other)
-        | inr e ↦ rw e refl
-      ]
-
   own_changed : (r : RegionValue) → IsNumber r.logs c → item_at no_log (changed_in c g r).logs c ≡ g (item_at no_log r.logs c)
   own_changed r has =
       rw (le-leb c (length r.logs) has.there) (log_set (g (log_of r c)) r.logs c has ∙ ap g (sym (is_seen no_log r.logs c has)))
 
-  -- the same of what is seen of nodes
+  -- what the change leaves of a region that has the log it leaves of all nodes
+  region_same : {A : Type 0} (f : RegionValue → A) → ((r : RegionValue) → c ≤ length r.logs → f (with_log r c (g (log_of r c))) ≡ f r) →
+      (rs : List RegionValue) (n : ℕ) → f (region_in (map (changed_in c g) rs) n) ≡ f (region_in rs n)
+  region_same f same rs n =
+      let r : RegionValue = region_in rs n in
+      ap f (region_changed rs n)
+      ∙ cond_both (nat_le c (length r.logs)) (with_log r c (g (log_of r c))) r (λ q. f q ≡ f r) (λ has. same r (leb-true c (length r.logs) has)) (λ _. refl)
 
   pub inodes_seen : (rs : List RegionValue) (n : ℕ) → (region_in (map (changed_in c g) rs) n).inodes ≡ (region_in rs n).inodes
-  inodes_seen rs n = ap (λ r. r.inodes) (region_changed rs n) ∙ inodes_kept (region_in rs n)
+  inodes_seen = region_same (λ r. r.inodes) (λ r _. refl)
 
   pub count_seen : (rs : List RegionValue) (n : ℕ) → length (region_in (map (changed_in c g) rs) n).logs ≡ length (region_in rs n).logs
-  count_seen rs n = ap (λ r. length r.logs) (region_changed rs n) ∙ count_kept (region_in rs n)
+  count_seen = region_same (λ r. length r.logs) (λ r _. length-set r.logs (c - 1) (g (log_of r c)))
 
   pub part_seen : {A : Type 0} (f : ReceivedLog → A) (rs : List RegionValue) (n d : ℕ) → ((l : ReceivedLog) → f (g l) ≡ f l) →
       f (log_in (map (changed_in c g) rs) n d) ≡ f (log_in rs n d)
   unfolding log_in
-  part_seen f rs n d same = ap (λ r. f (item_at no_log r.logs d)) (region_changed rs n) ∙ part_kept f (region_in rs n) d same
+  part_seen f rs n d same =
+      region_same (λ r. f (item_at no_log r.logs d)) (λ r _. place_kept f no_log (g (log_of r c)) r.logs (c - 1) d (same (log_of r c))) rs n
 
   pub beside_seen : (rs : List RegionValue) (n d : ℕ) → 0 < c → d ≢ c → log_in (map (changed_in c g) rs) n d ≡ log_in rs n d
   unfolding log_in
-  beside_seen rs n d some other = ap (λ r. item_at no_log r.logs d) (region_changed rs n) ∙ beside_kept (region_in rs n) d some other
+  beside_seen rs n d some other =
+      region_same (λ r. item_at no_log r.logs d) (λ r has. log_other (g (log_of r c)) r.logs c d record { some = some; there = has } other) rs n
 
   pub own_changes : (rs : List RegionValue) (n : ℕ) → HasLog rs n c → log_in (map (changed_in c g) rs) n c ≡ g (log_in rs n c)
   unfolding log_in

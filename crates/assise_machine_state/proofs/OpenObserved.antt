@@ -26,8 +26,8 @@ use Rattle.assise_machine_state.specs.Invariant.{CutsInvariant, IsMarked, ShapeI
 use Rattle.assise_machine_state.specs.StateValues.{StateValue, leases_of, standings}
 use Rattle.assise_machine_state.proofs.Fullness.{full_number, full_seen, no_log_in, no_log_there}
 use Rattle.assise_machine_state.proofs.Noted.{new_unasked, none_cut}
-use Rattle.assise_machine_state.proofs.ItemSeen.{pushed_else, pushed_here, pushed_kept, seen_past}
-use Rattle.assise_machine_state.proofs.ShapeKept.{KnowsHome, limit_seen, limits_all}
+use Rattle.assise_machine_state.proofs.ItemSeen.{each_number, pushed_else, pushed_here, pushed_kept, seen_past}
+use Rattle.assise_machine_state.proofs.ShapeKept.{KnowsHome, kept_marks, limit_seen, limits_all}
 use Rattle.assise_machine_state.proofs.SameObserved.{leases_as}
 
 -- ---- nodes that begin a log
@@ -78,12 +78,6 @@ module _ (full : ℕ → Bool) (limit home : ℕ) where
   region_away rs zero away = refl
   region_away rs (suc j) away = begun_away 1 rs j (suc j) (omega arith) away
 
-  -- what a log that is begun has as none does
-  log_kept : {A : Type 0} (f : ReceivedLog → A) → ((b : Bool) → f (begun_log limit b) ≡ f no_log) →
-      (rs : List RegionValue) (m d : ℕ) → f (log_in (with_logs_begun full limit home 1 rs) m d) ≡ f (log_in rs m d)
-  unfolding log_in
-  log_kept f same rs m d = region_kept (λ r. f (item_at no_log r.logs d)) (λ r b. pushed_kept f no_log (begun_log limit b) r.logs d (same b)) rs m
-
 -- ---- the state
 
 module _ (s : StateValue) (n : ℕ) (u : Durability) (levels : TwoLevels) where
@@ -124,9 +118,12 @@ module _ (s : StateValue) (n : ℕ) (u : Durability) (levels : TwoLevels) where
   pub open_areas : OtherAreasStay w w'
   open_areas k i away = area_kept k i
 
-  -- logs
+  -- what a log that is begun has as none does stays of logs
   kept : {A : Type 0} (f : ReceivedLog → A) → ((b : Bool) → f (begun_log s.limit b) ≡ f no_log) → (m d : ℕ) → f (log_in s'.nodes m d) ≡ f (log_in s.nodes m d)
-  kept f same m d = log_kept (is_full_in (standings s)) s.limit n f same s.nodes m d
+  unfolding log_in
+  kept f same m d =
+      region_kept (is_full_in (standings s)) s.limit n (λ r. f (item_at no_log r.logs d))
+      (λ r b. pushed_kept f no_log (begun_log s.limit b) r.logs d (same b)) s.nodes m
 
   module _ (shape : ShapeInvariant s) where
     -- no node had a log of it
@@ -200,10 +197,8 @@ module _ (s : StateValue) (n : ℕ) (u : Durability) (levels : TwoLevels) where
     cuts_stay : CutsInvariant s → SameCuts (leases_of s) (leases_of s')
     unfolding leases_of
     cuts_stay noted d i =
-        elim (cases_eq d next) [
-          | inl is ↦ subst (λ k. cut_of s.cuts k (client_in s'.clients k) i ≡ cut_of s.cuts k (client_in s.clients k) i) (sym is) (cut_new noted i)
-          | inr other ↦ ap (λ y. cut_of s.cuts d y i) (other_client d other)
-        ]
+        each_number (λ k. cut_of s.cuts k (client_in s'.clients k) i ≡ cut_of s.cuts k (client_in s.clients k) i) next d
+        (cut_new noted i) (λ other. ap (λ y. cut_of s.cuts d y i) (other_client d other))
 
     pub open_seen : CutsInvariant s → Full w n → EnrolsAt s.levels levels next n → OpensAt w (leases_of s) n w' (leases_of s')
     unfolding world_of leases_of
@@ -255,10 +250,8 @@ module _ (s : StateValue) (n : ℕ) (u : Durability) (levels : TwoLevels) where
 
     at_home_now : Full w n → (m d : ℕ) → KnowsHome s' m d
     at_home_now full_node m d =
-        elim (cases_eq d next) [
-          | inl is ↦ subst (KnowsHome s' m) (sym is) (at_home_new full_node m)
-          | inr other ↦ ap (λ l. l.at_home) (same_log m d other) ∙ shape.at_home m d ∙ sym (ap (λ y. (m == y.home) && not y.failed) (other_client d other))
-        ]
+        each_number (KnowsHome s' m) next d (at_home_new full_node m)
+        (λ other. ap (λ l. l.at_home) (same_log m d other) ∙ shape.at_home m d ∙ sym (ap (λ y. (m == y.home) && not y.failed) (other_client d other)))
 
     own_other : (d : ℕ) → d ≢ next → own_seen s' d ≡ own_seen s d
     unfolding own_seen
@@ -272,12 +265,9 @@ module _ (s : StateValue) (n : ℕ) (u : Durability) (levels : TwoLevels) where
     ]
 
     marked_now : (m d : ℕ) → IsMarked (is_border (own_seen s' d).log) (log_in s'.nodes m d).log
-    marked_now m d = elim (cases_eq d next) [
-      | inl is ↦ subst (λ k. IsMarked (is_border (own_seen s' k).log) (log_in s'.nodes m k).log) (sym is) (marked_new m)
-      | inr other ↦
-          subst (λ l. IsMarked (is_border l.log) (log_in s'.nodes m d).log) (sym (own_other d other))
-          (subst (λ l. IsMarked (is_border (own_seen s d).log) l.log) (sym (same_log m d other)) (shape.marked m d))
-    ]
+    marked_now m d =
+        each_number (λ k. IsMarked (is_border (own_seen s' k).log) (log_in s'.nodes m k).log) next d (marked_new m)
+        (λ other. kept_marks _ _ _ _ (own_other d other) (same_log m d other) (shape.marked m d))
 
     limit_now : (m d : ℕ) → is_full_in (standings s) m ≡ true → IsNumber s'.clients d → (log_in s'.nodes m d).log.limit ≡ s.limit
     limit_now m d f client =
@@ -302,10 +292,8 @@ module _ (s : StateValue) (n : ℕ) (u : Durability) (levels : TwoLevels) where
       least_limit = shape.least_limit;
       most_limit = shape.most_limit;
       marked = marked_now;
-      durabilities = λ d. elim (cases_eq next d) [
-        | inl is ↦
-            subst (λ k. (client_in s'.clients k).durability ≡ durability_of k s'.history) is
-            (ap (λ y. y.durability) new_client ∙ sym (durability-opened s.history next n u))
-        | inr other ↦ ap (λ y. y.durability) (other_client d (λ is. other (sym is))) ∙ shape.durabilities d ∙ sym (durability-other s.history d next n u (ne_eqb next d other))
-      ];
+      durabilities = λ d. each_number (λ k. (client_in s'.clients k).durability ≡ durability_of k s'.history) next d
+          (ap (λ y. y.durability) new_client ∙ sym (durability-opened s.history next n u))
+          (λ other. ap (λ y. y.durability) (other_client d other) ∙ shape.durabilities d
+          ∙ sym (durability-other s.history d next n u (ne_eqb next d (λ is. other (sym is)))));
     }

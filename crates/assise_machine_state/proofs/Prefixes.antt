@@ -4,7 +4,7 @@ use Rattle.std.proofs.lemmas.Bool.{cases_Bool, cases_eq, ne_eqb}
 use Rattle.std.proofs.lemmas.List.{length-drop, nil_from_length}
 use Rattle.assise_record.specs.LogRecord.{LogRecord}
 use Rattle.assise_inode_table.specs.Contents.{values}
-use Rattle.assise_private_log.specs.NumberedLog.{end as log_end, is_border}
+use Rattle.assise_private_log.specs.NumberedLog.{NumberedLog, end as log_end, is_border}
 use Rattle.assise_private_log.proofs.Borders.{border_first}
 use Rattle.assise_digest.specs.Region.{from_number, no_log}
 use Rattle.assise_model_world.specs.NodeSteps.{Drops}
@@ -21,9 +21,10 @@ use Rattle.assise_machine_state.specs.Places.{IsNumber}
 use Rattle.assise_machine_state.specs.Invariant.{IsMarked, ShapeInvariant}
 use Rattle.assise_machine_state.specs.StateValues.{StateValue, standings}
 use Rattle.assise_machine_state.proofs.Fullness.{full_seen, has_log, no_log_in, no_log_there, same_first, seen_full}
+use Rattle.assise_machine_state.proofs.ItemSeen.{each_number}
 use Rattle.assise_machine_state.proofs.LogChanges.{beside_seen, count_seen, inodes_seen, own_changes, own_changes_all, part_seen}
 use Rattle.assise_machine_state.proofs.Marks.{prefix_border, marked_prefix}
-use Rattle.assise_machine_state.proofs.ShapeKept.{AreMarked, shaped_all}
+use Rattle.assise_machine_state.proofs.ShapeKept.{AreMarked, kept_marks, shaped_all}
 use Rattle.assise_machine_state.proofs.SameObserved.{clients_as, goals_as, leases_as}
 
 -- ---- prefixes are dropped
@@ -31,6 +32,9 @@ use Rattle.assise_machine_state.proofs.SameObserved.{clients_as, goals_as, lease
 pub drop_areas : (s : StateValue) (c to n i : ℕ) → (world_of (after_drop s c to)).area n i ≡ (world_of s).area n i
 unfolding world_of
 drop_areas s c to n i = ap (λ v. values v i) (inodes_seen c (λ l. from_number l to) s.nodes n)
+
+pub none_dropped : (k : ℕ) (rs : List LogRecord) → rs ≡ drop (k - k) rs
+none_dropped k rs = (let none : k - k ≡ 0 = omega arith in ap (λ j. drop j rs) (sym none))
 
 digested_by_all-end : (w : World) (c : ℕ) → digested_by_all w c ≤ end_of_log w c
 unfolding digested_by_all
@@ -114,13 +118,8 @@ module _ (s : StateValue) (c to : ℕ) (shape : ShapeInvariant s) (prefixes : Ha
 
   marked_now : AreMarked s → AreMarked (after_drop s c to)
   marked_now all n d =
-      elim (cases_eq d c) [
-        | inl is ↦
-            subst (λ e. IsMarked (is_border (own_seen (after_drop s c to) e).log) (log_in (after_drop s c to).nodes n e).log) (sym is) (marked_here all n)
-        | inr other ↦
-            subst (λ l. IsMarked (is_border l.log) (log_in (after_drop s c to).nodes n d).log) (sym (own_beside d other))
-            (subst (λ l. IsMarked (is_border (own_seen s d).log) l.log) (sym (beside n d other)) (all n d))
-      ]
+      each_number (λ e. IsMarked (is_border (own_seen (after_drop s c to) e).log) (log_in (after_drop s c to).nodes n e).log) c d (marked_here all n)
+      (λ other. kept_marks _ _ _ _ (own_beside d other) (beside n d other) (all n d))
 
   pub drop_shaped : ShapeInvariant (after_drop s c to)
   drop_shaped = shaped_all s c (λ l. from_number l to) shape (λ l. refl) (λ l. refl) marked_now
@@ -135,24 +134,13 @@ module _ (s : StateValue) (c to : ℕ) (shape : ShapeInvariant s) (prefixes : Ha
 
   -- a statement of each client holds where it holds of this one and of the others
   each : (P : ℕ → ℕ → Type 0) → P c to → ((d : ℕ) → d ≢ c → P d (w.first d)) → (d : ℕ) → P d (f d)
-  each P here else d =
-      elim (cases_eq d c) [
-        | inl is ↦ subst (λ e. P e (f e)) (sym is) (subst (P c) (sym f_here) here)
-        | inr other ↦ subst (P d) (sym (f_else d other)) (else d other)
-      ]
-
-  none_dropped : (k : ℕ) (rs : List LogRecord) → rs ≡ drop (k - k) rs
-  none_dropped k rs = (let none : k - k ≡ 0 = omega arith in ap (λ j. drop j rs) (sym none))
+  each P here else d = each_number (λ e. P e (f e)) c d (subst (P c) (sym f_here) here) (λ other. subst (P d) (sym (f_else d other)) (else d other))
 
   records_now : (d : ℕ) → w'.records d ≡ drop (f d - w.first d) (w.records d)
   unfolding world_of
   records_now = each (λ d k. w'.records d ≡ drop (k - w.first d) (w.records d))
       (ap (λ x. x.log.records) own_begins)
       (λ d other. ap (λ x. x.log.records) (own_beside d other) ∙ none_dropped (w.first d) (w.records d))
-
-  first_now : (d : ℕ) → w'.first d ≡ f d
-  unfolding world_of
-  first_now = each (λ d k. w'.first d ≡ k) (ap (λ x. x.log.first) own_begins) (λ d other. ap (λ x. x.log.first) (own_beside d other))
 
   log_now : (n d : ℕ) → Full w n → w'.log n d ≡ drop (f d - w.first d) (w.log n d)
   unfolding world_of
@@ -168,19 +156,11 @@ module _ (s : StateValue) (c to : ℕ) (shape : ShapeInvariant s) (prefixes : Ha
   received_now : (n d : ℕ) → Full w n → w'.received n d ≡ w.received n d
   unfolding world_of
   received_now n d full =
-      elim (cases_eq d c) [
-        | inl is ↦ subst (λ e. w'.received n e ≡ w.received n e) (sym is) (
-            let first : w.first c ≡ (log_in s.nodes n c).log.first = sym (prefixes.first n full) in
-            let low : (log_in s.nodes n c).log.first ≤ to = subst (λ k. k ≤ to) first from_first in
-            let high : to ≤ log_end (log_in s.nodes n c).log =
-            omega (arith, all_digested, digested_by_all-below w n c full, prefixes.known n full) in
-            ap (λ x. log_end x.log) (begins n (full_seen s n full)) ∙ ends (log_in s.nodes n c).log.first to (log_in s.nodes n c).log.records low high)
-        | inr other ↦ ap (λ x. log_end x.log) (beside n d other)
-      ]
-
-  first_border : (d : ℕ) → w.border d (w.first d) ≡ true
-  unfolding world_of
-  first_border d = border_first (own_seen s d).log (own_seen s d).log.first (omega arith)
+      let l : NumberedLog = (log_in s.nodes n c).log in
+      let low : l.first ≤ to = subst (λ k. k ≤ to) (sym (prefixes.first n full)) from_first in
+      let high : to ≤ log_end l = omega (arith, all_digested, digested_by_all-below w n c full, prefixes.known n full) in
+      each_number (λ e. w'.received n e ≡ w.received n e) c d
+      (ap (λ x. log_end x.log) (begins n (full_seen s n full)) ∙ ends l.first to l.records low high) (λ other. ap (λ x. log_end x.log) (beside n d other))
 
   border_now : (d k : ℕ) → f d ≤ k → w'.border d k ≡ w.border d k
   unfolding world_of
@@ -197,10 +177,10 @@ module _ (s : StateValue) (c to : ℕ) (shape : ShapeInvariant s) (prefixes : Ha
   dropped_prefixes = record {
     low = each (λ d k. w.first d ≤ k) from_first (λ d other. omega arith);
     high = each (λ d k. k ≤ digested_by_all w d) all_digested (λ d other. prefixes.begun d);
-    border_at = each (λ d k. w.border d k ≡ true) at_border (λ d other. first_border d);
+    border_at = each (λ d k. w.border d k ≡ true) at_border (λ d other. border_first (own_seen s d).log (own_seen s d).log.first (omega arith));
     calls = refl;
     records = records_now;
-    first = first_now;
+    first = each (λ d k. w'.first d ≡ k) (ap (λ x. x.log.first) own_begins) (λ d other. ap (λ x. x.log.first) (own_beside d other));
     border = border_now;
     next = λ d. refl;
     made = λ d. refl;

@@ -10,12 +10,12 @@ use Rattle.assise_digest.specs.Region.{ReceivedLog, ahead, ahead_below, all_ahea
 use Rattle.assise_model_world.specs.Invariant.{WorldInvariant}
 use Rattle.assise_model_world.specs.World.{Full, World, undigested_records as ahead_observed, undigested_below as below_observed, all_undigested_records as all_observed, alone_at as alone_observed, received_by_all, view}
 use Rattle.assise_machine_state.specs.ClientValues.{client_in}
-use Rattle.assise_machine_state.specs.NodeValues.{HasLog, log_in, region_in}
-use Rattle.assise_machine_state.specs.Observed.{inodes_read, is_full_in, world_of}
+use Rattle.assise_machine_state.specs.NodeValues.{log_in, region_in}
+use Rattle.assise_machine_state.specs.Observed.{inodes_read, world_of}
 use Rattle.assise_machine_state.specs.Places.{item_at}
 use Rattle.assise_machine_state.specs.Invariant.{ShapeInvariant}
-use Rattle.assise_machine_state.specs.StateValues.{StateValue, standings}
-use Rattle.assise_machine_state.proofs.Fullness.{full_seen, has_log, home_full, lives_number, lives_unfailed, same_first}
+use Rattle.assise_machine_state.specs.StateValues.{StateValue}
+use Rattle.assise_machine_state.proofs.Fullness.{full_seen, same_first}
 
 -- ---- what a full node has ahead of a client
 
@@ -29,20 +29,12 @@ ahead_is s n c sound f = ahead_first s n c (same_first s n c sound f)
 
 -- ---- by a client at its home
 
--- a full node's inodes with what it has ahead of a client are those that the client sees there
-seen_there : (s : StateValue) (n c i : ℕ) → WorldInvariant (world_of s) → Full (world_of s) n → HasLog s.nodes n c
-    → value_after i (map.get (region_in s.nodes n).inodes i) (all_effects (ahead (log_in s.nodes n c))) ≡ view (world_of s) n c i
-unfolding view world_of
-seen_there s n c i sound f has =
-    ap (λ rs. value_after i (values (region_in s.nodes n).inodes i) (all_effects rs)) (sym (ahead_is s n c sound f))
-
 pub read_at_home : (s : StateValue) (c i : ℕ) → ShapeInvariant s → WorldInvariant (world_of s) → (world_of s).lives c ≡ true → map.get (inodes_read s c) i ≡ view (world_of s) ((world_of s).home c) c i
-unfolding world_of
+unfolding view world_of
 read_at_home s c i shape sound lives =
     let home : ℕ = (client_in s.clients c).home in
-    let full : is_full_in (standings s) home ≡ true = home_full s c shape (lives_unfailed s c lives) in
     get-all_applied (region_in s.nodes home).inodes (all_effects (ahead (log_in s.nodes home c))) i
-    ∙ seen_there s home c i sound (sound.homes c lives) (has_log s home c shape full (lives_number s c lives))
+    ∙ ap (λ rs. value_after i (values (region_in s.nodes home).inodes i) (all_effects rs)) (sym (ahead_is s home c sound (sound.homes c lives)))
 
 -- ---- of a full node's region alone
 

@@ -119,14 +119,7 @@ module _ (s : StateValue) (n c k : ℕ) (shape : ShapeInvariant s) (prefix : Has
   pub delivery_shaped : ShapeInvariant t
   delivery_shaped = shaped_log s s.members n c (region_in s.nodes n).inodes longer shape refl refl marked_now refl (λ m. refl)
 
-  -- ---- this node's log
-
-  log_now : w'.log n c ≡ w.log n c ++ more
-  unfolding world_of
-  log_now = ap (λ x. x.log.records) (log_here s.nodes n c (region_in s.nodes n).inodes longer has)
-
-  -- the number behind the last record
-
+  -- the number behind the last record of this node's log
   counted : (log_in s.nodes n c).log.first + length ((log_in s.nodes n c).log.records ++ more) ≡ k
   unfolding world_of end_of_log records_between
   counted =
@@ -136,12 +129,6 @@ module _ (s : StateValue) (n c k : ℕ) (shape : ShapeInvariant s) (prefix : Has
       length-take (k - w.received n c) (drop (w.received n c - w.first c) (w.records c)) in
       let rest : length (drop (w.received n c - w.first c) (w.records c)) ≡ length (w.records c) - (w.received n c - w.first c) = length-drop (w.received n c - w.first c) (w.records c) in
       omega (arith, prefix.first, both, part, rest, may.from, may.to)
-
-  received_now : w'.received n c ≡ k
-  unfolding world_of
-  received_now =
-      ap (λ x. log_end x.log) (log_here s.nodes n c (region_in s.nodes n).inodes longer has)
-      ∙ counted
 
   pub delivered_prefix : Delivers w n c k w'
   unfolding world_of
@@ -155,9 +142,9 @@ module _ (s : StateValue) (n c k : ℕ) (shape : ShapeInvariant s) (prefix : Has
     goals = goals_as s t refl;
     leases = leases_as s t (λ i. refl);
     full = refl;
-    log_here = log_now;
+    log_here = ap (λ x. x.log.records) (log_here s.nodes n c (region_in s.nodes n).inodes longer has);
     log_else = λ m d f other. ap (λ x. x.log.records) (same_else m d other);
-    received_here = received_now;
+    received_here = ap (λ x. log_end x.log) (log_here s.nodes n c (region_in s.nodes n).inodes longer has) ∙ counted;
     received_else = λ m d f other. ap (λ x. log_end x.log) (same_else m d other);
     digested = λ m d f. log_same s.nodes n c (region_in s.nodes n).inodes longer (λ x. x.digested) m d refl;
     area = λ m i f. same_area s n c k m i;

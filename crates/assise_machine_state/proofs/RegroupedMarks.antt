@@ -73,8 +73,7 @@ module _ (l : NumberedLog) (from : ℕ) (marked : IsMarked (is_border l) l) wher
   begins_first : get_or l.begins 0 true ≡ true
   begins_first = ap (λ ms. get_or ms 0 true) marked ∙ first_mark (is_border l) l.first l.records (border_first l l.first (omega arith))
 
-  now_marked : IsMarked (is_border now) now
-  now_marked = marks_own now so_many (first_of_both (from - l.first) l.begins (all_marks (groups_from l from)) begins_first (first_begins (groups_from l from)))
-
   pub regrouped_marked : IsMarked (is_border (regrouped l from)) (regrouped l from)
-  regrouped_marked = subst (λ m. IsMarked (is_border m) m) (sym (regrouped_all l from)) now_marked
+  regrouped_marked =
+      subst (λ m. IsMarked (is_border m) m) (sym (regrouped_all l from))
+      (marks_own now so_many (first_of_both (from - l.first) l.begins (all_marks (groups_from l from)) begins_first (first_begins (groups_from l from))))

@@ -54,7 +54,11 @@ pub own_marked : (s : StateValue) → AreMarked s → (c : ℕ) → IsMarked (is
 unfolding own_seen
 own_marked s all c = all (own_node (standings s) (client_in s.clients c)) c
 
--- so it is where logs stay
+-- so it is where the two logs stay
+pub kept_marks : (own own' l l' : ReceivedLog) → own' ≡ own → l' ≡ l → IsMarked (is_border own.log) l.log → IsMarked (is_border own'.log) l'.log
+kept_marks own own' l l' own_stays stays marked = rw (own_stays, stays) marked
+
+-- and where all do
 pub still_marked : (s t : StateValue) → ((n c : ℕ) → (log_in t.nodes n c).log ≡ (log_in s.nodes n c).log) →
     ((c : ℕ) → (own_seen t c).log ≡ (own_seen s c).log) → AreMarked s → AreMarked t
 still_marked s t logs own all n c =

@@ -5,14 +5,10 @@ use Rattle.assise_machine_state.proofs.GoalObserved.{goal_raised, goal_shaped}
 use Rattle.assise_machine_state.proofs.ShapedClients.{areas_stay}
 use Rattle.assise_machine_state.proofs.seen_clients.a_raised_goal_is_observed.Goals as goal
 
-pub returns-clause-raises : goal.returns-clause-raises
-returns-clause-raises r = λ s c to there known. goal_raised s c to there known
-
-pub returns-clause-others : goal.returns-clause-others
-returns-clause-others r = λ s c to. areas_stay s (after_goal s c to) refl
-
-pub returns-clause-shape : goal.returns-clause-shape
-returns-clause-shape r = λ s c to shape there. goal_shaped s c to there shape
-
-pub returns-clause-noted : goal.returns-clause-noted
-returns-clause-noted r = λ s c to noted. goal_noted s c to noted
+pub returns : goal.returns
+returns r = record {
+  raises = goal_raised;
+  others = λ s c to. areas_stay s (after_goal s c to) refl;
+  shape = λ s c to shape there. goal_shaped s c to there shape;
+  noted = goal_noted;
+}
