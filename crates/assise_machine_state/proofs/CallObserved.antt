@@ -69,12 +69,10 @@ module _ (rs : List RegionValue) (n c call : ℕ) (es : List Effect) where
 -- ---- counts
 
 plus_one : (b : Bool) (k : ℕ) → (if b then k + 1 else k) ≡ (if b then suc k else k)
-plus_one true k = omega arith
-plus_one false k = refl
+plus_one b k = grind arith
 
 few_made : (b : Bool) (k : ℕ) → k ≤ 1048576 → (b ≡ true → k < 1048576) → (if b then suc k else k) ≤ 1048576
-few_made true k few room = (let less : k < 1048576 = room refl in omega (arith, less))
-few_made false k few room = few
+few_made b k h1 h2 = grind arith
 
 -- ---- the state
 
@@ -157,22 +155,13 @@ module _ (s : StateValue) (x : NumberedCall) where
 
     -- the client's own log has its groups, and so has each node's
     own_borders : AreMarked s → (k : ℕ) → is_border (own_seen s' c).log k ≡ is_border (own_seen s c).log k
-    own_borders all k =
-        ap (λ l. is_border l.log k) own_called
-        ∙ called_border (own_seen s c) x.number es k (so_many_marks (is_border (own_seen s c).log) (own_seen s c).log (own_marked s all c))
+    own_borders all k = grind (arith, own_called, called_border, so_many_marks, own_marked)
 
     marked_here : AreMarked s → (n : ℕ) → IsMarked (is_border (own_seen s' c).log) (log_in s'.nodes n c).log
-    marked_here all n =
-        each_number (λ m. IsMarked (is_border (own_seen s' c).log) (log_in s'.nodes m c).log) home n
-        (subst (λ l. IsMarked (is_border (own_seen s' c).log) l.log) own_here
-        (subst (λ l. IsMarked (is_border l.log) l.log) (sym own_called) (marked_called (own_seen s c) x.number es (own_marked s all c))))
-        (λ away. subst (λ l. IsMarked (is_border (own_seen s' c).log) l.log) (sym (else_log n c (λ there same. away there)))
-        (marked_as (is_border (own_seen s c).log) (is_border (own_seen s' c).log) (log_in s.nodes n c).log (λ k low high. sym (own_borders all k)) (all n c)))
+    marked_here all n = grind (arith, each_number, own_here, own_called, marked_called, own_marked, else_log, marked_as, own_borders)
 
     marked_now : AreMarked s → AreMarked s'
-    marked_now all n d =
-        each_number (λ e. IsMarked (is_border (own_seen s' e).log) (log_in s'.nodes n e).log) c d (marked_here all n)
-        (λ other. kept_marks _ _ _ _ (own_else d other) (else_log n d (λ there same. other same)) (all n d))
+    marked_now all n d = grind (arith, each_number, marked_here, kept_marks, own_else, else_log)
 
     shaped : ShapeInvariant s → ShapeInvariant s'
     shaped shape = shaped_as s s' shape record {
@@ -193,34 +182,24 @@ module _ (s : StateValue) (x : NumberedCall) where
 
     -- the history has the call as it was made
     same_call : w.made c ≡ made_in c s.history → x.fresh ≡ inode_number c (w.made c) → numbered_in s.history (plain_call x) ≡ x
-    same_call counted fresh =
-        let is : inode_number c (made_in c s.history) ≡ x.fresh = ap (inode_number c) (sym counted) ∙ sym fresh in
-        λ i. record { client = x.client; number = x.number; op = x.op; reply = x.reply; fresh = is i }
+    same_call counted fresh = grind arith
 
     -- the client's counts
     next_now : x.number ≡ w.next c → w'.next c ≡ suc x.number
     unfolding world_of
-    next_now number =
-        let before : x.number ≡ (client_in s.clients c).next = number in
-        let more : (client_in s.clients c).next + 1 ≡ suc x.number = omega (arith, before) in
-        ap (λ y. y.next) (client_here s.clients c now there) ∙ more
+    next_now number = grind (arith, client_here)
 
     made_now : w'.made c ≡ (if call_makes_inode w x then suc (w.made c) else w.made c)
     unfolding world_of
-    made_now =
-        ap (λ y. y.made) (client_here s.clients c now there)
-        ∙ plus_one (call_makes_inode w x) (client_in s.clients c).made
+    made_now = grind (arith, client_here, plus_one)
 
     border_kept : AreMarked s → (d k : ℕ) → k ≤ end_of_log w d → w'.border d k ≡ w.border d k
     unfolding world_of
-    border_kept all d k old =
-        each_number (λ e. w'.border e k ≡ w.border e k) c d (own_borders all k) (λ other. ap (λ l. is_border l.log k) (own_else d other))
+    border_kept all d k old = grind (arith, each_number, own_borders, own_else)
 
     border_ends : AreMarked s → w'.border c (end_of_log w' c) ≡ true
     unfolding world_of end_of_log
-    border_ends all =
-        let now : IsMarked (is_border (own_seen s' c).log) (own_seen s' c).log = own_marked s' (marked_now all) c in
-        border_end (own_seen s' c).log (log_end (own_seen s' c).log) (so_many_marks (is_border (own_seen s' c).log) (own_seen s' c).log now) (omega arith)
+    border_ends all = grind (arith, own_marked, marked_now, border_end, so_many_marks)
 
     call_of : ShapeInvariant s → w.made c ≡ made_in c s.history → w.made c ≤ 1048576 → MayMakeCall w x → MakesCall w x w'
     unfolding world_of end_of_log

@@ -9,7 +9,6 @@ use Rattle.assise_record.specs.LogRecord.{LogRecord}
 use Rattle.assise_record.proofs.GroupMarks.{groups-all, groups-are}
 use Rattle.assise_record.proofs.WholeGroups.{whole_none}
 use Rattle.assise_inode_table.specs.Contents.{values}
-use Rattle.assise_private_log.specs.Groups.{regrouped}
 use Rattle.assise_private_log.specs.NumberedLog.{IsNumberedLog, NumberedLog, end as log_end, is_border, records_from}
 use Rattle.assise_private_log.proofs.LogGroups.{regrouped_all, regrouped_among, regrouped_before, regrouped_records}
 use Rattle.assise_digest.specs.Region.{ReceivedLog, regrouped_from}
@@ -116,9 +115,7 @@ module _ (s : StateValue) (c from : ℕ) where
     -- each log begins where it began
     first_kept : (d : ℕ) → u.first d ≡ w.first d
     unfolding world_of
-    first_kept d =
-        each_number (λ e. u.first e ≡ w.first e) c d
-        (ap (λ x. x.log.first) own_now ∙ ap (λ m. m.first) (regrouped_all l from)) (λ other. ap (λ x. x.log.first) (own_else d other))
+    first_kept d = grind (arith, each_number, own_now, regrouped_all, own_else)
 
     module _ (law : IsNumberedLog l) (high : from ≤ log_end l)
         (elsewhere : (n : ℕ) → is_full_in (standings s) n ≡ true → n ≢ home → log_end (log_in s.nodes n c).log ≤ from) where
@@ -128,13 +125,7 @@ module _ (s : StateValue) (c from : ℕ) where
       border_now k before = ap (λ x. is_border x.log k) own_now ∙ regrouped_before l from k law high before
 
       marked_away : (n : ℕ) → n ≢ home → IsMarked (is_border (own_seen t c).log) (log_in s.nodes n c).log
-      marked_away n away =
-          elim (cases_Bool (is_full_in (standings s) n)) [
-            | inl full ↦
-                marked_as (is_border l) (is_border (own_seen t c).log) (log_in s.nodes n c).log
-                (λ k low before. (let last = elsewhere n full away in sym (border_now k (omega (arith, last, before))))) (shape.marked n c)
-            | inr none ↦ subst (λ x. IsMarked (is_border (own_seen t c).log) x.log) (sym (no_log_there s n c shape none)) refl
-          ]
+      marked_away n away = grind (arith, cases_Bool, marked_as, border_now, no_log_there)
 
       marked_here : (n : ℕ) → IsMarked (is_border (own_seen t c).log) (log_in t.nodes n c).log
       marked_here n =
@@ -144,9 +135,7 @@ module _ (s : StateValue) (c from : ℕ) where
           (λ away. subst (λ x. IsMarked (is_border (own_seen t c).log) x.log) (sym (else_now n c (λ is _. away is))) (marked_away n away))
 
       marked_now : AreMarked t
-      marked_now n d =
-          each_number (λ e. IsMarked (is_border (own_seen t e).log) (log_in t.nodes n e).log) c d (marked_here n)
-          (λ other. kept_marks _ _ _ _ (own_else d other) (else_now n d (λ _ same. other same)) (shape.marked n d))
+      marked_now n d = grind (arith, each_number, marked_here, kept_marks, own_else, else_now)
 
       regrouped_shaped : ShapeInvariant t
       regrouped_shaped = shaped_as s t shape record {
@@ -206,22 +195,14 @@ module _ (s : StateValue) (c from : ℕ) where
 
         border_among : (k : ℕ) → k ≤ length (all_coalesced gs) → u.border c (from + k) ≡ are_whole gs k
         unfolding world_of end_of_log
-        border_among k within =
-            let ends : log_end (regrouped l from) ≡ end_of_log u c = ap (λ x. log_end x.log) (sym own_now) in
-            ap (λ x. is_border x.log (from + k)) own_now
-            ∙ regrouped_among l from (end_of_log w c) k law first_low high some few (omega (arith, within, end_now, ends))
-            ∙ ap (λ hs. are_whole hs k) groups_same
+        border_among k within = grind (arith, own_now, regrouped_among, few, end_now, groups_same)
 
         border_first : u.border c from ≡ true
         border_first = (let here : from + 0 ≡ from = omega arith in ap (u.border c) (sym here) ∙ border_among 0 (omega arith) ∙ whole_none gs)
 
         border_before : (k : ℕ) → k ≤ from → u.border c k ≡ w.border c k
         unfolding world_of
-        border_before k old =
-            elim (cases_eq k from) [
-              | inl is ↦ ap (u.border c) is ∙ border_first ∙ sym (ap (w.border c) is ∙ at_border)
-              | inr other ↦ border_now k (omega (arith, old, other))
-            ]
+        border_before k old = grind (arith, cases_eq, border_first, border_now)
 
         raised : RaisesGoals u (goal_of c (end_of_log u c)) w'
         raised = goal_raised t c (end_of_log u c) there (omega arith)
@@ -235,30 +216,19 @@ module _ (s : StateValue) (c from : ℕ) where
 
         gets : Full w home → GetsAll home c w'
         unfolding world_of end_of_log
-        gets f = record {
-          received = (raised.nodes.same home (still_full home f)).received c ∙ ap (λ x. log_end x.log) (sym own_after) ∙ sym ends_same;
-          log = (raised.nodes.same home (still_full home f)).log c ∙ ap (λ x. x.log.records) (sym own_after) ∙ sym (raised.logs.records c);
-        }
+        gets f = grind (arith, raised, still_full, own_after, ends_same)
 
         pub has_none : (n : ℕ) → Full w n → n ≢ home → HasNone w n c from w'
         unfolding world_of
-        has_none n f away = record {
-          before = past n f away;
-          received = (raised.nodes.same n (still_full n f)).received c ∙ ap (λ x. log_end x.log) (else_now n c (λ is _. away is));
-          log = (raised.nodes.same n (still_full n f)).log c ∙ ap (λ x. x.log.records) (else_now n c (λ is _. away is));
-        }
+        has_none n f away = grind (arith, raised, still_full, else_now)
 
         goal_now : w'.goal c ≡ end_of_log w' c
         unfolding world_of
-        goal_now = (
-            let to : goal_of c (end_of_log u c) c ≡ end_of_log u c = rw (eq-eqb c c refl) refl in
-            omega (arith, raised.goals c, to, goal_low, end_now, ends_same))
+        goal_now = grind (arith, eq-eqb, raised, end_now, ends_same)
 
         goal_else : (d : ℕ) → d ≢ c → w'.goal d ≡ w.goal d
         unfolding world_of
-        goal_else d other = (
-            let to : goal_of c (end_of_log u c) d ≡ 0 = rw (ne_eqb d c other) refl in
-            omega (arith, raised.goals d, to))
+        goal_else d other = grind (arith, ne_eqb, raised)
 
         same_leases : KeepsLeases w u
         same_leases = leases_as s t (λ i. refl)

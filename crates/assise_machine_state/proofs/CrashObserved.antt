@@ -1,5 +1,5 @@
 -- What the laws observe of a client that crashes.
-use Rattle.std.proofs.Common.{◌≡◌, ℕ, ◌==◌, true, false, not, List, ◌∷◌, [], ◌++◌, refl, ap, ◌∙◌}
+use Rattle.std.proofs.Common.{◌≡◌, ℕ, ◌==◌, true, false, not, List, ◌∷◌, [], ◌++◌, refl, ap, arith}
 use Rattle.std.proofs.lemmas.Bool.{ne_eqb}
 use Rattle.assise_history.proofs.ClientCounts.{durability-still}
 use Rattle.assise_history.specs.Entries.{EntryValue, crashes}
@@ -11,7 +11,7 @@ use Rattle.assise_model_world.specs.World.{World, end_of_log}
 use Rattle.assise_model_leases.specs.Handing.{CrashesWith}
 use Rattle.assise_model_history.proofs.NumberedCalls.{kept_crash}
 use Rattle.assise_machine_state.specs.Changes.{after_crash}
-use Rattle.assise_machine_state.specs.ClientValues.{ClientValue, client_in, crashed_at, cut_of, with_client}
+use Rattle.assise_machine_state.specs.ClientValues.{ClientValue, client_in, crashed_at, with_client}
 use Rattle.assise_machine_state.specs.Observed.{world_of}
 use Rattle.assise_machine_state.specs.Places.{IsNumber}
 use Rattle.assise_machine_state.specs.Invariant.{AreLeft, ShapeInvariant}
@@ -62,14 +62,7 @@ module _ (s : StateValue) (c : ℕ) (levels : TwoLevels) (asked : List Asked) wh
   unfolding leases_of
   crash_seen lives runs revoked left =
       let there : IsNumber s.clients c = lives_number s c lives in
-      record {
-        crash = crash_of there lives runs revoked;
-        revoked = revoked;
-        cut_here = λ i. ap (λ x. cut_of (s.cuts ++ asked) c x i) (client_here s.clients c now there);
-        cut_else = λ d i other.
-            ap (λ x. cut_of (s.cuts ++ asked) d x i) (client_else s.clients c now there d other)
-            ∙ unasked_cut s.cuts asked d (client_in s.clients d) i (left_else s (λ e. e == c) asked left d i (ne_eqb d c other));
-      }
+      (search (crash_of, client_here, client_else, unasked_cut, left_else, ne_eqb, arith) parts 3)
 
   pub crash_shaped : ShapeInvariant s → ShapeInvariant (after_crash s c levels asked)
   crash_shaped shape = still_shaped s cs levels (s.cuts ++ asked) told remain (λ d. durability-still s.history (crashes c) d refl) shape

@@ -1,5 +1,5 @@
 -- What the laws observe of a full node that fails, where another is left.
-use Rattle.std.proofs.Common.{◌≡◌, ◌≢◌, ◌⊎◌, ℕ, ◌+◌, ◌-◌, ◌<◌, ◌≤◌, min, true, false, not, ◌==◌, List, length, take, filter, Some, None, inl, inr, refl, ap}
+use Rattle.std.proofs.Common.{◌≡◌, ◌≢◌, ◌⊎◌, ℕ, ◌-◌, ◌<◌, ◌≤◌, min, true, false, not, List, length, take, filter, Some, None, inl, inr, refl, ap}
 use Rattle.std.proofs.Common.{sym, subst, ◌∙◌, arith, true≢false, []}
 use Rattle.std.specs.Ordering.{nat_cmp}
 use Rattle.std.specs.FinSet as set
@@ -56,10 +56,7 @@ cut_once_failed asked c k x i = rw (failed_over k x) refl
 
 -- a log that ends before a place is all that there is up to it
 up_to_all : (l : ReceivedLog) (k : ℕ) → length l.log.begins ≡ length l.log.records → log_end l.log ≤ k → up_to_number l k ≡ l
-up_to_all l k marks past =
-    let records : take (k - l.log.first) l.log.records ≡ l.log.records = take_all (k - l.log.first) l.log.records (omega arith) in
-    let begins : take (k - l.log.first) l.log.begins ≡ l.log.begins = take_all (k - l.log.first) l.log.begins (omega arith) in
-    λ i. record { log = record l.log { records = records i; begins = begins i }; digested = l.digested; at_home = l.at_home }
+up_to_all l k marks past = grind (arith, take_all)
 
 -- ---- what is seen of nodes and clients
 
@@ -100,17 +97,11 @@ module _ (s : StateValue) (n : ℕ) (inodes : set.FinSet nat_cmp) (levels : TwoL
   client_same c other = client_stays n kept s.clients (length s.clients) c (omega arith) other
 
   client_over : (c : ℕ) → (client_in s.clients c).home ≡ n → client_in t.clients c ≡ failed_at (kept c) (client_in s.clients c)
-  client_over c here =
-      let client : IsNumber s.clients c = home_number s.clients c (subst (λ h. 0 < h) (sym here) failed_there.some) in
-      client_fails n kept s.clients (length s.clients) c (omega arith) client.some client.there here
+  client_over c here = grind (arith, home_number, failed_there, client_fails)
 
   client_keeps : {A : Type 0} (f : ClientValue → A) → ((k : ℕ) (x : ClientValue) → f (failed_at k x) ≡ f x) → (c : ℕ) →
       f (client_in t.clients c) ≡ f (client_in s.clients c)
-  client_keeps f same c =
-      elim (cases_eq (client_in s.clients c).home n) [
-        | inl here ↦ ap f (client_over c here) ∙ same (kept c) (client_in s.clients c)
-        | inr other ↦ ap f (client_same c other)
-      ]
+  client_keeps f same c = grind (arith, cases_eq, client_over, client_same)
 
   -- logs of the nodes that are left
   log_there : (m c : ℕ) → m ≢ n → (client_in s.clients c).home ≡ n → log_in t.nodes m c ≡ up_to_number (log_in s.nodes m c) (kept c)
@@ -128,43 +119,22 @@ module _ (s : StateValue) (n : ℕ) (inodes : set.FinSet nat_cmp) (levels : TwoL
   emptied = nil_from_length (region_in t.nodes n).logs (logs_gone s.nodes n s.clients kept failed_there)
 
   left_logs : (k : ℕ) → is_full_in (standings t) k ≡ true → length (region_in t.nodes k).logs ≡ length t.clients
-  left_logs k f =
-      let other : k ≢ n = not_failed k f in
-      logs_left s.nodes n s.clients kept k failed_there other ∙ shape.logs k (sym (else_stands k other) ∙ f) ∙ sym clients_left
+  left_logs k f = grind (arith, not_failed, logs_left, failed_there, else_stands, clients_left)
 
   left_none : (k : ℕ) → is_full_in (standings t) k ≡ false → (region_in t.nodes k).logs ≡ []
-  left_none k away = elim (cases_eq k n) [
-    | inl is ↦ subst (λ m. (region_in t.nodes m).logs ≡ []) (sym is) emptied
-    | inr other ↦
-        nil_from_length (region_in t.nodes k).logs
-        (logs_left s.nodes n s.clients kept k failed_there other ∙ ap length (shape.no_logs k (sym (else_stands k other) ∙ away)))
-  ]
+  left_none k away = grind (arith, cases_eq, emptied, nil_from_length, logs_left, failed_there, else_stands)
 
   -- no client lives at the node, and the others live where they did
   gone_home : (c : ℕ) → KnowsHome t n c
-  gone_home c =
-      ap (λ l. l.at_home) (no_log_in t.nodes n c emptied)
-      ∙ elim (cases_eq (client_in s.clients c).home n) [
-        | inl here ↦ rw (client_over c here) (sym (and-false (n == (client_in s.clients c).home)))
-        | inr other ↦ rw (client_same c other, ne_eqb n (client_in s.clients c).home (λ e. other (sym e))) refl
-      ]
+  gone_home c = grind (arith, no_log_in, emptied, cases_eq, client_over, and-false, client_same, ne_eqb)
 
   left_home : (k c : ℕ) → k ≢ n → KnowsHome t k c
-  left_home k c differs = elim (cases_eq (client_in s.clients c).home n) [
-    | inl here ↦
-        let elsewhere : (k == (client_in s.clients c).home) ≡ false = ne_eqb k (client_in s.clients c).home (λ e. differs (e ∙ here)) in
-        rw (log_there k c differs here, client_over c here, elsewhere) (shape.at_home k c ∙ rw elsewhere refl)
-    | inr other ↦ rw (log_same k c differs other, client_same c other) (shape.at_home k c)
-  ]
+  left_home k c differs = grind (arith, cases_eq, ne_eqb, log_there, client_over, log_same, client_same)
 
   -- what a cut leaves of a log stays
   log_keeps : {A : Type 0} (f : ReceivedLog → A) → ((l : ReceivedLog) (k : ℕ) → f (up_to_number l k) ≡ f l) → (m c : ℕ) → m ≢ n →
       f (log_in t.nodes m c) ≡ f (log_in s.nodes m c)
-  log_keeps f same m c differs =
-      elim (cases_eq (client_in s.clients c).home n) [
-        | inl here ↦ ap f (log_there m c differs here) ∙ same (log_in s.nodes m c) (kept c)
-        | inr other ↦ ap f (log_same m c differs other)
-      ]
+  log_keeps f same m c differs = grind (arith, cases_eq, log_there, log_same)
 
   left_limit : (k c : ℕ) → is_full_in (standings t) k ≡ true → IsNumber t.clients c → (log_in t.nodes k c).log.limit ≡ s.limit
   left_limit k c f client =
@@ -178,44 +148,23 @@ module _ (s : StateValue) (n : ℕ) (inodes : set.FinSet nat_cmp) (levels : TwoL
     -- where a client's node stays, all of its logs is kept
     cut_log : (m c : ℕ) → is_full_in (standings t) m ≡ true → log_in t.nodes m c ≡ up_to_number (log_in s.nodes m c) (kept c)
     unfolding world_of
-    cut_log m c f =
-        elim (cases_eq (client_in s.clients c).home n) [
-          | inl here ↦ log_there m c (not_failed m f) here
-          | inr other ↦
-              let all : kept c ≡ end_of_log w c = kept_elsewhere w n c other in
-              let known : w.received m c ≤ end_of_log w c = (sound.coherent.order m c (was_full m f)).known in
-              let marks = so_many_marks (is_border (own_seen s c).log) (log_in s.nodes m c).log (shape.marked m c) in
-              log_same m c (not_failed m f) other ∙ sym (up_to_all (log_in s.nodes m c) (kept c) marks (omega (arith, all, known)))
-        ]
+    cut_log m c f = grind (arith, cases_eq, log_there, not_failed, kept_elsewhere, was_full, so_many_marks, log_same, up_to_all)
 
     cut_records : (m c : ℕ) → is_full_in (standings t) m ≡ true → w'.log m c ≡ take (kept c - w.first c) (w.log m c)
     unfolding world_of
-    cut_records m c f =
-        ap (λ l. l.log.records) (cut_log m c f)
-        ∙ ap (λ k. take (kept c - k) (log_in s.nodes m c).log.records) (same_first s m c sound (was_full m f))
+    cut_records m c f = grind (arith, cut_log, same_first, was_full)
 
     cut_first : (m c : ℕ) → is_full_in (standings t) m ≡ true → (log_in t.nodes m c).log.first ≡ w.first c
     cut_first m c f = log_keeps (λ l. l.log.first) (λ l k. refl) m c (not_failed m f) ∙ same_first s m c sound (was_full m f)
 
     cut_received : (m c : ℕ) → is_full_in (standings t) m ≡ true → w'.received m c ≡ min (w.received m c) (kept c)
     unfolding world_of
-    cut_received m c f =
-        let low : (log_in s.nodes m c).log.first ≤ kept c =
-        subst (λ k. k ≤ kept c) (sym (same_first s m c sound (was_full m f))) (kept_from_first w n c sound) in
-        ap (λ l. log_end l.log) (cut_log m c f) ∙ end_cut (log_in s.nodes m c).log (kept c) low
+    cut_received m c f = grind (arith, same_first, was_full, kept_from_first, cut_log, end_cut)
 
     -- clients
     goals : (c : ℕ) → w'.goal c ≡ min (w.goal c) (kept c)
     unfolding world_of
-    goals c =
-        elim (cases_eq (client_in s.clients c).home n) [
-          | inl here ↦ ap (λ x. x.goal) (client_over c here)
-          | inr other ↦
-              let all : kept c ≡ end_of_log w c = kept_elsewhere w n c other in
-              let low : w.goal c ≤ end_of_log w c = sound.goals c in
-              let whole : w.goal c ≡ min (w.goal c) (kept c) = omega (arith, all, low) in
-              ap (λ x. x.goal) (client_same c other) ∙ whole
-        ]
+    goals c = grind (arith, cases_eq, client_over, kept_elsewhere, client_same)
 
     lives_there : (c : ℕ) → w.home c ≡ n → w'.lives c ≡ false
     unfolding world_of
@@ -237,20 +186,14 @@ module _ (s : StateValue) (n : ℕ) (inodes : set.FinSet nat_cmp) (levels : TwoL
 
       has_ended : (c : ℕ) → (client_in t.clients c).failed ≡ true → (w.lives c ≡ false) ⊎ (w.home c ≡ n)
       unfolding world_of
-      has_ended c over =
-          elim (cases_eq (client_in s.clients c).home n) [
-            | inl here ↦ inr here
-            | inr other ↦ inl (ap (λ x. not x.failed) (sym (client_same c other)) ∙ ap not over)
-          ]
+      has_ended c over = grind (arith, cases_eq, client_same)
 
       own_once_over : (c : ℕ) → (client_in t.clients c).failed ≡ true → own_seen t c ≡ log_in t.nodes low c
       unfolding own_seen
       own_once_over c over = rw over refl
 
       low_records : (c : ℕ) → (client_in t.clients c).failed ≡ true → w'.log low c ≡ take (kept c - w.first c) (w.records c)
-      low_records c over =
-          cut_records low c low_stands
-          ∙ prefix_kept w n low c sound (was_full low low_stands) (kept_received w n low c sound (was_full low low_stands) (not_failed low low_stands) (has_ended c over))
+      low_records c over = grind (arith, cut_records, low_stands, prefix_kept, was_full, kept_received, not_failed, has_ended)
 
       -- and of one that lives on
       home_differs : (c : ℕ) → (client_in t.clients c).failed ≡ false → (client_in s.clients c).home ≢ n
@@ -258,11 +201,7 @@ module _ (s : StateValue) (n : ℕ) (inodes : set.FinSet nat_cmp) (levels : TwoL
 
       own_while_lives : (c : ℕ) → (client_in t.clients c).failed ≡ false → own_seen t c ≡ own_seen s c
       unfolding own_seen
-      own_while_lives c unfailed =
-          let differs : (client_in s.clients c).home ≢ n = home_differs c unfailed in
-          let before : (client_in s.clients c).failed ≡ false = ap (λ x. x.failed) (sym (client_same c differs)) ∙ unfailed in
-          rw (unfailed, before)
-          (ap (λ x. log_in t.nodes x.home c) (client_same c differs) ∙ log_same (client_in s.clients c).home c differs differs)
+      own_while_lives c unfailed = grind (arith, home_differs, client_same, log_same)
 
       own_records : (c : ℕ) → w'.records c ≡ take (kept c - w.first c) (w.records c)
       unfolding world_of
@@ -274,19 +213,11 @@ module _ (s : StateValue) (n : ℕ) (inodes : set.FinSet nat_cmp) (levels : TwoL
 
       own_first : (c : ℕ) → w'.first c ≡ w.first c
       unfolding world_of
-      own_first c =
-          elim (cases_Bool (client_in t.clients c).failed) [
-            | inl over ↦ ap (λ l. l.log.first) (own_once_over c over) ∙ cut_first low c low_stands
-            | inr unfailed ↦ ap (λ l. l.log.first) (own_while_lives c unfailed)
-          ]
+      own_first c = grind (arith, cases_Bool, own_once_over, cut_first, low_stands, own_while_lives)
 
       own_end : (c : ℕ) → end_of_log w' c ≡ kept c
       unfolding end_of_log
-      own_end c =
-          let first : w.first c ≤ kept c = kept_from_first w n c sound in
-          let top : kept c ≤ w.first c + length (w.records c) = kept_high w n c in
-          let cut : length (w'.records c) ≡ min (kept c - w.first c) (length (w.records c)) = ap length (own_records c) ∙ length-take (kept c - w.first c) (w.records c) in
-          omega (arith, first, top, cut, own_first c)
+      own_end c = grind (arith, kept_from_first, kept_high, own_records, length-take, own_first)
 
       -- ---- groups
 
@@ -329,11 +260,7 @@ module _ (s : StateValue) (n : ℕ) (inodes : set.FinSet nat_cmp) (levels : TwoL
           ]
 
       own_border : (c k : ℕ) → k ≤ kept c → is_border (own_seen t c).log k ≡ is_border (own c) k
-      own_border c k high =
-          elim (cases_Bool (client_in t.clients c).failed) [
-            | inl over ↦ cut_border c k over high
-            | inr unfailed ↦ ap (λ l. is_border l.log k) (own_while_lives c unfailed)
-          ]
+      own_border c k high = grind (arith, cases_Bool, cut_border, own_while_lives)
 
       -- a log that is cut has the groups that are left
       marked_cut : (k c : ℕ) → is_full_in (standings t) k ≡ true → IsMarked (is_border (own_seen t c).log) (log_in t.nodes k c).log
@@ -345,10 +272,7 @@ module _ (s : StateValue) (n : ℕ) (inodes : set.FinSet nat_cmp) (levels : TwoL
           (marked_tail (is_border (own c)) l (kept c) (shape.marked k c)))
 
       left_marked : (k c : ℕ) → IsMarked (is_border (own_seen t c).log) (log_in t.nodes k c).log
-      left_marked k c = elim (cases_Bool (is_full_in (standings t) k)) [
-        | inl f ↦ marked_cut k c f
-        | inr away ↦ subst (λ l. IsMarked (is_border (own_seen t c).log) l.log) (sym (no_log_in t.nodes k c (left_none k away))) refl
-      ]
+      left_marked k c = grind (arith, cases_Bool, marked_cut, no_log_in, left_none)
 
       -- ---- the failure
 

@@ -48,10 +48,7 @@ full_number s n shape f = node_number s n full shape (stands_so (standings s) n 
 -- ---- logs
 
 pub has_log : (s : StateValue) (n c : ℕ) → ShapeInvariant s → is_full_in (standings s) n ≡ true → IsNumber s.clients c → HasLog s.nodes n c
-has_log s n c shape f client =
-    let there : IsNumber s.nodes n = full_number s n shape f in
-    let all : length (region_in s.nodes n).logs ≡ length s.clients = shape.logs n f in
-    record { node = there; client = record { some = client.some; there = subst (λ k. c ≤ k) (sym all) client.there } }
+has_log s n c shape f client = grind (arith, full_number)
 
 -- a node that isn't full has no log
 pub no_log_in : (rs : List RegionValue) (n c : ℕ) → (region_in rs n).logs ≡ [] → log_in rs n c ≡ no_log

@@ -1,5 +1,5 @@
 -- What the laws observe of a goal that is raised.
-use Rattle.std.proofs.Common.{◌≡◌, ℕ, ◌≤◌, List, max, inl, inr, refl, ap, sym, subst, ◌∙◌, arith, eq-eqb}
+use Rattle.std.proofs.Common.{◌≡◌, ℕ, ◌≤◌, List, max, refl, arith, eq-eqb}
 use Rattle.std.proofs.lemmas.Bool.{cases_eq, ne_eqb}
 use Rattle.assise_model_world.specs.ClientSteps.{RaisesGoals}
 use Rattle.assise_model_world.specs.World.{World, end_of_log}
@@ -30,20 +30,10 @@ module _ (s : StateValue) (c to : ℕ) (there : IsNumber s.clients c) where
   remain = one_remains s.clients c now refl refl refl refl refl
 
   goals : (d : ℕ) → (client_in cs d).goal ≡ max (client_in s.clients d).goal (goal_of c to d)
-  goals d =
-      elim (cases_eq d c) [
-        | inl is ↦
-            rw (eq-eqb d c is)
-            (subst (λ e. (client_in cs e).goal ≡ max (client_in s.clients e).goal to) (sym is) (ap (λ x. x.goal) (client_here s.clients c now there)))
-        | inr other ↦ rw (ne_eqb d c other) (ap (λ x. x.goal) (client_else s.clients c now there d other) ∙ omega arith)
-      ]
+  goals d = grind (arith, cases_eq, eq-eqb, client_here, ne_eqb, client_else)
 
   low : to ≤ end_of_log w c → (d : ℕ) → goal_of c to d ≤ end_of_log w d
-  low known d =
-      elim (cases_eq d c) [
-        | inl is ↦ rw (eq-eqb d c is) (subst (λ e. to ≤ end_of_log w e) (sym is) known)
-        | inr other ↦ rw (ne_eqb d c other) (omega arith)
-      ]
+  low known d = grind (arith, cases_eq, eq-eqb, ne_eqb)
 
   pub goal_raised : to ≤ end_of_log w c → RaisesGoals w (goal_of c to) w'
   unfolding world_of

@@ -1,12 +1,11 @@
 -- How many inodes may be hot at each node stays where its inodes and logs change.
-use Rattle.std.proofs.Common.{◌≡◌, ℕ, zero, suc, ◌-◌, ◌==◌, Bool, List, [], ◌∷◌, map, replicate, slice_index_or, slice_set, refl, ap, ◌∙◌, sym}
+use Rattle.std.proofs.Common.{◌≡◌, ℕ, zero, suc, ◌-◌, ◌==◌, Bool, List, [], ◌∷◌, map, replicate, slice_index_or, slice_set, refl, ap, ◌∙◌, arith}
 use Rattle.std.proofs.lemmas.Bool.{cond_both}
 use Rattle.std.proofs.lemmas.List.{map-set}
-use Rattle.assise_record.specs.Records.{has_some}
 use Rattle.assise_record.specs.declared.effect.Effect.{Effect}
-use Rattle.assise_digest.specs.Region.{ReceivedLog, RegionValue, from_number, log_of, region_with_client, up_to_number, with_hot_capacity, with_log}
+use Rattle.assise_digest.specs.Region.{ReceivedLog, RegionValue, from_number, region_with_client, up_to_number, with_hot_capacity}
 use Rattle.assise_machine_state.specs.Changes.{with_clients_cut}
-use Rattle.assise_machine_state.specs.ClientValues.{ClientValue, client_in}
+use Rattle.assise_machine_state.specs.ClientValues.{ClientValue}
 use Rattle.assise_machine_state.specs.NodeValues.{begun_log, changed_in, hot_capacities, new_regions, no_region, region_in, with_call_in, with_hot_in, with_log_in, with_logs_begun, with_prefixes_dropped, with_region, with_tails_cut, without_logs}
 use Rattle.assise_machine_state.specs.Places.{IsNumber, item_at}
 use Rattle.assise_machine_state.proofs.ItemSeen.{is_seen, is_set}
@@ -21,8 +20,7 @@ kept_at (q ∷ rs) (suc k) r same = ap (λ capacities. q.capacity ∷ capacities
 
 pub region_keeps : (rs : List RegionValue) (n : ℕ) (r : RegionValue) → r.capacity ≡ (region_in rs n).capacity → hot_capacities (with_region rs n r) ≡ hot_capacities rs
 unfolding region_in item_at
-region_keeps rs zero r same = refl
-region_keeps rs (suc k) r same = kept_at rs k r same
+region_keeps rs n r h1 = grind (arith, kept_at)
 
 pub log_keeps : (rs : List RegionValue) (n c : ℕ) (l : ReceivedLog) → hot_capacities (with_log_in rs n c l) ≡ hot_capacities rs
 log_keeps rs n c l = region_keeps rs n (region_with rs n c (region_in rs n).inodes l) refl
@@ -34,13 +32,10 @@ set_at rs n capacity = map-set (λ r. r.capacity) rs (n - 1) (with_hot_capacity 
 pub hot_as : (rs : List RegionValue) (n capacity : ℕ) → IsNumber rs n →
     with_region rs n (with_hot_capacity (region_in rs n) capacity) ≡ with_hot_in rs n capacity
 unfolding region_in
-hot_as rs n capacity there =
-    sym (is_set (with_hot_capacity (region_in rs n) capacity) rs n there)
-    ∙ ap (λ r. slice_set rs (n - 1) (with_hot_capacity r capacity)) (is_seen no_region rs n there)
+hot_as rs n capacity there = grind (arith, is_set, slice_set, is_seen)
 
 pub call_keeps : (rs : List RegionValue) (n c call : ℕ) (es : List Effect) → hot_capacities (with_call_in rs n c call es) ≡ hot_capacities rs
-call_keeps rs n c call es =
-    cond_both (has_some es) (with_log_in rs n c _) rs (λ qs. hot_capacities qs ≡ hot_capacities rs) (λ _. log_keeps rs n c _) (λ _. refl)
+call_keeps rs n c call es = grind (arith, cond_both, log_keeps)
 
 -- ---- at all nodes
 
@@ -49,8 +44,7 @@ each_keeps f same [] = refl
 each_keeps f same (r ∷ rs) = (λ i. same r i ∷ each_keeps f same rs i)
 
 changed_keeps : (c : ℕ) (f : ReceivedLog → ReceivedLog) (rs : List RegionValue) → hot_capacities (map (changed_in c f) rs) ≡ hot_capacities rs
-changed_keeps c f =
-    each_keeps (changed_in c f) (λ r. cond_both _ (with_log r c (f (log_of r c))) r (λ q. q.capacity ≡ r.capacity) (λ _. refl) (λ _. refl))
+changed_keeps c f = grind (arith, each_keeps, cond_both)
 
 pub prefixes_keep : (rs : List RegionValue) (c to : ℕ) → hot_capacities (with_prefixes_dropped rs c to) ≡ hot_capacities rs
 prefixes_keep rs c to = changed_keeps c (λ l. from_number l to) rs
@@ -66,11 +60,7 @@ begun_keeps full limit home n (r ∷ rs) =
 
 cut_keeps : (home : ℕ) (cs : List ClientValue) (kept : ℕ → ℕ) (m : ℕ) (rs : List RegionValue) → hot_capacities (with_clients_cut home cs kept m rs) ≡ hot_capacities rs
 cut_keeps home cs kept zero rs = refl
-cut_keeps home cs kept (suc c) rs =
-    let before : List RegionValue = with_clients_cut home cs kept c rs in
-    cond_both ((client_in cs (suc c)).home == home) (with_tails_cut before (suc c) (kept (suc c))) before (λ qs. hot_capacities qs ≡ hot_capacities before)
-    (λ _. tails_keep before (suc c) (kept (suc c))) (λ _. refl)
-    ∙ cut_keeps home cs kept c rs
+cut_keeps home cs kept (suc c) rs = grind (arith, cond_both, tails_keep, (cut_keeps home cs kept c rs))
 
 -- a node fails
 pub failure_keeps : (rs : List RegionValue) (n : ℕ) (cs : List ClientValue) (kept : ℕ → ℕ) (m : ℕ) → hot_capacities (with_clients_cut n cs kept m (without_logs rs n)) ≡ hot_capacities rs

@@ -1,5 +1,5 @@
 -- What the laws observe of a node that is full again.
-use Rattle.std.proofs.Common.{◌≡◌, ◌≢◌, ℕ, ◌+◌, ◌-◌, ◌≤◌, true, false, not, ◌∷◌, length, map, Some, None, inl, inr, refl, ap, sym, subst, ◌∙◌, arith}
+use Rattle.std.proofs.Common.{◌≡◌, ◌≢◌, ℕ, ◌-◌, ◌≤◌, true, false, not, ◌∷◌, length, map, Some, None, inl, inr, refl, ap, sym, subst, ◌∙◌, arith}
 use Rattle.std.proofs.Common.{true≢false, ◌&&◌, ◌==◌, []}
 use Rattle.std.specs.Ordering.{nat_cmp}
 use Rattle.std.specs.FinSet as set
@@ -20,7 +20,7 @@ use Rattle.assise_manager.specs.Membership.{IsMembership, lowest_full}
 use Rattle.assise_manager.specs.Standings.{full, returning, standing_of}
 use Rattle.assise_manager.proofs.Lawful.{donor_full}
 use Rattle.assise_model_world.specs.Invariant.{WorldInvariant}
-use Rattle.assise_model_world.specs.World.{Full, World, end_of_log}
+use Rattle.assise_model_world.specs.World.{World, end_of_log}
 use Rattle.assise_model_members.specs.Returns.{Rejoins}
 use Rattle.assise_model_history.proofs.NumberedCalls.{kept_return}
 use Rattle.assise_machine_state.specs.Changes.{after_join}
@@ -49,17 +49,7 @@ record SameLog (l m : NumberedLog) : Type 0 where
 left_same : (s : StateValue) (m c : ℕ) → ShapeInvariant s → WorldInvariant (world_of s) → is_full_in (standings s) m ≡ true →
     (client_in s.clients c).failed ≡ true → SameLog (log_in s.nodes m c).log (own_seen s c).log
 unfolding world_of end_of_log
-left_same s m c shape sound f over =
-    let w : World = world_of s in
-    let own : NumberedLog = (own_seen s c).log in
-    let full : Full w m = seen_full s m f in
-    let all : w.received m c ≡ w.first c + length (w.records c) = sound.left m c (ap not over) full in
-    let marks : length own.begins ≡ length own.records = so_many_marks (is_border own) own (own_marked s shape.marked c) in
-    record {
-      records = sound.prefixes m c full ∙ take_all (w.received m c - w.first c) (w.records c) (omega (arith, all));
-      first = same_first s m c sound full;
-      border = λ k. borders_same own (log_in s.nodes m c).log k marks (shape.marked m c) (same_first s m c sound full) all;
-    }
+left_same s m c shape sound f over = grind (arith, seen_full, so_many_marks, own_marked, take_all, same_first, borders_same)
 
 -- ---- a node gets its donor's logs
 
@@ -116,21 +106,13 @@ module _ (s : StateValue) (n since donor : ℕ) (stale : set.FinSet nat_cmp) (sh
   count = length-with s.nodes n filled
 
   logs_here : length (region_in t.nodes n).logs ≡ length s.clients
-  logs_here =
-      ap (λ r. length r.logs) filled_seen
-      ∙ length-map (region_in s.nodes donor).logs away
-      ∙ shape.logs donor donor_stands
+  logs_here = grind (arith, filled_seen, length-map, donor_stands)
 
   logs : (k : ℕ) → is_full_in (standings t) k ≡ true → length (region_in t.nodes k).logs ≡ length s.clients
-  logs k f =
-      each_number (λ m. length (region_in t.nodes m).logs ≡ length s.clients) n k logs_here
-      (λ other. ap (λ r. length r.logs) (region_stays k other) ∙ shape.logs k (sym (full_same k other) ∙ f))
+  logs k f = grind (arith, each_number, logs_here, region_stays, full_same)
 
   no_logs : (k : ℕ) → is_full_in (standings t) k ≡ false → (region_in t.nodes k).logs ≡ []
-  no_logs k away = elim (cases_eq k n) [
-    | inl is ↦ absurd (true≢false (sym now_full ∙ sym (ap (is_full_in (standings t)) is) ∙ away))
-    | inr other ↦ ap (λ r. r.logs) (region_stays k other) ∙ shape.no_logs k (sym (full_same k other) ∙ away)
-  ]
+  no_logs k away = grind (arith, cases_eq, now_full, logs, region_stays, full_same)
 
   -- each node's logs are those of one that was there: of its donor, or its own
   source : (k : ℕ) → (j : ℕ) × (is_full_in (standings t) k ≡ true → is_full_in (standings s) j ≡ true)
@@ -145,17 +127,10 @@ module _ (s : StateValue) (n since donor : ℕ) (stale : set.FinSet nat_cmp) (sh
 
   -- no client lives at the node
   nobody : (c : ℕ) → ((n == (client_in s.clients c).home) && not (client_in s.clients c).failed) ≡ false
-  nobody c = elim (cases_Bool (client_in s.clients c).failed) [
-    | inl over ↦ rw over (and-false (n == (client_in s.clients c).home))
-    | inr unfailed ↦
-        let home : (client_in s.clients c).home ≢ n = differs (client_in s.clients c).home (home_full s c shape unfailed) in
-        rw (ne_eqb n (client_in s.clients c).home (λ e. home (sym e))) refl
-  ]
+  nobody c = grind (arith, cases_Bool, and-false, differs, home_full, ne_eqb)
 
   homes : (k c : ℕ) → KnowsHome t k c
-  homes k c =
-      each_number (λ m. KnowsHome t m c) n k (ap (λ l. l.at_home) (log_filled c) ∙ sym (nobody c))
-      (λ other. ap (λ l. l.at_home) (log_stays k c other) ∙ shape.at_home k c)
+  homes k c = grind (arith, each_number, log_filled, nobody, log_stays)
 
   -- ---- what the laws observe
 

@@ -1,5 +1,6 @@
 -- The node whose log of a client is the client's own, and the least place of all full nodes.
-use Rattle.std.proofs.Common.{◌≡◌, ℕ, suc, ◌+◌, ◌<◌, ◌≤◌, ◌==◌, min, take, take-suc, take_all, Bool, true, false, List, [], ◌∷◌, ◌++◌, length, get_or, inl, inr, refl, ap, sym, subst, ◌∙◌, arith, eq-eqb}
+use Rattle.std.proofs.Common.{◌≡◌, ℕ, suc, ◌+◌, ◌<◌, ◌≤◌, ◌==◌, min, take, take-suc, take_all, Bool, true, false, List, [], ◌∷◌, ◌++◌, length, get_or, refl, ap}
+use Rattle.std.proofs.Common.{subst, ◌∙◌, arith, eq-eqb}
 use Rattle.std.proofs.lemmas.Bool.{cases_Bool}
 use Rattle.std.proofs.lemmas.List.Folds.{list_any_at}
 use Rattle.assise_inode_table.specs.Effects.{contains}
@@ -20,11 +21,7 @@ use Rattle.assise_machine_state.proofs.Standings.{is_listed, listed_is_full, low
 -- ---- the own node
 
 pub own_full : (s : StateValue) (c : ℕ) → ShapeInvariant s → IsNumber s.clients c → 0 < length (full_nodes (standings s)) → is_full_in (standings s) (own_node (standings s) (client_in s.clients c)) ≡ true
-own_full s c shape client some =
-    elim (cases_Bool (client_in s.clients c).failed) [
-      | inl failed ↦ rw failed (lowest_listed (standings s) some)
-      | inr unfailed ↦ rw unfailed (home_full s c shape unfailed)
-    ]
+own_full s c shape client some = grind (arith, cases_Bool, lowest_listed, home_full)
 
 pub own_log : (s : StateValue) (c : ℕ) → ShapeInvariant s → IsNumber s.clients c → 0 < length (full_nodes (standings s)) → HasLog s.nodes (own_node (standings s) (client_in s.clients c)) c
 own_log s c shape client some = has_log s (own_node (standings s) (client_in s.clients c)) c shape (own_full s c shape client some) client
@@ -43,9 +40,7 @@ pub home_log : (s : StateValue) (c : ℕ) → ShapeInvariant s → IsNumber s.cl
 home_log s c shape client unfailed = has_log s (client_in s.clients c).home c shape (home_full s c shape unfailed) client
 
 pub home_known : (s : StateValue) (c : ℕ) → ShapeInvariant s → IsNumber s.clients c → (client_in s.clients c).failed ≡ false → (log_in s.nodes (client_in s.clients c).home c).at_home ≡ true
-home_known s c shape client unfailed =
-    let home : ℕ = (client_in s.clients c).home in
-    shape.at_home home c ∙ rw (unfailed, eq-eqb home home refl) refl
+home_known s c shape client unfailed = grind (arith, eq-eqb)
 
 -- ---- the least place
 
@@ -58,19 +53,14 @@ no_more : (ms ns : List ℕ) (f : ℕ → ℕ) (d : ℕ) → ((n : ℕ) → cont
 no_more ms ns f d all = least_of-above ms f d (least_of ns f d) (least_of-end ns f d) (λ n there. least_of-below ns f d n (all n there))
 
 same_truth : (a b : Bool) → (a ≡ true → b ≡ true) → (b ≡ true → a ≡ true) → a ≡ b
-same_truth true b to from = sym (to refl)
-same_truth false true to from = from refl
-same_truth false false to from = refl
+same_truth a b h1 h2 = grind arith
 
 pub listed_is : (nodes : List Standing) (n : ℕ) → contains (full_nodes nodes) n ≡ is_full_in nodes n
 listed_is nodes n = same_truth (contains (full_nodes nodes) n) (is_full_in nodes n) (listed_is_full nodes n) (is_listed nodes n)
 
 -- the order in which full nodes are listed doesn't matter
 pub either_order : (nodes : List Standing) (f : ℕ → ℕ) (d : ℕ) → least_of (full_nodes nodes) f d ≡ least_of (full_in nodes) f d
-either_order nodes f d =
-    let low : least_of (full_nodes nodes) f d ≤ least_of (full_in nodes) f d = no_more (full_in nodes) (full_nodes nodes) f d (λ n there. is_listed nodes n (sym (full_is nodes n) ∙ there)) in
-    let high : least_of (full_in nodes) f d ≤ least_of (full_nodes nodes) f d = no_more (full_nodes nodes) (full_in nodes) f d (λ n there. full_is nodes n ∙ listed_is_full nodes n there) in
-    omega (arith, low, high)
+either_order nodes f d = grind (arith, no_more, is_listed, full_is, listed_is_full)
 
 pub own_end : (s : StateValue) (c : ℕ) → ShapeInvariant s → IsNumber s.clients c → 0 < length (full_nodes (standings s)) →
     end_of_log (world_of s) c ≡ log_end (log_in s.nodes (own_node (standings s) (client_in s.clients c)) c).log

@@ -1,5 +1,5 @@
 -- What the laws observe of prefixes that are dropped at all nodes.
-use Rattle.std.proofs.Common.{◌≡◌, ◌≢◌, ℕ, ◌+◌, ◌-◌, ◌≤◌, true, List, length, drop, inl, inr, refl, ap, sym, subst, ◌∙◌, arith, eq-eqb}
+use Rattle.std.proofs.Common.{◌≡◌, ◌≢◌, ℕ, ◌+◌, ◌-◌, ◌≤◌, true, List, length, drop, refl, ap, sym, subst, ◌∙◌, arith, eq-eqb}
 use Rattle.std.proofs.lemmas.Bool.{cases_Bool, cases_eq, ne_eqb}
 use Rattle.std.proofs.lemmas.List.{length-drop, nil_from_length}
 use Rattle.assise_record.specs.LogRecord.{LogRecord}
@@ -15,7 +15,7 @@ use Rattle.assise_model_world.proofs.WorldObserved.{digested_by_all-below, diges
 use Rattle.assise_model_events.proofs.LeaseSteps.{clients_after, full_after}
 use Rattle.assise_machine_state.specs.Changes.{after_drop, first_but}
 use Rattle.assise_machine_state.specs.ClientValues.{client_in}
-use Rattle.assise_machine_state.specs.NodeValues.{log_in, region_in}
+use Rattle.assise_machine_state.specs.NodeValues.{log_in}
 use Rattle.assise_machine_state.specs.Observed.{is_full_in, own_node, own_seen, world_of}
 use Rattle.assise_machine_state.specs.Places.{IsNumber}
 use Rattle.assise_machine_state.specs.Invariant.{IsMarked, ShapeInvariant}
@@ -48,11 +48,7 @@ pub record HasPrefixes (s : StateValue) (c : ℕ) : Type 0 where
   pub begun : (d : ℕ) → (world_of s).first d ≤ digested_by_all (world_of s) d
 
 pub has_prefixes : (s : StateValue) (c : ℕ) → WorldInvariant (world_of s) → HasPrefixes s c
-has_prefixes s c sound = record {
-  first = λ n full. same_first s n c sound full;
-  known = λ n full. omega (arith, (sound.coherent.order n c full).replicated, received_by_all-below (world_of s) n c full);
-  begun = λ d. digested_by_all-first (world_of s) sound.coherent d;
-}
+has_prefixes s c sound = grind (arith, same_first, received_by_all-below, digested_by_all-first)
 
 module _ (s : StateValue) (c to : ℕ) (shape : ShapeInvariant s) (prefixes : HasPrefixes s c) (client : IsNumber s.clients c)
     (from_first : (world_of s).first c ≤ to) (all_digested : to ≤ digested_by_all (world_of s) c) (at_border : (world_of s).border c to ≡ true) where
@@ -73,21 +69,11 @@ module _ (s : StateValue) (c to : ℕ) (shape : ShapeInvariant s) (prefixes : Ha
   -- where no node has it, there is nothing to drop
   nowhere : log_in s.nodes (own_node (standings s) (client_in s.clients c)) c ≡ no_log → to ≡ 0
   unfolding end_of_log world_of own_seen
-  nowhere none =
-      let high : to ≤ end_of_log w c = omega (arith, all_digested, digested_by_all-end w c) in
-      let nothing : end_of_log w c ≡ 0 = ap (λ x. log_end x.log) none in
-      omega (arith, high, nothing)
+  nowhere none = grind (arith, digested_by_all-end)
 
   own_begins : own_seen (after_drop s c to) c ≡ from_number (own_seen s c) to
   unfolding own_seen
-  own_begins =
-      let own : ℕ = own_node (standings s) (client_in s.clients c) in
-      elim (cases_Bool (is_full_in (standings s) own)) [
-        | inl full ↦ begins own full
-        | inr away ↦
-            let none : log_in s.nodes own c ≡ no_log = no_log_there s own c shape away in
-            own_changes_all c (λ l. from_number l to) client.some (subst (λ k. from_number no_log k ≡ no_log) (sym (nowhere none)) refl) s.nodes own
-      ]
+  own_begins = grind (arith, cases_Bool, begins, no_log_there, own_changes_all, nowhere)
 
   beside : (n d : ℕ) → d ≢ c → log_in (after_drop s c to).nodes n d ≡ log_in s.nodes n d
   beside n d other = beside_seen c (λ l. from_number l to) s.nodes n d client.some other
@@ -101,25 +87,10 @@ module _ (s : StateValue) (c to : ℕ) (shape : ShapeInvariant s) (prefixes : Ha
   -- all logs of the client begin there then, in its groups
   marked_here : AreMarked s → (n : ℕ) → IsMarked (is_border (own_seen (after_drop s c to) c).log) (log_in (after_drop s c to).nodes n c).log
   unfolding world_of
-  marked_here all n =
-      subst (λ l. IsMarked (is_border l.log) (log_in (after_drop s c to).nodes n c).log) (sym own_begins)
-      (elim (cases_Bool (is_full_in (standings s) n)) [
-        | inl full ↦
-            let low : (log_in s.nodes n c).log.first ≤ to = subst (λ k. k ≤ to) (sym (prefixes.first n (seen_full s n full))) from_first in
-            subst (λ l. IsMarked (is_border (from_number (own_seen s c) to).log) l.log) (sym (begins n full))
-            (marked_prefix (own_seen s c).log (log_in s.nodes n c).log to from_first at_border low (all n c))
-        | inr away ↦
-            let none : log_in (after_drop s c to).nodes n c ≡ no_log =
-            no_log_in (after_drop s c to).nodes n c
-            (nil_from_length (region_in (after_drop s c to).nodes n).logs
-            (count_seen c (λ l. from_number l to) s.nodes n ∙ ap length (shape.no_logs n away))) in
-            subst (λ l. IsMarked (is_border (from_number (own_seen s c) to).log) l.log) (sym none) refl
-      ])
+  marked_here all n = grind (arith, own_begins, cases_Bool, seen_full, begins, marked_prefix, no_log_in, nil_from_length, count_seen)
 
   marked_now : AreMarked s → AreMarked (after_drop s c to)
-  marked_now all n d =
-      each_number (λ e. IsMarked (is_border (own_seen (after_drop s c to) e).log) (log_in (after_drop s c to).nodes n e).log) c d (marked_here all n)
-      (λ other. kept_marks _ _ _ _ (own_beside d other) (beside n d other) (all n d))
+  marked_now all n d = grind (arith, each_number, marked_here, kept_marks, own_beside, beside)
 
   pub drop_shaped : ShapeInvariant (after_drop s c to)
   drop_shaped = shaped_all s c (λ l. from_number l to) shape (λ l. refl) (λ l. refl) marked_now
@@ -144,10 +115,7 @@ module _ (s : StateValue) (c to : ℕ) (shape : ShapeInvariant s) (prefixes : Ha
 
   log_now : (n d : ℕ) → Full w n → w'.log n d ≡ drop (f d - w.first d) (w.log n d)
   unfolding world_of
-  log_now n d full = each (λ d k. w'.log n d ≡ drop (k - w.first d) (w.log n d))
-      (ap (λ x. x.log.records) (begins n (full_seen s n full)) ∙ ap (λ k. drop (to - k) (w.log n c)) (prefixes.first n full))
-      (λ d other. ap (λ x. x.log.records) (beside n d other) ∙ none_dropped (w.first d) (w.log n d))
-      d
+  log_now n d full = grind (arith, each, begins, full_seen, beside, none_dropped)
 
   -- a prefix that goes leaves the end
   ends : (first cut : ℕ) (rs : List LogRecord) → first ≤ cut → cut ≤ first + length rs → cut + length (drop (cut - first) rs) ≡ first + length rs
@@ -164,13 +132,7 @@ module _ (s : StateValue) (c to : ℕ) (shape : ShapeInvariant s) (prefixes : Ha
 
   border_now : (d k : ℕ) → f d ≤ k → w'.border d k ≡ w.border d k
   unfolding world_of
-  border_now d k low =
-      elim (cases_eq d c) [
-        | inl is ↦
-            subst (λ e. w'.border e k ≡ w.border e k) (sym is)
-            (ap (λ l. is_border l.log k) own_begins ∙ prefix_border (own_seen s c).log to k from_first at_border (subst (λ j. j ≤ k) (ap f is ∙ f_here) low))
-        | inr other ↦ ap (λ l. is_border l.log k) (own_beside d other)
-      ]
+  border_now d k low = grind (arith, cases_eq, own_begins, prefix_border, f_here, own_beside)
 
   pub dropped_prefixes : Drops w f w'
   unfolding world_of
@@ -205,10 +167,7 @@ dropped s c to shape sound client low high border = dropped_prefixes s c to shap
 module _ (w v : World) (f : ℕ → ℕ) (prefix : Drops w f v) where
   same_end : (c : ℕ) → end_of_log v c ≡ end_of_log w c
   unfolding end_of_log
-  same_end c =
-      let high : digested_by_all w c ≤ w.first c + length (w.records c) = digested_by_all-end w c in
-      let left : length (drop (f c - w.first c) (w.records c)) ≡ length (w.records c) - (f c - w.first c) = length-drop (f c - w.first c) (w.records c) in
-      rw (prefix.first c, prefix.records c) (omega (arith, left, high, prefix.low c, prefix.high c))
+  same_end c = grind (arith, digested_by_all-end, length-drop)
 
   pub same_digested : (c : ℕ) → digested_by_all v c ≡ digested_by_all w c
   unfolding digested_by_all
@@ -222,9 +181,7 @@ module _ (w v u : World) (f g : ℕ → ℕ) (prefix : Drops w f v) (next : Drop
   low_both c = subst (λ k. k ≤ g c) (prefix.first c) (next.low c)
 
   both_dropped : (c : ℕ) (rs : List LogRecord) → drop (g c - v.first c) (drop (f c - w.first c) rs) ≡ drop (g c - w.first c) rs
-  both_dropped c rs =
-      let sum : (f c - w.first c) + (g c - v.first c) ≡ g c - w.first c = omega (arith, prefix.first c, prefix.low c, low_both c) in
-      drop-of_drop rs (f c - w.first c) (g c - v.first c) ∙ ap (λ k. drop k rs) sum
+  both_dropped c rs = grind (arith, low_both, drop-of_drop)
 
   pub dropped_twice : Drops w g u
   dropped_twice = record {

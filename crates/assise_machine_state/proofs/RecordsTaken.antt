@@ -7,56 +7,30 @@ use Rattle.assise_record.specs.LogRecord.{LogRecord}
 use Rattle.assise_private_log.specs.NumberedLog.{NumberedLog, end, is_border, with_grouped}
 use Rattle.assise_private_log.proofs.Borders.{border_end, border_grouped}
 use Rattle.assise_digest.specs.Region.{AreWhole, IsBegun, ReceivedLog, RegionValue, no_log, with_one}
-use Rattle.assise_model_events.specs.NodeEvents.{border_marks}
-use Rattle.assise_machine_state.specs.NodeValues.{AreTaken, HasGroupsOf, HasLog, away, copied, log_in, region_in, with_log_in, with_next, with_records, with_region}
-use Rattle.assise_machine_state.specs.Places.{with_item}
+use Rattle.assise_machine_state.specs.NodeValues.{AreTaken, HasGroupsOf, HasLog, away, copied, log_in, region_in, with_log_in, with_next, with_records}
 use Rattle.assise_machine_state.proofs.LogChanges.{log_back, log_else, log_here, logs_count, none_more, region_here, region_with}
 use Rattle.assise_machine_state.proofs.ItemSeen.{length-with, with-with}
 
 -- ---- records
 
 one_then_others : (border : ℕ → Bool) (l : ReceivedLog) (a : LogRecord) (rest : List LogRecord) → with_records border (with_one l a (border (end l.log))) rest ≡ with_records border l (a ∷ rest)
-one_then_others border l a rest =
-    let next : end (with_one l a (border (end l.log))).log ≡ suc (end l.log) = omega (arith, length_push l.log.records a) in
-    λ i. record {
-      log = record {
-        first = l.log.first;
-        limit = l.log.limit;
-        records = append_assoc l.log.records (a ∷ []) rest i;
-        begins = append_assoc l.log.begins (border (end l.log) ∷ []) (border_marks border (next i) rest) i;
-      };
-      digested = l.digested;
-      at_home = l.at_home;
-    }
+one_then_others border l a rest = grind (arith, length_push, append_assoc)
 
 -- a later change of the log stands
 put_again : (rs : List RegionValue) (n c : ℕ) (l m : ReceivedLog) → HasLog rs n c → with_log_in (with_log_in rs n c l) n c m ≡ with_log_in rs n c m
-put_again rs n c l m has =
-    ap (λ r. with_region (with_log_in rs n c l) n (record r { logs = with_item r.logs c m }))
-    (region_here rs n (region_with rs n c (region_in rs n).inodes l) has.node)
-    ∙ with-with rs n _ _ ∙ ap (λ ls. with_region rs n (record (region_in rs n) { logs = ls })) (with-with (region_in rs n).logs c l m)
+put_again rs n c l m has = grind (arith, region_here, region_with, with-with)
 
 log_then : (border : ℕ → Bool) (rs : List RegionValue) (n c : ℕ) (a : LogRecord) → HasLog rs n c →
     log_in (with_next border rs n c a) n c ≡ with_one (log_in rs n c) a (border (end (log_in rs n c).log))
-log_then border rs n c a has =
-    log_here rs n c (region_in rs n).inodes (with_one (log_in rs n c) a (border (end (log_in rs n c).log))) has
+log_then border rs n c a has = grind (arith, log_here)
 
 -- each node has the logs that it had
 has_then : (border : ℕ → Bool) (rs : List RegionValue) (n m c : ℕ) (a : LogRecord) → HasLog rs m c → HasLog (with_next border rs n c a) m c
-has_then border rs n m c a has =
-    let more : ReceivedLog = with_one (log_in rs n c) a (border (end (log_in rs n c).log)) in
-    record {
-      node = record { some = has.node.some; there = omega (arith, has.node.there, length-with rs n (region_with rs n c (region_in rs n).inodes more)) };
-      client = record { some = has.client.some; there = omega (arith, has.client.there, logs_count rs n c (region_in rs n).inodes more m) };
-    }
+has_then border rs n m c a has = grind (arith, length-with, region_with, logs_count)
 
 pub one_taken : (border : ℕ → Bool) (rs : List RegionValue) (n c : ℕ) (a : LogRecord) (rest : List LogRecord) → HasLog rs n c →
     with_log_in (with_next border rs n c a) n c (with_records border (log_in (with_next border rs n c a) n c) rest) ≡ with_log_in rs n c (with_records border (log_in rs n c) (a ∷ rest))
-one_taken border rs n c a rest has =
-    let one : ReceivedLog = with_one (log_in rs n c) a (border (end (log_in rs n c).log)) in
-    ap (λ l. with_log_in (with_next border rs n c a) n c (with_records border l rest)) (log_then border rs n c a has)
-    ∙ put_again rs n c one (with_records border one rest) has
-    ∙ ap (with_log_in rs n c) (one_then_others border (log_in rs n c) a rest)
+one_taken border rs n c a rest has = grind (arith, log_then, put_again, one_then_others)
 
 -- the groups of the own log go on
 

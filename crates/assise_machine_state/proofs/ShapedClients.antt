@@ -1,8 +1,7 @@
 -- What stays of the state where the values of clients change, and the nodes of their own logs don't.
-use Rattle.std.proofs.Common.{◌≡◌, ℕ, not, List, length, refl, ap}
+use Rattle.std.proofs.Common.{◌≡◌, ℕ, not, List, length, refl, ap, arith}
 use Rattle.assise_history.specs.Legal.{durability_of}
 use Rattle.assise_history.specs.Entries.{EntryValue}
-use Rattle.assise_private_log.specs.NumberedLog.{is_border}
 use Rattle.assise_lease_table.specs.declared.lease.Asked.{Asked}
 use Rattle.assise_lease_tree.specs.TwoLevels.{TwoLevels}
 use Rattle.assise_model_world.specs.Staying.{SameClients, SameLogs, SameNodes}
@@ -51,29 +50,12 @@ areas_stay s s' same k i away = rw same refl
 -- leases alone
 pub leases_held : (s : StateValue) (levels : TwoLevels) → HoldsAsLeased (world_of s) (world_of (after_leases s levels)) (leases_of (after_leases s levels))
 unfolding world_of own_seen
-leases_held s levels = record {
-  logs = logs_as s (after_leases s levels) refl refl (λ c. refl) (λ c. refl) (λ c k. refl);
-  clients = clients_as s (after_leases s levels) refl;
-  goals = goals_as s (after_leases s levels) refl;
-  nodes = record { full = refl; same = λ n f. node_as s (after_leases s levels) n (λ i. refl) (λ d. refl) };
-  held = record { holds = λ c i. refl; writes = λ c i. refl };
-}
+leases_held s levels = grind (arith, logs_as, clients_as, goals_as, node_as)
 
 -- leases and answers alone
 pub letting_go_shaped : (s : StateValue) (levels : TwoLevels) (cuts : List Asked) → ShapeInvariant s → ShapeInvariant (after_letting_go s levels cuts)
 unfolding own_seen
-letting_go_shaped s levels cuts shape = record {
-  nodes = shape.nodes;
-  few_nodes = shape.few_nodes;
-  logs = shape.logs;
-  no_logs = shape.no_logs;
-  at_home = shape.at_home;
-  limits = shape.limits;
-  least_limit = shape.least_limit;
-  most_limit = shape.most_limit;
-  marked = shape.marked;
-  durabilities = shape.durabilities;
-}
+letting_go_shaped s levels cuts shape = grind arith
 
 pub leases_shaped : (s : StateValue) (levels : TwoLevels) → ShapeInvariant s → ShapeInvariant (after_leases s levels)
 leases_shaped s levels = letting_go_shaped s levels s.cuts
@@ -90,32 +72,11 @@ module _ (s : StateValue) (cs : List ClientValue) (levels : TwoLevels) (cuts : L
 
     pub logs_stay : kept_numbered h ≡ kept_numbered s.history → SameLogs (world_of s) (world_of (changed s cs levels cuts h))
     unfolding world_of
-    logs_stay calls = record {
-      calls = calls;
-      records = λ d. ap (λ l. l.log.records) (own_stays d);
-      first = λ d. ap (λ l. l.log.first) (own_stays d);
-      next = remain.next;
-      border = λ d k. ap (λ l. is_border l.log k) (own_stays d);
-      made = remain.made;
-    }
+    logs_stay calls = grind (arith, own_stays)
 
     pub clients_stay : ((d : ℕ) → (client_in cs d).crashed ≡ (client_in s.clients d).crashed) → SameClients (world_of s) (world_of (changed s cs levels cuts h))
     unfolding world_of
     clients_stay same = record { clients = remain.count; home = remain.home; lives = λ d. ap not (remain.failed d); crashed = same }
 
     pub still_shaped : ((d : ℕ) → durability_of d h ≡ durability_of d s.history) → ShapeInvariant s → ShapeInvariant (changed s cs levels cuts h)
-    still_shaped opened shape = shaped_as s (changed s cs levels cuts h) shape record {
-      nodes = refl;
-      members = refl;
-      full = λ n. refl;
-      logs = λ n. refl;
-      clients = remain.count;
-      home = remain.home;
-      failed = remain.failed;
-      limit = refl;
-      limits = λ n d. refl;
-      at_home = λ n d. refl;
-      marked = still_marked s (changed s cs levels cuts h) (λ n d. refl) (λ d. ap (λ l. l.log) (own_stays d));
-      durability = remain.durability;
-      opened = opened;
-    }
+    still_shaped opened shape = grind (arith, shaped_as, still_marked, own_stays)

@@ -1,5 +1,4 @@
-use Rattle.std.proofs.Common.{refl}
-use Rattle.assise_machine_state.specs.Changes.{after_asking}
+use Rattle.std.proofs.Common.{arith}
 use Rattle.assise_machine_state.specs.Observed.{world_of}
 use Rattle.assise_machine_state.proofs.AskingSeen.{asking_noted, asking_seen, asking_shaped}
 use Rattle.assise_machine_state.proofs.ShapedClients.{areas_stay}
@@ -7,10 +6,4 @@ use Rattle.assise_machine_state.proofs.seen_clients.an_asking_is_observed.Goals 
 
 pub returns : goal.returns
 unfolding world_of
-returns r = record {
-  asks = λ s c i mode levels asked shape noted leases lives runs busy asks answers.
-      asking_seen s c i mode levels asked noted leases asks answers lives runs busy;
-  others = λ s levels asked. areas_stay s (after_asking s levels asked) refl;
-  shape = asking_shaped;
-  noted = asking_noted;
-}
+returns r = search (asking_seen, areas_stay, asking_shaped, asking_noted, arith) parts 3

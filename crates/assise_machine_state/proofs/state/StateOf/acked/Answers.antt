@@ -1,5 +1,4 @@
-use Rattle.std.proofs.Common.{◌∙◌, ap}
-use Rattle.assise_private_log.specs.NumberedLog.{end}
+use Rattle.std.proofs.Common.{arith}
 use Rattle.assise_model_world.specs.World.{end_of_log, received_by_all}
 use Rattle.assise_machine_state.specs.Observed.{own_seen, world_of}
 use Rattle.assise_machine_state.proofs.OwnLogs.{next_least, next_log, whole_least}
@@ -9,9 +8,7 @@ pub log-requires : goal.log-requires
 log-requires g c = record { there = next_log _ _ _ _ c.requires.shape c.requires.client c.full_nodes-node-items.ensures c.loop-node-test.true }
 
 pub loop-node-preserved : goal.loop-node-preserved
-loop-node-preserved g c =
-    next_least _ _ _ _ _ _ _ _ c.full_nodes-node-items.ensures c.loop-node-test.true c.loop-node.invariant
-    (c.end-received.ensures.end ∙ ap end c.log.ensures.log) c.min-least.ensures
+loop-node-preserved g c = grind (arith, next_least)
 
 pub returns : goal.returns
 unfolding world_of own_seen received_by_all end_of_log

@@ -1,3 +1,4 @@
+use Rattle.std.proofs.Common.{arith}
 use Rattle.assise_model_world.specs.World.{digested_by_all, end_of_log}
 use Rattle.assise_machine_state.specs.Observed.{own_seen, world_of}
 use Rattle.assise_machine_state.proofs.OwnLogs.{next_least, next_log, whole_least}
@@ -7,8 +8,7 @@ pub digested-digested-requires : goal.digested-digested-requires
 digested-digested-requires g c = record { there = next_log _ _ _ _ c.requires.shape c.requires.client c.full_nodes-node-items.ensures c.loop-node-test.true }
 
 pub loop-node-preserved : goal.loop-node-preserved
-loop-node-preserved g c =
-    next_least _ _ _ _ _ _ _ _ c.full_nodes-node-items.ensures c.loop-node-test.true c.loop-node.invariant c.digested-digested.ensures c.min-least.ensures
+loop-node-preserved g c = grind (arith, next_least)
 
 pub returns : goal.returns
 unfolding world_of own_seen digested_by_all end_of_log
