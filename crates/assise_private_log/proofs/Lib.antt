@@ -1,4 +1,4 @@
 pub mod Borders
 pub mod LogGroups
 mod Prefixes
-pub mod TouchedNumbers
+mod TouchedNumbers
