@@ -31,15 +31,15 @@ use Rattle.assise_machine_state.specs.Places.{IsNumber}
 use Rattle.assise_machine_state.specs.Invariant.{CutsInvariant, IsMarked, ShapeInvariant}
 use Rattle.assise_machine_state.specs.StateValues.{StateValue, standings}
 use Rattle.assise_machine_state.proofs.Fullness.{has_log, home_full, lives_number, lives_unfailed, no_log_there, seen_full}
-use Rattle.assise_machine_state.proofs.LogChanges.{log_else, log_here, log_same, logs_count, region_kept, region_with}
+use Rattle.assise_machine_state.proofs.LogChanges.{log_else, log_here, log_same, region_kept, region_with}
 use Rattle.assise_machine_state.proofs.Marks.{marked_as}
 use Rattle.assise_machine_state.proofs.Noted.{goal_noted}
 use Rattle.assise_machine_state.proofs.GoalObserved.{goal_raised, goal_shaped}
 use Rattle.assise_machine_state.proofs.RegroupedMarks.{regrouped_marked}
-use Rattle.assise_machine_state.proofs.ShapeKept.{AreMarked, kept_marks, own_marked, shaped_as}
+use Rattle.assise_machine_state.proofs.ShapeKept.{AreMarked, kept_marks, own_marked, shaped_log}
 use Rattle.assise_machine_state.proofs.ShapedClients.{areas_stay}
 use Rattle.assise_machine_state.proofs.SameObserved.{leases_as}
-use Rattle.assise_machine_state.proofs.ItemSeen.{each_number, length-with}
+use Rattle.assise_machine_state.proofs.ItemSeen.{each_number}
 
 module _ (s : StateValue) (c from : ℕ) where
   abbrev home : ℕ
@@ -138,21 +138,7 @@ module _ (s : StateValue) (c from : ℕ) where
       marked_now n d = grind (arith, each_number, marked_here, kept_marks, own_else, else_now)
 
       regrouped_shaped : ShapeInvariant t
-      regrouped_shaped = shaped_as s t shape record {
-        nodes = length-with s.nodes home _;
-        members = refl;
-        full = λ n. refl;
-        logs = logs_count s.nodes home c (region_in s.nodes home).inodes new;
-        clients = refl;
-        home = λ d. refl;
-        failed = λ d. refl;
-        limit = refl;
-        limits = λ n d. log_same s.nodes home c (region_in s.nodes home).inodes new (λ x. x.log.limit) n d same_limit;
-        at_home = λ n d. log_same s.nodes home c (region_in s.nodes home).inodes new (λ x. x.at_home) n d refl;
-        marked = λ all. marked_now;
-        durability = λ d. refl;
-        opened = λ d. refl;
-      }
+      regrouped_shaped = shaped_log s s.members home c (region_in s.nodes home).inodes new shape same_limit refl (λ all. marked_now) refl (λ n. refl)
 
       pub coalescing_shaped : ShapeInvariant s'
       coalescing_shaped = goal_shaped t c (end_of_log u c) there regrouped_shaped

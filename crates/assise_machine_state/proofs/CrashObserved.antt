@@ -1,5 +1,5 @@
 -- What the laws observe of a client that crashes.
-use Rattle.std.proofs.Common.{◌≡◌, ℕ, ◌==◌, true, false, not, List, ◌∷◌, [], ◌++◌, refl, ap, arith}
+use Rattle.std.proofs.Common.{◌≡◌, ℕ, ◌==◌, true, false, List, ◌∷◌, [], ◌++◌, refl, arith}
 use Rattle.std.proofs.lemmas.Bool.{ne_eqb}
 use Rattle.assise_history.proofs.ClientCounts.{durability-still}
 use Rattle.assise_history.specs.Entries.{EntryValue, crashes}
@@ -43,20 +43,11 @@ module _ (s : StateValue) (c : ℕ) (levels : TwoLevels) (asked : List Asked) wh
 
   crash_of : IsNumber s.clients c → w.lives c ≡ true → w.crashed c ≡ false → IsRevoked s.levels levels c → Crashes w c w'
   unfolding world_of
-  crash_of there lives runs revoked = record {
-    lives = lives;
-    running = runs;
-    logs = logs_stay s cs levels (s.cuts ++ asked) told remain (kept_crash s.history c);
-    nodes = nodes_stay s cs levels (s.cuts ++ asked) told;
-    leases = leases_revoked s (after_crash s c levels asked) (is_own c) revoked.clients;
-    clients = remain.count;
-    home = remain.home;
-    lives_same = λ d. ap not (remain.failed d);
-    crashed_here = ap (λ x. x.crashed) (client_here s.clients c now there);
-    crashed_else = λ d other. ap (λ x. x.crashed) (client_else s.clients c now there d other);
-    goal_here = ap (λ x. x.goal) (client_here s.clients c now there);
-    goal_else = λ d other. ap (λ x. x.goal) (client_else s.clients c now there d other);
-  }
+  crash_of there lives runs revoked =
+      let logs = logs_stay s cs levels (s.cuts ++ asked) told remain (kept_crash s.history c) in
+      let nodes = nodes_stay s cs levels (s.cuts ++ asked) told in
+      let leases = leases_revoked s (after_crash s c levels asked) (is_own c) revoked.clients in
+      search (remain, client_here, client_else, arith) parts 3
 
   pub crash_seen : w.lives c ≡ true → w.crashed c ≡ false → IsRevoked s.levels levels c → AreLeft s (λ d. d == c) asked → CrashesWith w (leases_of s) c w' (leases_of (after_crash s c levels asked))
   unfolding leases_of

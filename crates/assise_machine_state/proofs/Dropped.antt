@@ -138,25 +138,9 @@ module _ (s : StateValue) (shape : ShapeInvariant s) (sound : ∥ WorldInvariant
 
   nothing_drops : Drops w (first_to w 0) w
   unfolding world_of
-  nothing_drops = record {
-    low = λ c. omega arith;
-    high = λ c. (prefixes_of s c sound).begun c;
-    border_at = λ c. border_first (own_seen s c).log (own_seen s c).log.first (omega arith);
-    calls = refl;
-    records = λ c. none_dropped (w.first c) (w.records c);
-    first = λ c. refl;
-    border = λ c k low. refl;
-    next = λ c. refl;
-    made = λ c. refl;
-    clients = clients_as s s refl;
-    goals = goals_as s s refl;
-    leases = leases_as s s (λ i. refl);
-    full = refl;
-    log = λ n c full. none_dropped (w.first c) (w.log n c);
-    received = λ n c full. refl;
-    digested = λ n c full. refl;
-    area = λ n i full. refl;
-  }
+  nothing_drops =
+      let begun : (c : ℕ) → w.first c ≤ digested_by_all w c = λ c. (prefixes_of s c sound).begun c in
+      search (begun, none_dropped, border_first, clients_as, goals_as, leases_as, arith) parts 3
 
   drops_first : (m : ℕ) → m ≤ length s.clients → Drops w (first_to w m) (world_of (drops_to s m))
   drops_first zero last = nothing_drops

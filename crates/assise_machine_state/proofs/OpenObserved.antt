@@ -237,19 +237,6 @@ module _ (s : StateValue) (n : ℕ) (u : Durability) (levels : TwoLevels) where
     all_logs m f = so_many_logs m f ∙ sym so_many_clients
 
     pub open_shaped : Full w n → ShapeInvariant s'
-    open_shaped full_node = grind (
-      arith,
-      so_many_nodes,
-      all_logs,
-      no_logs_there,
-      at_home_now,
-      limits_all,
-      limit_now,
-      marked_now,
-      each_number,
-      new_client,
-      durability-opened,
-      other_client,
-      durability-other,
-      ne_eqb,
-    )
+    open_shaped full_node =
+        let limits = limits_all s' all_logs no_logs_there limit_now in
+        grind (arith, so_many_nodes, all_logs, no_logs_there, at_home_now, marked_now, new_client, durability-opened, other_client, durability-other, ne_eqb)

@@ -184,22 +184,7 @@ module _ (w v u : World) (f g : ℕ → ℕ) (prefix : Drops w f v) (next : Drop
   both_dropped c rs = grind (arith, low_both, drop-of_drop)
 
   pub dropped_twice : Drops w g u
-  dropped_twice = record {
-    low = λ c. omega (arith, prefix.low c, low_both c);
-    high = λ c. subst (λ k. g c ≤ k) (same_digested w v f prefix c) (next.high c);
-    border_at = λ c. sym (prefix.border c (g c) (low_both c)) ∙ next.border_at c;
-    calls = next.calls ∙ prefix.calls;
-    records = λ c. next.records c ∙ ap (drop (g c - v.first c)) (prefix.records c) ∙ both_dropped c (w.records c);
-    first = next.first;
-    border = λ c k low. next.border c k low ∙ prefix.border c k (omega (arith, low_both c, low));
-    next = λ c. next.next c ∙ prefix.next c;
-    made = λ c. next.made c ∙ prefix.made c;
-    clients = clients_after w v u prefix.clients next.clients;
-    goals = λ c. next.goals c ∙ prefix.goals c;
-    leases = record { holds = λ c i. next.leases.holds c i ∙ prefix.leases.holds c i; writes = λ c i. next.leases.writes c i ∙ prefix.leases.writes c i };
-    full = next.full ∙ prefix.full;
-    log = λ n c full. next.log n c (still_full n full) ∙ ap (drop (g c - v.first c)) (prefix.log n c full) ∙ both_dropped c (w.log n c);
-    received = λ n c full. next.received n c (still_full n full) ∙ prefix.received n c full;
-    digested = λ n c full. next.digested n c (still_full n full) ∙ prefix.digested n c full;
-    area = λ n i full. next.area n i (still_full n full) ∙ prefix.area n i full;
-  }
+  dropped_twice =
+      let high : (c : ℕ) → g c ≤ digested_by_all w c = λ c. subst (λ k. g c ≤ k) (same_digested w v f prefix c) (next.high c) in
+      let border_at : (c : ℕ) → w.border c (g c) ≡ true = λ c. sym (prefix.border c (g c) (low_both c)) ∙ next.border_at c in
+      search (still_full, low_both, both_dropped, clients_after, arith) parts 3

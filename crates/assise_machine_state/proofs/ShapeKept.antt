@@ -1,5 +1,5 @@
 -- What keeps the shape of the state.
-use Rattle.std.proofs.Common.{◌≡◌, ℕ, true, false, not, ◌&&◌, ◌==◌, [], length, map, refl, arith}
+use Rattle.std.proofs.Common.{◌≡◌, ℕ, true, false, not, ◌&&◌, ◌==◌, [], length, map, arith}
 use Rattle.std.proofs.lemmas.Bool.{cases_Bool}
 use Rattle.std.proofs.lemmas.List.{length-map, nil_from_length}
 use Rattle.assise_history.specs.Legal.{durability_of}
@@ -14,7 +14,7 @@ use Rattle.assise_machine_state.specs.Places.{IsNumber}
 use Rattle.assise_machine_state.specs.Invariant.{IsMarked, ShapeInvariant}
 use Rattle.assise_machine_state.specs.StateValues.{StateValue, standings}
 use Rattle.assise_machine_state.proofs.Fullness.{has_log}
-use Rattle.assise_machine_state.proofs.LogChanges.{count_seen, log_changed, log_same, logs_count, part_seen, region_with}
+use Rattle.assise_machine_state.proofs.LogChanges.{count_seen, log_changed, log_same, logs_count, part_seen}
 use Rattle.assise_machine_state.proofs.ItemSeen.{length-with}
 
 -- ---- limits
@@ -84,21 +84,8 @@ pub shaped_log : (s : StateValue) (members : Membership) (n c : ℕ) (inodes : I
     → length members.nodes ≡ length (standings s) → ((k : ℕ) → is_full_in members.nodes k ≡ is_full_in (standings s) k)
     → ShapeInvariant (record s { nodes = log_changed s.nodes n c inodes l; members = members })
 shaped_log s members n c inodes l shape limit at_home marked count full =
-    shaped_as s (record s { nodes = log_changed s.nodes n c inodes l; members = members }) shape record {
-      nodes = length-with s.nodes n (region_with s.nodes n c inodes l);
-      members = count;
-      full = full;
-      logs = logs_count s.nodes n c inodes l;
-      clients = refl;
-      home = λ d. refl;
-      failed = λ d. refl;
-      limit = refl;
-      limits = λ m d. log_same s.nodes n c inodes l (λ x. x.log.limit) m d limit;
-      at_home = λ m d. log_same s.nodes n c inodes l (λ x. x.at_home) m d at_home;
-      marked = marked;
-      durability = λ d. refl;
-      opened = λ d. refl;
-    }
+    shaped_as s (record s { nodes = log_changed s.nodes n c inodes l; members = members }) shape
+    (search (length-with, logs_count, log_same s.nodes n c inodes l (λ x. x.log.limit), log_same s.nodes n c inodes l (λ x. x.at_home)) parts 3)
 
 -- a client's logs change at all nodes
 pub shaped_all : (s : StateValue) (c : ℕ) (g : ReceivedLog → ReceivedLog) → ShapeInvariant s
@@ -106,18 +93,5 @@ pub shaped_all : (s : StateValue) (c : ℕ) (g : ReceivedLog → ReceivedLog) �
     → (AreMarked s → AreMarked (record s { nodes = map (changed_in c g) s.nodes }))
     → ShapeInvariant (record s { nodes = map (changed_in c g) s.nodes })
 shaped_all s c g shape limit at_home marked =
-    shaped_as s (record s { nodes = map (changed_in c g) s.nodes }) shape record {
-      nodes = length-map s.nodes (changed_in c g);
-      members = refl;
-      full = λ n. refl;
-      logs = count_seen c g s.nodes;
-      clients = refl;
-      home = λ d. refl;
-      failed = λ d. refl;
-      limit = refl;
-      limits = λ n d. part_seen c g (λ x. x.log.limit) s.nodes n d limit;
-      at_home = λ n d. part_seen c g (λ x. x.at_home) s.nodes n d at_home;
-      marked = marked;
-      durability = λ d. refl;
-      opened = λ d. refl;
-    }
+    shaped_as s (record s { nodes = map (changed_in c g) s.nodes }) shape
+    (search (length-map, count_seen, part_seen c g (λ x. x.log.limit), part_seen c g (λ x. x.at_home)) parts 3)
