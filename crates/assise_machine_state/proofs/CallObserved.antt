@@ -164,21 +164,14 @@ module _ (s : StateValue) (x : NumberedCall) where
     marked_now all n d = grind (arith, each_number, marked_here, kept_marks, own_else, else_log)
 
     shaped : ShapeInvariant s → ShapeInvariant s'
-    shaped shape = shaped_as s s' shape record {
-      nodes = so_many_nodes s.nodes home c x.number es;
-      members = refl;
-      full = λ n. refl;
-      logs = so_many_logs s.nodes home c x.number es;
-      clients = so_many_clients;
-      home = stays (λ y. y.home) refl;
-      failed = stays (λ y. y.failed) refl;
-      limit = refl;
-      limits = kept (λ l. l.log.limit) refl;
-      at_home = kept (λ l. l.at_home) refl;
-      marked = marked_now;
-      durability = stays (λ y. y.durability) refl;
-      opened = λ d. durability-still s.history (calls (plain_call x)) d refl;
-    }
+    shaped shape =
+        let home = stays (λ y. y.home) refl in
+        let failed = stays (λ y. y.failed) refl in
+        let durability = stays (λ y. y.durability) refl in
+        let limits = kept (λ l. l.log.limit) refl in
+        let at_home = kept (λ l. l.at_home) refl in
+        let opened = λ (d : ℕ). durability-still s.history (calls (plain_call x)) d refl in
+        shaped_as s s' shape (search (so_many_nodes, so_many_logs, so_many_clients, marked_now) parts 3)
 
     -- the history has the call as it was made
     same_call : w.made c ≡ made_in c s.history → x.fresh ≡ inode_number c (w.made c) → numbered_in s.history (plain_call x) ≡ x

@@ -103,24 +103,15 @@ module _ (s : StateValue) (n c k : ℕ) (inodes : set.FinSet nat_cmp) (shape : S
 
   digested : Digests w n c k w'
   unfolding world_of
-  digested = record {
-    full_node = may.full_node;
-    from = may.from;
-    to = may.to;
-    border_to = may.border_to;
-    logs = logs_as s t refl refl (λ d. ap (λ x. x.records) (own_log s n c k inodes d)) (λ d. ap (λ x. x.first) (own_log s n c k inodes d))
-        (λ d j. ap (λ x. is_border x j) (own_log s n c k inodes d));
-    clients = clients_as s t refl;
-    goals = goals_as s t refl;
-    leases = leases_as s t (λ i. refl);
-    full = same_full (standings t) (standings s) (same_count (standings s) n inodes) (still_full (standings s) n inodes);
-    log = λ m d f. ap (λ x. x.records) (same_log s n c k inodes m d);
-    received = λ m d f. ap (λ x. log_end x) (same_log s n c k inodes m d);
-    digested_here = digested_now;
-    digested_else = λ m d f other. ap (λ x. x.digested) (log_else s.nodes n c (inodes_now s n c k) (further s n c k) has m d other);
-    area_here = area_now;
-    area_else = λ m i f other. area_beside m i other;
-  }
+  digested =
+      let own = own_log s n c k inodes in
+      let logs = logs_as s t refl refl (λ d. ap (λ x. x.records) (own d)) (λ d. ap (λ x. x.first) (own d)) (λ d j. ap (λ x. is_border x j) (own d)) in
+      let full = same_full (standings t) (standings s) (same_count (standings s) n inodes) (still_full (standings s) n inodes) in
+      let log : (m d : ℕ) → w'.log m d ≡ w.log m d = λ m d. ap (λ x. x.records) (same_log s n c k inodes m d) in
+      let received : (m d : ℕ) → w'.received m d ≡ w.received m d = λ m d. ap (λ x. log_end x) (same_log s n c k inodes m d) in
+      let else_same : (m d : ℕ) → (m ≡ n → d ≡ c → ⊥) → w'.digested m d ≡ w.digested m d =
+      λ m d other. ap (λ x. x.digested) (log_else s.nodes n c (inodes_now s n c k) (further s n c k) has m d other) in
+      search (log, received, else_same, digested_now, area_now, area_beside, clients_as, goals_as, leases_as) parts 3
 
   pub noted_prefix : ((i : ℕ) → set.contains inodes i ≡ contains (touched (all_effects (undigested_below w n c k))) i) → DigestsNoted w s.members n c k inodes w' t.members
   noted_prefix touches = grind (arith, digested, area_beside)

@@ -8,7 +8,6 @@ use Rattle.std.proofs.Props.{props}
 use Rattle.std.proofs.Math.Bool.{and-false}
 use Rattle.std.proofs.lemmas.Bool.{cases_Bool, cases_eq, cases_lt, ne_eqb}
 use Rattle.std.proofs.lemmas.List.{length-take, nil_from_length, take_all}
-use Rattle.assise_names.specs.declared.limits.TheConstants.{MOST_NODES}
 use Rattle.assise_history.specs.Entries.{fails}
 use Rattle.assise_history.proofs.ClientCounts.{durability-still}
 use Rattle.assise_inode_table.specs.Contents.{values}
@@ -46,7 +45,7 @@ use Rattle.assise_machine_state.proofs.Fullness.{full_seen, node_number, same_fi
 use Rattle.assise_machine_state.proofs.Kept.{kept_elsewhere, kept_from_first, kept_received, part_first, prefix_kept, all_kept, end_cut}
 use Rattle.assise_machine_state.proofs.Marks.{border_inside, marked_as, marked_tail, so_many_marks, tail_border}
 use Rattle.assise_machine_state.proofs.Noted.{failed_over, left_else, lives_elsewhere, unasked_cut}
-use Rattle.assise_machine_state.proofs.ShapeKept.{KnowsHome, limit_seen, limits_all}
+use Rattle.assise_machine_state.proofs.ShapeKept.{AreMarked, KnowsHome, limit_seen, limits_all}
 use Rattle.assise_machine_state.proofs.Standings.{else_then, full_as, gone_then, lowest_is_full, survivor_left, count_then}
 use Rattle.assise_machine_state.proofs.SameObserved.{leases_revoked}
 
@@ -337,16 +336,8 @@ module _ (s : StateValue) (n : ℕ) (inodes : set.FinSet nat_cmp) (levels : TwoL
   -- ---- its shape is one
 
   pub failure_shaped : ∥ WorldInvariant w ∥₁ → failure_fault s.members n ≡ None → ShapeInvariant t
-  failure_shaped sound fine = record {
-    nodes = count_left s.nodes n s.clients kept ∙ shape.nodes ∙ sym (count_then s.members n inodes stands);
-    few_nodes = subst (λ k. k ≤ MOST_NODES) (sym (count_left s.nodes n s.clients kept)) shape.few_nodes;
-    logs = left_logs;
-    no_logs = left_none;
-    at_home = λ k c. elim (cases_eq k n) [ inl is ↦ subst (λ m. KnowsHome t m c) (sym is) (gone_home c) | inr differs ↦ left_home k c differs ];
-    limits = limits_all t left_logs left_none left_limit;
-    least_limit = shape.least_limit;
-    most_limit = shape.most_limit;
-    marked = λ k c. ∥∥₁_elim sound (search props) (λ h. left_marked h fine k c);
-    durabilities = λ c. client_keeps (λ x. x.durability) (λ k x. refl) c ∙ shape.durabilities c
-        ∙ sym (durability-still s.history (fails n (losses_of w n)) c refl);
-  }
+  failure_shaped sound fine =
+      let all = limits_all t left_logs left_none left_limit in
+      let durability = client_keeps (λ x. x.durability) (λ k x. refl) in
+      let marked : AreMarked t = λ k c. ∥∥₁_elim sound (search props) (λ h. left_marked h fine k c) in
+      grind (arith, count_left, count_then, cases_eq, left_logs, left_none, gone_home, left_home, durability-still)

@@ -1,5 +1,5 @@
 -- What the laws observe of a node that is full again.
-use Rattle.std.proofs.Common.{◌≡◌, ◌≢◌, ℕ, ◌-◌, ◌≤◌, true, false, not, ◌∷◌, length, map, Some, None, inl, inr, refl, ap, sym, subst, ◌∙◌, arith}
+use Rattle.std.proofs.Common.{◌≡◌, ◌≢◌, ℕ, ◌-◌, true, false, not, ◌∷◌, length, map, Some, None, inl, inr, refl, ap, sym, subst, ◌∙◌, arith}
 use Rattle.std.proofs.Common.{true≢false, ◌&&◌, ◌==◌, []}
 use Rattle.std.specs.Ordering.{nat_cmp}
 use Rattle.std.specs.FinSet as set
@@ -9,8 +9,6 @@ use Rattle.std.proofs.Props.{props}
 use Rattle.std.proofs.Math.Bool.{and-false}
 use Rattle.std.proofs.lemmas.Bool.{cases_Bool, cases_eq, ne_eqb}
 use Rattle.std.proofs.lemmas.List.{take_all, length-map}
-use Rattle.assise_names.specs.declared.limits.TheConstants.{MOST_NODES}
-use Rattle.assise_history.specs.Entries.{returns}
 use Rattle.assise_history.proofs.ClientCounts.{durability-still}
 use Rattle.assise_inode_table.specs.Contents.{values}
 use Rattle.assise_private_log.specs.NumberedLog.{NumberedLog, end as log_end, is_border}
@@ -33,7 +31,7 @@ use Rattle.assise_machine_state.specs.StateValues.{StateValue, standings}
 use Rattle.assise_machine_state.proofs.Fullness.{full_seen, home_full, node_number, same_first, seen_full}
 use Rattle.assise_machine_state.proofs.LogChanges.{log_away, region_else, region_here, region_kept}
 use Rattle.assise_machine_state.proofs.Marks.{borders_same, marked_as, so_many_marks}
-use Rattle.assise_machine_state.proofs.ShapeKept.{KnowsHome, limit_seen, limits_all, own_marked}
+use Rattle.assise_machine_state.proofs.ShapeKept.{AreMarked, KnowsHome, limit_seen, limits_all, own_marked}
 use Rattle.assise_machine_state.proofs.Standings.{full_as, full_else, full_here, lowest_is_full, same_count}
 use Rattle.assise_machine_state.proofs.SameObserved.{clients_as, goals_as, leases_as, logs_as, node_as}
 use Rattle.assise_machine_state.proofs.ItemSeen.{each_number, length-with}
@@ -189,15 +187,7 @@ module _ (s : StateValue) (n since donor : ℕ) (stale : set.FinSet nat_cmp) (sh
   -- ---- its shape is one
 
   pub join_shaped : ∥ WorldInvariant w ∥₁ → ShapeInvariant t
-  join_shaped sound = record {
-    nodes = count ∙ shape.nodes ∙ sym (same_count (standings s) n full);
-    few_nodes = subst (λ k. k ≤ MOST_NODES) (sym count) shape.few_nodes;
-    logs = logs;
-    no_logs = no_logs;
-    at_home = homes;
-    limits = limits_all t logs no_logs limits;
-    least_limit = shape.least_limit;
-    most_limit = shape.most_limit;
-    marked = λ k c. ∥∥₁_elim sound (search props) (λ h. marked_then h k c);
-    durabilities = λ c. shape.durabilities c ∙ sym (durability-still s.history (returns n) c refl);
-  }
+  join_shaped sound =
+      let all = limits_all t logs no_logs limits in
+      let marked : AreMarked t = λ k c. ∥∥₁_elim sound (search props) (λ h. marked_then h k c) in
+      grind (arith, count, same_count, logs, no_logs, homes, durability-still)

@@ -97,23 +97,16 @@ module _ (s : StateValue) (n c k : ℕ) (shape : ShapeInvariant s) (prefix : Has
 
   pub delivered_prefix : Delivers w n c k w'
   unfolding world_of
-  delivered_prefix = record {
-    full_node = may.full_node;
-    from = may.from;
-    to = may.to;
-    border_to = may.border_to;
-    logs = logs_as s t refl refl (λ d. ap (λ x. x.log.records) (same_own d)) (λ d. ap (λ x. x.log.first) (same_own d)) (λ d j. ap (λ x. is_border x.log j) (same_own d));
-    clients = clients_as s t refl;
-    goals = goals_as s t refl;
-    leases = leases_as s t (λ i. refl);
-    full = refl;
-    log_here = ap (λ x. x.log.records) (log_here s.nodes n c (region_in s.nodes n).inodes longer has);
-    log_else = λ m d f other. ap (λ x. x.log.records) (same_else m d other);
-    received_here = ap (λ x. log_end x.log) (log_here s.nodes n c (region_in s.nodes n).inodes longer has) ∙ counted;
-    received_else = λ m d f other. ap (λ x. log_end x.log) (same_else m d other);
-    digested = λ m d f. log_same s.nodes n c (region_in s.nodes n).inodes longer (λ x. x.digested) m d refl;
-    area = λ m i f. same_area s n c k m i;
-  }
+  delivered_prefix =
+      let logs = logs_as s t refl refl (λ d. ap (λ x. x.log.records) (same_own d)) (λ d. ap (λ x. x.log.first) (same_own d))
+      (λ d j. ap (λ x. is_border x.log j) (same_own d)) in
+      let here = log_here s.nodes n c (region_in s.nodes n).inodes longer has in
+      let log_now : w'.log n c ≡ w.log n c ++ more = ap (λ x. x.log.records) here in
+      let received_now : w'.received n c ≡ k = ap (λ x. log_end x.log) here ∙ counted in
+      let log_beside : (m d : ℕ) → (m ≡ n → d ≡ c → ⊥) → w'.log m d ≡ w.log m d = λ m d other. ap (λ x. x.log.records) (same_else m d other) in
+      let beside : (m d : ℕ) → (m ≡ n → d ≡ c → ⊥) → w'.received m d ≡ w.received m d = λ m d other. ap (λ x. log_end x.log) (same_else m d other) in
+      let digested = log_same s.nodes n c (region_in s.nodes n).inodes longer (λ x. x.digested) in
+      search (log_beside, beside, digested, same_area, clients_as, goals_as, leases_as) parts 3
 
 pub delivered : (s : StateValue) (n c k : ℕ) → ShapeInvariant s → WorldInvariant (world_of s) → IsNumber s.clients c → MayDeliver (world_of s) n c k → Delivers (world_of s) n c k (world_of (after_delivery s n c k))
 delivered s n c k shape sound client may = delivered_prefix s n c k shape (has_prefix s n c sound may.full_node) client may
