@@ -117,20 +117,13 @@ module _ (s : StateValue) (shape : ShapeInvariant s) (sound : ∥ WorldInvariant
     next_drops = grind (arith, prefixes_of, dropped_prefixes, next_client, to_border)
 
     next_same : StillDropping s u
-    next_same = record {
-      clients = same.clients;
-      members = same.members;
-      levels = same.levels;
-      cuts = same.cuts;
-      history = same.history;
-      limit = same.limit;
-      hot = prefixes_keep t.nodes (suc m) to ∙ same.hot;
-      area = λ k i. drop_areas t (suc m) to k i ∙ same.area k i;
-      shape =
-          let prefixes = prefixes_of t (suc m) same.sound in
-          drop_shaped t (suc m) to same.shape prefixes next_client (prefixes.begun (suc m)) (omega arith) (to_border t (suc m) same.sound);
-      sound = ∥∥₁_map same.sound (λ h. drop_sound (world_of t) (world_of u) (first_but (world_of t) (suc m) to) h next_drops);
-    }
+    next_same =
+        let prefixes = prefixes_of t (suc m) same.sound in
+        let hot : hot_capacities u.nodes ≡ hot_capacities s.nodes = prefixes_keep t.nodes (suc m) to ∙ same.hot in
+        let area : (k i : ℕ) → (world_of u).area k i ≡ (world_of s).area k i = λ k i. drop_areas t (suc m) to k i ∙ same.area k i in
+        let shape = drop_shaped t (suc m) to same.shape prefixes next_client (prefixes.begun (suc m)) (omega arith) (to_border t (suc m) same.sound) in
+        let sound = ∥∥₁_map same.sound (λ h. drop_sound (world_of t) (world_of u) (first_but (world_of t) (suc m) to) h next_drops) in
+        search parts 3
 
   pub same_dropping : (m : ℕ) → m ≤ length s.clients → StillDropping s (drops_to s m)
   same_dropping zero last = grind arith

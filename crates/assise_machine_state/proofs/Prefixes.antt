@@ -136,25 +136,15 @@ module _ (s : StateValue) (c to : ℕ) (shape : ShapeInvariant s) (prefixes : Ha
 
   pub dropped_prefixes : Drops w f w'
   unfolding world_of
-  dropped_prefixes = record {
-    low = each (λ d k. w.first d ≤ k) from_first (λ d other. omega arith);
-    high = each (λ d k. k ≤ digested_by_all w d) all_digested (λ d other. prefixes.begun d);
-    border_at = each (λ d k. w.border d k ≡ true) at_border (λ d other. border_first (own_seen s d).log (own_seen s d).log.first (omega arith));
-    calls = refl;
-    records = records_now;
-    first = each (λ d k. w'.first d ≡ k) (ap (λ x. x.log.first) own_begins) (λ d other. ap (λ x. x.log.first) (own_beside d other));
-    border = border_now;
-    next = λ d. refl;
-    made = λ d. refl;
-    clients = clients_as s (after_drop s c to) refl;
-    goals = goals_as s (after_drop s c to) refl;
-    leases = leases_as s (after_drop s c to) (λ i. refl);
-    full = refl;
-    log = log_now;
-    received = received_now;
-    digested = λ n d full. part_seen c (λ l. from_number l to) (λ x. x.digested) s.nodes n d (λ l. refl);
-    area = λ n i full. drop_areas s c to n i;
-  }
+  dropped_prefixes =
+      let low : (d : ℕ) → w.first d ≤ f d = each (λ d k. w.first d ≤ k) from_first (λ d other. omega arith) in
+      let high : (d : ℕ) → f d ≤ digested_by_all w d = each (λ d k. k ≤ digested_by_all w d) all_digested (λ d other. prefixes.begun d) in
+      let border_at : (d : ℕ) → w.border d (f d) ≡ true =
+      each (λ d k. w.border d k ≡ true) at_border (λ d other. border_first (own_seen s d).log (own_seen s d).log.first (omega arith)) in
+      let first : (d : ℕ) → w'.first d ≡ f d =
+      each (λ d k. w'.first d ≡ k) (ap (λ x. x.log.first) own_begins) (λ d other. ap (λ x. x.log.first) (own_beside d other)) in
+      let digested = part_seen c (λ l. from_number l to) (λ x. x.digested) in
+      search (records_now, border_now, log_now, received_now, digested, drop_areas, clients_as, goals_as, leases_as) parts 3
 
 pub dropped : (s : StateValue) (c to : ℕ) → ShapeInvariant s → WorldInvariant (world_of s) → IsNumber s.clients c → (world_of s).first c ≤ to → to ≤ digested_by_all (world_of s) c → (world_of s).border c to ≡ true →
     Drops (world_of s) (first_but (world_of s) c to) (world_of (after_drop s c to))
