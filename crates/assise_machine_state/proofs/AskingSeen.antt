@@ -1,5 +1,6 @@
 -- What the laws observe where those who stand in a call's way are asked for their leases.
-use Rattle.std.proofs.Common.{◌≡◌, ◌≢◌, inl, inr, ℕ, zero, suc, ◌+◌, ◌-◌, ◌≤◌, max, nat_lt, ◌==◌, Bool, true, false, cond, not, ◌&&◌, ◌||◌, if◌then◌else◌, List, [], ◌∷◌, ◌++◌, length, filter, drop, slice_get, Option, Some, None, refl, ap, sym, subst, ◌∙◌, arith, eq-eqb}
+use Rattle.std.proofs.Common.{◌≡◌, ◌≢◌, inl, inr, ℕ, zero, suc, ◌+◌, ◌-◌, ◌≤◌, max, ◌==◌, Bool, true, false, cond, not, ◌&&◌, ◌||◌, if◌then◌else◌, List, []}
+use Rattle.std.proofs.Common.{◌∷◌, ◌++◌, length, filter, drop, slice_get, Option, Some, None, refl, ap, sym, subst, ◌∙◌, arith, eq-eqb}
 use Rattle.std.specs.List.{list_all, list_any}
 use Rattle.std.proofs.Math.Bool.{and-true, or-false}
 use Rattle.std.proofs.lemmas.Bool.{and_from, and_parts, and_right, cases_Bool, cases_eq, eqb-true, false_from_ne_true, ne_eqb, not-true, or_parts}
@@ -21,11 +22,11 @@ use Rattle.assise_lease_table.proofs.Elements.{all_among, among_all, among_any, 
 use Rattle.assise_lease_tree.specs.Levels.{in_way, is_revoked}
 use Rattle.assise_lease_tree.specs.TwoLevels.{IsAskedFor, TwoLevels, is_free_for}
 use Rattle.assise_model_world.specs.ClientSteps.{RaisesGoals}
-use Rattle.assise_model_world.specs.Staying.{SameClients, KeepsLeases, SameLogs, SameNodes}
+use Rattle.assise_model_world.specs.Staying.{KeepsLeases}
 use Rattle.assise_model_world.specs.World.{end_of_log}
 use Rattle.assise_model_world.proofs.Logs.{contains-all_effects}
 use Rattle.assise_model_leases.specs.Handing.{Asks, asked_goal, is_newly_revoked}
-use Rattle.assise_model_leases.specs.Leases.{AreLeases, CoversFrom, IsRevokedLease, Leases, client_lease, is_held, is_written, client_records_from}
+use Rattle.assise_model_leases.specs.Leases.{AreLeases, CoversFrom, Leases, client_lease, is_held, is_written, client_records_from}
 use Rattle.assise_model_leases.proofs.LookUps.{revoke_of, revoked_held, revoked_one, held_one, still_revoked, written_one}
 use Rattle.assise_machine_state.specs.Changes.{after_asking, with_goals}
 use Rattle.assise_machine_state.specs.ClientValues.{ClientValue, client_in, is_over, with_client, with_goal}
@@ -36,9 +37,8 @@ use Rattle.assise_machine_state.specs.Invariant.{AreAnswers, CutsInvariant, Shap
 use Rattle.assise_machine_state.specs.StateValues.{StateValue, leases_of}
 use Rattle.assise_machine_state.proofs.Fullness.{lives_number}
 use Rattle.assise_machine_state.proofs.Noted.{asked_either, cut_before, none_cut, once_both}
-use Rattle.assise_machine_state.proofs.ItemSeen.{client_else, client_here, client_same, length-with}
-use Rattle.assise_machine_state.proofs.ShapeKept.{shaped_as, still_marked}
-use Rattle.assise_machine_state.proofs.SameObserved.{node_as}
+use Rattle.assise_machine_state.proofs.ItemSeen.{client_else, client_here, client_same, each_number, length-with}
+use Rattle.assise_machine_state.proofs.ShapedClients.{Remain, clients_stay, logs_stay, nodes_stay, still_shaped}
 
 -- ---- the holders that are left of compatible leases
 
@@ -50,36 +50,21 @@ passes p (Some a) = p a
 -- a lease has no other of its holder beside it
 none_else : (l : Lease) (ls : List Lease) → list_all (stand_together l) ls ≡ true → contains (holders ls) l.holder ≡ false
 none_else l [] all = refl
-none_else l (k ∷ ks) all =
-    let parts = and_parts (stand_together l k) (list_all (stand_together l) ks) all in
-    let other : (l.holder == k.holder) ≡ false = not-true (l.holder == k.holder) (and_parts (not (l.holder == k.holder)) _ parts.0).0 in
-    ap (λ b. b || contains (holders ks) l.holder) (ne_eqb k.holder l.holder (λ same. differ l.holder k.holder other (sym same)))
-    ∙ none_else l ks parts.1
+none_else l (k ∷ ks) all = grind (arith, and_parts, not-true, ne_eqb, differ, (none_else l ks))
 
 -- the first lease, which stays or goes
 
 own_left : (b : Bool) (l : Lease) (ls : List Lease) (d : ℕ) → (l.holder == d) ≡ true → contains (holders ls) d ≡ false → contains (holders (cond b (l ∷ ls) ls)) d ≡ b
-own_left true l ls d own none = ap (λ e. e || contains (holders ls) d) own
-own_left false l ls d own none = none
+own_left b l ls d h1 h2 = grind arith
 
 else_left : (b : Bool) (l : Lease) (ls : List Lease) (d : ℕ) → (l.holder == d) ≡ false → contains (holders (cond b (l ∷ ls) ls)) d ≡ contains (holders ls) d
-else_left true l ls d other = ap (λ e. e || contains (holders ls) d) other
-else_left false l ls d other = refl
+else_left b l ls d h1 = grind arith
 
 -- a holder is left where its lease passes
 holder_left : (p : Lease → Bool) (ls : List Lease) (d : ℕ) → compatible ls ≡ true → contains (holders (filter p ls)) d ≡ passes p (lease_of ls d)
 holder_left p [] d fits = refl
 holder_left p (l ∷ ls) d fits =
-    let parts = and_parts (list_all (stand_together l) ls) (compatible ls) fits in
-    let together_left : list_all (stand_together l) (filter p ls) ≡ true = among_all (stand_together l) (filter p ls) (λ x a. all_among (stand_together l) ls parts.0 x (among_filter p ls x a).0) in
-    elim (cases_Bool (l.holder == d)) [
-      | inl own ↦
-          own_left (p l) l (filter p ls) d own (ap (contains (holders (filter p ls))) (sym (eqb-true l.holder d own)) ∙ none_else l (filter p ls) together_left)
-          ∙ sym (ap (λ b. passes p (cond b (Some l) (lease_of ls d))) own)
-      | inr other ↦
-          else_left (p l) l (filter p ls) d other ∙ holder_left p ls d parts.1
-          ∙ sym (ap (λ b. passes p (cond b (Some l) (lease_of ls d))) other)
-    ]
+    grind (arith, and_parts, among_all, all_among, among_filter, cases_Bool, own_left, eqb-true, none_else, else_left, (holder_left p ls d))
 
 -- no number is there twice
 abbrev AreDistinct : List ℕ → Type 0
@@ -88,19 +73,11 @@ AreDistinct (n ∷ ns) = (contains ns n ≡ false) × AreDistinct ns
 
 holders_distinct : (ls : List Lease) → compatible ls ≡ true → AreDistinct (holders ls)
 holders_distinct [] fits = tt
-holders_distinct (l ∷ ls) fits =
-    let parts = and_parts (list_all (stand_together l) ls) (compatible ls) fits in
-    (none_else l ls parts.0, holders_distinct ls parts.1)
+holders_distinct (l ∷ ls) fits = grind (arith, and_parts, none_else, (holders_distinct ls))
 
 -- what is revoked once the chosen leases are, and wasn't before, was to be asked for
 newly_one : (choice : Lease → Bool) (o : Option Lease) → (not (is_revoked o) && is_revoked (revoked_one choice o)) ≡ passes (is_to_ask choice) o
-newly_one choice None = refl
-newly_one choice (Some a) = both a.revoked (choice a)
-  where
-    both : (f b : Bool) → (not f && cond b true f) ≡ (not f && b)
-    both true b = refl
-    both false true = refl
-    both false false = refl
+newly_one choice o = grind arith
 
 -- ---- answers
 
@@ -136,21 +113,13 @@ once_of (a ∷ xs) i all distinct =
 -- that of who was is one of the answers
 answer_of : (xs : List Asked) (d j : ℕ) → is_asked xs d j ≡ true → (a : Asked) × Among xs a × (a.client ≡ d) × (cut_in xs d j ≡ a.cut)
 answer_of [] d j asked = cc
-answer_of (a ∷ xs) d j asked =
-    elim (cases_Bool (is_of d j a)) [
-      | inl is ↦ (a, inl refl, eqb-true a.client d (and_parts (a.client == d) (a.inode == j) is).0, ap (λ b. if b then a.cut else cut_in xs d j) is)
-      | inr other ↦
-          let rest = answer_of xs d j (sym (ap (λ b. b || is_asked xs d j) other) ∙ asked) in
-          (rest.0, inr rest.1, rest.2, ap (λ b. if b then a.cut else cut_in xs d j) other ∙ rest.3)
-    ]
+answer_of (a ∷ xs) d j asked = grind (arith, cases_Bool, eqb-true, and_parts, (answer_of xs d j))
 
 -- of two lists, the second counts where the client was not asked in the first
 
 cut_behind : (xs ys : List Asked) (d j : ℕ) → is_asked xs d j ≡ false → cut_in (xs ++ ys) d j ≡ cut_in ys d j
 cut_behind [] ys d j none = refl
-cut_behind (x ∷ xs) ys d j none =
-    let parts = or_parts (is_of d j x) (is_asked xs d j) none in
-    ap (λ b. if b then x.cut else cut_in (xs ++ ys) d j) parts.0 ∙ cut_behind xs ys d j parts.1
+cut_behind (x ∷ xs) ys d j none = grind (arith, or_parts, (cut_behind xs ys d j))
 
 -- ---- goals of many clients
 
@@ -164,9 +133,7 @@ goals_keep f same (a ∷ xs) cs d =
 
 count_kept : (xs : List Asked) (cs : List ClientValue) → length (with_goals xs cs) ≡ length cs
 count_kept [] cs = refl
-count_kept (a ∷ xs) cs =
-    count_kept xs (with_client cs a.client (with_goal a.cut (client_in cs a.client)))
-    ∙ length-with cs a.client (with_goal a.cut (client_in cs a.client))
+count_kept (a ∷ xs) cs = grind (arith, length-with, (count_kept xs))
 
 same_number : (cs ds : List ClientValue) (d : ℕ) → length ds ≡ length cs → IsNumber cs d → IsNumber ds d
 same_number cs ds d count there = record { some = there.some; there = subst (λ n. d ≤ n) (sym count) there.there }
@@ -212,10 +179,7 @@ places_untouched (r ∷ rs) zero i none =
 places_untouched (r ∷ rs) (suc j) i none = places_untouched rs j i (λ k from. none (suc k) (omega (arith, from)))
 
 place_of : (l : NumberedLog) (k : ℕ) → record_at l (l.first + k) ≡ slice_get l.records k
-place_of l k =
-    let high : nat_lt (l.first + k) l.first ≡ false = search arith in
-    let place : (l.first + k) - l.first ≡ k = omega arith in
-    rw high (ap (slice_get l.records) place)
+place_of l k = grind arith
 
 log_covers : (s : StateValue) (c i cut : ℕ) → CoversLog (own_seen s c).log i cut → CoversFrom (world_of s) c i cut
 unfolding world_of end_of_log client_records_from
@@ -228,58 +192,18 @@ log_covers s c i cut covers =
 
 -- ---- what stays
 
-module _ (s : StateValue) (levels : TwoLevels) (asked : List Asked) where
-  abbrev after : StateValue
-  after = after_asking s levels asked
+remain : (asked : List Asked) (cs : List ClientValue) → Remain cs (with_goals asked cs)
+remain asked cs = record {
+  count = count_kept asked cs;
+  home = goals_keep (λ x. x.home) (λ to x. refl) asked cs;
+  failed = goals_keep (λ x. x.failed) (λ to x. refl) asked cs;
+  next = goals_keep (λ x. x.next) (λ to x. refl) asked cs;
+  made = goals_keep (λ x. x.made) (λ to x. refl) asked cs;
+  durability = goals_keep (λ x. x.durability) (λ to x. refl) asked cs;
+}
 
-  stays : {A : Type 0} (f : ClientValue → A) → ((to : ℕ) (x : ClientValue) → f (with_goal to x) ≡ f x) → (d : ℕ) →
-      f (client_in after.clients d) ≡ f (client_in s.clients d)
-  stays f same d = goals_keep f same asked s.clients d
-
-  own_stays : (d : ℕ) → own_seen after d ≡ own_seen s d
-  unfolding own_seen
-  own_stays d = rw (stays (λ x. x.home) (λ to x. refl) d, stays (λ x. x.failed) (λ to x. refl) d) refl
-
-  logs_stay : SameLogs (world_of s) (world_of after)
-  unfolding world_of
-  logs_stay = record {
-    calls = refl;
-    records = λ d. ap (λ l. l.log.records) (own_stays d);
-    first = λ d. ap (λ l. l.log.first) (own_stays d);
-    next = stays (λ x. x.next) (λ to x. refl);
-    border = λ d k. ap (λ l. is_border l.log k) (own_stays d);
-    made = stays (λ x. x.made) (λ to x. refl);
-  }
-
-  clients_stay : SameClients (world_of s) (world_of after)
-  unfolding world_of
-  clients_stay = record {
-    clients = count_kept asked s.clients;
-    home = stays (λ x. x.home) (λ to x. refl);
-    lives = stays (λ x. not x.failed) (λ to x. refl);
-    crashed = stays (λ x. x.crashed) (λ to x. refl);
-  }
-
-  nodes_stay : SameNodes (world_of s) (world_of after)
-  unfolding world_of
-  nodes_stay = record { full = refl; same = λ n f. node_as s after n (λ j. refl) (λ d. refl) }
-
-  pub asking_shaped : ShapeInvariant s → ShapeInvariant after
-  asking_shaped shape = shaped_as s after shape record {
-    nodes = refl;
-    members = refl;
-    full = λ n. refl;
-    logs = λ n. refl;
-    clients = count_kept asked s.clients;
-    home = stays (λ x. x.home) (λ to x. refl);
-    failed = stays (λ x. x.failed) (λ to x. refl);
-    limit = refl;
-    limits = λ n d. refl;
-    at_home = λ n d. refl;
-    marked = still_marked s after (λ n d. refl) (λ d. ap (λ l. l.log) (own_stays d));
-    durability = stays (λ x. x.durability) (λ to x. refl);
-    opened = λ d. refl;
-  }
+pub asking_shaped : (s : StateValue) (levels : TwoLevels) (asked : List Asked) → ShapeInvariant s → ShapeInvariant (after_asking s levels asked)
+asking_shaped s levels asked = still_shaped s (with_goals asked s.clients) levels (s.cuts ++ asked) s.history (remain asked s.clients) (λ d. refl)
 
 -- ---- leases that are asked for
 
@@ -287,6 +211,9 @@ module _ (s : StateValue) (c i : ℕ) (mode : Mode) (levels : TwoLevels) (asked 
     (asks : IsAskedFor s.levels levels c (client_in s.clients c).home i mode) (answers : AreAnswers s c i mode asked) where
   abbrev way : Lease → Bool
   way = in_way s.levels.home (s.levels.nodes i) c (client_in s.clients c).home mode
+
+  abbrev cs : List ClientValue
+  cs = with_goals asked s.clients
 
   abbrev l : Leases
   l = leases_of s
@@ -305,11 +232,7 @@ module _ (s : StateValue) (c i : ℕ) (mode : Mode) (levels : TwoLevels) (asked 
   -- what holds of a lease and of what is left of it where it is revoked, and of a lease and itself
   of_each : (P : Option Lease → Option Lease → Type 0) → ((o : Option Lease) → P (revoked_one way o) o) → ((o : Option Lease) → P o o) →
       (d j : ℕ) → P (client_lease l' d j) (client_lease l d j)
-  of_each P one same d j =
-      elim (cases_eq j i) [
-        | inl is ↦ subst (λ k. P (client_lease l' d k) (client_lease l d k)) (sym is) (subst (λ o. P o (client_lease l d i)) (sym (here d)) (one (client_lease l d i)))
-        | inr other ↦ subst (λ o. P o (client_lease l d j)) (sym (elsewhere d j other)) (same (client_lease l d j))
-      ]
+  of_each P one same d j = grind (arith, each_number, here, elsewhere)
 
   same_held : (d j : ℕ) → is_held (client_lease l' d j) ≡ is_held (client_lease l d j)
   same_held = of_each (λ x y. is_held x ≡ is_held y) (held_one way) (λ o. refl)
@@ -321,23 +244,15 @@ module _ (s : StateValue) (c i : ℕ) (mode : Mode) (levels : TwoLevels) (asked 
     writes = of_each (λ x y. is_written x ≡ is_written y) (written_one way) (λ o. refl);
   }
 
-  revoked_stays : (d j : ℕ) → IsRevokedLease l d j → IsRevokedLease l' d j
-  revoked_stays = of_each (λ x y. is_revoked y ≡ true → is_revoked x ≡ true) (still_revoked way) (λ o revoked. revoked)
-
   -- ---- who is asked
 
   newly : (d : ℕ) → is_newly_revoked l l' d i ≡ is_asked asked d i
   unfolding leases_of
-  newly d =
-      ap (λ o. not (is_revoked (client_lease l d i)) && is_revoked o) (here d)
-      ∙ newly_one way (client_lease l d i)
-      ∙ sym (asked_is asked i d answers.inodes ∙ ap (λ ns. contains ns d) answers.who ∙ holder_left (is_to_ask way) (s.levels.clients i) d (leases.lawful.clients_compatible i))
+  newly d = grind (arith, here, newly_one, asked_is, holder_left)
 
   distinct : AreDistinct (clients_of asked)
   unfolding leases_of
-  distinct =
-      subst AreDistinct (sym answers.who)
-      (holders_distinct (filter (is_to_ask way) (s.levels.clients i)) (filter_compatible (is_to_ask way) (s.levels.clients i) (leases.lawful.clients_compatible i)))
+  distinct = grind (arith, holders_distinct, filter_compatible)
 
   at_inode : (d j : ℕ) → is_asked asked d j ≡ true → j ≡ i
   at_inode d j h =
@@ -349,14 +264,13 @@ module _ (s : StateValue) (c i : ℕ) (mode : Mode) (levels : TwoLevels) (asked 
   asked_here : (d j : ℕ) → is_asked asked d j ≡ true → is_asked asked d i ≡ true
   asked_here d j h = subst (λ k. is_asked asked d k ≡ true) (at_inode d j h) h
 
-  revoked_now : (d : ℕ) → is_asked asked d i ≡ true → IsRevokedLease l' d i
-  revoked_now d h = (and_parts (not (is_revoked (client_lease l d i))) (is_revoked (client_lease l' d i)) (newly d ∙ h)).1
-
   unrevoked : (d : ℕ) → is_asked asked d i ≡ true → is_revoked (client_lease l d i) ≡ false
   unrevoked d h = not-true (is_revoked (client_lease l d i)) (and_parts (not (is_revoked (client_lease l d i))) (is_revoked (client_lease l' d i)) (newly d ∙ h)).0
 
   held : (d : ℕ) → is_asked asked d i ≡ true → is_held (client_lease l d i) ≡ true
-  held d h = sym (same_held d i) ∙ revoked_held (client_lease l' d i) (revoked_now d h)
+  held d h =
+      sym (same_held d i)
+      ∙ revoked_held (client_lease l' d i) (and_parts (not (is_revoked (client_lease l d i))) (is_revoked (client_lease l' d i)) (newly d ∙ h)).1
 
   -- who is asked isn't over
 
@@ -386,36 +300,27 @@ module _ (s : StateValue) (c i : ℕ) (mode : Mode) (levels : TwoLevels) (asked 
   -- ---- cuts
 
   same_over : (d : ℕ) → is_over (client_in (with_goals asked s.clients) d) ≡ is_over (client_in s.clients d)
-  same_over = stays s levels asked is_over (λ to x. refl)
+  same_over = goals_keep is_over (λ to x. refl) asked s.clients
 
   cut_now : (d : ℕ) → is_asked asked d i ≡ true → l'.cut d i ≡ cut_in asked d i
   unfolding leases_of
-  cut_now d h =
-      ap (λ b. if b then (client_in (with_goals asked s.clients) d).last_cut else cut_in (s.cuts ++ asked) d i) (same_over d ∙ runs d h)
-      ∙ cut_behind s.cuts asked d i (first_answer d h)
+  cut_now d h = grind (arith, same_over, runs, cut_behind, first_answer)
 
   cut_stays : (d j : ℕ) → is_asked asked d j ≡ false → l'.cut d j ≡ l.cut d j
   unfolding leases_of
-  cut_stays d j none = λ k. if same_over d k then stays s levels asked (λ x. x.last_cut) (λ to x. refl) d k else cut_before s.cuts asked d j none k
+  cut_stays d j none = λ k. if same_over d k then goals_keep (λ x. x.last_cut) (λ to x. refl) asked s.clients d k else cut_before s.cuts asked d j none k
 
   goal_is : (d : ℕ) → asked_goal l l' i d ≡ cut_in asked d i
-  goal_is d =
-      elim (cases_Bool (is_asked asked d i)) [
-        | inl h ↦ rw (newly d ∙ h) (cut_now d h)
-        | inr none ↦ rw (newly d ∙ none) (sym (none_cut asked d i none))
-      ]
+  goal_is d = grind (arith, cases_Bool, newly, cut_now, none_cut)
+
+  answered : (d : ℕ) → is_asked asked d i ≡ true → (a : Asked) × Among asked a × (a.client ≡ d) × (l'.cut d i ≡ a.cut)
+  answered d h = (let a = answer_of asked d i h in (a.0, a.1, a.2, cut_now d h ∙ a.3))
 
   covers : (d : ℕ) → is_asked asked d i ≡ true → CoversLog (own_seen s d).log i (l'.cut d i)
-  covers d h =
-      let a = answer_of asked d i h in
-      subst (λ e. CoversLog (own_seen s e).log i (l'.cut d i)) a.2
-      (subst (λ k. CoversLog (own_seen s a.0.client).log i k) (sym (cut_now d h ∙ a.3)) (answers.covers a.0 a.1))
+  covers d h = (let a = answered d h in subst (λ e. CoversLog (own_seen s e).log i (l'.cut d i)) a.2 (rw a.3 (answers.covers a.0 a.1)))
 
   at_border : (d : ℕ) → is_asked asked d i ≡ true → is_border (own_seen s d).log (l'.cut d i) ≡ true
-  at_border d h =
-      let a = answer_of asked d i h in
-      subst (λ e. is_border (own_seen s e).log (l'.cut d i) ≡ true) a.2
-      (subst (λ k. is_border (own_seen s a.0.client).log k ≡ true) (sym (cut_now d h ∙ a.3)) (answers.borders a.0 a.1))
+  at_border d h = (let a = answered d h in subst (λ e. is_border (own_seen s e).log (l'.cut d i) ≡ true) a.2 (rw a.3 (answers.borders a.0 a.1)))
 
   goals_known : (d : ℕ) → asked_goal l l' i d ≤ end_of_log (world_of s) d
   goals_known d =
@@ -432,9 +337,9 @@ module _ (s : StateValue) (c i : ℕ) (mode : Mode) (levels : TwoLevels) (asked 
   unfolding world_of
   raises = record {
     there = goals_known;
-    logs = logs_stay s levels asked;
-    clients = clients_stay s levels asked;
-    nodes = nodes_stay s levels asked;
+    logs = logs_stay s cs levels (s.cuts ++ asked) s.history (remain asked s.clients) refl;
+    clients = clients_stay s cs levels (s.cuts ++ asked) s.history (remain asked s.clients) (goals_keep (λ x. x.crashed) (λ to x. refl) asked s.clients);
+    nodes = nodes_stay s cs levels (s.cuts ++ asked) s.history;
     leases = leases_stay;
     goals = λ d. goals_raised asked s.clients i d answers.inodes distinct asked_number ∙ ap (max (client_in s.clients d).goal) (sym (goal_is d));
   }
@@ -456,37 +361,26 @@ module _ (s : StateValue) (c i : ℕ) (mode : Mode) (levels : TwoLevels) (asked 
 
   -- the cut of a lease that is revoked by it is the answer of its holder
   pub newly_answered : (d j : ℕ) → is_newly_revoked l l' d j ≡ true → (j ≡ i) × ((a : Asked) × Among asked a × (a.client ≡ d) × (l'.cut d i ≡ a.cut))
-  newly_answered d j fresh =
-      elim (cases_eq j i) [
-        | inl is ↦
-            let h : is_asked asked d i ≡ true = sym (newly d) ∙ subst (λ k. is_newly_revoked l l' d k ≡ true) is fresh in
-            let a = answer_of asked d i h in
-            (is, (a.0, a.1, a.2, cut_now d h ∙ a.3))
-        | inr other ↦
-            let parts = and_parts (not (is_revoked (client_lease l d j))) (is_revoked (client_lease l' d j)) fresh in
-            not_both (is_revoked (client_lease l d j)) (sym (ap is_revoked (elsewhere d j other)) ∙ parts.1) (not-true (is_revoked (client_lease l d j)) parts.0)
-      ]
+  newly_answered d j fresh = grind (arith, cases_eq, newly, answered, and_parts, not_both, elsewhere, not-true)
 
   -- ---- what is noted
 
   -- what is revoked was so before, or was asked for
   revoked_or_asked : (d j : ℕ) → is_revoked (client_lease l' d j) ≡ (is_revoked (client_lease l d j) || is_asked asked d j)
   revoked_or_asked d j =
-      elim (cases_eq j i) [
-        | inl is ↦
-            subst (λ k. is_revoked (client_lease l' d k) ≡ (is_revoked (client_lease l d k) || is_asked asked d k)) (sym is)
-            (was_or_new (is_revoked (client_lease l d i)) (is_revoked (client_lease l' d i)) (revoked_stays d i) ∙ ap (λ b. is_revoked (client_lease l d i) || b) (newly d))
-        | inr other ↦ ap is_revoked (elsewhere d j other) ∙ sym (ap (λ b. is_revoked (client_lease l d j) || b) (unasked_elsewhere asked i d j answers.inodes other) ∙ or-false (is_revoked (client_lease l d j)))
-      ]
+      each_number (λ k. is_revoked (client_lease l' d k) ≡ (is_revoked (client_lease l d k) || is_asked asked d k)) i j
+      (was_or_new (is_revoked (client_lease l d i)) (is_revoked (client_lease l' d i))
+      (of_each (λ x y. is_revoked y ≡ true → is_revoked x ≡ true) (still_revoked way) (λ o revoked. revoked) d i)
+      ∙ ap (λ b. is_revoked (client_lease l d i) || b) (newly d))
+      (λ other. ap is_revoked (elsewhere d j other)
+      ∙ sym (ap (λ b. is_revoked (client_lease l d j) || b) (unasked_elsewhere asked i d j answers.inodes other) ∙ or-false (is_revoked (client_lease l d j))))
     where
       was_or_new : (was now : Bool) → (was ≡ true → now ≡ true) → now ≡ (was || (not was && now))
       was_or_new true now stays = stays refl
       was_or_new false now stays = refl
 
   not_twice : (d j : ℕ) → is_asked s.cuts d j ≡ true → is_asked asked d j ≡ false
-  not_twice d j before =
-      false_from_ne_true (is_asked asked d j)
-      (λ h. not_both (is_asked s.cuts d i) (subst (λ k. is_asked s.cuts d k ≡ true) (at_inode d j h) before) (first_answer d (asked_here d j h)))
+  not_twice d j before = grind (arith, false_from_ne_true, not_both, at_inode, first_answer, asked_here)
 
   now_noted : (d j : ℕ) → is_asked (s.cuts ++ asked) d j ≡ is_revoked (lease_of (levels.clients j) d)
   unfolding leases_of

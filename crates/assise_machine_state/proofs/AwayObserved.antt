@@ -1,5 +1,5 @@
 -- What the laws observe where only nodes change that aren't full.
-use Rattle.std.proofs.Common.{◌≡◌, ◌≢◌, ℕ, ◌==◌, if◌then◌else◌, length, Option, inl, inr, refl, ap, sym, subst, ◌∙◌, eq-eqb}
+use Rattle.std.proofs.Common.{◌≡◌, ◌≢◌, ℕ, ◌==◌, if◌then◌else◌, length, Option, refl, ap, subst, ◌∙◌, eq-eqb, arith}
 use Rattle.std.proofs.lemmas.Bool.{cases_eq, ne_eqb}
 use Rattle.assise_inode_table.specs.Contents.{Content, values}
 use Rattle.assise_inode_table.proofs.EffectValues.{get-with_value}
@@ -33,13 +33,7 @@ module _ (s : StateValue) (m : Membership) (long : length m.nodes ≡ length (st
 
   pub members_rest : Rests (world_of s) (world_of u)
   unfolding world_of
-  members_rest = record {
-    logs = logs_as s u refl refl (λ c. ap (λ l. l.log.records) (own_stays c)) (λ c. ap (λ l. l.log.first) (own_stays c)) (λ c k. ap (λ l. is_border l.log k) (own_stays c));
-    clients = clients_as s u refl;
-    goals = goals_as s u refl;
-    leases = leases_as s u (λ i. refl);
-    nodes = record { full = same_full m.nodes (standings s) long same; same = λ n f. node_as s u n (λ i. refl) (λ c. refl) };
-  }
+  members_rest = search (logs_as, own_stays, clients_as, goals_as, leases_as, same_full, node_as, arith) parts 3
 
 pub members_areas : (s : StateValue) (m : Membership) (n i : ℕ) → (world_of (after_members s m)).area n i ≡ (world_of s).area n i
 unfolding world_of
@@ -47,21 +41,7 @@ members_areas s m n i = refl
 
 pub members_shaped : (s : StateValue) (m : Membership) → ShapeInvariant s → length m.nodes ≡ length (standings s) →
     ((n : ℕ) → is_full_in m.nodes n ≡ is_full_in (standings s) n) → ShapeInvariant (after_members s m)
-members_shaped s m shape long same = shaped_as s (after_members s m) shape record {
-  nodes = refl;
-  members = long;
-  full = same;
-  logs = λ n. refl;
-  clients = refl;
-  home = λ c. refl;
-  failed = λ c. refl;
-  limit = refl;
-  limits = λ n c. refl;
-  at_home = λ n c. refl;
-  marked = still_marked s (after_members s m) (λ n c. refl) (λ c. ap (λ l. l.log) (own_stays s m long same c));
-  durability = λ c. refl;
-  opened = λ c. refl;
-}
+members_shaped s m shape long same = grind (arith, shaped_as, still_marked, own_stays)
 
 -- ---- an inode of a node that isn't full
 
@@ -91,20 +71,13 @@ module _ (s : StateValue) (n i : ℕ) (v : Option Content) (there : IsNumber s.n
 
   area_at : (j : ℕ) → (world_of t).area n j ≡ (if i == j then v else (world_of s).area n j)
   unfolding world_of
-  area_at j =
-      ap (λ r. values r.inodes j) (region_here s.nodes n changed there) ∙ get-with_value (region_in s.nodes n).inodes i v j
+  area_at j = grind (arith, region_here, get-with_value)
 
   pub inode_here : (world_of t).area n i ≡ v
   inode_here = area_at i ∙ rw (eq-eqb i i refl) refl
 
   pub inode_else : (k j : ℕ) → (k ≡ n → j ≡ i → ⊥) → (world_of t).area k j ≡ (world_of s).area k j
-  inode_else k j other =
-      elim (cases_eq k n) [
-        | inl is ↦
-            let differs : i ≢ j = λ e. other is (sym e) in
-            subst (λ m. (world_of t).area m j ≡ (world_of s).area m j) (sym is) (area_at j ∙ rw (ne_eqb i j differs) refl)
-        | inr differs ↦ area_else k j differs
-      ]
+  inode_else k j other = grind (arith, cases_eq, area_at, ne_eqb, area_else)
 
   pub inode_rests : (Full (world_of s) n → ⊥) → Rests (world_of s) (world_of t)
   unfolding world_of
@@ -117,18 +90,4 @@ module _ (s : StateValue) (n i : ℕ) (v : Option Content) (there : IsNumber s.n
   }
 
 pub inode_shaped : (s : StateValue) (n i : ℕ) (v : Option Content) → ShapeInvariant s → IsNumber s.nodes n → ShapeInvariant (after_inode s n i v)
-inode_shaped s n i v shape there = shaped_as s (after_inode s n i v) shape record {
-  nodes = length-with s.nodes n (with_inode (region_in s.nodes n) i v);
-  members = refl;
-  full = λ k. refl;
-  logs = λ k. ap length (same_logs s n i v there k);
-  clients = refl;
-  home = λ c. refl;
-  failed = λ c. refl;
-  limit = refl;
-  limits = λ k c. ap (λ l. l.log.limit) (same_log s n i v there k c);
-  at_home = λ k c. ap (λ l. l.at_home) (same_log s n i v there k c);
-  marked = still_marked s (after_inode s n i v) (λ k c. ap (λ l. l.log) (same_log s n i v there k c)) (λ c. ap (λ l. l.log) (own_same s n i v there c));
-  durability = λ c. refl;
-  opened = λ c. refl;
-}
+inode_shaped s n i v shape there = grind (arith, shaped_as, length-with, same_logs, same_log, still_marked, own_same)

@@ -1,5 +1,6 @@
 -- The greatest place that a full node besides a client's home has received.
-use Rattle.std.proofs.Common.{◌≡◌, ℕ, ◌+◌, ◌<◌, ◌≤◌, ◌==◌, max, not, take, take-suc, Bool, true, false, List, [], ◌∷◌, ◌++◌, filter, length, get_or, inl, inr, ◌||◌, refl, ap, sym, subst, ◌∙◌, arith, suc}
+use Rattle.std.proofs.Common.{◌≡◌, ℕ, ◌+◌, ◌<◌, ◌≤◌, ◌==◌, max, not, take, take-suc, Bool, true, false, List, [], ◌∷◌, ◌++◌, filter, length, get_or, refl, ap}
+use Rattle.std.proofs.Common.{◌∙◌, arith, suc}
 use Rattle.std.proofs.lemmas.Bool.{cases_Bool, cases_eq, false≢true, ne_eqb}
 use Rattle.assise_inode_table.specs.Effects.{contains}
 use Rattle.assise_private_log.specs.NumberedLog.{end as log_end}
@@ -10,7 +11,7 @@ use Rattle.assise_model_events.specs.Dsyncs.{besides, coalesced_from, full_elsew
 use Rattle.assise_model_events.proofs.Regroupable.{most-above, most-below}
 use Rattle.assise_machine_state.specs.ClientValues.{client_in}
 use Rattle.assise_machine_state.specs.NodeValues.{log_in}
-use Rattle.assise_machine_state.specs.Observed.{full_in, is_full_in, world_of}
+use Rattle.assise_machine_state.specs.Observed.{world_of}
 use Rattle.assise_machine_state.specs.Places.{IsNumber}
 use Rattle.assise_machine_state.specs.Invariant.{ShapeInvariant}
 use Rattle.assise_machine_state.specs.StateValues.{StateValue, standings}
@@ -22,44 +23,29 @@ use Rattle.assise_machine_state.proofs.Standings.{is_listed, listed_is_full}
 module _ (home : ℕ) (f : ℕ → ℕ) where
   one_more : (ns : List ℕ) (n : ℕ) → (n == home) ≡ false → most_of (besides home (ns ++ n ∷ [])) f ≡ max (most_of (besides home ns) f) (f n)
   one_more [] n other = rw other (omega arith)
-  one_more (m ∷ ns) n other =
-      let rest : most_of (besides home (ns ++ n ∷ [])) f ≡ max (most_of (besides home ns) f) (f n) = one_more ns n other in
-      elim (cases_Bool (m == home)) [
-        | inl is ↦ rw is rest
-        | inr away ↦ rw away (omega (arith, rest))
-      ]
+  one_more (m ∷ ns) n other = grind (arith, cases_Bool, (one_more ns n other))
 
   no_more : (ns : List ℕ) (n : ℕ) → (n == home) ≡ true → most_of (besides home (ns ++ n ∷ [])) f ≡ most_of (besides home ns) f
   no_more [] n is = rw is refl
-  no_more (m ∷ ns) n is =
-      let rest : most_of (besides home (ns ++ n ∷ [])) f ≡ most_of (besides home ns) f = no_more ns n is in
-      elim (cases_Bool (m == home)) [
-        | inl here ↦ rw here rest
-        | inr away ↦ rw away (omega (arith, rest))
-      ]
+  no_more (m ∷ ns) n is = grind (arith, cases_Bool, (no_more ns n is))
 
   taken_more : (ns : List ℕ) (i : ℕ) → i < length ns → take (i + 1) ns ≡ take i ns ++ get_or ns i 0 ∷ []
   taken_more ns i low = (let next : i + 1 ≡ suc i = omega arith in ap (λ k. take k ns) next ∙ take-suc ns i 0 low)
 
-  pub next_most : (ns : List ℕ) (i : ℕ) → i < length ns → (get_or ns i 0 == home) ≡ false → most_of (besides home (take (i + 1) ns)) f ≡ max (most_of (besides home (take i ns)) f) (f (get_or ns i 0))
-  next_most ns i low other = ap (λ ms. most_of (besides home ms) f) (taken_more ns i low) ∙ one_more (take i ns) (get_or ns i 0) other
+  pub next_most : (ns all : List ℕ) (i most found now : ℕ) → ns ≡ all → i < length ns → most ≡ most_of (besides home (take i all)) f →
+      (get_or ns i 0 == home) ≡ false → found ≡ f (get_or ns i 0) → now ≡ max most found → now ≡ most_of (besides home (take (i + 1) all)) f
+  next_most ns all i most found now same low before other is taken = grind (arith, taken_more, one_more)
 
-  pub next_same : (ns : List ℕ) (i : ℕ) → i < length ns → (get_or ns i 0 == home) ≡ true → most_of (besides home (take (i + 1) ns)) f ≡ most_of (besides home (take i ns)) f
-  next_same ns i low is = ap (λ ms. most_of (besides home ms) f) (taken_more ns i low) ∙ no_more (take i ns) (get_or ns i 0) is
+  pub next_same : (ns all : List ℕ) (i most : ℕ) → ns ≡ all → i < length ns → most ≡ most_of (besides home (take i all)) f →
+      (get_or ns i 0 == home) ≡ true → most ≡ most_of (besides home (take (i + 1) all)) f
+  next_same ns all i most same low before is = grind (arith, taken_more, no_more)
 
 -- ---- the order in which full nodes are listed doesn't matter
 
 -- what is left passed
 passes : (p : ℕ → Bool) (ns : List ℕ) (n : ℕ) → contains (filter p ns) n ≡ true → p n ≡ true
 passes p [] n h = absurd (false≢true h)
-passes p (m ∷ ns) n h =
-    elim (cases_Bool (p m)) [
-      | inl kept ↦ elim (cases_eq m n) [
-        | inl is ↦ subst (λ j. p j ≡ true) is kept
-        | inr other ↦ (let rest : contains (filter p ns) n ≡ true = sym (ap (λ b. b || contains (filter p ns) n) (ne_eqb m n other)) ∙ rw kept at h in passes p ns n rest)
-      ]
-      | inr gone ↦ passes p ns n (rw gone at h)
-    ]
+passes p (m ∷ ns) n h = grind (arith, cases_Bool, cases_eq, ne_eqb, (passes p ns n))
 
 no_less : (home : ℕ) (ns ms : List ℕ) (f g : ℕ → ℕ) → ((n : ℕ) → contains ns n ≡ true → contains ms n ≡ true) → ((n : ℕ) → contains ns n ≡ true → f n ≡ g n) →
     most_of (besides home ns) f ≤ most_of (besides home ms) g
@@ -73,26 +59,11 @@ module _ (s : StateValue) (c : ℕ) (shape : ShapeInvariant s) (client : IsNumbe
   abbrev received_in : ℕ → ℕ
   received_in n = log_end (log_in s.nodes n c).log
 
-  received_same : (n : ℕ) → is_full_in (standings s) n ≡ true → (world_of s).received n c ≡ received_in n
-  unfolding world_of
-  received_same n full = refl
-
-  listed_full : (n : ℕ) → contains (full_nodes (standings s)) n ≡ true → contains (full_in (standings s)) n ≡ true
-  listed_full n listed = full_is (standings s) n ∙ listed_is_full (standings s) n listed
-
-  full_listed : (n : ℕ) → contains (full_in (standings s)) n ≡ true → contains (full_nodes (standings s)) n ≡ true
-  full_listed n full = is_listed (standings s) n (sym (full_is (standings s) n) ∙ full)
-
   most_besides : most_of (besides (client_in s.clients c).home (full_nodes (standings s))) received_in ≡ most_of (full_elsewhere (world_of s) c) (λ n. (world_of s).received n c)
   unfolding world_of
-  most_besides =
-      let home : ℕ = (client_in s.clients c).home in
-      let low = no_less home (full_nodes (standings s)) (full_in (standings s)) received_in (λ n. (world_of s).received n c) listed_full (λ n listed. sym (received_same n (listed_is_full (standings s) n listed))) in
-      let high = no_less home (full_in (standings s)) (full_nodes (standings s)) (λ n. (world_of s).received n c) received_in full_listed (λ n full. received_same n (sym (full_is (standings s) n) ∙ full)) in
-      omega (arith, low, high)
+  most_besides = grind (arith, no_less, full_is, listed_is_full, is_listed)
 
   pub coalesced_place : (goal acked most : ℕ) → goal ≡ (client_in s.clients c).goal → acked ≡ received_by_all (world_of s) c →
       most ≡ most_of (besides (client_in s.clients c).home (full_nodes (standings s))) received_in → max (max goal acked) most ≡ coalesced_from (world_of s) c
   unfolding world_of
-  coalesced_place goal acked most goal_is acked_is most_is =
-      omega (arith, goal_is, acked_is, most_is, most_besides)
+  coalesced_place goal acked most goal_is acked_is most_is = grind (arith, most_besides)

@@ -1,6 +1,6 @@
 -- What the laws observe of a call that is answered.
 use Rattle.std.proofs.Common.{◌≡◌, ◌≢◌, ℕ, suc, ◌+◌, ◌<◌, ◌≤◌, Bool, true, false, not, if◌then◌else◌, List, [], ◌∷◌, ◌++◌, length, inl, inr, refl, ap, sym, subst, ◌∙◌, arith}
-use Rattle.std.proofs.lemmas.Bool.{cases_Bool, cases_eq}
+use Rattle.std.proofs.lemmas.Bool.{cases_Bool, cond_both}
 use Rattle.assise_history.specs.Entries.{calls}
 use Rattle.assise_history.proofs.ClientCounts.{durability-still}
 use Rattle.assise_record.specs.declared.effect.Effect.{Effect}
@@ -19,7 +19,7 @@ use Rattle.assise_model_history.specs.Numbered.{kept_numbered, made_in, numbered
 use Rattle.assise_model_history.proofs.NumberedCalls.{kept_call}
 use Rattle.assise_machine_state.specs.Changes.{after_call}
 use Rattle.assise_machine_state.specs.ClientValues.{ClientValue, client_in, with_call}
-use Rattle.assise_machine_state.specs.NodeValues.{HasLog, log_in, region_in, with_call_in}
+use Rattle.assise_machine_state.specs.NodeValues.{HasLog, log_in, region_in, with_call_in, with_log_in}
 use Rattle.assise_machine_state.specs.Observed.{own_node, own_seen, world_of}
 use Rattle.assise_machine_state.specs.Places.{IsNumber}
 use Rattle.assise_machine_state.specs.Invariant.{IsMarked, ShapeInvariant}
@@ -27,8 +27,8 @@ use Rattle.assise_machine_state.specs.StateValues.{StateValue, standings}
 use Rattle.assise_machine_state.proofs.Fullness.{has_log, home_full, lives_number, lives_unfailed}
 use Rattle.assise_machine_state.proofs.LogChanges.{log_else, log_here, log_same, none_more, region_kept, region_with}
 use Rattle.assise_machine_state.proofs.Marks.{called, called_border, marked_as, marked_called, so_many_marks}
-use Rattle.assise_machine_state.proofs.ItemSeen.{client_else, client_here, client_same, length-with}
-use Rattle.assise_machine_state.proofs.ShapeKept.{AreMarked, own_marked, shaped_as}
+use Rattle.assise_machine_state.proofs.ItemSeen.{client_else, client_here, client_same, each_number, length-with}
+use Rattle.assise_machine_state.proofs.ShapeKept.{AreMarked, kept_marks, own_marked, shaped_as}
 use Rattle.assise_machine_state.proofs.SameObserved.{leases_as}
 
 -- ---- the log at home
@@ -44,35 +44,24 @@ module _ (rs : List RegionValue) (n c call : ℕ) (es : List Effect) where
         | inr none ↦ rw none (sym (none_more (λ k. true) (log_in rs n c)))
       ]
 
+  -- what holds of the nodes with the record, and of them as they were, holds then
+  either_way : (P : List RegionValue → Type 0) → P (with_log_in rs n c more) → P rs → P (with_call_in rs n c call es)
+  either_way P some none = cond_both (has_some es) (with_log_in rs n c more) rs P (λ _. some) (λ _. none)
+
   call_else : HasLog rs n c → (m d : ℕ) → (m ≡ n → d ≡ c → ⊥) → log_in (with_call_in rs n c call es) m d ≡ log_in rs m d
-  call_else has m d other =
-      elim (cases_Bool (has_some es)) [
-        | inl some ↦ rw some (log_else rs n c (region_in rs n).inodes more has m d other)
-        | inr none ↦ rw none refl
-      ]
+  call_else has m d other = either_way (λ q. log_in q m d ≡ log_in rs m d) (log_else rs n c (region_in rs n).inodes more has m d other) refl
 
   -- all but records stay
   call_log_kept : {A : Type 0} (f : ReceivedLog → A) → f more ≡ f (log_in rs n c) → (m d : ℕ) → f (log_in (with_call_in rs n c call es) m d) ≡ f (log_in rs m d)
-  call_log_kept f same m d =
-      elim (cases_Bool (has_some es)) [
-        | inl some ↦ rw some (log_same rs n c (region_in rs n).inodes more f m d same)
-        | inr none ↦ rw none refl
-      ]
+  call_log_kept f same m d = either_way (λ q. f (log_in q m d) ≡ f (log_in rs m d)) (log_same rs n c (region_in rs n).inodes more f m d same) refl
 
   call_region_kept : {A : Type 0} (f : RegionValue → A) → f (region_with rs n c (region_in rs n).inodes more) ≡ f (region_in rs n) → (m : ℕ) →
       f (region_in (with_call_in rs n c call es) m) ≡ f (region_in rs m)
   call_region_kept f same m =
-      elim (cases_Bool (has_some es)) [
-        | inl some ↦ rw some (region_kept rs n (region_with rs n c (region_in rs n).inodes more) f same m)
-        | inr none ↦ rw none refl
-      ]
+      either_way (λ q. f (region_in q m) ≡ f (region_in rs m)) (region_kept rs n (region_with rs n c (region_in rs n).inodes more) f same m) refl
 
   so_many_nodes : length (with_call_in rs n c call es) ≡ length rs
-  so_many_nodes =
-      elim (cases_Bool (has_some es)) [
-        | inl some ↦ rw some (length-with rs n (region_with rs n c (region_in rs n).inodes more))
-        | inr none ↦ rw none refl
-      ]
+  so_many_nodes = either_way (λ q. length q ≡ length rs) (length-with rs n (region_with rs n c (region_in rs n).inodes more)) refl
 
   so_many_logs : (m : ℕ) → length (region_in (with_call_in rs n c call es) m).logs ≡ length (region_in rs m).logs
   so_many_logs = call_region_kept (λ r. length r.logs) (length-with (region_in rs n).logs c more)
@@ -80,12 +69,10 @@ module _ (rs : List RegionValue) (n c call : ℕ) (es : List Effect) where
 -- ---- counts
 
 plus_one : (b : Bool) (k : ℕ) → (if b then k + 1 else k) ≡ (if b then suc k else k)
-plus_one true k = omega arith
-plus_one false k = refl
+plus_one b k = grind arith
 
 few_made : (b : Bool) (k : ℕ) → k ≤ 1048576 → (b ≡ true → k < 1048576) → (if b then suc k else k) ≤ 1048576
-few_made true k few room = (let less : k < 1048576 = room refl in omega (arith, less))
-few_made false k few room = few
+few_made b k h1 h2 = grind arith
 
 -- ---- the state
 
@@ -168,93 +155,47 @@ module _ (s : StateValue) (x : NumberedCall) where
 
     -- the client's own log has its groups, and so has each node's
     own_borders : AreMarked s → (k : ℕ) → is_border (own_seen s' c).log k ≡ is_border (own_seen s c).log k
-    own_borders all k =
-        ap (λ l. is_border l.log k) own_called
-        ∙ called_border (own_seen s c) x.number es k (so_many_marks (is_border (own_seen s c).log) (own_seen s c).log (own_marked s all c))
+    own_borders all k = grind (arith, own_called, called_border, so_many_marks, own_marked)
 
     marked_here : AreMarked s → (n : ℕ) → IsMarked (is_border (own_seen s' c).log) (log_in s'.nodes n c).log
-    marked_here all n =
-        elim (cases_eq n home) [
-          | inl is ↦
-              subst (λ m. IsMarked (is_border (own_seen s' c).log) (log_in s'.nodes m c).log) (sym is)
-              (subst (λ l. IsMarked (is_border (own_seen s' c).log) l.log) own_here
-              (subst (λ l. IsMarked (is_border l.log) l.log) (sym own_called) (marked_called (own_seen s c) x.number es (own_marked s all c))))
-          | inr away ↦
-              subst (λ l. IsMarked (is_border (own_seen s' c).log) l.log) (sym (else_log n c (λ there same. away there)))
-              (marked_as (is_border (own_seen s c).log) (is_border (own_seen s' c).log) (log_in s.nodes n c).log
-              (λ k low high. sym (own_borders all k)) (all n c))
-        ]
+    marked_here all n = grind (arith, each_number, own_here, own_called, marked_called, own_marked, else_log, marked_as, own_borders)
 
     marked_now : AreMarked s → AreMarked s'
-    marked_now all n d =
-        elim (cases_eq d c) [
-          | inl is ↦ subst (λ e. IsMarked (is_border (own_seen s' e).log) (log_in s'.nodes n e).log) (sym is) (marked_here all n)
-          | inr other ↦
-              subst (λ l. IsMarked (is_border l.log) (log_in s'.nodes n d).log) (sym (own_else d other))
-              (subst (λ l. IsMarked (is_border (own_seen s d).log) l.log) (sym (else_log n d (λ there same. other same))) (all n d))
-        ]
+    marked_now all n d = grind (arith, each_number, marked_here, kept_marks, own_else, else_log)
 
     shaped : ShapeInvariant s → ShapeInvariant s'
-    shaped shape = shaped_as s s' shape record {
-      nodes = so_many_nodes s.nodes home c x.number es;
-      members = refl;
-      full = λ n. refl;
-      logs = so_many_logs s.nodes home c x.number es;
-      clients = so_many_clients;
-      home = stays (λ y. y.home) refl;
-      failed = stays (λ y. y.failed) refl;
-      limit = refl;
-      limits = kept (λ l. l.log.limit) refl;
-      at_home = kept (λ l. l.at_home) refl;
-      marked = marked_now;
-      durability = stays (λ y. y.durability) refl;
-      opened = λ d. durability-still s.history (calls (plain_call x)) d refl;
-    }
-
-    same_end : w'.received home c ≡ end_of_log w' c
-    unfolding world_of end_of_log
-    same_end = ap (λ l. log_end l.log) (sym own_here)
+    shaped shape =
+        let home = stays (λ y. y.home) refl in
+        let failed = stays (λ y. y.failed) refl in
+        let durability = stays (λ y. y.durability) refl in
+        let limits = kept (λ l. l.log.limit) refl in
+        let at_home = kept (λ l. l.at_home) refl in
+        let opened = λ (d : ℕ). durability-still s.history (calls (plain_call x)) d refl in
+        shaped_as s s' shape (search (so_many_nodes, so_many_logs, so_many_clients, marked_now) parts 3)
 
     -- the history has the call as it was made
     same_call : w.made c ≡ made_in c s.history → x.fresh ≡ inode_number c (w.made c) → numbered_in s.history (plain_call x) ≡ x
-    same_call counted fresh =
-        let is : inode_number c (made_in c s.history) ≡ x.fresh = ap (inode_number c) (sym counted) ∙ sym fresh in
-        λ i. record { client = x.client; number = x.number; op = x.op; reply = x.reply; fresh = is i }
-
-    calls_now : w.made c ≡ made_in c s.history → x.fresh ≡ inode_number c (w.made c) → w'.calls ≡ w.calls ++ x ∷ []
-    unfolding world_of
-    calls_now counted fresh = kept_call s.history (plain_call x) ∙ ap (λ y. kept_numbered s.history ++ y ∷ []) (same_call counted fresh)
+    same_call counted fresh = grind arith
 
     -- the client's counts
     next_now : x.number ≡ w.next c → w'.next c ≡ suc x.number
     unfolding world_of
-    next_now number =
-        let before : x.number ≡ (client_in s.clients c).next = number in
-        let more : (client_in s.clients c).next + 1 ≡ suc x.number = omega (arith, before) in
-        ap (λ y. y.next) (client_here s.clients c now there) ∙ more
+    next_now number = grind (arith, client_here)
 
     made_now : w'.made c ≡ (if call_makes_inode w x then suc (w.made c) else w.made c)
     unfolding world_of
-    made_now =
-        ap (λ y. y.made) (client_here s.clients c now there)
-        ∙ plus_one (call_makes_inode w x) (client_in s.clients c).made
+    made_now = grind (arith, client_here, plus_one)
 
     border_kept : AreMarked s → (d k : ℕ) → k ≤ end_of_log w d → w'.border d k ≡ w.border d k
     unfolding world_of
-    border_kept all d k old =
-        elim (cases_eq d c) [
-          | inl is ↦ subst (λ e. w'.border e k ≡ w.border e k) (sym is) (own_borders all k)
-          | inr other ↦ ap (λ l. is_border l.log k) (own_else d other)
-        ]
+    border_kept all d k old = grind (arith, each_number, own_borders, own_else)
 
     border_ends : AreMarked s → w'.border c (end_of_log w' c) ≡ true
     unfolding world_of end_of_log
-    border_ends all =
-        let now : IsMarked (is_border (own_seen s' c).log) (own_seen s' c).log = own_marked s' (marked_now all) c in
-        border_end (own_seen s' c).log (log_end (own_seen s' c).log) (so_many_marks (is_border (own_seen s' c).log) (own_seen s' c).log now) (omega arith)
+    border_ends all = grind (arith, own_marked, marked_now, border_end, so_many_marks)
 
     call_of : ShapeInvariant s → w.made c ≡ made_in c s.history → w.made c ≤ 1048576 → MayMakeCall w x → MakesCall w x w'
-    unfolding world_of
+    unfolding world_of end_of_log
     call_of shape counted few may = record {
       lives = may.lives;
       running = may.running;
@@ -263,7 +204,7 @@ module _ (s : StateValue) (x : NumberedCall) where
       reply = may.reply;
       held = may.held;
       written = may.written;
-      calls = calls_now counted may.fresh;
+      calls = kept_call s.history (plain_call x) ∙ ap (λ y. kept_numbered s.history ++ y ∷ []) (same_call counted may.fresh);
       records_own = ap (λ l. l.log.records) own_called;
       records_else = λ d other. ap (λ l. l.log.records) (own_else d other);
       first = own_kept (λ l. l.log.first) refl;
@@ -276,7 +217,7 @@ module _ (s : StateValue) (x : NumberedCall) where
       made_few = subst (λ k. k ≤ 1048576) (sym made_now) (few_made (call_makes_inode w x) (w.made c) few may.room);
       log_home = ap (λ l. l.log.records) home_log;
       log_else = λ n d f other. ap (λ l. l.log.records) (else_log n d other);
-      received_home = same_end;
+      received_home = ap (λ l. log_end l.log) (sym own_here);
       received_else = λ n d f other. ap (λ l. log_end l.log) (else_log n d other);
       digested = λ n d f. kept (λ l. l.digested) refl n d;
       area = λ n i f. area_kept n i;

@@ -9,7 +9,6 @@ use Rattle.assise_record.specs.LogRecord.{LogRecord}
 use Rattle.assise_record.proofs.GroupMarks.{groups-all, groups-are}
 use Rattle.assise_record.proofs.WholeGroups.{whole_none}
 use Rattle.assise_inode_table.specs.Contents.{values}
-use Rattle.assise_private_log.specs.Groups.{regrouped}
 use Rattle.assise_private_log.specs.NumberedLog.{IsNumberedLog, NumberedLog, end as log_end, is_border, records_from}
 use Rattle.assise_private_log.proofs.LogGroups.{regrouped_all, regrouped_among, regrouped_before, regrouped_records}
 use Rattle.assise_digest.specs.Region.{ReceivedLog, regrouped_from}
@@ -32,33 +31,15 @@ use Rattle.assise_machine_state.specs.Places.{IsNumber}
 use Rattle.assise_machine_state.specs.Invariant.{CutsInvariant, IsMarked, ShapeInvariant}
 use Rattle.assise_machine_state.specs.StateValues.{StateValue, standings}
 use Rattle.assise_machine_state.proofs.Fullness.{has_log, home_full, lives_number, lives_unfailed, no_log_there, seen_full}
-use Rattle.assise_machine_state.proofs.LogChanges.{log_else, log_here, log_same, logs_count, region_kept, region_with}
+use Rattle.assise_machine_state.proofs.LogChanges.{log_else, log_here, log_same, region_kept, region_with}
 use Rattle.assise_machine_state.proofs.Marks.{marked_as}
 use Rattle.assise_machine_state.proofs.Noted.{goal_noted}
 use Rattle.assise_machine_state.proofs.GoalObserved.{goal_raised, goal_shaped}
 use Rattle.assise_machine_state.proofs.RegroupedMarks.{regrouped_marked}
-use Rattle.assise_machine_state.proofs.ShapeKept.{AreMarked, own_marked, shaped_as}
+use Rattle.assise_machine_state.proofs.ShapeKept.{AreMarked, kept_marks, own_marked, shaped_log}
 use Rattle.assise_machine_state.proofs.ShapedClients.{areas_stay}
 use Rattle.assise_machine_state.proofs.SameObserved.{leases_as}
-use Rattle.assise_machine_state.proofs.ItemSeen.{length-with}
-
--- ---- what is observed of a client's log
-
-own_ends : (s : StateValue) (c : ℕ) → end_of_log (world_of s) c ≡ log_end (own_seen s c).log
-unfolding world_of end_of_log
-own_ends s c = refl
-
-first_is : (s : StateValue) (c : ℕ) → (world_of s).first c ≡ (own_seen s c).log.first
-unfolding world_of
-first_is s c = refl
-
-received_is : (s : StateValue) (n c : ℕ) → (world_of s).received n c ≡ log_end (log_in s.nodes n c).log
-unfolding world_of
-received_is s n c = refl
-
-away_from : (s : StateValue) (c n : ℕ) → n ≢ (client_in s.clients c).home → n ≢ (world_of s).home c
-unfolding world_of
-away_from s c n away = away
+use Rattle.assise_machine_state.proofs.ItemSeen.{each_number}
 
 module _ (s : StateValue) (c from : ℕ) where
   abbrev home : ℕ
@@ -107,9 +88,6 @@ module _ (s : StateValue) (c from : ℕ) where
     has : HasLog s.nodes home c
     has = has_log s home c shape (home_full s c shape unfailed) there
 
-    home_now : log_in t.nodes home c ≡ regrouped_from (log_in s.nodes home c) from
-    home_now = log_here s.nodes home c (region_in s.nodes home).inodes new has
-
     else_now : (n d : ℕ) → (n ≡ home → d ≡ c → ⊥) → log_in t.nodes n d ≡ log_in s.nodes n d
     else_now = log_else s.nodes home c (region_in s.nodes home).inodes new has
 
@@ -125,7 +103,7 @@ module _ (s : StateValue) (c from : ℕ) where
     own_before = ap (λ n. log_in s.nodes n c) own_is_home
 
     own_now : own_seen t c ≡ regrouped_from (own_seen s c) from
-    own_now = own_after ∙ home_now ∙ ap (λ x. regrouped_from x from) (sym own_before)
+    own_now = own_after ∙ log_here s.nodes home c (region_in s.nodes home).inodes new has ∙ ap (λ x. regrouped_from x from) (sym own_before)
 
     own_else : (d : ℕ) → d ≢ c → own_seen t d ≡ own_seen s d
     unfolding own_seen
@@ -137,11 +115,7 @@ module _ (s : StateValue) (c from : ℕ) where
     -- each log begins where it began
     first_kept : (d : ℕ) → u.first d ≡ w.first d
     unfolding world_of
-    first_kept d =
-        elim (cases_eq d c) [
-          | inl is ↦ subst (λ e. u.first e ≡ w.first e) (sym is) (ap (λ x. x.log.first) own_now ∙ ap (λ m. m.first) (regrouped_all l from))
-          | inr other ↦ ap (λ x. x.log.first) (own_else d other)
-        ]
+    first_kept d = grind (arith, each_number, own_now, regrouped_all, own_else)
 
     module _ (law : IsNumberedLog l) (high : from ≤ log_end l)
         (elsewhere : (n : ℕ) → is_full_in (standings s) n ≡ true → n ≢ home → log_end (log_in s.nodes n c).log ≤ from) where
@@ -151,49 +125,20 @@ module _ (s : StateValue) (c from : ℕ) where
       border_now k before = ap (λ x. is_border x.log k) own_now ∙ regrouped_before l from k law high before
 
       marked_away : (n : ℕ) → n ≢ home → IsMarked (is_border (own_seen t c).log) (log_in s.nodes n c).log
-      marked_away n away =
-          elim (cases_Bool (is_full_in (standings s) n)) [
-            | inl full ↦
-                marked_as (is_border l) (is_border (own_seen t c).log) (log_in s.nodes n c).log
-                (λ k low before. (let last = elsewhere n full away in sym (border_now k (omega (arith, last, before))))) (shape.marked n c)
-            | inr none ↦ subst (λ x. IsMarked (is_border (own_seen t c).log) x.log) (sym (no_log_there s n c shape none)) refl
-          ]
+      marked_away n away = grind (arith, cases_Bool, marked_as, border_now, no_log_there)
 
       marked_here : (n : ℕ) → IsMarked (is_border (own_seen t c).log) (log_in t.nodes n c).log
       marked_here n =
-          elim (cases_eq n home) [
-            | inl is ↦
-                subst (λ m. IsMarked (is_border (own_seen t c).log) (log_in t.nodes m c).log) (sym is)
-                (subst (λ x. IsMarked (is_border (own_seen t c).log) x.log) own_after
-                (subst (λ x. IsMarked (is_border x.log) x.log) (sym own_now) (regrouped_marked l from (own_marked s shape.marked c))))
-            | inr away ↦ subst (λ x. IsMarked (is_border (own_seen t c).log) x.log) (sym (else_now n c (λ is _. away is))) (marked_away n away)
-          ]
+          each_number (λ m. IsMarked (is_border (own_seen t c).log) (log_in t.nodes m c).log) home n
+          (subst (λ x. IsMarked (is_border (own_seen t c).log) x.log) own_after
+          (subst (λ x. IsMarked (is_border x.log) x.log) (sym own_now) (regrouped_marked l from (own_marked s shape.marked c))))
+          (λ away. subst (λ x. IsMarked (is_border (own_seen t c).log) x.log) (sym (else_now n c (λ is _. away is))) (marked_away n away))
 
       marked_now : AreMarked t
-      marked_now n d =
-          elim (cases_eq d c) [
-            | inl is ↦ subst (λ e. IsMarked (is_border (own_seen t e).log) (log_in t.nodes n e).log) (sym is) (marked_here n)
-            | inr other ↦
-                subst (λ x. IsMarked (is_border x.log) (log_in t.nodes n d).log) (sym (own_else d other))
-                (subst (λ x. IsMarked (is_border (own_seen s d).log) x.log) (sym (else_now n d (λ _ same. other same))) (shape.marked n d))
-          ]
+      marked_now n d = grind (arith, each_number, marked_here, kept_marks, own_else, else_now)
 
       regrouped_shaped : ShapeInvariant t
-      regrouped_shaped = shaped_as s t shape record {
-        nodes = length-with s.nodes home _;
-        members = refl;
-        full = λ n. refl;
-        logs = logs_count s.nodes home c (region_in s.nodes home).inodes new;
-        clients = refl;
-        home = λ d. refl;
-        failed = λ d. refl;
-        limit = refl;
-        limits = λ n d. log_same s.nodes home c (region_in s.nodes home).inodes new (λ x. x.log.limit) n d same_limit;
-        at_home = λ n d. log_same s.nodes home c (region_in s.nodes home).inodes new (λ x. x.at_home) n d refl;
-        marked = λ all. marked_now;
-        durability = λ d. refl;
-        opened = λ d. refl;
-      }
+      regrouped_shaped = shaped_log s s.members home c (region_in s.nodes home).inodes new shape same_limit refl (λ all. marked_now) refl (λ n. refl)
 
       pub coalescing_shaped : ShapeInvariant s'
       coalescing_shaped = goal_shaped t c (end_of_log u c) there regrouped_shaped
@@ -236,26 +181,14 @@ module _ (s : StateValue) (c from : ℕ) where
 
         border_among : (k : ℕ) → k ≤ length (all_coalesced gs) → u.border c (from + k) ≡ are_whole gs k
         unfolding world_of end_of_log
-        border_among k within =
-            let ends : log_end (regrouped l from) ≡ end_of_log u c = ap (λ x. log_end x.log) (sym own_now) in
-            ap (λ x. is_border x.log (from + k)) own_now
-            ∙ regrouped_among l from (end_of_log w c) k law first_low high some few (omega (arith, within, end_now, ends))
-            ∙ ap (λ hs. are_whole hs k) groups_same
+        border_among k within = grind (arith, own_now, regrouped_among, few, end_now, groups_same)
 
         border_first : u.border c from ≡ true
         border_first = (let here : from + 0 ≡ from = omega arith in ap (u.border c) (sym here) ∙ border_among 0 (omega arith) ∙ whole_none gs)
 
         border_before : (k : ℕ) → k ≤ from → u.border c k ≡ w.border c k
         unfolding world_of
-        border_before k old =
-            elim (cases_eq k from) [
-              | inl is ↦ ap (u.border c) is ∙ border_first ∙ sym (ap (w.border c) is ∙ at_border)
-              | inr other ↦ border_now k (omega (arith, old, other))
-            ]
-
-        received_now : u.received home c ≡ end_of_log u c
-        unfolding world_of end_of_log
-        received_now = ap (λ x. log_end x.log) (sym own_after)
+        border_before k old = grind (arith, cases_eq, border_first, border_now)
 
         raised : RaisesGoals u (goal_of c (end_of_log u c)) w'
         raised = goal_raised t c (end_of_log u c) there (omega arith)
@@ -268,31 +201,20 @@ module _ (s : StateValue) (c from : ℕ) where
         ends_same = end-same u w' raised.logs c
 
         gets : Full w home → GetsAll home c w'
-        unfolding world_of
-        gets f = record {
-          received = (raised.nodes.same home (still_full home f)).received c ∙ received_now ∙ sym ends_same;
-          log = (raised.nodes.same home (still_full home f)).log c ∙ ap (λ x. x.log.records) (sym own_after) ∙ sym (raised.logs.records c);
-        }
+        unfolding world_of end_of_log
+        gets f = grind (arith, raised, still_full, own_after, ends_same)
 
         pub has_none : (n : ℕ) → Full w n → n ≢ home → HasNone w n c from w'
         unfolding world_of
-        has_none n f away = record {
-          before = past n f away;
-          received = (raised.nodes.same n (still_full n f)).received c ∙ ap (λ x. log_end x.log) (else_now n c (λ is _. away is));
-          log = (raised.nodes.same n (still_full n f)).log c ∙ ap (λ x. x.log.records) (else_now n c (λ is _. away is));
-        }
+        has_none n f away = grind (arith, raised, still_full, else_now)
 
         goal_now : w'.goal c ≡ end_of_log w' c
         unfolding world_of
-        goal_now = (
-            let to : goal_of c (end_of_log u c) c ≡ end_of_log u c = rw (eq-eqb c c refl) refl in
-            omega (arith, raised.goals c, to, goal_low, end_now, ends_same))
+        goal_now = grind (arith, eq-eqb, raised, end_now, ends_same)
 
         goal_else : (d : ℕ) → d ≢ c → w'.goal d ≡ w.goal d
         unfolding world_of
-        goal_else d other = (
-            let to : goal_of c (end_of_log u c) d ≡ 0 = rw (ne_eqb d c other) refl in
-            omega (arith, raised.goals d, to))
+        goal_else d other = grind (arith, ne_eqb, raised)
 
         same_leases : KeepsLeases w u
         same_leases = leases_as s t (λ i. refl)
@@ -356,10 +278,16 @@ module _ (s : StateValue) (c : ℕ) (shape : ShapeInvariant s) (sound : ∥ Worl
   others_low n full away = ∥∥₁_elim sound (search props) (λ h. coalesced_elsewhere (world_of s) c h n full away)
 
   within : start ≤ log_end (own_seen s c).log
-  within = omega (arith, start_high, own_ends s c)
+  unfolding world_of end_of_log
+  within = start_high
+
+  first_low : (own_seen s c).log.first ≤ start
+  unfolding world_of
+  first_low = start_first
 
   others_end : (n : ℕ) → is_full_in (standings s) n ≡ true → n ≢ (client_in s.clients c).home → log_end (log_in s.nodes n c).log ≤ start
-  others_end n full away = (let known = others_low n (seen_full s n full) (away_from s c n away) in omega (arith, known, received_is s n c))
+  unfolding world_of
+  others_end n full = others_low n (seen_full s n full)
 
   pub regrouped_shape : ShapeInvariant (after_regrouping s c start)
   regrouped_shape = regrouped_shaped s c start shape lives law within others_end
@@ -367,13 +295,11 @@ module _ (s : StateValue) (c : ℕ) (shape : ShapeInvariant s) (sound : ∥ Worl
   pub coalesced_shape : ShapeInvariant (after_coalescing s c start)
   coalesced_shape = coalescing_shaped s c start shape lives law within others_end
 
-  pub coalesced_groups : AllHaveEffects (records_from (own_seen s c).log start) → Regroups (world_of s) c start (new_groups (world_of s) c) (world_of (after_coalescing s c start))
-  coalesced_groups some =
-      let first : (own_seen s c).log.first ≤ start = omega (arith, start_first, first_is s c) in
-      regroups s c start shape lives law within others_end first some start_low goal_low start_border others_low
+  pub coalesced_groups : AllHaveEffects (records_from (own_seen s c).log start) →
+      Regroups (world_of s) c start (new_groups (world_of s) c) (world_of (after_coalescing s c start))
+  coalesced_groups some = regroups s c start shape lives law within others_end first_low some start_low goal_low start_border others_low
 
-  pub coalesced_none : AllHaveEffects (records_from (own_seen s c).log start) → (n : ℕ) → Full (world_of s) n → n ≢ (world_of s).home c → HasNone (world_of s) n c start (world_of (after_coalescing s c start))
+  pub coalesced_none : AllHaveEffects (records_from (own_seen s c).log start) → (n : ℕ) → Full (world_of s) n → n ≢ (world_of s).home c →
+      HasNone (world_of s) n c start (world_of (after_coalescing s c start))
   unfolding world_of
-  coalesced_none some n full away =
-      let first : (own_seen s c).log.first ≤ start = omega (arith, start_first, first_is s c) in
-      has_none s c start shape lives law within others_end first some start_low goal_low start_border others_low n full away
+  coalesced_none some = has_none s c start shape lives law within others_end first_low some start_low goal_low start_border others_low

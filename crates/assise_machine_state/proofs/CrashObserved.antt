@@ -1,5 +1,5 @@
 -- What the laws observe of a client that crashes.
-use Rattle.std.proofs.Common.{◌≡◌, ℕ, ◌==◌, true, false, List, ◌∷◌, [], ◌++◌, refl, ap, ◌∙◌}
+use Rattle.std.proofs.Common.{◌≡◌, ℕ, ◌==◌, true, false, List, ◌∷◌, [], ◌++◌, refl, arith}
 use Rattle.std.proofs.lemmas.Bool.{ne_eqb}
 use Rattle.assise_history.proofs.ClientCounts.{durability-still}
 use Rattle.assise_history.specs.Entries.{EntryValue, crashes}
@@ -11,7 +11,7 @@ use Rattle.assise_model_world.specs.World.{World, end_of_log}
 use Rattle.assise_model_leases.specs.Handing.{CrashesWith}
 use Rattle.assise_model_history.proofs.NumberedCalls.{kept_crash}
 use Rattle.assise_machine_state.specs.Changes.{after_crash}
-use Rattle.assise_machine_state.specs.ClientValues.{ClientValue, client_in, crashed_at, cut_of}
+use Rattle.assise_machine_state.specs.ClientValues.{ClientValue, client_in, crashed_at, with_client}
 use Rattle.assise_machine_state.specs.Observed.{world_of}
 use Rattle.assise_machine_state.specs.Places.{IsNumber}
 use Rattle.assise_machine_state.specs.Invariant.{AreLeft, ShapeInvariant}
@@ -19,7 +19,7 @@ use Rattle.assise_machine_state.specs.StateValues.{StateValue, leases_of}
 use Rattle.assise_machine_state.proofs.Fullness.{lives_number}
 use Rattle.assise_machine_state.proofs.Noted.{left_else, unasked_cut}
 use Rattle.assise_machine_state.proofs.ItemSeen.{client_else, client_here}
-use Rattle.assise_machine_state.proofs.ShapedClients.{Remains, home_stays, lives_stays, logs_stay, nodes_stay, same_count, still_shaped}
+use Rattle.assise_machine_state.proofs.ShapedClients.{Remain, logs_stay, nodes_stay, one_remains, still_shaped}
 use Rattle.assise_machine_state.proofs.SameObserved.{leases_revoked}
 
 module _ (s : StateValue) (c : ℕ) (levels : TwoLevels) (asked : List Asked) where
@@ -35,38 +35,25 @@ module _ (s : StateValue) (c : ℕ) (levels : TwoLevels) (asked : List Asked) wh
   abbrev told : List EntryValue
   told = s.history ++ crashes c ∷ []
 
-  remains : Remains (client_in s.clients c) now
-  remains = record { home = refl; failed = refl; next = refl; made = refl; durability = refl }
+  abbrev cs : List ClientValue
+  cs = with_client s.clients c now
+
+  remain : Remain s.clients cs
+  remain = one_remains s.clients c now refl refl refl refl refl
 
   crash_of : IsNumber s.clients c → w.lives c ≡ true → w.crashed c ≡ false → IsRevoked s.levels levels c → Crashes w c w'
   unfolding world_of
-  crash_of there lives runs revoked = record {
-    lives = lives;
-    running = runs;
-    logs = logs_stay s c now levels (s.cuts ++ asked) told remains (kept_crash s.history c);
-    nodes = nodes_stay s c now levels (s.cuts ++ asked) told;
-    leases = leases_revoked s (after_crash s c levels asked) (is_own c) revoked.clients;
-    clients = same_count s c now levels (s.cuts ++ asked) told;
-    home = home_stays s c now levels (s.cuts ++ asked) told remains;
-    lives_same = lives_stays s c now levels (s.cuts ++ asked) told remains;
-    crashed_here = ap (λ x. x.crashed) (client_here s.clients c now there);
-    crashed_else = λ d other. ap (λ x. x.crashed) (client_else s.clients c now there d other);
-    goal_here = ap (λ x. x.goal) (client_here s.clients c now there);
-    goal_else = λ d other. ap (λ x. x.goal) (client_else s.clients c now there d other);
-  }
+  crash_of there lives runs revoked =
+      let logs = logs_stay s cs levels (s.cuts ++ asked) told remain (kept_crash s.history c) in
+      let nodes = nodes_stay s cs levels (s.cuts ++ asked) told in
+      let leases = leases_revoked s (after_crash s c levels asked) (is_own c) revoked.clients in
+      search (remain, client_here, client_else, arith) parts 3
 
   pub crash_seen : w.lives c ≡ true → w.crashed c ≡ false → IsRevoked s.levels levels c → AreLeft s (λ d. d == c) asked → CrashesWith w (leases_of s) c w' (leases_of (after_crash s c levels asked))
   unfolding leases_of
   crash_seen lives runs revoked left =
       let there : IsNumber s.clients c = lives_number s c lives in
-      record {
-        crash = crash_of there lives runs revoked;
-        revoked = revoked;
-        cut_here = λ i. ap (λ x. cut_of (s.cuts ++ asked) c x i) (client_here s.clients c now there);
-        cut_else = λ d i other.
-            ap (λ x. cut_of (s.cuts ++ asked) d x i) (client_else s.clients c now there d other)
-            ∙ unasked_cut s.cuts asked d (client_in s.clients d) i (left_else s (λ e. e == c) asked left d i (ne_eqb d c other));
-      }
+      (search (crash_of, client_here, client_else, unasked_cut, left_else, ne_eqb, arith) parts 3)
 
   pub crash_shaped : ShapeInvariant s → ShapeInvariant (after_crash s c levels asked)
-  crash_shaped shape = still_shaped s c now levels (s.cuts ++ asked) told remains (λ d. durability-still s.history (crashes c) d refl) shape
+  crash_shaped shape = still_shaped s cs levels (s.cuts ++ asked) told remain (λ d. durability-still s.history (crashes c) d refl) shape

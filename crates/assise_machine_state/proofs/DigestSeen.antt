@@ -1,5 +1,5 @@
 -- What the laws observe of records that a node digests.
-use Rattle.std.proofs.Common.{◌≡◌, ◌≢◌, ℕ, ◌+◌, ◌-◌, ◌≤◌, List, length, map, take, refl, ap, sym, subst, ◌∙◌, arith}
+use Rattle.std.proofs.Common.{◌≡◌, ◌≢◌, ℕ, ◌-◌, List, length, map, take, refl, ap, ◌∙◌, arith}
 use Rattle.std.proofs.lemmas.List.{length-map}
 use Rattle.std.specs.FinSet as set
 use Rattle.std.specs.Ordering.{nat_cmp}
@@ -10,12 +10,12 @@ use Rattle.assise_inode_table.specs.Effects.{all_applied, contains, touched, val
 use Rattle.assise_private_log.specs.NumberedLog.{end as log_end, is_border}
 use Rattle.assise_digest.specs.Region.{ReceivedLog, RegionValue, ahead, digested_further}
 use Rattle.assise_manager.specs.Changes.{noted, stale_again}
-use Rattle.assise_manager.specs.Standings.{Standing, down, full, is_full, returning}
+use Rattle.assise_manager.specs.Standings.{Standing, full, is_full}
 use Rattle.assise_model_world.specs.Chances.{MayDigest}
 use Rattle.assise_model_world.specs.NodeSteps.{Digests}
 use Rattle.assise_model_world.specs.Invariant.{WorldInvariant}
-use Rattle.assise_model_world.specs.World.{Full, World, undigested_below}
-use Rattle.assise_model_members.specs.Returns.{DigestsNoted, OtherAreasStay}
+use Rattle.assise_model_world.specs.World.{World, undigested_below}
+use Rattle.assise_model_members.specs.Returns.{DigestsNoted}
 use Rattle.assise_machine_state.specs.Changes.{after_digest}
 use Rattle.assise_machine_state.specs.ClientValues.{client_in}
 use Rattle.assise_machine_state.specs.NodeValues.{HasLog, log_in, region_in}
@@ -33,9 +33,7 @@ use Rattle.assise_machine_state.proofs.SameObserved.{clients_as, goals_as, lease
 -- ---- the same nodes are full after the manager noted inodes
 
 one_noted : (n : ℕ) (inodes : set.FinSet nat_cmp) (x : Standing) → is_full (stale_again n inodes x) ≡ is_full x
-one_noted n inodes full = refl
-one_noted n inodes (down since) = refl
-one_noted n inodes (returning since donor stale) = refl
+one_noted n inodes x = grind arith
 
 module _ (nodes : List Standing) (n : ℕ) (inodes : set.FinSet nat_cmp) where
   same_count : length (map (stale_again n inodes) nodes) ≡ length nodes
@@ -92,22 +90,12 @@ module _ (s : StateValue) (n c k : ℕ) (inodes : set.FinSet nat_cmp) (shape : S
 
   digested_now : w'.digested n c ≡ k
   unfolding world_of
-  digested_now =
-      let from : (log_in s.nodes n c).digested ≤ k = may.from in
-      let sum : (log_in s.nodes n c).digested + (k - (log_in s.nodes n c).digested) ≡ k = omega (arith, from) in
-      ap (λ x. x.digested) (log_here s.nodes n c (inodes_now s n c k) (further s n c k) has) ∙ sum
+  digested_now = grind (arith, log_here, has)
 
   -- the area has what the observed records make of it
-  below_is : undigested_below w n c k ≡ take (k - (log_in s.nodes n c).digested) (ahead (log_in s.nodes n c))
-  unfolding undigested_below world_of
-  below_is = ap (take (k - (log_in s.nodes n c).digested)) (ahead_first s n c first)
-
   area_now : (i : ℕ) → w'.area n i ≡ value_after i (w.area n i) (all_effects (undigested_below w n c k))
-  unfolding world_of
-  area_now i =
-      ap (λ r. values r.inodes i) (region_here s.nodes n now has.node)
-      ∙ get-all_applied (region_in s.nodes n).inodes (all_effects (take (k - (log_in s.nodes n c).digested) (ahead (log_in s.nodes n c)))) i
-      ∙ ap (λ rs. value_after i (w.area n i) (all_effects rs)) (sym below_is)
+  unfolding undigested_below world_of
+  area_now i = grind (arith, region_here, has, get-all_applied, ahead_first)
 
   area_beside : (m i : ℕ) → m ≢ n → w'.area m i ≡ w.area m i
   unfolding world_of
@@ -115,30 +103,18 @@ module _ (s : StateValue) (n c k : ℕ) (inodes : set.FinSet nat_cmp) (shape : S
 
   digested : Digests w n c k w'
   unfolding world_of
-  digested = record {
-    full_node = may.full_node;
-    from = may.from;
-    to = may.to;
-    border_to = may.border_to;
-    logs = logs_as s t refl refl (λ d. ap (λ x. x.records) (own_log s n c k inodes d)) (λ d. ap (λ x. x.first) (own_log s n c k inodes d))
-        (λ d j. ap (λ x. is_border x j) (own_log s n c k inodes d));
-    clients = clients_as s t refl;
-    goals = goals_as s t refl;
-    leases = leases_as s t (λ i. refl);
-    full = same_full (standings t) (standings s) (same_count (standings s) n inodes) (still_full (standings s) n inodes);
-    log = λ m d f. ap (λ x. x.records) (same_log s n c k inodes m d);
-    received = λ m d f. ap (λ x. log_end x) (same_log s n c k inodes m d);
-    digested_here = digested_now;
-    digested_else = λ m d f other. ap (λ x. x.digested) (log_else s.nodes n c (inodes_now s n c k) (further s n c k) has m d other);
-    area_here = area_now;
-    area_else = λ m i f other. area_beside m i other;
-  }
-
-  other_areas : OtherAreasStay w w'
-  other_areas m i away = area_beside m i (λ is. away (subst (λ j. Full w j) (sym is) may.full_node))
+  digested =
+      let own = own_log s n c k inodes in
+      let logs = logs_as s t refl refl (λ d. ap (λ x. x.records) (own d)) (λ d. ap (λ x. x.first) (own d)) (λ d j. ap (λ x. is_border x j) (own d)) in
+      let full = same_full (standings t) (standings s) (same_count (standings s) n inodes) (still_full (standings s) n inodes) in
+      let log : (m d : ℕ) → w'.log m d ≡ w.log m d = λ m d. ap (λ x. x.records) (same_log s n c k inodes m d) in
+      let received : (m d : ℕ) → w'.received m d ≡ w.received m d = λ m d. ap (λ x. log_end x) (same_log s n c k inodes m d) in
+      let else_same : (m d : ℕ) → (m ≡ n → d ≡ c → ⊥) → w'.digested m d ≡ w.digested m d =
+      λ m d other. ap (λ x. x.digested) (log_else s.nodes n c (inodes_now s n c k) (further s n c k) has m d other) in
+      search (log, received, else_same, digested_now, area_now, area_beside, clients_as, goals_as, leases_as) parts 3
 
   pub noted_prefix : ((i : ℕ) → set.contains inodes i ≡ contains (touched (all_effects (undigested_below w n c k))) i) → DigestsNoted w s.members n c k inodes w' t.members
-  noted_prefix touches = record { digests = digested; touches = touches; members = refl; others = other_areas }
+  noted_prefix touches = grind (arith, digested, area_beside)
 
 pub digest_noted : (s : StateValue) (n c k : ℕ) (inodes : set.FinSet nat_cmp) → ShapeInvariant s → WorldInvariant (world_of s) → IsNumber s.clients c → MayDigest (world_of s) n c k →
     ((i : ℕ) → set.contains inodes i ≡ contains (touched (all_effects (undigested_below (world_of s) n c k))) i) →

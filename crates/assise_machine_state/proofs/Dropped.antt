@@ -1,10 +1,9 @@
 -- Prefixes that are dropped of one client's logs after another's, as the laws have it.
-use Rattle.std.proofs.Common.{◌≡◌, ◌≢◌, ◌⊎◌, ℕ, zero, suc, ◌-◌, ◌<◌, ◌≤◌, ◌==◌, true, if◌then◌else◌, List, [], ◌∷◌, length, drop, slice_index_or, inl, inr, refl, ap, sym, subst, ◌∙◌, arith, eq-eqb}
+use Rattle.std.proofs.Common.{◌≡◌, ◌⊎◌, ℕ, zero, suc, ◌-◌, ◌<◌, ◌≤◌, ◌==◌, true, if◌then◌else◌, List, [], ◌∷◌, length, slice_index_or, inl, inr, refl, ap}
+use Rattle.std.proofs.Common.{sym, subst, ◌∙◌, arith, eq-eqb}
 use Rattle.std.proofs.Math.Logic.{∥∥₁_elim, ∥∥₁_map}
 use Rattle.std.proofs.Props.{props}
 use Rattle.std.proofs.lemmas.Bool.{cases_Bool, cases_eq, ne_eqb}
-use Rattle.assise_record.specs.LogRecord.{LogRecord}
-use Rattle.assise_private_log.specs.NumberedLog.{end as log_end}
 use Rattle.assise_private_log.proofs.Borders.{border_first}
 use Rattle.assise_digest.specs.Region.{HasClient, RegionValue, log_of, no_log}
 use Rattle.assise_model_world.specs.NodeSteps.{Drops}
@@ -14,13 +13,13 @@ use Rattle.assise_model_world.proofs.DropKeeps.{drop_sound}
 use Rattle.assise_model_world.proofs.WorldObserved.{digested_by_all-below, least_of-end}
 use Rattle.assise_model_events.proofs.Failable.{digested_border}
 use Rattle.assise_machine_state.specs.Changes.{after_drop, drops_to, first_but}
-use Rattle.assise_machine_state.specs.ClientValues.{client_in}
 use Rattle.assise_machine_state.specs.NodeValues.{AreDigested, IsDigestedTo, hot_capacities, log_in, no_region, region_in}
-use Rattle.assise_machine_state.specs.Observed.{is_full_in, own_node, own_seen, world_of}
+use Rattle.assise_machine_state.specs.Observed.{is_full_in, own_seen, world_of}
 use Rattle.assise_machine_state.specs.Places.{IsNumber, item_at}
 use Rattle.assise_machine_state.specs.Invariant.{ShapeInvariant}
 use Rattle.assise_machine_state.specs.StateValues.{StateValue, standings}
-use Rattle.assise_machine_state.proofs.Prefixes.{HasPrefixes, drop_areas, drop_shaped, dropped_prefixes, dropped_twice, has_prefixes, same_digested}
+use Rattle.assise_machine_state.proofs.Prefixes.{HasPrefixes, drop_areas, drop_shaped, dropped_prefixes, dropped_twice, has_prefixes, none_dropped}
+use Rattle.assise_machine_state.proofs.Prefixes.{same_digested}
 use Rattle.assise_machine_state.proofs.Fullness.{no_log_there, seen_full}
 use Rattle.assise_machine_state.proofs.HotCapacities.{prefixes_keep}
 use Rattle.assise_machine_state.proofs.ItemSeen.{seen_past}
@@ -32,24 +31,11 @@ use Rattle.assise_machine_state.proofs.LogChanges.{log_found}
 module _ (s : StateValue) (shape : ShapeInvariant s) where
   nothing_seen : (n c : ℕ) → (length s.clients < c) ⊎ (c ≡ 0) → log_in s.nodes n c ≡ no_log
   unfolding log_in item_at
-  nothing_seen n c (inl past) =
-      elim (cases_Bool (is_full_in (standings s) n)) [
-        | inl full ↦
-            let logs : length (region_in s.nodes n).logs ≡ length s.clients = shape.logs n full in
-            seen_past no_log (region_in s.nodes n).logs c (omega (arith, logs, past))
-        | inr away ↦ no_log_there s n c shape away
-      ]
-  nothing_seen n c (inr none) = rw none refl
+  nothing_seen n c h1 = grind (arith, cases_Bool, seen_past, no_log_there)
 
   nothing_owned : (c : ℕ) → (length s.clients < c) ⊎ (c ≡ 0) → (world_of s).first c ≡ digested_by_all (world_of s) c
   unfolding world_of own_seen digested_by_all end_of_log
-  nothing_owned c beyond =
-      let none : log_in s.nodes (own_node (standings s) (client_in s.clients c)) c ≡ no_log =
-      nothing_seen (own_node (standings s) (client_in s.clients c)) c beyond in
-      let high = least_of-end (world_of s).full (λ n. (world_of s).digested n c) (end_of_log (world_of s) c) in
-      let first : (world_of s).first c ≡ 0 = ap (λ l. l.log.first) none in
-      let ends : end_of_log (world_of s) c ≡ 0 = ap (λ l. log_end l.log) none in
-      omega (arith, high, first, ends)
+  nothing_owned c beyond = grind (arith, nothing_seen, least_of-end)
 
 -- ---- what stays
 
@@ -65,6 +51,12 @@ pub record StillDropping (s t : StateValue) : Type 0 where
   pub shape : ShapeInvariant t
   pub sound : ∥ WorldInvariant (world_of t) ∥₁
 
+-- the next client's logs can be dropped up to where all full nodes have digested them
+pub record Droppable (t : StateValue) (c : ℕ) : Type 0 where
+  pub client : IsNumber t.clients c
+  pub shape : ShapeInvariant t
+  pub digested : AreDigested t.nodes c (digested_by_all (world_of t) c)
+
 -- of clients 1 to m the logs begin where all full nodes have digested them, and the others' where they began
 abbrev first_to : World → ℕ → ℕ → ℕ
 first_to w zero d = w.first d
@@ -73,11 +65,7 @@ first_to w (suc m) d = if d == suc m then digested_by_all w (suc m) else first_t
 -- ---- where a log begins, at each full node
 
 prefixes_of : (s : StateValue) (c : ℕ) → ∥ WorldInvariant (world_of s) ∥₁ → HasPrefixes s c
-prefixes_of s c sound = record {
-  first = λ n full. ∥∥₁_elim sound (search props) (λ h. (has_prefixes s c h).first n full);
-  known = λ n full. ∥∥₁_elim sound (search props) (λ h. (has_prefixes s c h).known n full);
-  begun = λ d. ∥∥₁_elim sound (search props) (λ h. (has_prefixes s c h).begun d);
-}
+prefixes_of s c sound = ∥∥₁_elim sound (hlevel props) (has_prefixes s c)
 
 -- what all full nodes have digested ends at a border
 to_border : (s : StateValue) (c : ℕ) → ∥ WorldInvariant (world_of s) ∥₁ → (world_of s).border c (digested_by_all (world_of s) c) ≡ true
@@ -100,13 +88,7 @@ module _ (s : StateValue) (c : ℕ) (shape : ShapeInvariant s) (sound : ∥ Worl
 
   -- who has the log is full
   digested_there : (n : ℕ) → IsNumber s.nodes n → HasClient (region_in s.nodes n) c → IsDigestedTo (log_in s.nodes n c) (digested_by_all (world_of s) c)
-  digested_there n there has =
-      elim (cases_Bool (is_full_in (standings s) n)) [
-        | inl here ↦ digested_here n here
-        | inr away ↦
-            let none : length (region_in s.nodes n).logs ≡ 0 = ap length (shape.no_logs n away) in
-            absurd (omega (arith, none, has.some, has.there))
-      ]
+  digested_there n there has = grind (arith, cases_Bool, digested_here)
 
   pub are_digested : AreDigested s.nodes c (digested_by_all (world_of s) c)
   unfolding region_in item_at
@@ -116,9 +98,6 @@ module _ (s : StateValue) (c : ℕ) (shape : ShapeInvariant s) (sound : ∥ Worl
       (digested_there (suc k) node has))
 
 -- ---- one client after another
-
-none_dropped : (k : ℕ) (rs : List LogRecord) → rs ≡ drop (k - k) rs
-none_dropped k rs = (let none : k - k ≡ 0 = omega arith in ap (λ j. drop j rs) (sym none))
 
 module _ (s : StateValue) (shape : ShapeInvariant s) (sound : ∥ WorldInvariant (world_of s) ∥₁) where
   abbrev w : World
@@ -135,62 +114,26 @@ module _ (s : StateValue) (shape : ShapeInvariant s) (sound : ∥ WorldInvariant
     next_client = (let counted = ap length same.clients in record { some = omega arith; there = omega (arith, counted, last) })
 
     next_drops : Drops (world_of t) (first_but (world_of t) (suc m) to) (world_of u)
-    next_drops =
-        let prefixes = prefixes_of t (suc m) same.sound in
-        dropped_prefixes t (suc m) to same.shape prefixes next_client (prefixes.begun (suc m)) (omega arith) (to_border t (suc m) same.sound)
+    next_drops = grind (arith, prefixes_of, dropped_prefixes, next_client, to_border)
 
     next_same : StillDropping s u
-    next_same = record {
-      clients = same.clients;
-      members = same.members;
-      levels = same.levels;
-      cuts = same.cuts;
-      history = same.history;
-      limit = same.limit;
-      hot = prefixes_keep t.nodes (suc m) to ∙ same.hot;
-      area = λ k i. drop_areas t (suc m) to k i ∙ same.area k i;
-      shape =
-          let prefixes = prefixes_of t (suc m) same.sound in
-          drop_shaped t (suc m) to same.shape prefixes next_client (prefixes.begun (suc m)) (omega arith) (to_border t (suc m) same.sound);
-      sound = ∥∥₁_map same.sound (λ h. drop_sound (world_of t) (world_of u) (first_but (world_of t) (suc m) to) h next_drops);
-    }
+    next_same =
+        let prefixes = prefixes_of t (suc m) same.sound in
+        let hot : hot_capacities u.nodes ≡ hot_capacities s.nodes = prefixes_keep t.nodes (suc m) to ∙ same.hot in
+        let area : (k i : ℕ) → (world_of u).area k i ≡ (world_of s).area k i = λ k i. drop_areas t (suc m) to k i ∙ same.area k i in
+        let shape = drop_shaped t (suc m) to same.shape prefixes next_client (prefixes.begun (suc m)) (omega arith) (to_border t (suc m) same.sound) in
+        let sound = ∥∥₁_map same.sound (λ h. drop_sound (world_of t) (world_of u) (first_but (world_of t) (suc m) to) h next_drops) in
+        search parts 3
 
   pub same_dropping : (m : ℕ) → m ≤ length s.clients → StillDropping s (drops_to s m)
-  same_dropping zero last = record {
-    clients = refl;
-    members = refl;
-    levels = refl;
-    cuts = refl;
-    history = refl;
-    limit = refl;
-    hot = refl;
-    area = λ k i. refl;
-    shape = shape;
-    sound = sound;
-  }
+  same_dropping zero last = grind arith
   same_dropping (suc m) last = next_same (drops_to s m) m (same_dropping m (omega (arith, last))) (omega (arith, last))
 
   nothing_drops : Drops w (first_to w 0) w
   unfolding world_of
-  nothing_drops = record {
-    low = λ c. omega arith;
-    high = λ c. (prefixes_of s c sound).begun c;
-    border_at = λ c. border_first (own_seen s c).log (own_seen s c).log.first (omega arith);
-    calls = refl;
-    records = λ c. none_dropped (w.first c) (w.records c);
-    first = λ c. refl;
-    border = λ c k low. refl;
-    next = λ c. refl;
-    made = λ c. refl;
-    clients = clients_as s s refl;
-    goals = goals_as s s refl;
-    leases = leases_as s s (λ i. refl);
-    full = refl;
-    log = λ n c full. none_dropped (w.first c) (w.log n c);
-    received = λ n c full. refl;
-    digested = λ n c full. refl;
-    area = λ n i full. refl;
-  }
+  nothing_drops =
+      let begun : (c : ℕ) → w.first c ≤ digested_by_all w c = λ c. (prefixes_of s c sound).begun c in
+      search (begun, none_dropped, border_first, clients_as, goals_as, leases_as, arith) parts 3
 
   drops_first : (m : ℕ) → m ≤ length s.clients → Drops w (first_to w m) (world_of (drops_to s m))
   drops_first zero last = nothing_drops
@@ -205,15 +148,7 @@ module _ (s : StateValue) (shape : ShapeInvariant s) (sound : ∥ WorldInvariant
   all_first : (m d : ℕ) → ((m < d) ⊎ (d ≡ 0) → w.first d ≡ digested_by_all w d) → first_to w m d ≡ digested_by_all w d
   all_first zero zero beyond = beyond (inr refl)
   all_first zero (suc d) beyond = beyond (inl (omega arith))
-  all_first (suc m) d beyond =
-      elim (cases_eq d (suc m)) [
-        | inl is ↦ rw (eq-eqb d (suc m) is) (ap (digested_by_all w) (sym is))
-        | inr other ↦ rw (ne_eqb d (suc m) other) (all_first m d (each other))
-      ]
-    where
-      each : d ≢ suc m → (m < d) ⊎ (d ≡ 0) → w.first d ≡ digested_by_all w d
-      each other (inl past) = beyond (inl (omega (arith, past, other)))
-      each other (inr none) = beyond (inr none)
+  all_first (suc m) d beyond = grind (arith, cases_eq, eq-eqb, ne_eqb, (all_first m d))
 
   pub all_dropped : Drops w (digested_by_all w) (world_of (drops_to s (length s.clients)))
   all_dropped =
@@ -222,18 +157,5 @@ module _ (s : StateValue) (shape : ShapeInvariant s) (sound : ∥ WorldInvariant
 
   -- ---- as the code finds it
 
-  module _ (last m : ℕ) (next : suc m ≡ last) (there : last ≤ length s.clients) (t : StateValue) (is : t ≡ drops_to s m) where
-    low : m < length s.clients
-    low = omega (arith, next, there)
-
-    same_as : StillDropping s t
-    same_as = subst (StillDropping s) (sym is) (same_dropping m (omega (arith, low)))
-
-    pub client_as : IsNumber t.clients last
-    client_as = subst (IsNumber t.clients) next (next_client t m same_as low)
-
-    pub shape_as : ShapeInvariant t
-    shape_as = same_as.shape
-
-    pub digested_as : AreDigested t.nodes last (digested_by_all (world_of t) last)
-    digested_as = are_digested t last same_as.shape same_as.sound client_as
+  pub found : (last : ℕ) → 0 < last → last ≤ length s.clients → (t : StateValue) → t ≡ drops_to s (last - 1) → Droppable t last
+  found last some there t is = grind (arith, same_dropping, are_digested)

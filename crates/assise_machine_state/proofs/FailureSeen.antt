@@ -1,22 +1,21 @@
 -- What the laws observe of a full node that fails, where another is left.
-use Rattle.std.proofs.Common.{◌≡◌, ◌≢◌, ◌⊎◌, ℕ, ◌+◌, ◌-◌, ◌<◌, ◌≤◌, min, Bool, true, false, not, ◌==◌, List, length, take, filter, Some, None, inl, inr, refl, ap, sym, subst, ◌∙◌, arith, true≢false, []}
+use Rattle.std.proofs.Common.{◌≡◌, ◌≢◌, ◌⊎◌, ℕ, ◌-◌, ◌<◌, ◌≤◌, min, true, false, not, List, length, take, filter, Some, None, inl, inr, refl, ap}
+use Rattle.std.proofs.Common.{sym, subst, ◌∙◌, arith, true≢false, []}
 use Rattle.std.specs.Ordering.{nat_cmp}
 use Rattle.std.specs.FinSet as set
 use Rattle.std.proofs.Math.Logic.{∥∥₁_elim}
 use Rattle.std.proofs.Props.{props}
 use Rattle.std.proofs.Math.Bool.{and-false}
 use Rattle.std.proofs.lemmas.Bool.{cases_Bool, cases_eq, cases_lt, ne_eqb}
-use Rattle.std.proofs.lemmas.List.{length-take, nil_from_length}
-use Rattle.assise_names.specs.declared.limits.TheConstants.{MOST_NODES}
+use Rattle.std.proofs.lemmas.List.{length-take, nil_from_length, take_all}
 use Rattle.assise_history.specs.Entries.{fails}
 use Rattle.assise_history.proofs.ClientCounts.{durability-still}
 use Rattle.assise_inode_table.specs.Contents.{values}
 use Rattle.assise_inode_table.specs.Traces.{NumberedCall, below}
 use Rattle.assise_private_log.specs.NumberedLog.{NumberedLog, end as log_end, is_border, without_tail}
 use Rattle.assise_private_log.proofs.Borders.{border_end, border_first}
-use Rattle.assise_digest.specs.Region.{up_to_number}
+use Rattle.assise_digest.specs.Region.{ReceivedLog, up_to_number}
 use Rattle.assise_lease_table.specs.declared.lease.Asked.{Asked}
-use Rattle.assise_lease_table.specs.declared.lease.Lease.{Lease}
 use Rattle.assise_lease_table.specs.LeaseMaps.{SameLeases as SameLeasesOf}
 use Rattle.assise_lease_table.specs.Leases.{revoke}
 use Rattle.assise_lease_tree.specs.Levels.{lives}
@@ -43,16 +42,20 @@ use Rattle.assise_machine_state.specs.Invariant.{AreLeft, IsMarked, ShapeInvaria
 use Rattle.assise_machine_state.specs.StateValues.{StateValue, leases_of, standings}
 use Rattle.assise_machine_state.proofs.CutSeen.{client_fails, client_stays, count_over, home_number, inodes_left, log_cut_left, log_left, count_left, logs_gone, logs_left}
 use Rattle.assise_machine_state.proofs.Fullness.{full_seen, node_number, same_first, seen_full, no_log_in}
-use Rattle.assise_machine_state.proofs.Kept.{kept_elsewhere, kept_from_first, kept_received, part_first, prefix_kept, prefix_whole, all_kept, end_cut}
-use Rattle.assise_machine_state.proofs.Marks.{border_inside, borders_same, marked_as, marked_tail, so_many_marks, tail_border}
+use Rattle.assise_machine_state.proofs.Kept.{kept_elsewhere, kept_from_first, kept_received, part_first, prefix_kept, all_kept, end_cut}
+use Rattle.assise_machine_state.proofs.Marks.{border_inside, marked_as, marked_tail, so_many_marks, tail_border}
 use Rattle.assise_machine_state.proofs.Noted.{failed_over, left_else, lives_elsewhere, unasked_cut}
-use Rattle.assise_machine_state.proofs.ShapeKept.{KnowsHome, limit_seen, limits_all, own_marked}
+use Rattle.assise_machine_state.proofs.ShapeKept.{AreMarked, KnowsHome, limit_seen, limits_all}
 use Rattle.assise_machine_state.proofs.Standings.{else_then, full_as, gone_then, lowest_is_full, survivor_left, count_then}
 use Rattle.assise_machine_state.proofs.SameObserved.{leases_revoked}
 
 -- the cut of a client whose node failed
 cut_once_failed : (asked : List Asked) (c k : ℕ) (x : ClientValue) (i : ℕ) → cut_of asked c (failed_at k x) i ≡ k
 cut_once_failed asked c k x i = rw (failed_over k x) refl
+
+-- a log that ends before a place is all that there is up to it
+up_to_all : (l : ReceivedLog) (k : ℕ) → length l.log.begins ≡ length l.log.records → log_end l.log ≤ k → up_to_number l k ≡ l
+up_to_all l k marks past = grind (arith, take_all)
 
 -- ---- what is seen of nodes and clients
 
@@ -72,9 +75,6 @@ module _ (s : StateValue) (n : ℕ) (inodes : set.FinSet nat_cmp) (levels : TwoL
 
   abbrev kept : ℕ → ℕ
   kept = kept_at_failure w n
-
-  stood : is_full_in (standings s) n ≡ true
-  stood = full_as (standings s) n full stands
 
   failed_there : IsNumber s.nodes n
   failed_there = node_number s n full shape stands
@@ -96,17 +96,11 @@ module _ (s : StateValue) (n : ℕ) (inodes : set.FinSet nat_cmp) (levels : TwoL
   client_same c other = client_stays n kept s.clients (length s.clients) c (omega arith) other
 
   client_over : (c : ℕ) → (client_in s.clients c).home ≡ n → client_in t.clients c ≡ failed_at (kept c) (client_in s.clients c)
-  client_over c here =
-      let client : IsNumber s.clients c = home_number s.clients c (subst (λ h. 0 < h) (sym here) failed_there.some) in
-      client_fails n kept s.clients (length s.clients) c (omega arith) client.some client.there here
+  client_over c here = grind (arith, home_number, failed_there, client_fails)
 
   client_keeps : {A : Type 0} (f : ClientValue → A) → ((k : ℕ) (x : ClientValue) → f (failed_at k x) ≡ f x) → (c : ℕ) →
       f (client_in t.clients c) ≡ f (client_in s.clients c)
-  client_keeps f same c =
-      elim (cases_eq (client_in s.clients c).home n) [
-        | inl here ↦ ap f (client_over c here) ∙ same (kept c) (client_in s.clients c)
-        | inr other ↦ ap f (client_same c other)
-      ]
+  client_keeps f same c = grind (arith, cases_eq, client_over, client_same)
 
   -- logs of the nodes that are left
   log_there : (m c : ℕ) → m ≢ n → (client_in s.clients c).home ≡ n → log_in t.nodes m c ≡ up_to_number (log_in s.nodes m c) (kept c)
@@ -124,107 +118,52 @@ module _ (s : StateValue) (n : ℕ) (inodes : set.FinSet nat_cmp) (levels : TwoL
   emptied = nil_from_length (region_in t.nodes n).logs (logs_gone s.nodes n s.clients kept failed_there)
 
   left_logs : (k : ℕ) → is_full_in (standings t) k ≡ true → length (region_in t.nodes k).logs ≡ length t.clients
-  left_logs k f =
-      let other : k ≢ n = not_failed k f in
-      logs_left s.nodes n s.clients kept k failed_there other ∙ shape.logs k (sym (else_stands k other) ∙ f) ∙ sym clients_left
+  left_logs k f = grind (arith, not_failed, logs_left, failed_there, else_stands, clients_left)
 
   left_none : (k : ℕ) → is_full_in (standings t) k ≡ false → (region_in t.nodes k).logs ≡ []
-  left_none k away = elim (cases_eq k n) [
-    | inl is ↦ subst (λ m. (region_in t.nodes m).logs ≡ []) (sym is) emptied
-    | inr other ↦
-        nil_from_length (region_in t.nodes k).logs
-        (logs_left s.nodes n s.clients kept k failed_there other ∙ ap length (shape.no_logs k (sym (else_stands k other) ∙ away)))
-  ]
+  left_none k away = grind (arith, cases_eq, emptied, nil_from_length, logs_left, failed_there, else_stands)
 
   -- no client lives at the node, and the others live where they did
   gone_home : (c : ℕ) → KnowsHome t n c
-  gone_home c =
-      ap (λ l. l.at_home) (no_log_in t.nodes n c emptied)
-      ∙ elim (cases_eq (client_in s.clients c).home n) [
-        | inl here ↦ rw (client_over c here) (sym (and-false (n == (client_in s.clients c).home)))
-        | inr other ↦ rw (client_same c other, ne_eqb n (client_in s.clients c).home (λ e. other (sym e))) refl
-      ]
+  gone_home c = grind (arith, no_log_in, emptied, cases_eq, client_over, and-false, client_same, ne_eqb)
 
   left_home : (k c : ℕ) → k ≢ n → KnowsHome t k c
-  left_home k c differs = elim (cases_eq (client_in s.clients c).home n) [
-    | inl here ↦
-        let elsewhere : (k == (client_in s.clients c).home) ≡ false = ne_eqb k (client_in s.clients c).home (λ e. differs (e ∙ here)) in
-        rw (log_there k c differs here, client_over c here, elsewhere) (shape.at_home k c ∙ rw elsewhere refl)
-    | inr other ↦ rw (log_same k c differs other, client_same c other) (shape.at_home k c)
-  ]
+  left_home k c differs = grind (arith, cases_eq, ne_eqb, log_there, client_over, log_same, client_same)
 
-  same_limit : (k c : ℕ) → k ≢ n → (log_in t.nodes k c).log.limit ≡ (log_in s.nodes k c).log.limit
-  same_limit k c differs = elim (cases_eq (client_in s.clients c).home n) [
-    | inl here ↦ ap (λ l. l.log.limit) (log_there k c differs here)
-    | inr other ↦ ap (λ l. l.log.limit) (log_same k c differs other)
-  ]
+  -- what a cut leaves of a log stays
+  log_keeps : {A : Type 0} (f : ReceivedLog → A) → ((l : ReceivedLog) (k : ℕ) → f (up_to_number l k) ≡ f l) → (m c : ℕ) → m ≢ n →
+      f (log_in t.nodes m c) ≡ f (log_in s.nodes m c)
+  log_keeps f same m c differs = grind (arith, cases_eq, log_there, log_same)
 
   left_limit : (k c : ℕ) → is_full_in (standings t) k ≡ true → IsNumber t.clients c → (log_in t.nodes k c).log.limit ≡ s.limit
   left_limit k c f client =
       let other : k ≢ n = not_failed k f in
-      same_limit k c other ∙ limit_seen s k c shape (sym (else_stands k other) ∙ f) record { some = client.some; there = subst (λ m. c ≤ m) clients_left client.there }
-
-  left_durability : (c : ℕ) → (client_in t.clients c).durability ≡ (client_in s.clients c).durability
-  left_durability c = elim (cases_eq (client_in s.clients c).home n) [
-    | inl here ↦ ap (λ y. y.durability) (client_over c here)
-    | inr other ↦ ap (λ y. y.durability) (client_same c other)
-  ]
+      log_keeps (λ l. l.log.limit) (λ l j. refl) k c other
+      ∙ limit_seen s k c shape (sym (else_stands k other) ∙ f) record { some = client.some; there = subst (λ m. c ≤ m) clients_left client.there }
 
   -- ---- what the laws observe
 
   module _ (sound : WorldInvariant w) where
+    -- where a client's node stays, all of its logs is kept
+    cut_log : (m c : ℕ) → is_full_in (standings t) m ≡ true → log_in t.nodes m c ≡ up_to_number (log_in s.nodes m c) (kept c)
+    unfolding world_of
+    cut_log m c f = grind (arith, cases_eq, log_there, not_failed, kept_elsewhere, was_full, so_many_marks, log_same, up_to_all)
+
     cut_records : (m c : ℕ) → is_full_in (standings t) m ≡ true → w'.log m c ≡ take (kept c - w.first c) (w.log m c)
     unfolding world_of
-    cut_records m c f =
-        elim (cases_eq (client_in s.clients c).home n) [
-          | inl here ↦
-              ap (λ l. l.log.records) (log_there m c (not_failed m f) here)
-              ∙ ap (λ k. take (kept c - k) (log_in s.nodes m c).log.records) (same_first s m c sound (was_full m f))
-          | inr other ↦ ap (λ l. l.log.records) (log_same m c (not_failed m f) other) ∙ sym (prefix_whole w n m c sound (was_full m f) (kept_elsewhere w n c other))
-        ]
+    cut_records m c f = grind (arith, cut_log, same_first, was_full)
 
     cut_first : (m c : ℕ) → is_full_in (standings t) m ≡ true → (log_in t.nodes m c).log.first ≡ w.first c
-    cut_first m c f =
-        elim (cases_eq (client_in s.clients c).home n) [
-          | inl here ↦ ap (λ l. l.log.first) (log_there m c (not_failed m f) here) ∙ same_first s m c sound (was_full m f)
-          | inr other ↦ ap (λ l. l.log.first) (log_same m c (not_failed m f) other) ∙ same_first s m c sound (was_full m f)
-        ]
+    cut_first m c f = log_keeps (λ l. l.log.first) (λ l k. refl) m c (not_failed m f) ∙ same_first s m c sound (was_full m f)
 
     cut_received : (m c : ℕ) → is_full_in (standings t) m ≡ true → w'.received m c ≡ min (w.received m c) (kept c)
     unfolding world_of
-    cut_received m c f =
-        elim (cases_eq (client_in s.clients c).home n) [
-          | inl here ↦
-              let low : (log_in s.nodes m c).log.first ≤ kept c =
-              subst (λ k. k ≤ kept c) (sym (same_first s m c sound (was_full m f))) (kept_from_first w n c sound) in
-              ap (λ l. log_end l.log) (log_there m c (not_failed m f) here) ∙ end_cut (log_in s.nodes m c).log (kept c) low
-          | inr other ↦
-              let all : kept c ≡ end_of_log w c = kept_elsewhere w n c other in
-              let known : w.received m c ≤ end_of_log w c = (sound.coherent.order m c (was_full m f)).known in
-              let whole : w.received m c ≡ min (w.received m c) (kept c) = omega (arith, all, known) in
-              ap (λ l. log_end l.log) (log_same m c (not_failed m f) other) ∙ whole
-        ]
-
-    cut_digested : (m c : ℕ) → is_full_in (standings t) m ≡ true → w'.digested m c ≡ w.digested m c
-    unfolding world_of
-    cut_digested m c f =
-        elim (cases_eq (client_in s.clients c).home n) [
-          | inl here ↦ ap (λ l. l.digested) (log_there m c (not_failed m f) here)
-          | inr other ↦ ap (λ l. l.digested) (log_same m c (not_failed m f) other)
-        ]
+    cut_received m c f = grind (arith, same_first, was_full, kept_from_first, cut_log, end_cut)
 
     -- clients
     goals : (c : ℕ) → w'.goal c ≡ min (w.goal c) (kept c)
     unfolding world_of
-    goals c =
-        elim (cases_eq (client_in s.clients c).home n) [
-          | inl here ↦ ap (λ x. x.goal) (client_over c here)
-          | inr other ↦
-              let all : kept c ≡ end_of_log w c = kept_elsewhere w n c other in
-              let low : w.goal c ≤ end_of_log w c = sound.goals c in
-              let whole : w.goal c ≡ min (w.goal c) (kept c) = omega (arith, all, low) in
-              ap (λ x. x.goal) (client_same c other) ∙ whole
-        ]
+    goals c = grind (arith, cases_eq, client_over, kept_elsewhere, client_same)
 
     lives_there : (c : ℕ) → w.home c ≡ n → w'.lives c ≡ false
     unfolding world_of
@@ -246,20 +185,14 @@ module _ (s : StateValue) (n : ℕ) (inodes : set.FinSet nat_cmp) (levels : TwoL
 
       has_ended : (c : ℕ) → (client_in t.clients c).failed ≡ true → (w.lives c ≡ false) ⊎ (w.home c ≡ n)
       unfolding world_of
-      has_ended c over =
-          elim (cases_eq (client_in s.clients c).home n) [
-            | inl here ↦ inr here
-            | inr other ↦ inl (ap (λ x. not x.failed) (sym (client_same c other)) ∙ ap not over)
-          ]
+      has_ended c over = grind (arith, cases_eq, client_same)
 
       own_once_over : (c : ℕ) → (client_in t.clients c).failed ≡ true → own_seen t c ≡ log_in t.nodes low c
       unfolding own_seen
       own_once_over c over = rw over refl
 
       low_records : (c : ℕ) → (client_in t.clients c).failed ≡ true → w'.log low c ≡ take (kept c - w.first c) (w.records c)
-      low_records c over =
-          cut_records low c low_stands
-          ∙ prefix_kept w n low c sound (was_full low low_stands) (kept_received w n low c sound (was_full low low_stands) (not_failed low low_stands) (has_ended c over))
+      low_records c over = grind (arith, cut_records, low_stands, prefix_kept, was_full, kept_received, not_failed, has_ended)
 
       -- and of one that lives on
       home_differs : (c : ℕ) → (client_in t.clients c).failed ≡ false → (client_in s.clients c).home ≢ n
@@ -267,11 +200,7 @@ module _ (s : StateValue) (n : ℕ) (inodes : set.FinSet nat_cmp) (levels : TwoL
 
       own_while_lives : (c : ℕ) → (client_in t.clients c).failed ≡ false → own_seen t c ≡ own_seen s c
       unfolding own_seen
-      own_while_lives c unfailed =
-          let differs : (client_in s.clients c).home ≢ n = home_differs c unfailed in
-          let before : (client_in s.clients c).failed ≡ false = ap (λ x. x.failed) (sym (client_same c differs)) ∙ unfailed in
-          rw (unfailed, before)
-          (ap (λ x. log_in t.nodes x.home c) (client_same c differs) ∙ log_same (client_in s.clients c).home c differs differs)
+      own_while_lives c unfailed = grind (arith, home_differs, client_same, log_same)
 
       own_records : (c : ℕ) → w'.records c ≡ take (kept c - w.first c) (w.records c)
       unfolding world_of
@@ -283,27 +212,16 @@ module _ (s : StateValue) (n : ℕ) (inodes : set.FinSet nat_cmp) (levels : TwoL
 
       own_first : (c : ℕ) → w'.first c ≡ w.first c
       unfolding world_of
-      own_first c =
-          elim (cases_Bool (client_in t.clients c).failed) [
-            | inl over ↦ ap (λ l. l.log.first) (own_once_over c over) ∙ cut_first low c low_stands
-            | inr unfailed ↦ ap (λ l. l.log.first) (own_while_lives c unfailed)
-          ]
+      own_first c = grind (arith, cases_Bool, own_once_over, cut_first, low_stands, own_while_lives)
 
       own_end : (c : ℕ) → end_of_log w' c ≡ kept c
       unfolding end_of_log
-      own_end c =
-          let first : w.first c ≤ kept c = kept_from_first w n c sound in
-          let top : kept c ≤ w.first c + length (w.records c) = kept_high w n c in
-          let cut : length (w'.records c) ≡ min (kept c - w.first c) (length (w.records c)) = ap length (own_records c) ∙ length-take (kept c - w.first c) (w.records c) in
-          omega (arith, first, top, cut, own_first c)
+      own_end c = grind (arith, kept_from_first, kept_high, own_records, length-take, own_first)
 
       -- ---- groups
 
       abbrev own : ℕ → NumberedLog
       own c = (own_seen s c).log
-
-      own_marks : (c : ℕ) → length (own c).begins ≡ length (own c).records
-      own_marks c = so_many_marks (is_border (own c)) (own c) (own_marked s shape.marked c)
 
       abbrev lowest : ℕ → NumberedLog
       lowest c = (log_in s.nodes low c).log
@@ -323,13 +241,12 @@ module _ (s : StateValue) (n : ℕ) (inodes : set.FinSet nat_cmp) (levels : TwoL
             | inr before ↦ border_first (lowest c) k before ∙ sym (border_first (own c) k (omega (arith, before, lowest_first c)))
           ]
 
-      -- of a client whose node fails now
-      cut_border : (c k : ℕ) → (client_in t.clients c).failed ≡ true → (client_in s.clients c).home ≡ n → k ≤ kept c →
-          is_border (own_seen t c).log k ≡ is_border (own c) k
+      -- and so are those of the own log then
+      cut_border : (c k : ℕ) → (client_in t.clients c).failed ≡ true → k ≤ kept c → is_border (own_seen t c).log k ≡ is_border (own c) k
       unfolding world_of
-      cut_border c k over here high =
+      cut_border c k over high =
           let cut : NumberedLog = without_tail (lowest c) (kept c) in
-          ap (λ l. is_border l.log k) (own_once_over c over ∙ log_there low c (not_failed low low_stands) here)
+          ap (λ l. is_border l.log k) (own_once_over c over ∙ cut_log low c low_stands)
           ∙ elim (cases_eq k (kept c)) [
             | inl last ↦
                 let from : (lowest c).first ≤ kept c = omega (arith, kept_from_first w n c sound, lowest_first c) in
@@ -341,54 +258,20 @@ module _ (s : StateValue) (n : ℕ) (inodes : set.FinSet nat_cmp) (levels : TwoL
                 tail_border (lowest c) (kept c) k below ∙ lowest_border c k over below
           ]
 
-      -- of one whose node failed before
-      left_border : (c k : ℕ) → (client_in t.clients c).failed ≡ true → (client_in s.clients c).home ≢ n → is_border (own_seen t c).log k ≡ is_border (own c) k
-      unfolding world_of end_of_log
-      left_border c k over other =
-          let ended : w.lives c ≡ false = ap (λ x. not x.failed) (sym (client_same c other)) ∙ ap not over in
-          let all : w.received low c ≡ end_of_log w c = sound.left low c ended (was_full low low_stands) in
-          ap (λ l. is_border l.log k) (own_once_over c over ∙ log_same low c (not_failed low low_stands) other)
-          ∙ borders_same (own c) (lowest c) k (own_marks c) (shape.marked low c) (lowest_first c) all
-
       own_border : (c k : ℕ) → k ≤ kept c → is_border (own_seen t c).log k ≡ is_border (own c) k
-      own_border c k high =
-          elim (cases_Bool (client_in t.clients c).failed) [
-            | inl over ↦ (elim (cases_eq (client_in s.clients c).home n) [
-              | inl here ↦ cut_border c k over here high
-              | inr other ↦ left_border c k over other
-            ])
-            | inr unfailed ↦ ap (λ l. is_border l.log k) (own_while_lives c unfailed)
-          ]
+      own_border c k high = grind (arith, cases_Bool, cut_border, own_while_lives)
 
       -- a log that is cut has the groups that are left
-      marked_cut : (k c : ℕ) → k ≢ n → (client_in s.clients c).home ≡ n → IsMarked (is_border (own_seen t c).log) (log_in t.nodes k c).log
-      marked_cut k c differs here =
+      marked_cut : (k c : ℕ) → is_full_in (standings t) k ≡ true → IsMarked (is_border (own_seen t c).log) (log_in t.nodes k c).log
+      marked_cut k c f =
           let l : NumberedLog = (log_in s.nodes k c).log in
-          let cut : NumberedLog = without_tail l (kept c) in
-          subst (λ x. IsMarked (is_border (own_seen t c).log) x.log) (sym (log_there k c differs here))
-          (marked_as (is_border (own c)) (is_border (own_seen t c).log) cut
+          subst (λ x. IsMarked (is_border (own_seen t c).log) x.log) (sym (cut_log k c f))
+          (marked_as (is_border (own c)) (is_border (own_seen t c).log) (without_tail l (kept c))
           (λ j low high. sym (own_border c j (omega (arith, low, high, length-take (kept c - l.first) l.records))))
           (marked_tail (is_border (own c)) l (kept c) (shape.marked k c)))
 
-      marked_left : (k c : ℕ) → k ≢ n → (client_in s.clients c).home ≢ n → IsMarked (is_border (own_seen t c).log) (log_in t.nodes k c).log
-      marked_left k c differs other =
-          let l : NumberedLog = (log_in s.nodes k c).log in
-          subst (λ x. IsMarked (is_border (own_seen t c).log) x.log) (sym (log_same k c differs other))
-          (elim (cases_Bool (client_in t.clients c).failed) [
-            | inl over ↦ marked_as (is_border (own c)) (is_border (own_seen t c).log) l (λ j low high. sym (left_border c j over other)) (shape.marked k c)
-            | inr unfailed ↦ subst (λ x. IsMarked (is_border x.log) l) (sym (own_while_lives c unfailed)) (shape.marked k c)
-          ])
-
       left_marked : (k c : ℕ) → IsMarked (is_border (own_seen t c).log) (log_in t.nodes k c).log
-      left_marked k c = elim (cases_eq k n) [
-        | inl is ↦
-            subst (λ m. IsMarked (is_border (own_seen t c).log) (log_in t.nodes m c).log) (sym is)
-            (subst (λ l. IsMarked (is_border (own_seen t c).log) l.log) (sym (no_log_in t.nodes n c emptied)) refl)
-        | inr differs ↦ (elim (cases_eq (client_in s.clients c).home n) [
-          | inl here ↦ marked_cut k c differs here
-          | inr other ↦ marked_left k c differs other
-        ])
-      ]
+      left_marked k c = grind (arith, cases_Bool, marked_cut, no_log_in, left_none)
 
       -- ---- the failure
 
@@ -396,17 +279,14 @@ module _ (s : StateValue) (n : ℕ) (inodes : set.FinSet nat_cmp) (levels : TwoL
       survivor = (let k : (m : ℕ) × ((m ≢ n) × (is_full_in (standings s) m ≡ true)) = survivor_left s.members n stands fine in (k.0, (k.1.0, seen_full s k.0 k.1.1)))
 
       module _ (revoked : (i : ℕ) → levels.clients i ≡ revoke (λ a. lives s.levels.home a.holder n) (s.levels.clients i)) where
-        abbrev choice : Lease → Bool
-        choice a = lives s.levels.home a.holder n
-
         held : KeepsLeases w w'
-        held = leases_revoked s t choice revoked
+        held = leases_revoked s t (λ a. lives s.levels.home a.holder n) revoked
 
         -- where the calls are those that are kept
         with_calls : (xs : List NumberedCall) → xs ≡ filter (below (λ c. call_at w c (kept c))) w.calls → Fails w n (record w' { calls = xs })
         unfolding world_of
         with_calls xs same = record {
-          full_node = seen_full s n stood;
+          full_node = seen_full s n (full_as (standings s) n full stands);
           survivor = survivor;
           gone = λ f. true≢false (sym (full_seen t n f) ∙ gone);
           only = λ m f. was_full m (full_seen t m f);
@@ -426,7 +306,7 @@ module _ (s : StateValue) (n : ℕ) (inodes : set.FinSet nat_cmp) (levels : TwoL
           leases = record { holds = held.holds; writes = held.writes };
           log = λ m c f. cut_records m c (full_seen t m f);
           received = λ m c f. cut_received m c (full_seen t m f);
-          digested = λ m c f. cut_digested m c (full_seen t m f);
+          digested = λ m c f. log_keeps (λ l. l.digested) (λ l k. refl) m c (not_failed m (full_seen t m f));
           area = λ m i f. failure_areas s n m i inodes levels asked;
         }
 
@@ -437,14 +317,11 @@ module _ (s : StateValue) (n : ℕ) (inodes : set.FinSet nat_cmp) (levels : TwoL
             kept_fail s.history n (losses_of w n)
             ∙ sym (failure_takes w (record w' { calls = filter (below (λ c. call_at w c (kept c))) w.calls }) n sound (with_calls (filter (below (λ c. call_at w c (kept c))) w.calls) refl))
 
-        node_fails : Fails w n w'
-        node_fails = with_calls w'.calls calls_kept
-
         pub failure_seen : ((c : ℕ) → levels.home c ≡ s.levels.home c) → SameLeasesOf s.levels.nodes levels.nodes → AreLeft s (λ c. lives s.levels.home c n) asked → AreLeases w (leases_of s) →
             FailsWithLeases w (leases_of s) n w' (leases_of t)
         unfolding world_of leases_of
         failure_seen homes nodes left leases = record {
-          fails = node_fails;
+          fails = with_calls w'.calls calls_kept;
           home = homes;
           clients = revoked;
           nodes = nodes;
@@ -459,15 +336,8 @@ module _ (s : StateValue) (n : ℕ) (inodes : set.FinSet nat_cmp) (levels : TwoL
   -- ---- its shape is one
 
   pub failure_shaped : ∥ WorldInvariant w ∥₁ → failure_fault s.members n ≡ None → ShapeInvariant t
-  failure_shaped sound fine = record {
-    nodes = count_left s.nodes n s.clients kept ∙ shape.nodes ∙ sym (count_then s.members n inodes stands);
-    few_nodes = subst (λ k. k ≤ MOST_NODES) (sym (count_left s.nodes n s.clients kept)) shape.few_nodes;
-    logs = left_logs;
-    no_logs = left_none;
-    at_home = λ k c. elim (cases_eq k n) [ inl is ↦ subst (λ m. KnowsHome t m c) (sym is) (gone_home c) | inr differs ↦ left_home k c differs ];
-    limits = limits_all t left_logs left_none left_limit;
-    least_limit = shape.least_limit;
-    most_limit = shape.most_limit;
-    marked = λ k c. ∥∥₁_elim sound (search props) (λ h. left_marked h fine k c);
-    durabilities = λ c. left_durability c ∙ shape.durabilities c ∙ sym (durability-still s.history (fails n (losses_of w n)) c refl);
-  }
+  failure_shaped sound fine =
+      let all = limits_all t left_logs left_none left_limit in
+      let durability = client_keeps (λ x. x.durability) (λ k x. refl) in
+      let marked : AreMarked t = λ k c. ∥∥₁_elim sound (search props) (λ h. left_marked h fine k c) in
+      grind (arith, count_left, count_then, cases_eq, left_logs, left_none, gone_home, left_home, durability-still)

@@ -1,5 +1,5 @@
 -- Which nodes are full, and which logs they have.
-use Rattle.std.proofs.Common.{◌≡◌, ℕ, ◌-◌, ◌≤◌, min, Bool, true, false, ◌&&◌, ◌==◌, List, [], length, filter, Some, inl, inr, refl, ap, sym, subst, ◌∙◌, arith, eq-eqb, true≢false}
+use Rattle.std.proofs.Common.{◌≡◌, ℕ, ◌-◌, ◌≤◌, min, true, false, ◌==◌, List, [], length, Some, inl, inr, refl, ap, sym, subst, ◌∙◌, arith, eq-eqb, true≢false}
 use Rattle.std.proofs.lemmas.Bool.{cases_Bool, eqb-true, not-true}
 use Rattle.std.proofs.lemmas.List.{length-take}
 use Rattle.std.proofs.lemmas.Map.Views.{any-filter_same}
@@ -11,7 +11,7 @@ use Rattle.assise_model_world.specs.World.{Full, IsClient, World, end_of_log}
 use Rattle.assise_model_world.proofs.WorldObserved.{received_by_all-below}
 use Rattle.assise_model_history.specs.State.{down_from}
 use Rattle.assise_model_history.proofs.TracesKeep.{of_node}
-use Rattle.assise_machine_state.specs.ClientValues.{ClientValue, client_in, no_client}
+use Rattle.assise_machine_state.specs.ClientValues.{client_in, no_client}
 use Rattle.assise_machine_state.specs.NodeValues.{HasLog, log_in, region_in}
 use Rattle.assise_machine_state.specs.Observed.{full_in, is_full_in, observed, world_of}
 use Rattle.assise_machine_state.specs.Places.{IsNumber, item_at}
@@ -22,13 +22,10 @@ use Rattle.assise_machine_state.proofs.Standings.{numbers, stands_so}
 
 -- ---- the list of full nodes
 
-filter_has : (p : ℕ → Bool) (ns : List ℕ) (n : ℕ) → contains (filter p ns) n ≡ (p n && contains ns n)
-filter_has p ns n = any-filter_same (λ k. k == n) p (p n) (λ k is. ap p (eqb-true k n is)) ns
-
 pub full_is : (nodes : List Standing) (n : ℕ) → contains (full_in nodes) n ≡ is_full_in nodes n
 unfolding full_in
 full_is nodes n =
-    filter_has (is_full_in nodes) (down_from (length nodes)) n
+    any-filter_same (λ k. k == n) (is_full_in nodes) (is_full_in nodes n) (λ k is. ap (is_full_in nodes) (eqb-true k n is)) (down_from (length nodes))
     ∙ elim (cases_Bool (is_full_in nodes n)) [
       | inl f ↦ (let g : (1 ≤ n) × (n ≤ length nodes) = numbers nodes n full (stands_so nodes n f) in rw f (of_node (length nodes) n g.0 g.1))
       | inr other ↦ rw other refl
@@ -51,10 +48,7 @@ full_number s n shape f = node_number s n full shape (stands_so (standings s) n 
 -- ---- logs
 
 pub has_log : (s : StateValue) (n c : ℕ) → ShapeInvariant s → is_full_in (standings s) n ≡ true → IsNumber s.clients c → HasLog s.nodes n c
-has_log s n c shape f client =
-    let there : IsNumber s.nodes n = full_number s n shape f in
-    let all : length (region_in s.nodes n).logs ≡ length s.clients = shape.logs n f in
-    record { node = there; client = record { some = client.some; there = subst (λ k. c ≤ k) (sym all) client.there } }
+has_log s n c shape f client = grind (arith, full_number)
 
 -- a node that isn't full has no log
 pub no_log_in : (rs : List RegionValue) (n c : ℕ) → (region_in rs n).logs ≡ [] → log_in rs n c ≡ no_log
@@ -66,16 +60,13 @@ no_log_there s n c shape away = no_log_in s.nodes n c (shape.no_logs n away)
 
 -- ---- clients that live
 
-unfailed_number : (cs : List ClientValue) (c : ℕ) → (client_in cs c).failed ≡ false → IsNumber cs c
-unfolding client_in
-unfailed_number cs c lives = seen_number no_client cs c (λ none. true≢false (sym (ap (λ x. x.failed) none) ∙ lives))
-
 pub lives_unfailed : (s : StateValue) (c : ℕ) → (world_of s).lives c ≡ true → (client_in s.clients c).failed ≡ false
 unfolding world_of
 lives_unfailed s c lives = not-true (client_in s.clients c).failed lives
 
 pub lives_number : (s : StateValue) (c : ℕ) → (world_of s).lives c ≡ true → IsNumber s.clients c
-lives_number s c lives = unfailed_number s.clients c (lives_unfailed s c lives)
+unfolding client_in
+lives_number s c lives = seen_number no_client s.clients c (λ none. true≢false (sym (ap (λ x. x.failed) none) ∙ lives_unfailed s c lives))
 
 -- its home is full
 pub home_full : (s : StateValue) (c : ℕ) → ShapeInvariant s → (client_in s.clients c).failed ≡ false →

@@ -1,5 +1,5 @@
 -- What the laws observe of a goal that is raised.
-use Rattle.std.proofs.Common.{◌≡◌, ◌≢◌, ℕ, ◌≤◌, max, inl, inr, refl, ap, sym, subst, ◌∙◌, arith, eq-eqb}
+use Rattle.std.proofs.Common.{◌≡◌, ℕ, ◌≤◌, List, max, refl, arith, eq-eqb}
 use Rattle.std.proofs.lemmas.Bool.{cases_eq, ne_eqb}
 use Rattle.assise_model_world.specs.ClientSteps.{RaisesGoals}
 use Rattle.assise_model_world.specs.World.{World, end_of_log}
@@ -9,8 +9,8 @@ use Rattle.assise_machine_state.specs.Observed.{world_of}
 use Rattle.assise_machine_state.specs.Places.{IsNumber}
 use Rattle.assise_machine_state.specs.Invariant.{ShapeInvariant}
 use Rattle.assise_machine_state.specs.StateValues.{StateValue}
-use Rattle.assise_machine_state.proofs.ItemSeen.{client_else, client_here}
-use Rattle.assise_machine_state.proofs.ShapedClients.{Remains, clients_stay, logs_stay, nodes_stay, still_shaped}
+use Rattle.assise_machine_state.proofs.ItemSeen.{client_else, client_here, client_same}
+use Rattle.assise_machine_state.proofs.ShapedClients.{Remain, clients_stay, logs_stay, nodes_stay, one_remains, still_shaped}
 use Rattle.assise_machine_state.proofs.SameObserved.{leases_as}
 
 module _ (s : StateValue) (c to : ℕ) (there : IsNumber s.clients c) where
@@ -23,39 +23,28 @@ module _ (s : StateValue) (c to : ℕ) (there : IsNumber s.clients c) where
   abbrev w' : World
   w' = world_of (after_goal s c to)
 
-  remains : Remains (client_in s.clients c) now
-  remains = record { home = refl; failed = refl; next = refl; made = refl; durability = refl }
+  abbrev cs : List ClientValue
+  cs = with_client s.clients c now
 
-  goal_here : (client_in (with_client s.clients c now) c).goal ≡ max (client_in s.clients c).goal to
-  goal_here = ap (λ x. x.goal) (client_here s.clients c now there)
+  remain : Remain s.clients cs
+  remain = one_remains s.clients c now refl refl refl refl refl
 
-  goal_else : (d : ℕ) → d ≢ c → (client_in (with_client s.clients c now) d).goal ≡ (client_in s.clients d).goal
-  goal_else d other = ap (λ x. x.goal) (client_else s.clients c now there d other)
-
-  goals : (d : ℕ) → (client_in (with_client s.clients c now) d).goal ≡ max (client_in s.clients d).goal (goal_of c to d)
-  goals d =
-      elim (cases_eq d c) [
-        | inl is ↦ rw (eq-eqb d c is) (subst (λ e. (client_in (with_client s.clients c now) e).goal ≡ max (client_in s.clients e).goal to) (sym is) goal_here)
-        | inr other ↦ rw (ne_eqb d c other) (goal_else d other ∙ omega arith)
-      ]
+  goals : (d : ℕ) → (client_in cs d).goal ≡ max (client_in s.clients d).goal (goal_of c to d)
+  goals d = grind (arith, cases_eq, eq-eqb, client_here, ne_eqb, client_else)
 
   low : to ≤ end_of_log w c → (d : ℕ) → goal_of c to d ≤ end_of_log w d
-  low known d =
-      elim (cases_eq d c) [
-        | inl is ↦ rw (eq-eqb d c is) (subst (λ e. to ≤ end_of_log w e) (sym is) known)
-        | inr other ↦ rw (ne_eqb d c other) (omega arith)
-      ]
+  low known d = grind (arith, cases_eq, eq-eqb, ne_eqb)
 
   pub goal_raised : to ≤ end_of_log w c → RaisesGoals w (goal_of c to) w'
   unfolding world_of
   goal_raised known = record {
     there = low known;
-    logs = logs_stay s c now s.levels s.cuts s.history remains refl;
-    clients = clients_stay s c now s.levels s.cuts s.history remains refl;
-    nodes = nodes_stay s c now s.levels s.cuts s.history;
+    logs = logs_stay s cs s.levels s.cuts s.history remain refl;
+    clients = clients_stay s cs s.levels s.cuts s.history remain (client_same (λ x. x.crashed) s.clients c now refl);
+    nodes = nodes_stay s cs s.levels s.cuts s.history;
     leases = leases_as s (after_goal s c to) (λ i. refl);
     goals = goals;
   }
 
   pub goal_shaped : ShapeInvariant s → ShapeInvariant (after_goal s c to)
-  goal_shaped shape = still_shaped s c now s.levels s.cuts s.history remains (λ d. refl) shape
+  goal_shaped shape = still_shaped s cs s.levels s.cuts s.history remain (λ d. refl) shape

@@ -1,11 +1,11 @@
 -- How many inodes may be hot at each node stays where its inodes and logs change.
-use Rattle.std.proofs.Common.{◌≡◌, ℕ, zero, suc, ◌-◌, ◌==◌, Bool, true, false, if◌then◌else◌, List, [], ◌∷◌, map, replicate, slice_index_or, slice_set, refl, ap, ◌∙◌, sym}
+use Rattle.std.proofs.Common.{◌≡◌, ℕ, zero, suc, ◌-◌, ◌==◌, Bool, List, [], ◌∷◌, map, replicate, slice_index_or, slice_set, refl, ap, ◌∙◌, arith}
+use Rattle.std.proofs.lemmas.Bool.{cond_both}
 use Rattle.std.proofs.lemmas.List.{map-set}
-use Rattle.assise_record.specs.Records.{has_some}
 use Rattle.assise_record.specs.declared.effect.Effect.{Effect}
-use Rattle.assise_digest.specs.Region.{ReceivedLog, RegionValue, from_number, log_of, region_with_client, up_to_number, with_hot_capacity, with_log}
+use Rattle.assise_digest.specs.Region.{ReceivedLog, RegionValue, from_number, region_with_client, up_to_number, with_hot_capacity}
 use Rattle.assise_machine_state.specs.Changes.{with_clients_cut}
-use Rattle.assise_machine_state.specs.ClientValues.{ClientValue, client_in}
+use Rattle.assise_machine_state.specs.ClientValues.{ClientValue}
 use Rattle.assise_machine_state.specs.NodeValues.{begun_log, changed_in, hot_capacities, new_regions, no_region, region_in, with_call_in, with_hot_in, with_log_in, with_logs_begun, with_prefixes_dropped, with_region, with_tails_cut, without_logs}
 use Rattle.assise_machine_state.specs.Places.{IsNumber, item_at}
 use Rattle.assise_machine_state.proofs.ItemSeen.{is_seen, is_set}
@@ -20,8 +20,7 @@ kept_at (q ∷ rs) (suc k) r same = ap (λ capacities. q.capacity ∷ capacities
 
 pub region_keeps : (rs : List RegionValue) (n : ℕ) (r : RegionValue) → r.capacity ≡ (region_in rs n).capacity → hot_capacities (with_region rs n r) ≡ hot_capacities rs
 unfolding region_in item_at
-region_keeps rs zero r same = refl
-region_keeps rs (suc k) r same = kept_at rs k r same
+region_keeps rs n r h1 = grind (arith, kept_at)
 
 pub log_keeps : (rs : List RegionValue) (n c : ℕ) (l : ReceivedLog) → hot_capacities (with_log_in rs n c l) ≡ hot_capacities rs
 log_keeps rs n c l = region_keeps rs n (region_with rs n c (region_in rs n).inodes l) refl
@@ -33,22 +32,10 @@ set_at rs n capacity = map-set (λ r. r.capacity) rs (n - 1) (with_hot_capacity 
 pub hot_as : (rs : List RegionValue) (n capacity : ℕ) → IsNumber rs n →
     with_region rs n (with_hot_capacity (region_in rs n) capacity) ≡ with_hot_in rs n capacity
 unfolding region_in
-hot_as rs n capacity there =
-    sym (is_set (with_hot_capacity (region_in rs n) capacity) rs n there)
-    ∙ ap (λ r. slice_set rs (n - 1) (with_hot_capacity r capacity)) (is_seen no_region rs n there)
-
--- ---- where something is so, or nothing changes
-
-region_either : (b : Bool) (r s : RegionValue) → r.capacity ≡ s.capacity → (if b then r else s).capacity ≡ s.capacity
-region_either true r s same = same
-region_either false r s same = refl
-
-either : (b : Bool) (rs ss : List RegionValue) → hot_capacities rs ≡ hot_capacities ss → hot_capacities (if b then rs else ss) ≡ hot_capacities ss
-either true rs ss same = same
-either false rs ss same = refl
+hot_as rs n capacity there = grind (arith, is_set, slice_set, is_seen)
 
 pub call_keeps : (rs : List RegionValue) (n c call : ℕ) (es : List Effect) → hot_capacities (with_call_in rs n c call es) ≡ hot_capacities rs
-call_keeps rs n c call es = either (has_some es) (with_log_in rs n c _) rs (log_keeps rs n c _)
+call_keeps rs n c call es = grind (arith, cond_both, log_keeps)
 
 -- ---- at all nodes
 
@@ -57,7 +44,7 @@ each_keeps f same [] = refl
 each_keeps f same (r ∷ rs) = (λ i. same r i ∷ each_keeps f same rs i)
 
 changed_keeps : (c : ℕ) (f : ReceivedLog → ReceivedLog) (rs : List RegionValue) → hot_capacities (map (changed_in c f) rs) ≡ hot_capacities rs
-changed_keeps c f = each_keeps (changed_in c f) (λ r. region_either _ (with_log r c (f (log_of r c))) r refl)
+changed_keeps c f = grind (arith, each_keeps, cond_both)
 
 pub prefixes_keep : (rs : List RegionValue) (c to : ℕ) → hot_capacities (with_prefixes_dropped rs c to) ≡ hot_capacities rs
 prefixes_keep rs c to = changed_keeps c (λ l. from_number l to) rs
@@ -68,14 +55,12 @@ tails_keep rs c from = changed_keeps c (λ l. up_to_number l from) rs
 pub begun_keeps : (full : ℕ → Bool) (limit home n : ℕ) (rs : List RegionValue) → hot_capacities (with_logs_begun full limit home n rs) ≡ hot_capacities rs
 begun_keeps full limit home n [] = refl
 begun_keeps full limit home n (r ∷ rs) =
-    (λ i. region_either (full n) (region_with_client r (begun_log limit (n == home))) r refl i ∷ begun_keeps full limit home (suc n) rs i)
+    let begun : RegionValue = region_with_client r (begun_log limit (n == home)) in
+    (λ i. cond_both (full n) begun r (λ q. q.capacity ≡ r.capacity) (λ _. refl) (λ _. refl) i ∷ begun_keeps full limit home (suc n) rs i)
 
 cut_keeps : (home : ℕ) (cs : List ClientValue) (kept : ℕ → ℕ) (m : ℕ) (rs : List RegionValue) → hot_capacities (with_clients_cut home cs kept m rs) ≡ hot_capacities rs
 cut_keeps home cs kept zero rs = refl
-cut_keeps home cs kept (suc c) rs =
-    let before : List RegionValue = with_clients_cut home cs kept c rs in
-    either ((client_in cs (suc c)).home == home) (with_tails_cut before (suc c) (kept (suc c))) before (tails_keep before (suc c) (kept (suc c)))
-    ∙ cut_keeps home cs kept c rs
+cut_keeps home cs kept (suc c) rs = grind (arith, cond_both, tails_keep, (cut_keeps home cs kept c rs))
 
 -- a node fails
 pub failure_keeps : (rs : List RegionValue) (n : ℕ) (cs : List ClientValue) (kept : ℕ → ℕ) (m : ℕ) → hot_capacities (with_clients_cut n cs kept m (without_logs rs n)) ≡ hot_capacities rs

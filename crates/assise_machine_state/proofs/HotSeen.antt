@@ -1,5 +1,5 @@
 -- How many inodes may be hot at a node is observed, and of what is hot nothing else.
-use Rattle.std.proofs.Common.{◌≡◌, ℕ, List, length, not, refl, ap, slice_index_or, ◌-◌}
+use Rattle.std.proofs.Common.{◌≡◌, ℕ, List, length, not, refl, slice_index_or, ◌-◌, arith}
 use Rattle.std.proofs.lemmas.List.{length-set}
 use Rattle.assise_inode_table.specs.Contents.{InodeMap, values}
 use Rattle.assise_private_log.specs.NumberedLog.{end, is_border}
@@ -55,36 +55,18 @@ module _ (s : StateValue) (n capacity : ℕ) where
   abbrev changed : RegionValue
   changed = with_hot_capacity (slice_index_or s.nodes (n - 1) no_region) capacity
 
-  inodes_same : (k : ℕ) → (region_in t.nodes k).inodes ≡ (region_in s.nodes k).inodes
-  unfolding region_in
-  inodes_same k = place_kept (λ r. r.inodes) no_region changed s.nodes (n - 1) k refl
-
   logs_same : (k : ℕ) → (region_in t.nodes k).logs ≡ (region_in s.nodes k).logs
   unfolding region_in
   logs_same k = place_kept (λ r. r.logs) no_region changed s.nodes (n - 1) k refl
 
   pub machine_set : observed t ≡ with_hot (observed s) n capacity
-  unfolding observed world_of own_seen log_in observed_by leases_of
-  machine_set = λ i. observed_by s (set_at s.nodes n capacity i) (λ k. inodes_same k i) (λ k. logs_same k i)
+  unfolding observed world_of own_seen log_in observed_by leases_of region_in
+  machine_set = λ i. observed_by s (set_at s.nodes n capacity i) (λ k. place_kept (λ r. r.inodes) no_region changed s.nodes (n - 1) k refl i)
+      (λ k. logs_same k i)
 
   pub shape_kept : ShapeInvariant s → ShapeInvariant t
   unfolding log_in own_seen
-  shape_kept shape = shaped_as s t shape record {
-    nodes = length-set s.nodes (n - 1) changed;
-    members = refl;
-    full = λ k. refl;
-    logs = λ k. ap length (logs_same k);
-    clients = refl;
-    home = λ c. refl;
-    failed = λ c. refl;
-    limit = refl;
-    limits = λ k c. ap (λ ls. (item_at no_log ls c).log.limit) (logs_same k);
-    at_home = λ k c. ap (λ ls. (item_at no_log ls c).at_home) (logs_same k);
-    marked = still_marked s t (λ k c. ap (λ ls. (item_at no_log ls c).log) (logs_same k))
-        (λ c. ap (λ ls. (item_at no_log ls c).log) (logs_same (own_node (standings s) (client_in s.clients c))));
-    durability = λ c. refl;
-    opened = λ c. refl;
-  }
+  shape_kept shape = grind (arith, shaped_as, length-set, logs_same, still_marked)
 
   pub notes_kept : CutsInvariant s → CutsInvariant t
   notes_kept noted = record { once = noted.once; known = noted.known; noted = noted.noted }

@@ -1,9 +1,13 @@
 -- What is seen of a list after a change of the item of one number.
-use Rattle.std.proofs.Common.{◌≡◌, ◌≢◌, ℕ, zero, suc, ◌-◌, ◌<◌, ◌≤◌, List, [], ◌∷◌, ◌++◌, get_or, length, set, inl, inr, refl, ap, sym, subst, ◌∙◌, arith}
+use Rattle.std.proofs.Common.{◌≡◌, ◌≢◌, ℕ, zero, suc, ◌-◌, ◌<◌, List, [], ◌∷◌, ◌++◌, get_or, length, set, inl, inr, refl, sym, subst, arith}
 use Rattle.std.proofs.lemmas.Bool.{cases_eq, cases_lt}
 use Rattle.std.proofs.lemmas.List.{get_or-set_other, get_or-set_same, get_or_append_left, get_or_default, get_or_past, get_or_push, length-set, length_push, set-get_or, set-set, set_past}
 use Rattle.assise_machine_state.specs.ClientValues.{ClientValue, client_in, no_client, with_client}
 use Rattle.assise_machine_state.specs.Places.{IsNumber, item_at, with_item}
+
+-- what holds of one number, and of any other, holds of each
+pub each_number : (P : ℕ → Type 0) (n k : ℕ) → P n → (k ≢ n → P k) → P k
+each_number P n k here else = elim (cases_eq k n) [ inl is ↦ subst P (sym is) here | inr other ↦ else other ]
 
 pub less_one : (k : ℕ) → suc k - 1 ≡ k
 less_one k = omega arith
@@ -11,58 +15,40 @@ less_one k = omega arith
 -- the place of a number is the one before it
 pub is_seen : {X : Type 0} (none : X) (xs : List X) (n : ℕ) → IsNumber xs n → item_at none xs n ≡ get_or xs (n - 1) none
 unfolding item_at
-is_seen none xs zero n = absurd (omega (arith, n.some))
-is_seen none xs (suc k) n = rw (less_one k) refl
+is_seen none xs n h1 = grind (arith, less_one)
 
 pub is_set : {X : Type 0} (x : X) (xs : List X) (n : ℕ) → IsNumber xs n → set xs (n - 1) x ≡ with_item xs n x
-is_set x xs zero n = absurd (omega (arith, n.some))
-is_set x xs (suc k) n = rw (less_one k) refl
+is_set x xs n h1 = grind (arith, less_one)
 
 -- a change leaves how many there are, and a later one stands
 pub length-with : {X : Type 0} (xs : List X) (n : ℕ) (x : X) → length (with_item xs n x) ≡ length xs
-length-with xs zero x = refl
-length-with xs (suc k) x = length-set xs k x
+length-with xs n x = grind (arith, length-set)
 
 pub with-with : {X : Type 0} (xs : List X) (n : ℕ) (x y : X) → with_item (with_item xs n x) n y ≡ with_item xs n y
-with-with xs zero x y = refl
-with-with xs (suc k) x y = set-set xs k x y
+with-with xs n x y = grind (arith, set-set)
 
 pub seen_here : {X : Type 0} (none x : X) (xs : List X) (n : ℕ) → IsNumber xs n → item_at none (with_item xs n x) n ≡ x
 unfolding item_at
-seen_here none x xs zero n = absurd (omega (arith, n.some))
-seen_here none x xs (suc k) n = get_or-set_same xs k x none (omega (arith, n.there))
+seen_here none x xs n h1 = grind (arith, get_or-set_same)
 
 pub seen_else : {X : Type 0} (none x : X) (xs : List X) (n d : ℕ) → IsNumber xs n → d ≢ n → item_at none (with_item xs n x) d ≡ item_at none xs d
 unfolding item_at
-seen_else none x xs n zero there other = refl
-seen_else none x xs zero (suc j) there other = absurd (omega (arith, there.some))
-seen_else none x xs (suc k) (suc j) there other = get_or-set_other xs k j x none (λ same. other (ap suc same))
+seen_else none x xs n d h1 h2 = grind (arith, get_or-set_other)
 
 -- an item that is found at the place of a number
 pub seen_found : {X : Type 0} (none x : X) (items xs : List X) (n : ℕ) → items ≡ xs → IsNumber xs n → x ≡ get_or items (n - 1) x → x ≡ item_at none xs n
 unfolding item_at
-seen_found none x items xs zero same n is = absurd (omega (arith, n.some))
-seen_found none x items xs (suc k) same n is =
-    is ∙ ap (λ ys. get_or ys (suc k - 1) x) same ∙ rw (less_one k) (get_or_default xs k x none (omega (arith, n.there)))
+seen_found none x items xs n h1 h2 h3 = grind (arith, less_one, get_or_default)
 
 -- an item that is put where it is
 pub seen_back : {X : Type 0} (none : X) (xs : List X) (n : ℕ) → with_item xs n (item_at none xs n) ≡ xs
 unfolding item_at
-seen_back none xs zero = refl
-seen_back none xs (suc k) = set-get_or xs k none
+seen_back none xs n = grind (arith, set-get_or)
 
 -- what the change leaves of the item it leaves everywhere, also where no item has the number
 
 kept_at : {X A : Type 0} (f : X → A) (none x : X) (xs : List X) (k j : ℕ) → f x ≡ f (get_or xs k none) → f (get_or (set xs k x) j none) ≡ f (get_or xs j none)
-kept_at f none x xs k j same =
-    elim (cases_eq j k) [
-      | inl is ↦
-          elim (cases_lt k (length xs)) [
-            | inl low ↦ subst (λ i. f (get_or (set xs k x) i none) ≡ f (get_or xs i none)) (sym is) (ap f (get_or-set_same xs k x none low) ∙ same)
-            | inr past ↦ ap (λ ys. f (get_or ys j none)) (set_past xs k x past)
-          ]
-      | inr other ↦ ap f (get_or-set_other xs k j x none other)
-    ]
+kept_at f none x xs k j same = grind (arith, cases_eq, cases_lt, get_or-set_same, set_past, get_or-set_other)
 
 -- the same of a place
 pub place_kept : {X A : Type 0} (f : X → A) (none x : X) (xs : List X) (k d : ℕ) → f x ≡ f (get_or xs k none) →
@@ -81,23 +67,16 @@ seen_kept f none x xs (suc k) d same = place_kept f none x xs k d same
 
 pub seen_past : {X : Type 0} (none : X) (xs : List X) (d : ℕ) → length xs < d → item_at none xs d ≡ none
 unfolding item_at
-seen_past none xs zero past = refl
-seen_past none xs (suc k) past = get_or_past xs k none (omega (arith, past))
+seen_past none xs d h1 = grind (arith, get_or_past)
 
 pub seen_nothing : {X : Type 0} (none : X) (k : ℕ) → item_at none [] k ≡ none
 unfolding item_at
-seen_nothing none zero = refl
-seen_nothing none (suc k) = refl
+seen_nothing none k = grind arith
 
 -- where something is seen, there is one
 pub seen_number : {X : Type 0} (none : X) (xs : List X) (n : ℕ) → item_at none xs n ≢ none → IsNumber xs n
 unfolding item_at
-seen_number none xs zero some = absurd (some refl)
-seen_number none xs (suc k) some =
-    elim (cases_lt k (length xs)) [
-      | inl low ↦ record { some = omega arith; there = omega (arith, low) }
-      | inr past ↦ absurd (some (get_or_past xs k none past))
-    ]
+seen_number none xs n h1 = grind (arith, cases_lt, get_or_past)
 
 -- ---- one client changes
 
@@ -126,21 +105,7 @@ pushed_here none y xs = get_or_push xs y none (length xs) refl
 
 pub pushed_else : {X : Type 0} (none y : X) (xs : List X) (d : ℕ) → d ≢ suc (length xs) → item_at none (xs ++ y ∷ []) d ≡ item_at none xs d
 unfolding item_at
-pushed_else none y xs zero other = refl
-pushed_else none y xs (suc k) other =
-    elim (cases_lt k (length xs)) [
-      | inl low ↦ get_or_append_left xs (y ∷ []) none k low
-      | inr past ↦
-          let differs : k ≢ length xs = λ same. other (ap suc same) in
-          let more : length (xs ++ y ∷ []) ≤ k = subst (λ n. n ≤ k) (sym (length_push xs y)) (omega (arith, past, differs)) in
-          get_or_past (xs ++ y ∷ []) k none more ∙ sym (get_or_past xs k none past)
-    ]
+pushed_else none y xs d h1 = grind (arith, cases_lt, get_or_append_left, length_push, get_or_past)
 
 pub pushed_kept : {X A : Type 0} (f : X → A) (none y : X) (xs : List X) (d : ℕ) → f y ≡ f none → f (item_at none (xs ++ y ∷ []) d) ≡ f (item_at none xs d)
-pushed_kept f none y xs d same =
-    elim (cases_eq d (suc (length xs))) [
-      | inl is ↦
-          subst (λ k. f (item_at none (xs ++ y ∷ []) k) ≡ f (item_at none xs k)) (sym is)
-          (ap f (pushed_here none y xs) ∙ same ∙ sym (ap f (seen_past none xs (suc (length xs)) (omega arith))))
-      | inr other ↦ ap f (pushed_else none y xs d other)
-    ]
+pushed_kept f none y xs d same = grind (arith, each_number, pushed_here, seen_past, pushed_else)

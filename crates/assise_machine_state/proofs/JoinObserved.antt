@@ -1,5 +1,6 @@
 -- What the laws observe of a node that is full again.
-use Rattle.std.proofs.Common.{◌≡◌, ◌≢◌, ◌⊎◌, ℕ, ◌+◌, ◌-◌, ◌≤◌, true, false, not, List, ◌∷◌, length, map, Some, None, inl, inr, refl, ap, sym, subst, ◌∙◌, arith, true≢false, ◌&&◌, ◌==◌, []}
+use Rattle.std.proofs.Common.{◌≡◌, ◌≢◌, ℕ, ◌-◌, true, false, not, ◌∷◌, length, map, Some, None, inl, inr, refl, ap, sym, subst, ◌∙◌, arith}
+use Rattle.std.proofs.Common.{true≢false, ◌&&◌, ◌==◌, []}
 use Rattle.std.specs.Ordering.{nat_cmp}
 use Rattle.std.specs.FinSet as set
 use Rattle.std.proofs.Math.ListN.{get_or-map}
@@ -8,18 +9,16 @@ use Rattle.std.proofs.Props.{props}
 use Rattle.std.proofs.Math.Bool.{and-false}
 use Rattle.std.proofs.lemmas.Bool.{cases_Bool, cases_eq, ne_eqb}
 use Rattle.std.proofs.lemmas.List.{take_all, length-map}
-use Rattle.assise_names.specs.declared.limits.TheConstants.{MOST_NODES}
-use Rattle.assise_history.specs.Entries.{returns}
 use Rattle.assise_history.proofs.ClientCounts.{durability-still}
 use Rattle.assise_inode_table.specs.Contents.{values}
 use Rattle.assise_private_log.specs.NumberedLog.{NumberedLog, end as log_end, is_border}
-use Rattle.assise_digest.specs.Region.{ReceivedLog, RegionValue, no_log}
+use Rattle.assise_digest.specs.Region.{RegionValue, no_log}
 use Rattle.assise_manager.specs.Changes.{join_fault}
 use Rattle.assise_manager.specs.Membership.{IsMembership, lowest_full}
 use Rattle.assise_manager.specs.Standings.{full, returning, standing_of}
 use Rattle.assise_manager.proofs.Lawful.{donor_full}
 use Rattle.assise_model_world.specs.Invariant.{WorldInvariant}
-use Rattle.assise_model_world.specs.World.{Full, World, end_of_log}
+use Rattle.assise_model_world.specs.World.{World, end_of_log}
 use Rattle.assise_model_members.specs.Returns.{Rejoins}
 use Rattle.assise_model_history.proofs.NumberedCalls.{kept_return}
 use Rattle.assise_machine_state.specs.Changes.{after_join}
@@ -32,20 +31,23 @@ use Rattle.assise_machine_state.specs.StateValues.{StateValue, standings}
 use Rattle.assise_machine_state.proofs.Fullness.{full_seen, home_full, node_number, same_first, seen_full}
 use Rattle.assise_machine_state.proofs.LogChanges.{log_away, region_else, region_here, region_kept}
 use Rattle.assise_machine_state.proofs.Marks.{borders_same, marked_as, so_many_marks}
-use Rattle.assise_machine_state.proofs.ShapeKept.{KnowsHome, limit_seen, limits_all, own_marked}
+use Rattle.assise_machine_state.proofs.ShapeKept.{AreMarked, KnowsHome, limit_seen, limits_all, own_marked}
 use Rattle.assise_machine_state.proofs.Standings.{full_as, full_else, full_here, lowest_is_full, same_count}
 use Rattle.assise_machine_state.proofs.SameObserved.{clients_as, goals_as, leases_as, logs_as, node_as}
-use Rattle.assise_machine_state.proofs.ItemSeen.{length-with}
+use Rattle.assise_machine_state.proofs.ItemSeen.{each_number, length-with}
 
 -- ---- a client whose node failed: all full nodes have all that is left
 
-left_records : (s : StateValue) (m c : ℕ) → WorldInvariant (world_of s) → is_full_in (standings s) m ≡ true → (client_in s.clients c).failed ≡ true →
-    (log_in s.nodes m c).log.records ≡ (world_of s).records c
+-- the same records in the same groups
+record SameLog (l m : NumberedLog) : Type 0 where
+  records : l.records ≡ m.records
+  first : l.first ≡ m.first
+  border : (k : ℕ) → is_border l k ≡ is_border m k
+
+left_same : (s : StateValue) (m c : ℕ) → ShapeInvariant s → WorldInvariant (world_of s) → is_full_in (standings s) m ≡ true →
+    (client_in s.clients c).failed ≡ true → SameLog (log_in s.nodes m c).log (own_seen s c).log
 unfolding world_of end_of_log
-left_records s m c sound f over =
-    let w : World = world_of s in
-    let all : w.received m c ≡ w.first c + length (w.records c) = sound.left m c (ap not over) (seen_full s m f) in
-    sound.prefixes m c (seen_full s m f) ∙ take_all (w.received m c - w.first c) (w.records c) (omega (arith, all))
+left_same s m c shape sound f over = grind (arith, seen_full, so_many_marks, own_marked, take_all, same_first, borders_same)
 
 -- ---- a node gets its donor's logs
 
@@ -61,9 +63,6 @@ module _ (s : StateValue) (n since donor : ℕ) (stale : set.FinSet nat_cmp) (sh
   w' = world_of t
 
   -- the node wasn't full, and its donor is
-  was_away : is_full_in (standings s) n ≡ false
-  was_away = full_as (standings s) n (returning since donor stale) stands
-
   donor_stands : is_full_in (standings s) donor ≡ true
   donor_stands = full_as (standings s) donor full (donor_full s.members n since donor stale lawful stands)
 
@@ -74,7 +73,7 @@ module _ (s : StateValue) (n since donor : ℕ) (stale : set.FinSet nat_cmp) (sh
   full_same k other = full_else (standings s) n k (returning since donor stale) full stands other
 
   differs : (k : ℕ) → is_full_in (standings s) k ≡ true → k ≢ n
-  differs k f same = true≢false (sym f ∙ ap (is_full_in (standings s)) same ∙ was_away)
+  differs k f same = true≢false (sym f ∙ ap (is_full_in (standings s)) same ∙ full_as (standings s) n (returning since donor stale) stands)
 
   node_there : IsNumber s.nodes n
   node_there = node_number s n (returning since donor stale) shape stands
@@ -95,15 +94,9 @@ module _ (s : StateValue) (n since donor : ℕ) (stale : set.FinSet nat_cmp) (sh
   log_stays : (k c : ℕ) → k ≢ n → log_in t.nodes k c ≡ log_in s.nodes k c
   log_stays k c other = log_away s.nodes n filled node_there k c other
 
-  all_away : (ls : List ReceivedLog) (c : ℕ) → item_at no_log (map away ls) c ≡ away (item_at no_log ls c)
-  unfolding item_at
-  all_away ls c = get_or-map away (no_log ∷ ls) c no_log
-
   log_filled : (c : ℕ) → log_in t.nodes n c ≡ away (log_in s.nodes donor c)
-  unfolding log_in
-  log_filled c =
-      ap (λ r. item_at no_log r.logs c) filled_seen
-      ∙ all_away (region_in s.nodes donor).logs c
+  unfolding log_in item_at
+  log_filled c = ap (λ r. item_at no_log r.logs c) filled_seen ∙ get_or-map away (no_log ∷ (region_in s.nodes donor).logs) c no_log
 
   -- ---- parts of its shape
 
@@ -111,73 +104,36 @@ module _ (s : StateValue) (n since donor : ℕ) (stale : set.FinSet nat_cmp) (sh
   count = length-with s.nodes n filled
 
   logs_here : length (region_in t.nodes n).logs ≡ length s.clients
-  logs_here =
-      ap (λ r. length r.logs) filled_seen
-      ∙ length-map (region_in s.nodes donor).logs away
-      ∙ shape.logs donor donor_stands
+  logs_here = grind (arith, filled_seen, length-map, donor_stands)
 
   logs : (k : ℕ) → is_full_in (standings t) k ≡ true → length (region_in t.nodes k).logs ≡ length s.clients
-  logs k f = elim (cases_eq k n) [
-    | inl is ↦ subst (λ m. length (region_in t.nodes m).logs ≡ length s.clients) (sym is) logs_here
-    | inr other ↦ ap (λ r. length r.logs) (region_stays k other) ∙ shape.logs k (sym (full_same k other) ∙ f)
-  ]
+  logs k f = grind (arith, each_number, logs_here, region_stays, full_same)
 
   no_logs : (k : ℕ) → is_full_in (standings t) k ≡ false → (region_in t.nodes k).logs ≡ []
-  no_logs k away = elim (cases_eq k n) [
-    | inl is ↦ absurd (true≢false (sym now_full ∙ sym (ap (is_full_in (standings t)) is) ∙ away))
-    | inr other ↦ ap (λ r. r.logs) (region_stays k other) ∙ shape.no_logs k (sym (full_same k other) ∙ away)
+  no_logs k away = grind (arith, cases_eq, now_full, logs, region_stays, full_same)
+
+  -- each node's logs are those of one that was there: of its donor, or its own
+  source : (k : ℕ) → (j : ℕ) × (is_full_in (standings t) k ≡ true → is_full_in (standings s) j ≡ true)
+      × ((c : ℕ) → (log_in t.nodes k c).log ≡ (log_in s.nodes j c).log)
+  source k = elim (cases_eq k n) [
+    | inl is ↦ (donor, λ f. donor_stands, λ c. ap (λ m. (log_in t.nodes m c).log) is ∙ ap (λ l. l.log) (log_filled c))
+    | inr other ↦ (k, λ f. sym (full_same k other) ∙ f, λ c. ap (λ l. l.log) (log_stays k c other))
   ]
 
   limits : (k c : ℕ) → is_full_in (standings t) k ≡ true → IsNumber s.clients c → (log_in t.nodes k c).log.limit ≡ s.limit
-  limits k c f client = elim (cases_eq k n) [
-    | inl is ↦
-        subst (λ m. (log_in t.nodes m c).log.limit ≡ s.limit) (sym is)
-        (ap (λ l. l.log.limit) (log_filled c) ∙ limit_seen s donor c shape donor_stands client)
-    | inr other ↦ ap (λ l. l.log.limit) (log_stays k c other) ∙ limit_seen s k c shape (sym (full_same k other) ∙ f) client
-  ]
+  limits k c f client = (let j = source k in ap (λ l. l.limit) (j.2 c) ∙ limit_seen s j.0 c shape (j.1 f) client)
 
   -- no client lives at the node
   nobody : (c : ℕ) → ((n == (client_in s.clients c).home) && not (client_in s.clients c).failed) ≡ false
-  nobody c = elim (cases_Bool (client_in s.clients c).failed) [
-    | inl over ↦ rw over (and-false (n == (client_in s.clients c).home))
-    | inr unfailed ↦
-        let home : (client_in s.clients c).home ≢ n = differs (client_in s.clients c).home (home_full s c shape unfailed) in
-        rw (ne_eqb n (client_in s.clients c).home (λ e. home (sym e))) refl
-  ]
+  nobody c = grind (arith, cases_Bool, and-false, differs, home_full, ne_eqb)
 
   homes : (k c : ℕ) → KnowsHome t k c
-  homes k c = elim (cases_eq k n) [
-    | inl is ↦
-        subst (λ m. KnowsHome t m c) (sym is) (ap (λ l. l.at_home) (log_filled c) ∙ sym (nobody c))
-    | inr other ↦ ap (λ l. l.at_home) (log_stays k c other) ∙ shape.at_home k c
-  ]
+  homes k c = grind (arith, each_number, log_filled, nobody, log_stays)
 
   -- ---- what the laws observe
 
   -- each client's own log stays
   module _ (sound : WorldInvariant w) where
-    from_first : (m c : ℕ) → is_full_in (standings s) m ≡ true → (log_in s.nodes m c).log.first ≡ w.first c
-    from_first m c f = same_first s m c sound (seen_full s m f)
-
-    full_records : (m c : ℕ) → is_full_in (standings t) m ≡ true → (client_in s.clients c).failed ≡ true → (log_in t.nodes m c).log.records ≡ w.records c
-    full_records m c f over =
-        elim (cases_eq m n) [
-          | inl is ↦
-              subst (λ k. (log_in t.nodes k c).log.records ≡ w.records c) (sym is)
-              (ap (λ l. l.log.records) (log_filled c) ∙ left_records s donor c sound donor_stands over)
-          | inr other ↦ ap (λ l. l.log.records) (log_stays m c other) ∙ left_records s m c sound (sym (full_same m other) ∙ f) over
-        ]
-
-    full_first : (m c : ℕ) → is_full_in (standings t) m ≡ true → (log_in t.nodes m c).log.first ≡ w.first c
-    full_first m c f =
-        elim (cases_eq m n) [
-          | inl is ↦ subst (λ k. (log_in t.nodes k c).log.first ≡ w.first c) (sym is) (ap (λ l. l.log.first) (log_filled c) ∙ from_first donor c donor_stands)
-          | inr other ↦ ap (λ l. l.log.first) (log_stays m c other) ∙ from_first m c (sym (full_same m other) ∙ f)
-        ]
-
-    lowest : is_full_in (standings t) (lowest_full (standings t)) ≡ true
-    lowest = lowest_is_full (standings t) n now_full
-
     at_home : (c : ℕ) → (client_in s.clients c).failed ≡ false → own_seen t c ≡ own_seen s c
     unfolding own_seen
     at_home c unfailed = rw unfailed (log_stays (client_in s.clients c).home c (differs (client_in s.clients c).home (home_full s c shape unfailed)))
@@ -186,75 +142,24 @@ module _ (s : StateValue) (n since donor : ℕ) (stale : set.FinSet nat_cmp) (sh
     unfolding own_seen
     own_left c over = rw over refl
 
-    own_records : (c : ℕ) → w'.records c ≡ w.records c
-    unfolding world_of
-    own_records c =
+    own_same : (c : ℕ) → SameLog (own_seen t c).log (own_seen s c).log
+    own_same c =
         elim (cases_Bool (client_in s.clients c).failed) [
-          | inl over ↦ ap (λ l. l.log.records) (own_left c over) ∙ full_records (lowest_full (standings t)) c lowest over
-          | inr unfailed ↦ ap (λ l. l.log.records) (at_home c unfailed)
+          | inl over ↦
+              let j = source (lowest_full (standings t)) in
+              subst (λ l. SameLog l (own_seen s c).log) (sym (ap (λ l. l.log) (own_left c over) ∙ j.2 c))
+              (left_same s j.0 c shape sound (j.1 (lowest_is_full (standings t) n now_full)) over)
+          | inr unfailed ↦
+              subst (λ l. SameLog l.log (own_seen s c).log) (sym (at_home c unfailed)) (record { records = refl; first = refl; border = λ k. refl })
         ]
 
-    own_first : (c : ℕ) → w'.first c ≡ w.first c
-    unfolding world_of
-    own_first c =
-        elim (cases_Bool (client_in s.clients c).failed) [
-          | inl over ↦ ap (λ l. l.log.first) (own_left c over) ∙ full_first (lowest_full (standings t)) c lowest
-          | inr unfailed ↦ ap (λ l. l.log.first) (at_home c unfailed)
-        ]
-
-    -- ---- groups
-
-    -- all full nodes have all of a log whose client's node failed, so each has its borders
-    left_border : (m c k : ℕ) → is_full_in (standings s) m ≡ true → (client_in s.clients c).failed ≡ true →
-        is_border (log_in s.nodes m c).log k ≡ is_border (own_seen s c).log k
-    unfolding world_of end_of_log
-    left_border m c k f over =
-        let all : w.received m c ≡ end_of_log w c = sound.left m c (ap not over) (seen_full s m f) in
-        borders_same (own_seen s c).log (log_in s.nodes m c).log k
-        (so_many_marks (is_border (own_seen s c).log) (own_seen s c).log (own_marked s shape.marked c)) (shape.marked m c) (from_first m c f) all
-
-    full_border : (m c k : ℕ) → is_full_in (standings t) m ≡ true → (client_in s.clients c).failed ≡ true →
-        is_border (log_in t.nodes m c).log k ≡ is_border (own_seen s c).log k
-    full_border m c k f over =
-        elim (cases_eq m n) [
-          | inl is ↦
-              subst (λ j. is_border (log_in t.nodes j c).log k ≡ is_border (own_seen s c).log k) (sym is)
-              (ap (λ l. is_border l.log k) (log_filled c) ∙ left_border donor c k donor_stands over)
-          | inr other ↦ ap (λ l. is_border l.log k) (log_stays m c other) ∙ left_border m c k (sym (full_same m other) ∙ f) over
-        ]
-
-    own_border : (c k : ℕ) → is_border (own_seen t c).log k ≡ is_border (own_seen s c).log k
-    own_border c k =
-        elim (cases_Bool (client_in s.clients c).failed) [
-          | inl over ↦ ap (λ l. is_border l.log k) (own_left c over) ∙ full_border (lowest_full (standings t)) c k lowest over
-          | inr unfailed ↦ ap (λ l. is_border l.log k) (at_home c unfailed)
-        ]
-
-    -- the node's logs have them too
+    -- and so do the groups of each node's log
     marked_then : (k c : ℕ) → IsMarked (is_border (own_seen t c).log) (log_in t.nodes k c).log
     marked_then k c =
-        let again : (l : NumberedLog) → IsMarked (is_border (own_seen s c).log) l → IsMarked (is_border (own_seen t c).log) l =
-        λ l. marked_as (is_border (own_seen s c).log) (is_border (own_seen t c).log) l (λ j low high. sym (own_border c j)) in
-        elim (cases_eq k n) [
-          | inl is ↦
-              subst (λ m. IsMarked (is_border (own_seen t c).log) (log_in t.nodes m c).log) (sym is)
-              (subst (λ l. IsMarked (is_border (own_seen t c).log) l.log) (sym (log_filled c)) (again (log_in s.nodes donor c).log (shape.marked donor c)))
-          | inr other ↦
-              subst (λ l. IsMarked (is_border (own_seen t c).log) l.log) (sym (log_stays k c other)) (again (log_in s.nodes k c).log (shape.marked k c))
-        ]
-
-    -- who is full then
-    stays_full : (k : ℕ) → Full w k → Full w' k
-    stays_full k f =
-        let had : is_full_in (standings s) k ≡ true = full_seen s k f in
-        seen_full t k (full_same k (differs k had) ∙ had)
-
-    was_full : (k : ℕ) → Full w' k → (k ≡ n) ⊎ Full w k
-    was_full k f =
-        elim (cases_eq k n) [
-          | inl is ↦ inl is
-          | inr other ↦ inr (seen_full s k (sym (full_same k other) ∙ full_seen t k f))
-        ]
+        let j = source k in
+        subst (IsMarked (is_border (own_seen t c).log)) (sym (j.2 c))
+        (marked_as (is_border (own_seen s c).log) (is_border (own_seen t c).log) (log_in s.nodes j.0 c).log (λ i low high. sym ((own_same c).border i))
+        (shape.marked j.0 c))
 
     pub node_rejoins : join_fault s.members n ≡ None → Rejoins w s.members n w' t.members
     unfolding world_of
@@ -266,9 +171,9 @@ module _ (s : StateValue) (n since donor : ℕ) (stale : set.FinSet nat_cmp) (sh
       fine = fine;
       members = refl;
       joined = seen_full t n now_full;
-      stay = stays_full;
-      only = was_full;
-      logs = logs_as s t refl (kept_return s.history n) own_records own_first own_border;
+      stay = λ k f. (let had = full_seen s k f in seen_full t k (full_same k (differs k had) ∙ had));
+      only = λ k f. elim (cases_eq k n) [ inl is ↦ inl is | inr other ↦ inr (seen_full s k (sym (full_same k other) ∙ full_seen t k f)) ];
+      logs = logs_as s t refl (kept_return s.history n) (λ c. (own_same c).records) (λ c. (own_same c).first) (λ c. (own_same c).border);
       clients = clients_as s t refl;
       goals = goals_as s t refl;
       leases = leases_as s t (λ i. refl);
@@ -282,15 +187,7 @@ module _ (s : StateValue) (n since donor : ℕ) (stale : set.FinSet nat_cmp) (sh
   -- ---- its shape is one
 
   pub join_shaped : ∥ WorldInvariant w ∥₁ → ShapeInvariant t
-  join_shaped sound = record {
-    nodes = count ∙ shape.nodes ∙ sym (same_count (standings s) n full);
-    few_nodes = subst (λ k. k ≤ MOST_NODES) (sym count) shape.few_nodes;
-    logs = logs;
-    no_logs = no_logs;
-    at_home = homes;
-    limits = limits_all t logs no_logs limits;
-    least_limit = shape.least_limit;
-    most_limit = shape.most_limit;
-    marked = λ k c. ∥∥₁_elim sound (search props) (λ h. marked_then h k c);
-    durabilities = λ c. shape.durabilities c ∙ sym (durability-still s.history (returns n) c refl);
-  }
+  join_shaped sound =
+      let all = limits_all t logs no_logs limits in
+      let marked : AreMarked t = λ k c. ∥∥₁_elim sound (search props) (λ h. marked_then h k c) in
+      grind (arith, count, same_count, logs, no_logs, homes, durability-still)

@@ -1,5 +1,5 @@
 -- Places up to which logs are kept where a node fails, and what is left of logs there.
-use Rattle.std.proofs.Common.{◌≡◌, ◌≢◌, ◌⊎◌, ℕ, ◌-◌, ◌≤◌, min, false, ◌==◌, length, take, inl, inr, refl, ap, sym, subst, ◌∙◌, arith, true≢false}
+use Rattle.std.proofs.Common.{◌≡◌, ◌≢◌, ◌⊎◌, ℕ, ◌-◌, ◌≤◌, min, false, ◌==◌, length, take, inl, inr, refl, sym, subst, ◌∙◌, arith, true≢false}
 use Rattle.std.proofs.lemmas.Bool.{and_right, cases_Bool, ne_eqb}
 use Rattle.std.proofs.lemmas.List.{length-take, take-take, take_all}
 use Rattle.assise_private_log.specs.NumberedLog.{NumberedLog, end as log_end, without_tail}
@@ -9,7 +9,6 @@ use Rattle.assise_model_world.specs.World.{Full, World, end_of_log, records_betw
 use Rattle.assise_model_world.proofs.FailureKeeps.{kept_low}
 use Rattle.assise_model_world.proofs.WorldObserved.{first-received_by_all, least_of-below}
 use Rattle.assise_model_history.proofs.FailureList.{cut_there, is_left, least_kept, others_of}
-use Rattle.assise_machine_state.proofs.Fullness.{prefix_length}
 
 pub kept_elsewhere : (w : World) (n c : ℕ) → w.home c ≢ n → kept_at_failure w n c ≡ end_of_log w c
 unfolding kept_at_failure
@@ -40,15 +39,7 @@ part_first w c k = (let none : w.first c - w.first c ≡ 0 = omega arith in rw n
 -- the prefix of a node's log, as far as it is kept
 pub prefix_kept : (w : World) (n m c : ℕ) → WorldInvariant w → Full w m → kept_at_failure w n c ≤ w.received m c →
     take (kept_at_failure w n c - w.first c) (w.log m c) ≡ take (kept_at_failure w n c - w.first c) (w.records c)
-prefix_kept w n m c sound f low =
-    ap (take (kept_at_failure w n c - w.first c)) (sound.prefixes m c f)
-    ∙ take-take (kept_at_failure w n c - w.first c) (w.received m c - w.first c) (w.records c) (omega (arith, low))
-
-pub prefix_whole : (w : World) (n m c : ℕ) → WorldInvariant w → Full w m → kept_at_failure w n c ≡ end_of_log w c → take (kept_at_failure w n c - w.first c) (w.log m c) ≡ w.log m c
-unfolding end_of_log
-prefix_whole w n m c sound f all =
-    let prefix : length (w.log m c) ≡ min (w.received m c - w.first c) (length (w.records c)) = prefix_length w m c sound f in
-    take_all (kept_at_failure w n c - w.first c) (w.log m c) (omega (arith, all, prefix))
+prefix_kept w n m c sound f low = grind (arith, take-take)
 
 pub all_kept : (w : World) (n c : ℕ) → kept_at_failure w n c ≡ end_of_log w c → take (kept_at_failure w n c - w.first c) (w.records c) ≡ w.records c
 unfolding end_of_log

@@ -1,24 +1,19 @@
 -- What is seen of nodes after a change of one of them, of one of its logs, or of one client's logs at all of them.
-use Rattle.std.proofs.Common.{◌≡◌, ◌≢◌, ℕ, ◌-◌, ◌<◌, nat_le, Bool, List, [], ◌∷◌, length, get_or, map, inl, inr, refl, ap, sym, subst, ◌∙◌, append-nil, Result, OnErr, set, take}
+use Rattle.std.proofs.Common.{◌≡◌, ◌≢◌, ℕ, ◌-◌, ◌<◌, ◌≤◌, nat_le, Bool, List, [], ◌∷◌, length, get_or, map, refl, ap, sym, ◌∙◌, append-nil, arith}
+use Rattle.std.proofs.Common.{Result, OnErr, OnOk, set}
 use Rattle.std.proofs.Math.ListN.{get_or-map}
-use Rattle.std.proofs.lemmas.Bool.{cases_Bool, cases_eq, le-leb, leb-false, leb-true}
+use Rattle.std.proofs.lemmas.Bool.{cases_Bool, cases_eq, cond_both, le-leb, leb-false, leb-true}
 use Rattle.std.proofs.lemmas.List.{length-set}
-use Rattle.std.proofs.lemmas.Result.{on_err_weaker}
+use Rattle.std.proofs.lemmas.Result.{on_err_weaker, on_ok_weaker}
 use Rattle.assise_inode_table.specs.Contents.{InodeMap}
-use Rattle.assise_inode_table.specs.Effects.{all_applied}
-use Rattle.assise_digest.specs.Region.{ReceivedLog, RegionValue, ahead, digested_by, digested_further, log_of, no_log, with_log}
+use Rattle.assise_digest.specs.Region.{ReceivedLog, RegionValue, digested_by, log_of, no_log, with_log}
 use Rattle.assise_machine_state.specs.NodeValues.{HasLog, changed_in, log_in, no_region, region_in, with_digested_in, with_log_in, with_records, with_region}
 use Rattle.assise_machine_state.specs.Places.{IsNumber, item_at, with_item}
 use Rattle.assise_machine_state.proofs.ItemSeen.{is_seen, is_set, length-with, place_kept, seen_back, seen_else, seen_found, seen_here, seen_kept, seen_past}
-use Rattle.assise_record.specs.Records.{all_effects}
 
 -- a log into which nothing comes stays
 pub none_more : (border : ℕ → Bool) (l : ReceivedLog) → with_records border l [] ≡ l
-none_more border l = λ i. record {
-  log = record { first = l.log.first; limit = l.log.limit; records = append-nil l.log.records i; begins = append-nil l.log.begins i };
-  digested = l.digested;
-  at_home = l.at_home;
-}
+none_more border l = grind (arith, append-nil)
 
 -- a log that a node has is an item
 pub log_number : (rs : List RegionValue) (n c : ℕ) → HasLog rs n c → IsNumber (region_in rs n).logs c
@@ -80,19 +75,16 @@ log_found rs n c has found = ap (λ r. log_of r c) found ∙ sym (is_seen no_log
 -- and the change of it
 pub log_put : (rs : List RegionValue) (n c : ℕ) {r : RegionValue} (l : ReceivedLog) → HasLog rs n c → r ≡ region_in rs n →
     with_region rs n (with_log r c l) ≡ with_log_in rs n c l
-log_put rs n c l has found =
-    ap (λ r. with_region rs n (with_log r c l)) found
-    ∙ ap (λ ls. with_region rs n (record (region_in rs n) { logs = ls })) (is_set l (region_in rs n).logs c (log_number rs n c has))
+log_put rs n c l has found = grind (arith, is_set, log_number)
+
+pub changed_log : {T E : Type 0} (a : Result T E) (f : ReceivedLog → ReceivedLog) (now : RegionValue) {rs : List RegionValue} {n c : ℕ} {r : RegionValue} →
+    HasLog rs n c → r ≡ region_in rs n → OnOk a (now ≡ with_log r c (f (log_of r c))) → OnOk a (with_region rs n now ≡ with_log_in rs n c (f (log_in rs n c)))
+changed_log a f now {rs} {n} {c} has found =
+    on_ok_weaker a (λ ok. ap (with_region rs n) ok ∙ log_put rs n c _ has found ∙ ap (λ l. with_log_in rs n c (f l)) (log_found rs n c has found))
 
 pub digested_put : (rs : List RegionValue) (n c count : ℕ) {r : RegionValue} → HasLog rs n c → r ≡ region_in rs n →
     with_region rs n (digested_by r c count) ≡ with_digested_in rs n c count
-digested_put rs n c count has found =
-    let is = log_found rs n c has refl in
-    ap (λ r. with_region rs n (digested_by r c count)) found
-    ∙ (λ i. with_region rs n (record (region_in rs n) {
-      inodes = all_applied (region_in rs n).inodes (all_effects (take count (ahead (is i))));
-      logs = is_set (digested_further (is i) count) (region_in rs n).logs c (log_number rs n c has) i;
-    }))
+digested_put rs n c count has found = grind (arith, log_found, is_set, log_number)
 
 -- ---- node n has these inodes, and this log of client c
 
@@ -118,97 +110,52 @@ module _ (rs : List RegionValue) (n c : ℕ) (inodes : InodeMap) (l : ReceivedLo
 
     log_beside : (d : ℕ) → d ≢ c → log_in (log_changed rs n c inodes l) n d ≡ log_in rs n d
     unfolding log_in
-    log_beside d other =
-        ap (λ r. item_at no_log r.logs d) (region_here rs n (region_with rs n c inodes l) has.node)
-        ∙ seen_else no_log l (region_in rs n).logs c d (log_number rs n c has) other
+    log_beside d other = grind (arith, region_here, seen_else, log_number)
 
     -- each other log stays
     pub log_else : (m d : ℕ) → (m ≡ n → d ≡ c → ⊥) → log_in (log_changed rs n c inodes l) m d ≡ log_in rs m d
-    log_else m d other =
-        elim (cases_eq m n) [
-          | inl is ↦ subst (λ j. log_in (log_changed rs n c inodes l) j d ≡ log_in rs j d) (sym is) (log_beside d (λ same. other is same))
-          | inr away ↦ log_away rs n (region_with rs n c inodes l) has.node m d away
-        ]
+    log_else m d other = grind (arith, cases_eq, log_beside, log_away)
 
 -- ---- client c's log changes at each node that has one
 
 module _ (c : ℕ) (g : ReceivedLog → ReceivedLog) where
   none_changed : changed_in c g no_region ≡ no_region
-  none_changed =
-      elim (cases_Bool (nat_le c 0)) [
-        | inl e ↦ rw e refl
-        | inr e ↦ rw e refl
-      ]
+  none_changed = cond_both (nat_le c 0) (with_log no_region c (g (log_of no_region c))) no_region (λ r. r ≡ no_region) (λ _. refl) (λ _. refl)
 
   region_changed : (rs : List RegionValue) (n : ℕ) → region_in (map (changed_in c g) rs) n ≡ changed_in c g (region_in rs n)
   unfolding region_in item_at
   region_changed rs n = ap (λ r. get_or (r ∷ map (changed_in c g) rs) n r) (sym none_changed) ∙ get_or-map (changed_in c g) (no_region ∷ rs) n no_region
 
-  -- a region's inodes stay, the count of its logs, and what each log keeps
-
-  inodes_kept : (r : RegionValue) → (changed_in c g r).inodes ≡ r.inodes
-  inodes_kept r =
-      elim (cases_Bool (nat_le c (length r.logs))) [
-        | inl e ↦ rw e refl
-        | inr e ↦ rw e refl
-      ]
-
-  count_kept : (r : RegionValue) → length (changed_in c g r).logs ≡ length r.logs
-  count_kept r =
-      elim (cases_Bool (nat_le c (length r.logs))) [
-        | inl e ↦ rw e (length-set r.logs (c - 1) (g (log_of r c)))
-        | inr e ↦ rw e refl
-      ]
-
-  part_kept : {A : Type 0} (f : ReceivedLog → A) (r : RegionValue) (d : ℕ) → ((l : ReceivedLog) → f (g l) ≡ f l) → f (item_at no_log (changed_in c g r).logs d) ≡ f (item_at no_log r.logs d)
-  part_kept f r d same =
-      elim (cases_Bool (nat_le c (length r.logs))) [
-        | inl e ↦ rw e (place_kept f no_log (g (log_of r c)) r.logs (c - 1) d (same (log_of r c)))
-        | inr e ↦ rw e refl
-      ]
-
-  beside_kept : (r : RegionValue) (d : ℕ) → 0 < c → d ≢ c → item_at no_log (changed_in c g r).logs d ≡ item_at no_log r.logs d
-  beside_kept r d some other =
-      elim (cases_Bool (nat_le c (length r.logs))) [
-        | inl e ↦ rw e (log_other (g (log_of r c)) r.logs c d record { some = some; there = leb-true c (length r.logs) e } other)
-        | inr e ↦ rw e refl
-      ]
-
   own_changed : (r : RegionValue) → IsNumber r.logs c → item_at no_log (changed_in c g r).logs c ≡ g (item_at no_log r.logs c)
-  own_changed r has =
-      rw (le-leb c (length r.logs) has.there) (log_set (g (log_of r c)) r.logs c has ∙ ap g (sym (is_seen no_log r.logs c has)))
+  own_changed r has = grind (arith, le-leb, log_set, is_seen)
 
-  -- the same of what is seen of nodes
+  -- what the change leaves of a region that has the log it leaves of all nodes
+  region_same : {A : Type 0} (f : RegionValue → A) → ((r : RegionValue) → c ≤ length r.logs → f (with_log r c (g (log_of r c))) ≡ f r) →
+      (rs : List RegionValue) (n : ℕ) → f (region_in (map (changed_in c g) rs) n) ≡ f (region_in rs n)
+  region_same f same rs n = grind (arith, region_changed, cond_both, leb-true)
 
   pub inodes_seen : (rs : List RegionValue) (n : ℕ) → (region_in (map (changed_in c g) rs) n).inodes ≡ (region_in rs n).inodes
-  inodes_seen rs n = ap (λ r. r.inodes) (region_changed rs n) ∙ inodes_kept (region_in rs n)
+  inodes_seen = region_same (λ r. r.inodes) (λ r _. refl)
 
   pub count_seen : (rs : List RegionValue) (n : ℕ) → length (region_in (map (changed_in c g) rs) n).logs ≡ length (region_in rs n).logs
-  count_seen rs n = ap (λ r. length r.logs) (region_changed rs n) ∙ count_kept (region_in rs n)
+  count_seen = region_same (λ r. length r.logs) (λ r _. length-set r.logs (c - 1) (g (log_of r c)))
 
   pub part_seen : {A : Type 0} (f : ReceivedLog → A) (rs : List RegionValue) (n d : ℕ) → ((l : ReceivedLog) → f (g l) ≡ f l) →
       f (log_in (map (changed_in c g) rs) n d) ≡ f (log_in rs n d)
   unfolding log_in
-  part_seen f rs n d same = ap (λ r. f (item_at no_log r.logs d)) (region_changed rs n) ∙ part_kept f (region_in rs n) d same
+  part_seen f rs n d same =
+      region_same (λ r. f (item_at no_log r.logs d)) (λ r _. place_kept f no_log (g (log_of r c)) r.logs (c - 1) d (same (log_of r c))) rs n
 
   pub beside_seen : (rs : List RegionValue) (n d : ℕ) → 0 < c → d ≢ c → log_in (map (changed_in c g) rs) n d ≡ log_in rs n d
   unfolding log_in
-  beside_seen rs n d some other = ap (λ r. item_at no_log r.logs d) (region_changed rs n) ∙ beside_kept (region_in rs n) d some other
+  beside_seen rs n d some other =
+      region_same (λ r. item_at no_log r.logs d) (λ r has. log_other (g (log_of r c)) r.logs c d record { some = some; there = has } other) rs n
 
   pub own_changes : (rs : List RegionValue) (n : ℕ) → HasLog rs n c → log_in (map (changed_in c g) rs) n c ≡ g (log_in rs n c)
   unfolding log_in
-  own_changes rs n has =
-      ap (λ r. item_at no_log r.logs c) (region_changed rs n) ∙ own_changed (region_in rs n) (log_number rs n c has)
+  own_changes rs n has = grind (arith, region_changed, own_changed, log_number)
 
   -- of a change that leaves the log of no client
   pub own_changes_all : 0 < c → g no_log ≡ no_log → (rs : List RegionValue) (n : ℕ) → log_in (map (changed_in c g) rs) n c ≡ g (log_in rs n c)
   unfolding log_in
-  own_changes_all some none rs n =
-      let r : RegionValue = region_in rs n in
-      ap (λ x. item_at no_log x.logs c) (region_changed rs n)
-      ∙ elim (cases_Bool (nat_le c (length r.logs))) [
-        | inl has ↦ own_changed r record { some = some; there = leb-true c (length r.logs) has }
-        | inr past ↦
-            let absent : item_at no_log r.logs c ≡ no_log = seen_past no_log r.logs c (leb-false c (length r.logs) past) in
-            rw past (absent ∙ sym none ∙ ap g (sym absent))
-      ]
+  own_changes_all some none rs n = grind (arith, region_changed, cases_Bool, own_changed, leb-true, seen_past, leb-false)

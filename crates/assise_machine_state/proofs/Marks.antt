@@ -55,23 +55,11 @@ so_many_marks f l marked = ap length marked ∙ marks-count f l.first l.records
 
 -- inside it has these
 pub border_inside : (f : ℕ → Bool) (l : NumberedLog) (k : ℕ) → IsMarked f l → l.first < k → k < end l → is_border l k ≡ f k
-border_inside f l k marked low high =
-    let place : l.first + (k - l.first) ≡ k = omega (arith, low) in
-    border_marked l k low
-    ∙ ap (λ ms. get_or ms (k - l.first) true) marked
-    ∙ mark-at f l.first l.records (k - l.first) (omega (arith, low, high))
-    ∙ ap f place
+border_inside f l k marked low high = grind (arith, border_marked, mark-at)
 
 -- so where two logs have the same extent they have the same borders
 pub borders_same : (own l : NumberedLog) (k : ℕ) → length own.begins ≡ length own.records → IsMarked (is_border own) l → l.first ≡ own.first → end l ≡ end own → is_border l k ≡ is_border own k
-borders_same own l k own_marks marked first ends =
-    elim (cases_lt l.first k) [
-      | inl low ↦ (elim (cases_lt k (end l)) [
-        | inl high ↦ border_inside (is_border own) l k marked low high
-        | inr past ↦ border_end l k (so_many_marks (is_border own) l marked) past ∙ sym (border_end own k own_marks (omega (arith, past, ends)))
-      ])
-      | inr before ↦ border_first l k before ∙ sym (border_first own k (omega (arith, before, first)))
-    ]
+borders_same own l k own_marks marked first ends = grind (arith, cases_lt, border_inside, border_end, so_many_marks, border_first)
 
 -- ---- where a record or more come in
 
@@ -91,38 +79,16 @@ called_border l call es k marks =
 
 -- the client's own log has its own borders, and so it has then
 pub marked_called : (l : ReceivedLog) (call : ℕ) (es : List Effect) → IsMarked (is_border l.log) l.log → IsMarked (is_border (called call es l).log) (called call es l).log
-marked_called l call es marked =
-    let own : ℕ → Bool = is_border l.log in
-    let now : ℕ → Bool = is_border (called call es l).log in
-    let marks : length l.log.begins ≡ length l.log.records = so_many_marks own l.log marked in
-    let same : (k : ℕ) → now k ≡ own k = λ k. called_border l call es k marks in
-    let prefix : l.log.begins ≡ border_marks now l.log.first l.log.records = marked ∙ marks-same own now l.log.first l.log.records (λ j low high. sym (same j)) in
-    let behind : border_marks (λ k. true) (end l.log) (record_of call es) ≡ border_marks now (end l.log) (record_of call es) =
-    marks-same (λ k. true) now (end l.log) (record_of call es) (λ j low high. sym (same j ∙ border_end l.log j marks low)) in
-    (λ i. prefix i ++ behind i) ∙ sym (marks-append now l.log.first l.log.records (record_of call es))
+marked_called l call es marked = grind (arith, so_many_marks, called_border, marks-same, border_end, marks-append)
 
 -- ---- where records go from the front or from the end
 
 -- a log that begins at a border has the borders from there on that it had
 pub prefix_border : (l : NumberedLog) (to k : ℕ) → l.first ≤ to → is_border l to ≡ true → to ≤ k → is_border (without_prefix l to) k ≡ is_border l k
-prefix_border l to k from_first at_border low =
-    elim (cases_eq k to) [
-      | inl here ↦ border_first (without_prefix l to) k (omega (arith, here)) ∙ sym (ap (is_border l) here ∙ at_border)
-      | inr other ↦
-          let place : (to - l.first) + (k - to) ≡ k - l.first = omega (arith, from_first, low) in
-          border_marked (without_prefix l to) k (omega (arith, low, other))
-          ∙ get_or-drop (to - l.first) l.begins (k - to) true
-          ∙ ap (λ i. get_or l.begins i true) place
-          ∙ sym (border_marked l k (omega (arith, from_first, low, other)))
-    ]
+prefix_border l to k from_first at_border low = grind (arith, cases_eq, border_first, border_marked, get_or-drop)
 
 pub marked_prefix : (own l : NumberedLog) (to : ℕ) → own.first ≤ to → is_border own to ≡ true → l.first ≤ to → IsMarked (is_border own) l → IsMarked (is_border (without_prefix own to)) (without_prefix l to)
-marked_prefix own l to own_first at_border low marked =
-    let there : l.first + (to - l.first) ≡ to = omega (arith, low) in
-    ap (drop (to - l.first)) marked
-    ∙ marks-drop (is_border own) l.first (to - l.first) l.records
-    ∙ ap (λ k. border_marks (is_border own) k (drop (to - l.first) l.records)) there
-    ∙ marks-same (is_border own) (is_border (without_prefix own to)) to (drop (to - l.first) l.records) (λ j from below. sym (prefix_border own to j own_first at_border from))
+marked_prefix own l to own_first at_border low marked = grind (arith, marks-drop, marks-same, prefix_border)
 
 -- a log that ends at a place has the borders before it
 taken_mark : (ms : List Bool) (n i : ℕ) → i < n → get_or (take n ms) i true ≡ get_or ms i true
@@ -132,11 +98,7 @@ taken_mark (m ∷ ms) (suc n) zero low = refl
 taken_mark (m ∷ ms) (suc n) (suc i) low = taken_mark ms n i (omega (arith, low))
 
 pub tail_border : (l : NumberedLog) (from k : ℕ) → k < from → is_border (without_tail l from) k ≡ is_border l k
-tail_border l from k before =
-    elim (cases_lt l.first k) [
-      | inl low ↦ border_marked (without_tail l from) k low ∙ taken_mark l.begins (from - l.first) (k - l.first) (omega (arith, low, before)) ∙ sym (border_marked l k low)
-      | inr first ↦ border_first (without_tail l from) k first ∙ sym (border_first l k first)
-    ]
+tail_border l from k before = grind (arith, cases_lt, border_marked, taken_mark, border_first)
 
 pub marked_tail : (f : ℕ → Bool) (l : NumberedLog) (from : ℕ) → IsMarked f l → IsMarked f (without_tail l from)
 marked_tail f l from marked = ap (take (from - l.first)) marked ∙ marks-take f l.first (from - l.first) l.records

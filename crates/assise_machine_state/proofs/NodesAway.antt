@@ -1,10 +1,9 @@
 -- What is said of a node that isn't full, and which nodes begin a log.
-use Rattle.std.proofs.Common.{◌≡◌, ◌≢◌, ◌⊎◌, inl, inr, ℕ, suc, ◌+◌, ◌==◌, true, false, Option, Some, None, Ok, Err, List, ◌∷◌, refl, ap, sym, ◌∙◌, arith}
+use Rattle.std.proofs.Common.{◌≡◌, ◌≢◌, ◌⊎◌, ℕ, suc, ◌+◌, ◌==◌, true, false, Option, Some, None, Ok, Err, List, ◌∷◌, refl, sym, ◌∙◌, arith}
 use Rattle.assise_names.specs.declared.refusal.Refusal.{Refusal}
-use Rattle.assise_names.specs.declared.refusal.Refusal.TheVariants.{BadNode}
 use Rattle.assise_inode_table.specs.Effects.{contains}
 use Rattle.assise_digest.specs.Region.{RegionValue, region_with_client}
-use Rattle.assise_manager.specs.Standings.{Standing, down, full, full_nodes, phase_of, returning, standing_of}
+use Rattle.assise_manager.specs.Standings.{Standing, full, full_nodes, phase_of, standing_of}
 use Rattle.assise_manager.specs.declared.phase.Phase.{Phase}
 use Rattle.assise_manager.specs.declared.phase.Phase.TheVariants.{Down, Full, Returning}
 use Rattle.assise_model_events.specs.Faults.{unless_full}
@@ -15,35 +14,19 @@ use Rattle.assise_machine_state.proofs.OwnLogs.{listed_is}
 -- why a question about a node that isn't full is refused
 
 pub none_refused : (w : Refusal) (o : Option Standing) (r : Refusal) → phase_of o ≡ Err r → unless_full w o ≡ Some r
-none_refused w None r same = ap Some (err_of same)
-  where
-    err_of : phase_of None ≡ Err r → BadNode ≡ r
-    err_of e = cc e
-none_refused w (Some full) r same = cc
-none_refused w (Some (down since)) r same = cc
-none_refused w (Some (returning since donor stale)) r same = cc
+none_refused w o r h1 = grind arith
 
 pub away_refused : (w : Refusal) (o : Option Standing) (p : Phase) → phase_of o ≡ Ok p → p ≢ Full → unless_full w o ≡ Some w
-away_refused w None p same other = cc
-away_refused w (Some full) p same other = absurd (other (cc same))
-away_refused w (Some (down since)) p same other = refl
-away_refused w (Some (returning since donor stale)) p same other = refl
+away_refused w o p h1 h2 = grind arith
 
 pub away_other : (p : Phase) → (p ≡ Down) ⊎ (p ≡ Returning) → p ≢ Full
-away_other p (inl is) same = (let both : Down ≡ Full = sym is ∙ same in cc)
-away_other p (inr is) same = (let both : Returning ≡ Full = sym is ∙ same in cc)
+away_other p h1 = grind arith
 
 pub full_served : (w : Refusal) (o : Option Standing) → phase_of o ≡ Ok Full → unless_full w o ≡ None
-full_served w None same = cc
-full_served w (Some full) same = refl
-full_served w (Some (down since)) same = cc
-full_served w (Some (returning since donor stale)) same = cc
+full_served w o h1 = grind arith
 
 full_phase : (o : Option Standing) → phase_of o ≡ Ok Full → stands_full o ≡ true
-full_phase None same = cc
-full_phase (Some full) same = refl
-full_phase (Some (down since)) same = cc
-full_phase (Some (returning since donor stale)) same = cc
+full_phase o h1 = grind arith
 
 pub phase_full : (nodes : List Standing) (n : ℕ) → phase_of (standing_of nodes n) ≡ Ok Full → is_full_in nodes n ≡ true
 unfolding is_full_in

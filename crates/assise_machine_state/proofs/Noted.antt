@@ -1,5 +1,6 @@
 -- Answers stay noted where they stay, and where more come with the leases that are revoked.
-use Rattle.std.proofs.Common.{◌≡◌, ◌≢◌, ◌⊎◌, ℕ, suc, ◌≤◌, ◌==◌, if◌then◌else◌, Bool, true, false, cond, not, ◌&&◌, ◌||◌, List, [], ◌∷◌, ◌++◌, length, Option, Some, None, inl, inr, refl, ap, sym, ◌∙◌, arith, true≢false, eq-eqb}
+use Rattle.std.proofs.Common.{◌≡◌, ◌≢◌, ◌⊎◌, ℕ, suc, ◌≤◌, ◌==◌, if◌then◌else◌, Bool, true, false, ◌&&◌, ◌||◌, List, [], ◌∷◌, ◌++◌, length, Option, Some, None}
+use Rattle.std.proofs.Common.{inl, inr, refl, ap, sym, ◌∙◌, arith, true≢false, eq-eqb}
 use Rattle.std.proofs.Math.Logic.{∥∥₁_elim}
 use Rattle.std.proofs.Props.{props}
 use Rattle.std.specs.Ordering.{nat_cmp}
@@ -12,16 +13,16 @@ use Rattle.assise_inode_table.specs.Traces.{NumberedCall}
 use Rattle.assise_lease_table.specs.declared.lease.Asked.{Asked}
 use Rattle.assise_lease_table.specs.declared.lease.Lease.{Lease}
 use Rattle.assise_lease_table.specs.Leases.{revoke, is_own, lease_of}
-use Rattle.assise_lease_tree.specs.Levels.{is_revoked, is_node, lives}
+use Rattle.assise_lease_tree.specs.Levels.{is_revoked, lives}
 use Rattle.assise_lease_tree.specs.TwoLevels.{EnrolsAt, IsRevoked, TwoLevels}
 use Rattle.assise_lease_tree.proofs.ClientHomes.{lease_among}
 use Rattle.assise_model_world.specs.NodeSteps.{kept_at_failure}
-use Rattle.assise_model_world.specs.World.{call_makes_inode, end_of_log}
+use Rattle.assise_model_world.specs.World.{end_of_log}
 use Rattle.assise_model_leases.specs.Leases.{AreLeases, is_held}
 use Rattle.assise_model_leases.proofs.LookUps.{revoke_of, revoked_one}
 use Rattle.assise_model_leases.proofs.QuietLeases.{holder_home}
 use Rattle.assise_machine_state.specs.Changes.{after_call, after_crash, after_failure, after_goal, after_leases, after_open}
-use Rattle.assise_machine_state.specs.ClientValues.{ClientValue, client_in, crashed_at, cut_of, failed_at, is_over, no_client, opened_on, with_call, with_goal}
+use Rattle.assise_machine_state.specs.ClientValues.{ClientValue, client_in, crashed_at, cut_of, failed_at, is_over, no_client}
 use Rattle.assise_lease_table.specs.Cuts.{are_once, cut_in, is_asked, is_of, is_unasked}
 use Rattle.assise_machine_state.specs.Observed.{world_of}
 use Rattle.assise_machine_state.specs.Places.{IsNumber}
@@ -45,22 +46,11 @@ failed_over k x = or_right x.crashed true refl
 -- one that wasn't asked has no cut
 pub none_cut : (asked : List Asked) (c i : ℕ) → is_asked asked c i ≡ false → cut_in asked c i ≡ 0
 none_cut [] c i none = refl
-none_cut (a ∷ asked) c i none =
-    elim (cases_Bool (is_of c i a)) [
-      | inl is ↦ absurd (true≢false (sym (ap (λ b. b || is_asked asked c i) is) ∙ none))
-      | inr other ↦ rw other (none_cut asked c i (ap (λ b. b || is_asked asked c i) (sym other) ∙ none))
-    ]
+none_cut (a ∷ asked) c i none = grind (arith, cases_Bool, (none_cut asked c i))
 
 pub once_both : (xs ys : List Asked) → are_once xs ≡ true → are_once ys ≡ true → ((d j : ℕ) → is_asked xs d j ≡ true → is_asked ys d j ≡ false) → are_once (xs ++ ys) ≡ true
 once_both [] ys once more other = more
-once_both (x ∷ xs) ys once more other =
-    let parts = and_parts (not (is_asked xs x.client x.inode)) (are_once xs) once in
-    let own : is_of x.client x.inode x ≡ true = and_from (x.client == x.client) (x.inode == x.inode) (eq-eqb x.client x.client refl) (eq-eqb x.inode x.inode refl) in
-    let none : is_asked (xs ++ ys) x.client x.inode ≡ false =
-    list_any-append (is_of x.client x.inode) xs ys
-    ∙ rw (not-true (is_asked xs x.client x.inode) parts.0) (other x.client x.inode (or_left (is_of x.client x.inode x) (is_asked xs x.client x.inode) own)) in
-    and_from (not (is_asked (xs ++ ys) x.client x.inode)) (are_once (xs ++ ys)) (ap not none)
-    (once_both xs ys parts.1 more (λ d j asked. other d j (or_right (is_of d j x) (is_asked xs d j) asked)))
+once_both (x ∷ xs) ys once more other = grind (arith, and_parts, and_from, eq-eqb, list_any-append, not-true, or_left, or_right, (once_both xs ys))
 
 pub asked_either : (xs ys : List Asked) (d j : ℕ) → is_asked (xs ++ ys) d j ≡ true → (is_asked xs d j ≡ true) ⊎ (is_asked ys d j ≡ true)
 asked_either xs ys d j h = or_cases (is_asked xs d j) (is_asked ys d j) (sym (list_any-append (is_of d j) xs ys) ∙ h)
@@ -80,34 +70,21 @@ left_else s who asked left c i other = left.all c i ∙ ap (λ b. b && is_unaske
 -- ---- answers that stay
 
 pub still_noted : (s t : StateValue) → t.cuts ≡ s.cuts → length s.clients ≤ length t.clients → SameRevoked s t.levels → CutsInvariant s → CutsInvariant t
-still_noted s t same more revoked old = record {
-  once = ap are_once same ∙ old.once;
-  known = λ c i asked. (let there : IsNumber s.clients c = old.known c i (ap (λ answers. is_asked answers c i) (sym same) ∙ asked) in
-      record { some = there.some; there = omega (arith, there.there, more) });
-  noted = λ c i. ap (λ answers. is_asked answers c i) same ∙ old.noted c i ∙ sym (revoked c i);
-}
+still_noted s t same more revoked old = grind arith
 
 -- where nobody holds anything, nobody was asked
 pub none_noted : (s : StateValue) → s.cuts ≡ [] → ((i : ℕ) → s.levels.clients i ≡ []) → CutsInvariant s
-none_noted s nothing free = record {
-  once = ap are_once nothing;
-  known = λ c i asked. absurd (true≢false (sym asked ∙ ap (λ answers. is_asked answers c i) nothing));
-  noted = λ c i. ap (λ answers. is_asked answers c i) nothing ∙ sym (ap (λ ls. is_revoked (lease_of ls c)) (free i));
-}
+none_noted s nothing free = grind arith
 
 -- that they are noted has one proof at most
 pub noted_known : (s : StateValue) → ∥ CutsInvariant s ∥₁ → CutsInvariant s
 noted_known s some = ∥∥₁_elim some (hlevel props) (λ noted. noted)
 
 pub call_noted : (s : StateValue) (x : NumberedCall) → CutsInvariant s → CutsInvariant (after_call s x)
-call_noted s x noted =
-    let now : ClientValue = with_call (call_makes_inode (world_of s) x) (client_in s.clients x.client) in
-    still_noted s (after_call s x) refl (omega (arith, length-with s.clients x.client now)) (λ c i. refl) noted
+call_noted s x noted = grind (arith, still_noted, length-with)
 
 pub goal_noted : (s : StateValue) (c to : ℕ) → CutsInvariant s → CutsInvariant (after_goal s c to)
-goal_noted s c to noted =
-    let now : ClientValue = with_goal to (client_in s.clients c) in
-    still_noted s (after_goal s c to) refl (omega (arith, length-with s.clients c now)) (λ d i. refl) noted
+goal_noted s c to noted = grind (arith, still_noted, length-with)
 
 pub leases_noted : (s : StateValue) (levels : TwoLevels) → CutsInvariant s → SameRevoked s levels → CutsInvariant (after_leases s levels)
 leases_noted s levels noted same = still_noted s (after_leases s levels) refl (omega arith) same noted
@@ -116,55 +93,31 @@ leases_noted s levels noted same = still_noted s (after_leases s levels) refl (o
 
 -- it wasn't asked
 pub new_unasked : (s : StateValue) → CutsInvariant s → (i : ℕ) → is_asked s.cuts (suc (length s.clients)) i ≡ false
-new_unasked s noted i =
-    let next : ℕ = suc (length s.clients) in
-    false_from_ne_true (is_asked s.cuts next i) (λ asked. let there : IsNumber s.clients next = noted.known next i asked in omega (arith, there.there))
+new_unasked s noted i = grind (arith, false_from_ne_true)
 
 pub open_noted : (s : StateValue) (n : ℕ) (u : Durability) (levels : TwoLevels) → CutsInvariant s → EnrolsAt s.levels levels (suc (length s.clients)) n → CutsInvariant (after_open s n u levels)
-open_noted s n u levels noted enrols =
-    still_noted s (after_open s n u levels) refl (omega (arith, length_push s.clients (opened_on n u))) (λ c i. ap (λ ls. is_revoked (lease_of ls c)) (enrols.clients i)) noted
+open_noted s n u levels noted enrols = grind (arith, still_noted, length_push)
 
 -- ---- more answers
 
 -- one lease, once those of some clients are revoked
 revoked_then : (choice : Lease → Bool) (chosen : Bool) (o : Option Lease) → ((a : Lease) → o ≡ Some a → choice a ≡ chosen) →
     is_revoked (revoked_one choice o) ≡ (is_revoked o || (chosen && is_unasked o))
-revoked_then choice true None who = refl
-revoked_then choice false None who = refl
-revoked_then choice chosen (Some a) who = rw (who a refl) (either a.revoked chosen)
-  where
-    either : (f b : Bool) → cond b true f ≡ (f || (b && not f))
-    either true true = refl
-    either true false = refl
-    either false true = refl
-    either false false = refl
+revoked_then choice chosen o h1 = grind arith
 
 unrevoked : (o : Option Lease) → is_unasked o ≡ true → is_revoked o ≡ false
-unrevoked None free = cc
-unrevoked (Some a) free = not-true a.revoked free
+unrevoked o h1 = grind (arith, not-true)
 
 unasked_held : (o : Option Lease) → is_unasked o ≡ true → is_held o ≡ true
-unasked_held None free = cc
-unasked_held (Some a) free = refl
+unasked_held o h1 = grind arith
 
 number_or_none : (cs : List ClientValue) (d : ℕ) → IsNumber cs d ⊎ (IsNumber cs d → ⊥)
-number_or_none cs d =
-    elim (cases_lt 0 d) [
-      | inr zero_low ↦ inr (λ is. (let some = is.some in omega (arith, zero_low, some)))
-      | inl some ↦ elim (cases_lt (length cs) d) [
-        | inl past ↦ inr (λ is. (let there = is.there in omega (arith, past, there)))
-        | inr there ↦ inl (record { some = some; there = there })
-      ]
-    ]
+number_or_none cs d = grind (arith, cases_lt)
 
 -- a client of another node doesn't live at this one
 pub lives_elsewhere : (s : StateValue) (n c : ℕ) → AreLeases (world_of s) (leases_of s) → (client_in s.clients c).home ≢ n → lives s.levels.home c n ≡ false
 unfolding world_of leases_of
-lives_elsewhere s n c leases other =
-    elim (number_or_none s.clients c) [
-      | inl is ↦ ap (λ o. is_node o n) (leases.homes c (is.some, is.there)) ∙ ne_eqb (client_in s.clients c).home n other
-      | inr none ↦ ap (λ o. is_node o n) (leases.strangers c (λ is. none record { some = is.0; there = is.1 }))
-    ]
+lives_elsewhere s n c leases other = grind (arith, number_or_none, ne_eqb)
 
 -- whoever holds a lease was opened
 holder_number : (s : StateValue) → AreLeases (world_of s) (leases_of s) → (c i : ℕ) → is_held (lease_of (s.levels.clients i) c) ≡ true → IsNumber s.clients c
@@ -189,8 +142,7 @@ module _ (s t : StateValue) (who : ℕ → Bool) (choice : Lease → Bool) (aske
   free c i now = (and_parts (who c) (is_unasked (held_before c i)) (sym (left.all c i) ∙ now)).1
 
   first_answer : (c i : ℕ) → is_asked s.cuts c i ≡ true → is_asked asked c i ≡ false
-  first_answer c i before =
-      false_from_ne_true (is_asked asked c i) (λ now. true≢false (sym before ∙ noted.noted c i ∙ unrevoked (held_before c i) (free c i now)))
+  first_answer c i before = grind (arith, false_from_ne_true, unrevoked, free)
 
   pub more_noted : CutsInvariant t
   more_noted = record {

@@ -1,11 +1,10 @@
 -- What the laws observe of a client that is opened: what is seen of it was seen where there was none, but that it lives.
-use Rattle.std.proofs.Common.{◌≡◌, ◌≢◌, ℕ, zero, suc, ◌+◌, ◌<◌, ◌≤◌, Bool, true, false, not, ◌&&◌, ◌==◌, List, [], ◌∷◌, ◌++◌, get_or, length, inl, inr, refl, ap, sym, subst, ◌∙◌, arith, true≢false}
+use Rattle.std.proofs.Common.{◌≡◌, ◌≢◌, ℕ, zero, suc, ◌+◌, ◌<◌, Bool, true, false, not, ◌==◌, List, [], ◌∷◌, get_or, length, inl, inr, refl, ap, sym}
+use Rattle.std.proofs.Common.{subst, ◌∙◌, arith}
 use Rattle.std.proofs.Math.Bool.{and-true}
 use Rattle.std.proofs.lemmas.Bool.{cases_Bool, cases_eq, ne_eqb}
 use Rattle.std.proofs.lemmas.List.{length_push}
 use Rattle.assise_names.specs.declared.durability.Durability.{Durability}
-use Rattle.assise_names.specs.declared.limits.TheConstants.{MOST_NODES}
-use Rattle.assise_history.specs.Legal.{durability_of}
 use Rattle.assise_history.proofs.ClientCounts.{durability-opened, durability-other}
 use Rattle.assise_inode_table.specs.Contents.{values}
 use Rattle.assise_private_log.specs.NumberedLog.{end as log_end, is_border}
@@ -26,8 +25,8 @@ use Rattle.assise_machine_state.specs.Invariant.{CutsInvariant, IsMarked, ShapeI
 use Rattle.assise_machine_state.specs.StateValues.{StateValue, leases_of, standings}
 use Rattle.assise_machine_state.proofs.Fullness.{full_number, full_seen, no_log_in, no_log_there}
 use Rattle.assise_machine_state.proofs.Noted.{new_unasked, none_cut}
-use Rattle.assise_machine_state.proofs.ItemSeen.{pushed_else, pushed_here, pushed_kept, seen_past}
-use Rattle.assise_machine_state.proofs.ShapeKept.{KnowsHome, limit_seen, limits_all}
+use Rattle.assise_machine_state.proofs.ItemSeen.{each_number, pushed_else, pushed_here, pushed_kept, seen_past}
+use Rattle.assise_machine_state.proofs.ShapeKept.{KnowsHome, kept_marks, limit_seen, limits_all}
 use Rattle.assise_machine_state.proofs.SameObserved.{leases_as}
 
 -- ---- nodes that begin a log
@@ -39,11 +38,7 @@ module _ (full : ℕ → Bool) (limit home : ℕ) where
   begun_kept : {A : Type 0} (f : RegionValue → A) → ((r : RegionValue) (b : Bool) → f (with_client_log r (begun_log limit b)) ≡ f r) →
       (n : ℕ) (rs : List RegionValue) (j : ℕ) → f (get_or (with_logs_begun full limit home n rs) j no_region) ≡ f (get_or rs j no_region)
   begun_kept f same n [] j = refl
-  begun_kept f same n (r ∷ rs) zero =
-      elim (cases_Bool (full n)) [
-        | inl has ↦ rw has (same r (n == home))
-        | inr away ↦ rw away refl
-      ]
+  begun_kept f same n (r ∷ rs) zero = grind (arith, cases_Bool)
   begun_kept f same n (r ∷ rs) (suc j) = begun_kept f same (suc n) rs j
 
   begun_there : (n : ℕ) (rs : List RegionValue) (j m : ℕ) → m ≡ n + j → full m ≡ true → j < length rs → get_or (with_logs_begun full limit home n rs) j no_region ≡ begun m (get_or rs j no_region)
@@ -70,19 +65,11 @@ module _ (full : ℕ → Bool) (limit home : ℕ) where
 
   region_begun : (rs : List RegionValue) (m : ℕ) → full m ≡ true → IsNumber rs m → region_in (with_logs_begun full limit home 1 rs) m ≡ begun m (region_in rs m)
   unfolding region_in item_at
-  region_begun rs zero has there = absurd (omega (arith, there.some))
-  region_begun rs (suc j) has there = begun_there 1 rs j (suc j) (omega arith) has (omega (arith, there.there))
+  region_begun rs m h1 h2 = grind (arith, begun_there)
 
   region_away : (rs : List RegionValue) (m : ℕ) → full m ≡ false → region_in (with_logs_begun full limit home 1 rs) m ≡ region_in rs m
   unfolding region_in item_at
-  region_away rs zero away = refl
-  region_away rs (suc j) away = begun_away 1 rs j (suc j) (omega arith) away
-
-  -- what a log that is begun has as none does
-  log_kept : {A : Type 0} (f : ReceivedLog → A) → ((b : Bool) → f (begun_log limit b) ≡ f no_log) →
-      (rs : List RegionValue) (m d : ℕ) → f (log_in (with_logs_begun full limit home 1 rs) m d) ≡ f (log_in rs m d)
-  unfolding log_in
-  log_kept f same rs m d = region_kept (λ r. f (item_at no_log r.logs d)) (λ r b. pushed_kept f no_log (begun_log limit b) r.logs d (same b)) rs m
+  region_away rs m h1 = grind (arith, begun_away)
 
 -- ---- the state
 
@@ -124,21 +111,18 @@ module _ (s : StateValue) (n : ℕ) (u : Durability) (levels : TwoLevels) where
   pub open_areas : OtherAreasStay w w'
   open_areas k i away = area_kept k i
 
-  -- logs
+  -- what a log that is begun has as none does stays of logs
   kept : {A : Type 0} (f : ReceivedLog → A) → ((b : Bool) → f (begun_log s.limit b) ≡ f no_log) → (m d : ℕ) → f (log_in s'.nodes m d) ≡ f (log_in s.nodes m d)
-  kept f same m d = log_kept (is_full_in (standings s)) s.limit n f same s.nodes m d
+  unfolding log_in
+  kept f same m d =
+      region_kept (is_full_in (standings s)) s.limit n (λ r. f (item_at no_log r.logs d))
+      (λ r b. pushed_kept f no_log (begun_log s.limit b) r.logs d (same b)) s.nodes m
 
   module _ (shape : ShapeInvariant s) where
     -- no node had a log of it
     no_log_before : (m : ℕ) → log_in s.nodes m next ≡ no_log
     unfolding log_in
-    no_log_before m =
-        elim (cases_Bool (is_full_in (standings s) m)) [
-          | inl f ↦
-              let all : length (region_in s.nodes m).logs ≡ length s.clients = shape.logs m f in
-              seen_past no_log (region_in s.nodes m).logs next (omega (arith, all))
-          | inr away ↦ no_log_there s m next shape away
-        ]
+    no_log_before m = grind (arith, cases_Bool, seen_past, no_log_there)
 
     own_kept : {A : Type 0} (f : ReceivedLog → A) → ((b : Bool) → f (begun_log s.limit b) ≡ f no_log) → (d : ℕ) → f (own_seen s' d) ≡ f (own_seen s d)
     unfolding own_seen
@@ -192,18 +176,11 @@ module _ (s : StateValue) (n : ℕ) (u : Durability) (levels : TwoLevels) where
     -- nobody asked it for a lease
     cut_new : CutsInvariant s → (i : ℕ) → cut_of s.cuts next (client_in s'.clients next) i ≡ cut_of s.cuts next (client_in s.clients next) i
     unfolding client_in
-    cut_new noted i =
-        ap (λ y. cut_of s.cuts next y i) new_client
-        ∙ none_cut s.cuts next i (new_unasked s noted i)
-        ∙ sym (ap (λ y. cut_of s.cuts next y i) (seen_past no_client s.clients next (omega arith)))
+    cut_new noted i = grind (arith, new_client, none_cut, new_unasked, seen_past)
 
     cuts_stay : CutsInvariant s → SameCuts (leases_of s) (leases_of s')
     unfolding leases_of
-    cuts_stay noted d i =
-        elim (cases_eq d next) [
-          | inl is ↦ subst (λ k. cut_of s.cuts k (client_in s'.clients k) i ≡ cut_of s.cuts k (client_in s.clients k) i) (sym is) (cut_new noted i)
-          | inr other ↦ ap (λ y. cut_of s.cuts d y i) (other_client d other)
-        ]
+    cuts_stay noted d i = grind (arith, each_number, cut_new, other_client)
 
     pub open_seen : CutsInvariant s → Full w n → EnrolsAt s.levels levels next n → OpensAt w (leases_of s) n w' (leases_of s')
     unfolding world_of leases_of
@@ -219,65 +196,33 @@ module _ (s : StateValue) (n : ℕ) (u : Durability) (levels : TwoLevels) where
 
     begun_now : (m : ℕ) → is_full_in (standings s) m ≡ true → log_in s'.nodes m next ≡ begun_log s.limit (m == n)
     unfolding log_in
-    begun_now m f =
-        ap (λ r. item_at no_log r.logs next) (begun_region m f)
-        ∙ subst (λ k. item_at no_log ((region_in s.nodes m).logs ++ begun_log s.limit (m == n) ∷ []) (suc k) ≡ begun_log s.limit (m == n)) (shape.logs m f)
-        (pushed_here no_log (begun_log s.limit (m == n)) (region_in s.nodes m).logs)
+    begun_now m f = grind (arith, begun_region, pushed_here)
 
     same_log : (m d : ℕ) → d ≢ next → log_in s'.nodes m d ≡ log_in s.nodes m d
     unfolding log_in
-    same_log m d other =
-        elim (cases_Bool (is_full_in (standings s) m)) [
-          | inl f ↦
-              ap (λ r. item_at no_log r.logs d) (begun_region m f)
-              ∙ pushed_else no_log (begun_log s.limit (m == n)) (region_in s.nodes m).logs d (λ is. other (is ∙ ap suc (shape.logs m f)))
-          | inr away ↦ ap (λ r. item_at no_log r.logs d) (same_region m away)
-        ]
+    same_log m d other = grind (arith, cases_Bool, begun_region, pushed_else, same_region)
 
     so_many_logs : (m : ℕ) → is_full_in (standings s) m ≡ true → length (region_in s'.nodes m).logs ≡ next
-    so_many_logs m f =
-        let more : (k : ℕ) → k ≡ length s.clients → k + 1 ≡ next = λ k is. omega (arith, is) in
-        ap (λ r. length r.logs) (begun_region m f)
-        ∙ length_push (region_in s.nodes m).logs (begun_log s.limit (m == n))
-        ∙ more (length (region_in s.nodes m).logs) (shape.logs m f)
+    so_many_logs m f = grind (arith, begun_region, length_push)
 
     no_logs_there : (m : ℕ) → is_full_in (standings s) m ≡ false → (region_in s'.nodes m).logs ≡ []
     no_logs_there m away = ap (λ r. r.logs) (same_region m away) ∙ shape.no_logs m away
 
     at_home_new : Full w n → (m : ℕ) → KnowsHome s' m next
-    at_home_new full_node m =
-        rw new_client (elim (cases_Bool (is_full_in (standings s) m)) [
-          | inl f ↦ ap (λ l. l.at_home) (begun_now m f) ∙ sym (and-true (m == n))
-          | inr away ↦
-              let elsewhere : m ≢ n = λ is. true≢false (sym (full_seen s n full_node) ∙ subst (λ k. is_full_in (standings s) k ≡ false) is away) in
-              rw (ne_eqb m n elsewhere) (ap (λ l. l.at_home) (no_log_in s'.nodes m next (no_logs_there m away)))
-        ])
+    at_home_new full_node m = grind (arith, new_client, cases_Bool, begun_now, and-true, full_seen, ne_eqb, no_log_in, no_logs_there)
 
     at_home_now : Full w n → (m d : ℕ) → KnowsHome s' m d
-    at_home_now full_node m d =
-        elim (cases_eq d next) [
-          | inl is ↦ subst (KnowsHome s' m) (sym is) (at_home_new full_node m)
-          | inr other ↦ ap (λ l. l.at_home) (same_log m d other) ∙ shape.at_home m d ∙ sym (ap (λ y. (m == y.home) && not y.failed) (other_client d other))
-        ]
+    at_home_now full_node m d = grind (arith, each_number, at_home_new, same_log, other_client)
 
     own_other : (d : ℕ) → d ≢ next → own_seen s' d ≡ own_seen s d
     unfolding own_seen
-    own_other d other =
-        ap (λ y. log_in s'.nodes (own_node (standings s) y) d) (other_client d other) ∙ same_log (own_node (standings s) (client_in s.clients d)) d other
+    own_other d other = grind (arith, other_client, same_log)
 
     marked_new : (m : ℕ) → IsMarked (is_border (own_seen s' next).log) (log_in s'.nodes m next).log
-    marked_new m = elim (cases_Bool (is_full_in (standings s) m)) [
-      | inl f ↦ subst (λ l. IsMarked (is_border (own_seen s' next).log) l.log) (sym (begun_now m f)) refl
-      | inr away ↦ subst (λ l. IsMarked (is_border (own_seen s' next).log) l.log) (sym (no_log_in s'.nodes m next (no_logs_there m away))) refl
-    ]
+    marked_new m = grind (arith, cases_Bool, begun_now, no_log_in, no_logs_there)
 
     marked_now : (m d : ℕ) → IsMarked (is_border (own_seen s' d).log) (log_in s'.nodes m d).log
-    marked_now m d = elim (cases_eq d next) [
-      | inl is ↦ subst (λ k. IsMarked (is_border (own_seen s' k).log) (log_in s'.nodes m k).log) (sym is) (marked_new m)
-      | inr other ↦
-          subst (λ l. IsMarked (is_border l.log) (log_in s'.nodes m d).log) (sym (own_other d other))
-          (subst (λ l. IsMarked (is_border (own_seen s d).log) l.log) (sym (same_log m d other)) (shape.marked m d))
-    ]
+    marked_now m d = grind (arith, each_number, marked_new, kept_marks, own_other, same_log)
 
     limit_now : (m d : ℕ) → is_full_in (standings s) m ≡ true → IsNumber s'.clients d → (log_in s'.nodes m d).log.limit ≡ s.limit
     limit_now m d f client =
@@ -292,20 +237,6 @@ module _ (s : StateValue) (n : ℕ) (u : Durability) (levels : TwoLevels) where
     all_logs m f = so_many_logs m f ∙ sym so_many_clients
 
     pub open_shaped : Full w n → ShapeInvariant s'
-    open_shaped full_node = record {
-      nodes = so_many_nodes (is_full_in (standings s)) s.limit n 1 s.nodes ∙ shape.nodes;
-      few_nodes = subst (λ k. k ≤ MOST_NODES) (sym (so_many_nodes (is_full_in (standings s)) s.limit n 1 s.nodes)) shape.few_nodes;
-      logs = all_logs;
-      no_logs = no_logs_there;
-      at_home = at_home_now full_node;
-      limits = limits_all s' all_logs no_logs_there limit_now;
-      least_limit = shape.least_limit;
-      most_limit = shape.most_limit;
-      marked = marked_now;
-      durabilities = λ d. elim (cases_eq next d) [
-        | inl is ↦
-            subst (λ k. (client_in s'.clients k).durability ≡ durability_of k s'.history) is
-            (ap (λ y. y.durability) new_client ∙ sym (durability-opened s.history next n u))
-        | inr other ↦ ap (λ y. y.durability) (other_client d (λ is. other (sym is))) ∙ shape.durabilities d ∙ sym (durability-other s.history d next n u (ne_eqb next d other))
-      ];
-    }
+    open_shaped full_node =
+        let limits = limits_all s' all_logs no_logs_there limit_now in
+        grind (arith, so_many_nodes, all_logs, no_logs_there, at_home_now, marked_now, new_client, durability-opened, other_client, durability-other, ne_eqb)

@@ -1,12 +1,13 @@
 -- The node whose log of a client is the client's own, and the least place of all full nodes.
-use Rattle.std.proofs.Common.{◌≡◌, ℕ, suc, ◌+◌, ◌<◌, ◌≤◌, ◌==◌, min, take, take-suc, take_all, Bool, true, false, List, [], ◌∷◌, ◌++◌, length, get_or, inl, inr, refl, ap, sym, subst, ◌∙◌, arith, eq-eqb}
+use Rattle.std.proofs.Common.{◌≡◌, ℕ, suc, ◌+◌, ◌<◌, ◌≤◌, ◌==◌, min, take, take-suc, take_all, Bool, true, false, List, [], ◌∷◌, ◌++◌, length, get_or, refl, ap}
+use Rattle.std.proofs.Common.{subst, ◌∙◌, arith, eq-eqb}
 use Rattle.std.proofs.lemmas.Bool.{cases_Bool}
 use Rattle.std.proofs.lemmas.List.Folds.{list_any_at}
 use Rattle.assise_inode_table.specs.Effects.{contains}
 use Rattle.assise_private_log.specs.NumberedLog.{end as log_end}
 use Rattle.assise_manager.specs.Membership.{lowest_full}
 use Rattle.assise_manager.specs.Standings.{Standing, full_nodes}
-use Rattle.assise_model_world.specs.World.{digested_by_all, end_of_log, least_of, received_by_all}
+use Rattle.assise_model_world.specs.World.{end_of_log, least_of}
 use Rattle.assise_model_world.proofs.WorldObserved.{least_of-above, least_of-below, least_of-end}
 use Rattle.assise_machine_state.specs.ClientValues.{ClientValue, client_in}
 use Rattle.assise_machine_state.specs.NodeValues.{HasLog, log_in}
@@ -20,11 +21,7 @@ use Rattle.assise_machine_state.proofs.Standings.{is_listed, listed_is_full, low
 -- ---- the own node
 
 pub own_full : (s : StateValue) (c : ℕ) → ShapeInvariant s → IsNumber s.clients c → 0 < length (full_nodes (standings s)) → is_full_in (standings s) (own_node (standings s) (client_in s.clients c)) ≡ true
-own_full s c shape client some =
-    elim (cases_Bool (client_in s.clients c).failed) [
-      | inl failed ↦ rw failed (lowest_listed (standings s) some)
-      | inr unfailed ↦ rw unfailed (home_full s c shape unfailed)
-    ]
+own_full s c shape client some = grind (arith, cases_Bool, lowest_listed, home_full)
 
 pub own_log : (s : StateValue) (c : ℕ) → ShapeInvariant s → IsNumber s.clients c → 0 < length (full_nodes (standings s)) → HasLog s.nodes (own_node (standings s) (client_in s.clients c)) c
 own_log s c shape client some = has_log s (own_node (standings s) (client_in s.clients c)) c shape (own_full s c shape client some) client
@@ -43,9 +40,7 @@ pub home_log : (s : StateValue) (c : ℕ) → ShapeInvariant s → IsNumber s.cl
 home_log s c shape client unfailed = has_log s (client_in s.clients c).home c shape (home_full s c shape unfailed) client
 
 pub home_known : (s : StateValue) (c : ℕ) → ShapeInvariant s → IsNumber s.clients c → (client_in s.clients c).failed ≡ false → (log_in s.nodes (client_in s.clients c).home c).at_home ≡ true
-home_known s c shape client unfailed =
-    let home : ℕ = (client_in s.clients c).home in
-    shape.at_home home c ∙ rw (unfailed, eq-eqb home home refl) refl
+home_known s c shape client unfailed = grind (arith, eq-eqb)
 
 -- ---- the least place
 
@@ -58,38 +53,19 @@ no_more : (ms ns : List ℕ) (f : ℕ → ℕ) (d : ℕ) → ((n : ℕ) → cont
 no_more ms ns f d all = least_of-above ms f d (least_of ns f d) (least_of-end ns f d) (λ n there. least_of-below ns f d n (all n there))
 
 same_truth : (a b : Bool) → (a ≡ true → b ≡ true) → (b ≡ true → a ≡ true) → a ≡ b
-same_truth true b to from = sym (to refl)
-same_truth false true to from = from refl
-same_truth false false to from = refl
+same_truth a b h1 h2 = grind arith
 
 pub listed_is : (nodes : List Standing) (n : ℕ) → contains (full_nodes nodes) n ≡ is_full_in nodes n
 listed_is nodes n = same_truth (contains (full_nodes nodes) n) (is_full_in nodes n) (listed_is_full nodes n) (is_listed nodes n)
 
 -- the order in which full nodes are listed doesn't matter
 pub either_order : (nodes : List Standing) (f : ℕ → ℕ) (d : ℕ) → least_of (full_nodes nodes) f d ≡ least_of (full_in nodes) f d
-either_order nodes f d =
-    let low : least_of (full_nodes nodes) f d ≤ least_of (full_in nodes) f d = no_more (full_in nodes) (full_nodes nodes) f d (λ n there. is_listed nodes n (sym (full_is nodes n) ∙ there)) in
-    let high : least_of (full_in nodes) f d ≤ least_of (full_nodes nodes) f d = no_more (full_nodes nodes) (full_in nodes) f d (λ n there. full_is nodes n ∙ listed_is_full nodes n there) in
-    omega (arith, low, high)
+either_order nodes f d = grind (arith, no_more, is_listed, full_is, listed_is_full)
 
 pub own_end : (s : StateValue) (c : ℕ) → ShapeInvariant s → IsNumber s.clients c → 0 < length (full_nodes (standings s)) →
     end_of_log (world_of s) c ≡ log_end (log_in s.nodes (own_node (standings s) (client_in s.clients c)) c).log
 unfolding world_of end_of_log own_seen
 own_end s c shape client some = refl
-
-pub least_received : (s : StateValue) (c : ℕ) → ShapeInvariant s → IsNumber s.clients c → 0 < length (full_nodes (standings s)) →
-    least_of (full_nodes (standings s)) (λ n. log_end (log_in s.nodes n c).log) (log_end (log_in s.nodes (own_node (standings s) (client_in s.clients c)) c).log) ≡ received_by_all (world_of s) c
-unfolding world_of received_by_all
-least_received s c shape client some =
-    either_order (standings s) (λ n. log_end (log_in s.nodes n c).log) (log_end (log_in s.nodes (own_node (standings s) (client_in s.clients c)) c).log)
-    ∙ ap (λ d. least_of (full_in (standings s)) (λ n. log_end (log_in s.nodes n c).log) d) (sym (own_end s c shape client some))
-
-pub least_digested : (s : StateValue) (c : ℕ) → ShapeInvariant s → IsNumber s.clients c → 0 < length (full_nodes (standings s)) →
-    least_of (full_nodes (standings s)) (λ n. (log_in s.nodes n c).digested) (log_end (log_in s.nodes (own_node (standings s) (client_in s.clients c)) c).log) ≡ digested_by_all (world_of s) c
-unfolding world_of digested_by_all
-least_digested s c shape client some =
-    either_order (standings s) (λ n. (log_in s.nodes n c).digested) (log_end (log_in s.nodes (own_node (standings s) (client_in s.clients c)) c).log)
-    ∙ ap (λ d. least_of (full_in (standings s)) (λ n. (log_in s.nodes n c).digested) d) (sym (own_end s c shape client some))
 
 -- ---- one full node after another
 
@@ -99,8 +75,20 @@ contains_at ns i low = list_any_at (λ n. n == get_or ns i 0) ns i 0 low (eq-eqb
 pub next_log : (s : StateValue) (c i : ℕ) (ns : List ℕ) → ShapeInvariant s → IsNumber s.clients c → ns ≡ full_nodes (standings s) → i < length ns → HasLog s.nodes (get_or ns i 0) c
 next_log s c i ns shape client all low = listed_log s (get_or ns i 0) c shape client (subst (λ ms. contains ms (get_or ns i 0) ≡ true) all (contains_at ns i low))
 
-pub next_least : (ns : List ℕ) (i : ℕ) (f : ℕ → ℕ) (d : ℕ) → i < length ns → least_of (take (i + 1) ns) f d ≡ min (least_of (take i ns) f d) (f (get_or ns i 0))
-next_least ns i f d low = (let next : i + 1 ≡ suc i = omega arith in ap (λ k. least_of (take k ns) f d) next ∙ ap (λ ms. least_of ms f d) (take-suc ns i 0 low) ∙ one_more (take i ns) (get_or ns i 0) f d)
+pub next_least : (ns all : List ℕ) (i : ℕ) (f : ℕ → ℕ) (d least found now : ℕ) → ns ≡ all → i < length ns → least ≡ least_of (take i all) f d →
+    found ≡ f (get_or ns i 0) → now ≡ min least found → now ≡ least_of (take (i + 1) all) f d
+next_least ns all i f d least found now same low before is taken =
+    let next : i + 1 ≡ suc i = omega arith in
+    let more : least_of (take (suc i) ns) f d ≡ min (least_of (take i ns) f d) (f (get_or ns i 0)) =
+    ap (λ ms. least_of ms f d) (take-suc ns i 0 low) ∙ one_more (take i ns) (get_or ns i 0) f d in
+    rw (← same, next) (omega (arith, taken, is, more, rw (← same) at before))
 
 pub all_taken : (ns : List ℕ) (i : ℕ) → length ns ≤ i → take i ns ≡ ns
 all_taken ns i past = take_all i ns past
+
+pub whole_taken : (ns all : List ℕ) (i : ℕ) → ns ≡ all → length ns ≤ i → take i all ≡ all
+whole_taken ns all i same past = take_all i all (rw same at past)
+
+pub whole_least : (nodes : List Standing) (ns : List ℕ) (i : ℕ) (f : ℕ → ℕ) (d k : ℕ) → ns ≡ full_nodes nodes → length ns ≤ i →
+    k ≡ least_of (take i (full_nodes nodes)) f d → k ≡ least_of (full_in nodes) f d
+whole_least nodes ns i f d k same past is = is ∙ ap (λ ms. least_of ms f d) (whole_taken ns (full_nodes nodes) i same past) ∙ either_order nodes f d

@@ -1,10 +1,10 @@
 -- What the laws observe of prefixes that are dropped at all nodes.
-use Rattle.std.proofs.Common.{◌≡◌, ◌≢◌, ℕ, ◌+◌, ◌-◌, ◌≤◌, true, List, length, drop, inl, inr, refl, ap, sym, subst, ◌∙◌, arith, eq-eqb}
+use Rattle.std.proofs.Common.{◌≡◌, ◌≢◌, ℕ, ◌+◌, ◌-◌, ◌≤◌, true, List, length, drop, refl, ap, sym, subst, ◌∙◌, arith, eq-eqb}
 use Rattle.std.proofs.lemmas.Bool.{cases_Bool, cases_eq, ne_eqb}
 use Rattle.std.proofs.lemmas.List.{length-drop, nil_from_length}
 use Rattle.assise_record.specs.LogRecord.{LogRecord}
 use Rattle.assise_inode_table.specs.Contents.{values}
-use Rattle.assise_private_log.specs.NumberedLog.{end as log_end, is_border}
+use Rattle.assise_private_log.specs.NumberedLog.{NumberedLog, end as log_end, is_border}
 use Rattle.assise_private_log.proofs.Borders.{border_first}
 use Rattle.assise_digest.specs.Region.{from_number, no_log}
 use Rattle.assise_model_world.specs.NodeSteps.{Drops}
@@ -15,15 +15,16 @@ use Rattle.assise_model_world.proofs.WorldObserved.{digested_by_all-below, diges
 use Rattle.assise_model_events.proofs.LeaseSteps.{clients_after, full_after}
 use Rattle.assise_machine_state.specs.Changes.{after_drop, first_but}
 use Rattle.assise_machine_state.specs.ClientValues.{client_in}
-use Rattle.assise_machine_state.specs.NodeValues.{log_in, region_in}
+use Rattle.assise_machine_state.specs.NodeValues.{log_in}
 use Rattle.assise_machine_state.specs.Observed.{is_full_in, own_node, own_seen, world_of}
 use Rattle.assise_machine_state.specs.Places.{IsNumber}
 use Rattle.assise_machine_state.specs.Invariant.{IsMarked, ShapeInvariant}
 use Rattle.assise_machine_state.specs.StateValues.{StateValue, standings}
 use Rattle.assise_machine_state.proofs.Fullness.{full_seen, has_log, no_log_in, no_log_there, same_first, seen_full}
+use Rattle.assise_machine_state.proofs.ItemSeen.{each_number}
 use Rattle.assise_machine_state.proofs.LogChanges.{beside_seen, count_seen, inodes_seen, own_changes, own_changes_all, part_seen}
 use Rattle.assise_machine_state.proofs.Marks.{prefix_border, marked_prefix}
-use Rattle.assise_machine_state.proofs.ShapeKept.{AreMarked, shaped_all}
+use Rattle.assise_machine_state.proofs.ShapeKept.{AreMarked, kept_marks, shaped_all}
 use Rattle.assise_machine_state.proofs.SameObserved.{clients_as, goals_as, leases_as}
 
 -- ---- prefixes are dropped
@@ -31,6 +32,9 @@ use Rattle.assise_machine_state.proofs.SameObserved.{clients_as, goals_as, lease
 pub drop_areas : (s : StateValue) (c to n i : ℕ) → (world_of (after_drop s c to)).area n i ≡ (world_of s).area n i
 unfolding world_of
 drop_areas s c to n i = ap (λ v. values v i) (inodes_seen c (λ l. from_number l to) s.nodes n)
+
+pub none_dropped : (k : ℕ) (rs : List LogRecord) → rs ≡ drop (k - k) rs
+none_dropped k rs = (let none : k - k ≡ 0 = omega arith in ap (λ j. drop j rs) (sym none))
 
 digested_by_all-end : (w : World) (c : ℕ) → digested_by_all w c ≤ end_of_log w c
 unfolding digested_by_all
@@ -44,11 +48,7 @@ pub record HasPrefixes (s : StateValue) (c : ℕ) : Type 0 where
   pub begun : (d : ℕ) → (world_of s).first d ≤ digested_by_all (world_of s) d
 
 pub has_prefixes : (s : StateValue) (c : ℕ) → WorldInvariant (world_of s) → HasPrefixes s c
-has_prefixes s c sound = record {
-  first = λ n full. same_first s n c sound full;
-  known = λ n full. omega (arith, (sound.coherent.order n c full).replicated, received_by_all-below (world_of s) n c full);
-  begun = λ d. digested_by_all-first (world_of s) sound.coherent d;
-}
+has_prefixes s c sound = grind (arith, same_first, received_by_all-below, digested_by_all-first)
 
 module _ (s : StateValue) (c to : ℕ) (shape : ShapeInvariant s) (prefixes : HasPrefixes s c) (client : IsNumber s.clients c)
     (from_first : (world_of s).first c ≤ to) (all_digested : to ≤ digested_by_all (world_of s) c) (at_border : (world_of s).border c to ≡ true) where
@@ -69,21 +69,11 @@ module _ (s : StateValue) (c to : ℕ) (shape : ShapeInvariant s) (prefixes : Ha
   -- where no node has it, there is nothing to drop
   nowhere : log_in s.nodes (own_node (standings s) (client_in s.clients c)) c ≡ no_log → to ≡ 0
   unfolding end_of_log world_of own_seen
-  nowhere none =
-      let high : to ≤ end_of_log w c = omega (arith, all_digested, digested_by_all-end w c) in
-      let nothing : end_of_log w c ≡ 0 = ap (λ x. log_end x.log) none in
-      omega (arith, high, nothing)
+  nowhere none = grind (arith, digested_by_all-end)
 
   own_begins : own_seen (after_drop s c to) c ≡ from_number (own_seen s c) to
   unfolding own_seen
-  own_begins =
-      let own : ℕ = own_node (standings s) (client_in s.clients c) in
-      elim (cases_Bool (is_full_in (standings s) own)) [
-        | inl full ↦ begins own full
-        | inr away ↦
-            let none : log_in s.nodes own c ≡ no_log = no_log_there s own c shape away in
-            own_changes_all c (λ l. from_number l to) client.some (subst (λ k. from_number no_log k ≡ no_log) (sym (nowhere none)) refl) s.nodes own
-      ]
+  own_begins = grind (arith, cases_Bool, begins, no_log_there, own_changes_all, nowhere)
 
   beside : (n d : ℕ) → d ≢ c → log_in (after_drop s c to).nodes n d ≡ log_in s.nodes n d
   beside n d other = beside_seen c (λ l. from_number l to) s.nodes n d client.some other
@@ -97,30 +87,10 @@ module _ (s : StateValue) (c to : ℕ) (shape : ShapeInvariant s) (prefixes : Ha
   -- all logs of the client begin there then, in its groups
   marked_here : AreMarked s → (n : ℕ) → IsMarked (is_border (own_seen (after_drop s c to) c).log) (log_in (after_drop s c to).nodes n c).log
   unfolding world_of
-  marked_here all n =
-      subst (λ l. IsMarked (is_border l.log) (log_in (after_drop s c to).nodes n c).log) (sym own_begins)
-      (elim (cases_Bool (is_full_in (standings s) n)) [
-        | inl full ↦
-            let low : (log_in s.nodes n c).log.first ≤ to = subst (λ k. k ≤ to) (sym (prefixes.first n (seen_full s n full))) from_first in
-            subst (λ l. IsMarked (is_border (from_number (own_seen s c) to).log) l.log) (sym (begins n full))
-            (marked_prefix (own_seen s c).log (log_in s.nodes n c).log to from_first at_border low (all n c))
-        | inr away ↦
-            let none : log_in (after_drop s c to).nodes n c ≡ no_log =
-            no_log_in (after_drop s c to).nodes n c
-            (nil_from_length (region_in (after_drop s c to).nodes n).logs
-            (count_seen c (λ l. from_number l to) s.nodes n ∙ ap length (shape.no_logs n away))) in
-            subst (λ l. IsMarked (is_border (from_number (own_seen s c) to).log) l.log) (sym none) refl
-      ])
+  marked_here all n = grind (arith, own_begins, cases_Bool, seen_full, begins, marked_prefix, no_log_in, nil_from_length, count_seen)
 
   marked_now : AreMarked s → AreMarked (after_drop s c to)
-  marked_now all n d =
-      elim (cases_eq d c) [
-        | inl is ↦
-            subst (λ e. IsMarked (is_border (own_seen (after_drop s c to) e).log) (log_in (after_drop s c to).nodes n e).log) (sym is) (marked_here all n)
-        | inr other ↦
-            subst (λ l. IsMarked (is_border l.log) (log_in (after_drop s c to).nodes n d).log) (sym (own_beside d other))
-            (subst (λ l. IsMarked (is_border (own_seen s d).log) l.log) (sym (beside n d other)) (all n d))
-      ]
+  marked_now all n d = grind (arith, each_number, marked_here, kept_marks, own_beside, beside)
 
   pub drop_shaped : ShapeInvariant (after_drop s c to)
   drop_shaped = shaped_all s c (λ l. from_number l to) shape (λ l. refl) (λ l. refl) marked_now
@@ -135,14 +105,7 @@ module _ (s : StateValue) (c to : ℕ) (shape : ShapeInvariant s) (prefixes : Ha
 
   -- a statement of each client holds where it holds of this one and of the others
   each : (P : ℕ → ℕ → Type 0) → P c to → ((d : ℕ) → d ≢ c → P d (w.first d)) → (d : ℕ) → P d (f d)
-  each P here else d =
-      elim (cases_eq d c) [
-        | inl is ↦ subst (λ e. P e (f e)) (sym is) (subst (P c) (sym f_here) here)
-        | inr other ↦ subst (P d) (sym (f_else d other)) (else d other)
-      ]
-
-  none_dropped : (k : ℕ) (rs : List LogRecord) → rs ≡ drop (k - k) rs
-  none_dropped k rs = (let none : k - k ≡ 0 = omega arith in ap (λ j. drop j rs) (sym none))
+  each P here else d = each_number (λ e. P e (f e)) c d (subst (P c) (sym f_here) here) (λ other. subst (P d) (sym (f_else d other)) (else d other))
 
   records_now : (d : ℕ) → w'.records d ≡ drop (f d - w.first d) (w.records d)
   unfolding world_of
@@ -150,16 +113,9 @@ module _ (s : StateValue) (c to : ℕ) (shape : ShapeInvariant s) (prefixes : Ha
       (ap (λ x. x.log.records) own_begins)
       (λ d other. ap (λ x. x.log.records) (own_beside d other) ∙ none_dropped (w.first d) (w.records d))
 
-  first_now : (d : ℕ) → w'.first d ≡ f d
-  unfolding world_of
-  first_now = each (λ d k. w'.first d ≡ k) (ap (λ x. x.log.first) own_begins) (λ d other. ap (λ x. x.log.first) (own_beside d other))
-
   log_now : (n d : ℕ) → Full w n → w'.log n d ≡ drop (f d - w.first d) (w.log n d)
   unfolding world_of
-  log_now n d full = each (λ d k. w'.log n d ≡ drop (k - w.first d) (w.log n d))
-      (ap (λ x. x.log.records) (begins n (full_seen s n full)) ∙ ap (λ k. drop (to - k) (w.log n c)) (prefixes.first n full))
-      (λ d other. ap (λ x. x.log.records) (beside n d other) ∙ none_dropped (w.first d) (w.log n d))
-      d
+  log_now n d full = grind (arith, each, begins, full_seen, beside, none_dropped)
 
   -- a prefix that goes leaves the end
   ends : (first cut : ℕ) (rs : List LogRecord) → first ≤ cut → cut ≤ first + length rs → cut + length (drop (cut - first) rs) ≡ first + length rs
@@ -168,51 +124,27 @@ module _ (s : StateValue) (c to : ℕ) (shape : ShapeInvariant s) (prefixes : Ha
   received_now : (n d : ℕ) → Full w n → w'.received n d ≡ w.received n d
   unfolding world_of
   received_now n d full =
-      elim (cases_eq d c) [
-        | inl is ↦ subst (λ e. w'.received n e ≡ w.received n e) (sym is) (
-            let first : w.first c ≡ (log_in s.nodes n c).log.first = sym (prefixes.first n full) in
-            let low : (log_in s.nodes n c).log.first ≤ to = subst (λ k. k ≤ to) first from_first in
-            let high : to ≤ log_end (log_in s.nodes n c).log =
-            omega (arith, all_digested, digested_by_all-below w n c full, prefixes.known n full) in
-            ap (λ x. log_end x.log) (begins n (full_seen s n full)) ∙ ends (log_in s.nodes n c).log.first to (log_in s.nodes n c).log.records low high)
-        | inr other ↦ ap (λ x. log_end x.log) (beside n d other)
-      ]
-
-  first_border : (d : ℕ) → w.border d (w.first d) ≡ true
-  unfolding world_of
-  first_border d = border_first (own_seen s d).log (own_seen s d).log.first (omega arith)
+      let l : NumberedLog = (log_in s.nodes n c).log in
+      let low : l.first ≤ to = subst (λ k. k ≤ to) (sym (prefixes.first n full)) from_first in
+      let high : to ≤ log_end l = omega (arith, all_digested, digested_by_all-below w n c full, prefixes.known n full) in
+      each_number (λ e. w'.received n e ≡ w.received n e) c d
+      (ap (λ x. log_end x.log) (begins n (full_seen s n full)) ∙ ends l.first to l.records low high) (λ other. ap (λ x. log_end x.log) (beside n d other))
 
   border_now : (d k : ℕ) → f d ≤ k → w'.border d k ≡ w.border d k
   unfolding world_of
-  border_now d k low =
-      elim (cases_eq d c) [
-        | inl is ↦
-            subst (λ e. w'.border e k ≡ w.border e k) (sym is)
-            (ap (λ l. is_border l.log k) own_begins ∙ prefix_border (own_seen s c).log to k from_first at_border (subst (λ j. j ≤ k) (ap f is ∙ f_here) low))
-        | inr other ↦ ap (λ l. is_border l.log k) (own_beside d other)
-      ]
+  border_now d k low = grind (arith, cases_eq, own_begins, prefix_border, f_here, own_beside)
 
   pub dropped_prefixes : Drops w f w'
   unfolding world_of
-  dropped_prefixes = record {
-    low = each (λ d k. w.first d ≤ k) from_first (λ d other. omega arith);
-    high = each (λ d k. k ≤ digested_by_all w d) all_digested (λ d other. prefixes.begun d);
-    border_at = each (λ d k. w.border d k ≡ true) at_border (λ d other. first_border d);
-    calls = refl;
-    records = records_now;
-    first = first_now;
-    border = border_now;
-    next = λ d. refl;
-    made = λ d. refl;
-    clients = clients_as s (after_drop s c to) refl;
-    goals = goals_as s (after_drop s c to) refl;
-    leases = leases_as s (after_drop s c to) (λ i. refl);
-    full = refl;
-    log = log_now;
-    received = received_now;
-    digested = λ n d full. part_seen c (λ l. from_number l to) (λ x. x.digested) s.nodes n d (λ l. refl);
-    area = λ n i full. drop_areas s c to n i;
-  }
+  dropped_prefixes =
+      let low : (d : ℕ) → w.first d ≤ f d = each (λ d k. w.first d ≤ k) from_first (λ d other. omega arith) in
+      let high : (d : ℕ) → f d ≤ digested_by_all w d = each (λ d k. k ≤ digested_by_all w d) all_digested (λ d other. prefixes.begun d) in
+      let border_at : (d : ℕ) → w.border d (f d) ≡ true =
+      each (λ d k. w.border d k ≡ true) at_border (λ d other. border_first (own_seen s d).log (own_seen s d).log.first (omega arith)) in
+      let first : (d : ℕ) → w'.first d ≡ f d =
+      each (λ d k. w'.first d ≡ k) (ap (λ x. x.log.first) own_begins) (λ d other. ap (λ x. x.log.first) (own_beside d other)) in
+      let digested = part_seen c (λ l. from_number l to) (λ x. x.digested) in
+      search (records_now, border_now, log_now, received_now, digested, drop_areas, clients_as, goals_as, leases_as) parts 3
 
 pub dropped : (s : StateValue) (c to : ℕ) → ShapeInvariant s → WorldInvariant (world_of s) → IsNumber s.clients c → (world_of s).first c ≤ to → to ≤ digested_by_all (world_of s) c → (world_of s).border c to ≡ true →
     Drops (world_of s) (first_but (world_of s) c to) (world_of (after_drop s c to))
@@ -225,10 +157,7 @@ dropped s c to shape sound client low high border = dropped_prefixes s c to shap
 module _ (w v : World) (f : ℕ → ℕ) (prefix : Drops w f v) where
   same_end : (c : ℕ) → end_of_log v c ≡ end_of_log w c
   unfolding end_of_log
-  same_end c =
-      let high : digested_by_all w c ≤ w.first c + length (w.records c) = digested_by_all-end w c in
-      let left : length (drop (f c - w.first c) (w.records c)) ≡ length (w.records c) - (f c - w.first c) = length-drop (f c - w.first c) (w.records c) in
-      rw (prefix.first c, prefix.records c) (omega (arith, left, high, prefix.low c, prefix.high c))
+  same_end c = grind (arith, digested_by_all-end, length-drop)
 
   pub same_digested : (c : ℕ) → digested_by_all v c ≡ digested_by_all w c
   unfolding digested_by_all
@@ -242,27 +171,10 @@ module _ (w v u : World) (f g : ℕ → ℕ) (prefix : Drops w f v) (next : Drop
   low_both c = subst (λ k. k ≤ g c) (prefix.first c) (next.low c)
 
   both_dropped : (c : ℕ) (rs : List LogRecord) → drop (g c - v.first c) (drop (f c - w.first c) rs) ≡ drop (g c - w.first c) rs
-  both_dropped c rs =
-      let sum : (f c - w.first c) + (g c - v.first c) ≡ g c - w.first c = omega (arith, prefix.first c, prefix.low c, low_both c) in
-      drop-of_drop rs (f c - w.first c) (g c - v.first c) ∙ ap (λ k. drop k rs) sum
+  both_dropped c rs = grind (arith, low_both, drop-of_drop)
 
   pub dropped_twice : Drops w g u
-  dropped_twice = record {
-    low = λ c. omega (arith, prefix.low c, low_both c);
-    high = λ c. subst (λ k. g c ≤ k) (same_digested w v f prefix c) (next.high c);
-    border_at = λ c. sym (prefix.border c (g c) (low_both c)) ∙ next.border_at c;
-    calls = next.calls ∙ prefix.calls;
-    records = λ c. next.records c ∙ ap (drop (g c - v.first c)) (prefix.records c) ∙ both_dropped c (w.records c);
-    first = next.first;
-    border = λ c k low. next.border c k low ∙ prefix.border c k (omega (arith, low_both c, low));
-    next = λ c. next.next c ∙ prefix.next c;
-    made = λ c. next.made c ∙ prefix.made c;
-    clients = clients_after w v u prefix.clients next.clients;
-    goals = λ c. next.goals c ∙ prefix.goals c;
-    leases = record { holds = λ c i. next.leases.holds c i ∙ prefix.leases.holds c i; writes = λ c i. next.leases.writes c i ∙ prefix.leases.writes c i };
-    full = next.full ∙ prefix.full;
-    log = λ n c full. next.log n c (still_full n full) ∙ ap (drop (g c - v.first c)) (prefix.log n c full) ∙ both_dropped c (w.log n c);
-    received = λ n c full. next.received n c (still_full n full) ∙ prefix.received n c full;
-    digested = λ n c full. next.digested n c (still_full n full) ∙ prefix.digested n c full;
-    area = λ n i full. next.area n i (still_full n full) ∙ prefix.area n i full;
-  }
+  dropped_twice =
+      let high : (c : ℕ) → g c ≤ digested_by_all w c = λ c. subst (λ k. g c ≤ k) (same_digested w v f prefix c) (next.high c) in
+      let border_at : (c : ℕ) → w.border c (g c) ≡ true = λ c. sym (prefix.border c (g c) (low_both c)) ∙ next.border_at c in
+      search (still_full, low_both, both_dropped, clients_after, arith) parts 3

@@ -9,13 +9,12 @@ use Rattle.assise_inode_table.specs.Effects.{value_after}
 use Rattle.assise_digest.specs.Region.{ReceivedLog, ahead, ahead_below, all_ahead, alone, no_log}
 use Rattle.assise_model_world.specs.Invariant.{WorldInvariant}
 use Rattle.assise_model_world.specs.World.{Full, World, undigested_records as ahead_observed, undigested_below as below_observed, all_undigested_records as all_observed, alone_at as alone_observed, received_by_all, view}
-use Rattle.assise_machine_state.specs.ClientValues.{client_in}
-use Rattle.assise_machine_state.specs.NodeValues.{HasLog, log_in, region_in}
-use Rattle.assise_machine_state.specs.Observed.{inodes_read, is_full_in, world_of}
+use Rattle.assise_machine_state.specs.NodeValues.{log_in, region_in}
+use Rattle.assise_machine_state.specs.Observed.{inodes_read, world_of}
 use Rattle.assise_machine_state.specs.Places.{item_at}
 use Rattle.assise_machine_state.specs.Invariant.{ShapeInvariant}
-use Rattle.assise_machine_state.specs.StateValues.{StateValue, standings}
-use Rattle.assise_machine_state.proofs.Fullness.{full_seen, has_log, home_full, lives_number, lives_unfailed, same_first}
+use Rattle.assise_machine_state.specs.StateValues.{StateValue}
+use Rattle.assise_machine_state.proofs.Fullness.{full_seen, same_first}
 
 -- ---- what a full node has ahead of a client
 
@@ -29,20 +28,9 @@ ahead_is s n c sound f = ahead_first s n c (same_first s n c sound f)
 
 -- ---- by a client at its home
 
--- a full node's inodes with what it has ahead of a client are those that the client sees there
-seen_there : (s : StateValue) (n c i : ℕ) → WorldInvariant (world_of s) → Full (world_of s) n → HasLog s.nodes n c
-    → value_after i (map.get (region_in s.nodes n).inodes i) (all_effects (ahead (log_in s.nodes n c))) ≡ view (world_of s) n c i
-unfolding view world_of
-seen_there s n c i sound f has =
-    ap (λ rs. value_after i (values (region_in s.nodes n).inodes i) (all_effects rs)) (sym (ahead_is s n c sound f))
-
 pub read_at_home : (s : StateValue) (c i : ℕ) → ShapeInvariant s → WorldInvariant (world_of s) → (world_of s).lives c ≡ true → map.get (inodes_read s c) i ≡ view (world_of s) ((world_of s).home c) c i
-unfolding world_of
-read_at_home s c i shape sound lives =
-    let home : ℕ = (client_in s.clients c).home in
-    let full : is_full_in (standings s) home ≡ true = home_full s c shape (lives_unfailed s c lives) in
-    get-all_applied (region_in s.nodes home).inodes (all_effects (ahead (log_in s.nodes home c))) i
-    ∙ seen_there s home c i sound (sound.homes c lives) (has_log s home c shape full (lives_number s c lives))
+unfolding view world_of
+read_at_home s c i shape sound lives = grind (arith, get-all_applied, ahead_is)
 
 -- ---- of a full node's region alone
 
@@ -52,9 +40,7 @@ one_more : (ls : List ReceivedLog) (acked : List ℕ) (m : ℕ) → m < length l
 one_more [] acked m low few = absurd (omega (arith, low))
 one_more (l ∷ ls) [] m low few = absurd (omega (arith, few))
 one_more (l ∷ ls) (a ∷ acked) zero low few = append-nil (all_effects (ahead_below l a))
-one_more (l ∷ ls) (a ∷ acked) (suc m) low few =
-    ap (λ es. all_effects (ahead_below l a) ++ es) (one_more ls acked m (omega (arith, low)) (omega (arith, few)))
-    ∙ sym (append_assoc (all_effects (ahead_below l a)) (all_ahead (take m ls) (take m acked)) (all_effects (ahead_below (get_or ls m no_log) (get_or acked m 0))))
+one_more (l ∷ ls) (a ∷ acked) (suc m) low few = grind (arith, append_assoc, (one_more ls acked m))
 
 module _ (s : StateValue) (n : ℕ) (acked : List ℕ) (shape : ShapeInvariant s) (sound : WorldInvariant (world_of s)) (full : Full (world_of s) n) (count : length acked ≡ length s.clients)
     (received : (c : ℕ) → c < length s.clients → slice_index_or acked c 0 ≡ received_by_all (world_of s) (suc c)) where
@@ -69,20 +55,12 @@ module _ (s : StateValue) (n : ℕ) (acked : List ℕ) (shape : ShapeInvariant s
 
   same_below : (m : ℕ) → m < length s.clients → ahead_below (get_or ls m no_log) (get_or acked m 0) ≡ below_observed w n (suc m) (received_by_all w (suc m))
   unfolding below_observed world_of log_in item_at
-  same_below m low =
-      ap (ahead_below (get_or ls m no_log)) (received m low)
-      ∙ ap (take (received_by_all w (suc m) - (get_or ls m no_log).digested)) (sym (ahead_is s n (suc m) sound full))
+  same_below m low = grind (arith, ahead_is)
 
   -- the first m clients' records give the same
   same_ahead : (m : ℕ) → m ≤ length s.clients → all_ahead (take m ls) (take m acked) ≡ all_observed w n m
   same_ahead zero few = refl
-  same_ahead (suc m) few =
-      let low : m < length s.clients = omega (arith, few) in
-      let logs : m < length ls = omega (arith, few, all_logs) in
-      let numbers : m < length acked = omega (arith, few, count) in
-      one_more ls acked m logs numbers
-      ∙ ap (λ es. es ++ all_effects (ahead_below (get_or ls m no_log) (get_or acked m 0))) (same_ahead m (omega (arith, few)))
-      ∙ ap (λ rs. all_observed w n m ++ all_effects rs) (same_below m low)
+  same_ahead (suc m) few = grind (arith, all_logs, one_more, same_below, (same_ahead m))
 
   all_same : all_ahead ls acked ≡ all_observed w n (length s.clients)
   all_same =

@@ -1,5 +1,5 @@
 -- What the laws observe of records that come to a node.
-use Rattle.std.proofs.Common.{◌≡◌, ℕ, ◌+◌, ◌-◌, min, not, [], ◌++◌, List, length, take, drop, inl, inr, refl, ap, sym, subst, ◌∙◌, arith}
+use Rattle.std.proofs.Common.{◌≡◌, ℕ, ◌+◌, ◌-◌, [], ◌++◌, List, length, take, drop, refl, ap, ◌∙◌, arith}
 use Rattle.std.proofs.lemmas.Bool.{cases_Bool, cases_eq}
 use Rattle.std.proofs.lemmas.List.{length-append, length-drop, length-take}
 use Rattle.assise_record.specs.LogRecord.{LogRecord}
@@ -16,7 +16,7 @@ use Rattle.assise_machine_state.specs.ClientValues.{client_in}
 use Rattle.assise_machine_state.specs.NodeValues.{HasLog, log_in, region_in, with_records}
 use Rattle.assise_machine_state.specs.Observed.{own_node, own_seen, world_of}
 use Rattle.assise_machine_state.specs.Places.{IsNumber}
-use Rattle.assise_machine_state.specs.Invariant.{IsMarked, ShapeInvariant}
+use Rattle.assise_machine_state.specs.Invariant.{ShapeInvariant}
 use Rattle.assise_machine_state.specs.StateValues.{StateValue, standings}
 use Rattle.assise_machine_state.proofs.Fullness.{full_seen, has_log, same_first}
 use Rattle.assise_machine_state.proofs.LogChanges.{log_else, log_here, log_same, none_more, region_kept, region_with}
@@ -43,15 +43,7 @@ pub record HasPrefix (s : StateValue) (n c : ℕ) : Type 0 where
 
 pub has_prefix : (s : StateValue) (n c : ℕ) → WorldInvariant (world_of s) → Full (world_of s) n → HasPrefix s n c
 unfolding world_of
-has_prefix s n c sound full_node = record {
-  all_there = λ own. elim (cases_Bool (client_in s.clients c).failed) [
-    | inl failed ↦ sound.left n c (ap not failed) full_node
-    | inr unfailed ↦
-        let home : (client_in s.clients c).home ≡ n = rw unfailed at own in
-        subst (λ m. (world_of s).received m c ≡ end_of_log (world_of s) c) home (sound.whole c (ap not unfailed))
-  ];
-  first = same_first s n c sound full_node;
-}
+has_prefix s n c sound full_node = grind (arith, cases_Bool, same_first)
 
 module _ (s : StateValue) (n c k : ℕ) (shape : ShapeInvariant s) (prefix : HasPrefix s n c) (client : IsNumber s.clients c) (may : MayDeliver (world_of s) n c k) where
   abbrev w : World
@@ -89,79 +81,32 @@ module _ (s : StateValue) (n c k : ℕ) (shape : ShapeInvariant s) (prefix : Has
 
   same_own : (d : ℕ) → own_seen t d ≡ own_seen s d
   unfolding own_seen
-  same_own d =
-      elim (cases_eq d c) [
-        | inl is ↦ (elim (cases_eq (own_node (standings s) (client_in s.clients c)) n) [
-          | inl own ↦ same_here own (own_node (standings s) (client_in s.clients d)) d
-          | inr other ↦
-              same_else (own_node (standings s) (client_in s.clients d)) d
-              (λ there same. other (ap (λ e. own_node (standings s) (client_in s.clients e)) (sym same) ∙ there))
-        ])
-        | inr other ↦ same_else (own_node (standings s) (client_in s.clients d)) d (λ there same. other same)
-      ]
+  same_own d = grind (arith, cases_eq, same_here, same_else)
 
   -- and this node's log has its groups
   marked_now : AreMarked s → AreMarked t
-  marked_now all m d =
-      subst (λ l. IsMarked (is_border l.log) (log_in t.nodes m d).log) (sym (same_own d))
-      (elim (cases_eq d c) [
-        | inl of_client ↦ (elim (cases_eq m n) [
-          | inl here ↦
-              subst (λ e. IsMarked (is_border (own_seen s e).log) (log_in t.nodes m e).log) (sym of_client)
-              (subst (λ j. IsMarked (is_border (own_seen s c).log) (log_in t.nodes j c).log) (sym here)
-              (subst (λ l. IsMarked (is_border (own_seen s c).log) l.log) (sym (log_here s.nodes n c (region_in s.nodes n).inodes longer has))
-              (marked_more (is_border (own_seen s c).log) (log_in s.nodes n c) more (all n c))))
-          | inr away ↦ subst (λ l. IsMarked (is_border (own_seen s d).log) l.log) (sym (same_else m d (λ there same. away there))) (all m d)
-        ])
-        | inr other ↦ subst (λ l. IsMarked (is_border (own_seen s d).log) l.log) (sym (same_else m d (λ there same. other same))) (all m d)
-      ])
+  marked_now all m d = grind (arith, same_own, cases_eq, log_here, has, marked_more, same_else)
 
   pub delivery_shaped : ShapeInvariant t
   delivery_shaped = shaped_log s s.members n c (region_in s.nodes n).inodes longer shape refl refl marked_now refl (λ m. refl)
 
-  -- ---- this node's log
-
-  log_now : w'.log n c ≡ w.log n c ++ more
-  unfolding world_of
-  log_now = ap (λ x. x.log.records) (log_here s.nodes n c (region_in s.nodes n).inodes longer has)
-
-  -- the number behind the last record
-
+  -- the number behind the last record of this node's log
   counted : (log_in s.nodes n c).log.first + length ((log_in s.nodes n c).log.records ++ more) ≡ k
   unfolding world_of end_of_log records_between
-  counted =
-      let both : length ((log_in s.nodes n c).log.records ++ more) ≡ length (log_in s.nodes n c).log.records + length more =
-      length-append (log_in s.nodes n c).log.records more in
-      let part : length more ≡ min (k - w.received n c) (length (drop (w.received n c - w.first c) (w.records c))) =
-      length-take (k - w.received n c) (drop (w.received n c - w.first c) (w.records c)) in
-      let rest : length (drop (w.received n c - w.first c) (w.records c)) ≡ length (w.records c) - (w.received n c - w.first c) = length-drop (w.received n c - w.first c) (w.records c) in
-      omega (arith, prefix.first, both, part, rest, may.from, may.to)
-
-  received_now : w'.received n c ≡ k
-  unfolding world_of
-  received_now =
-      ap (λ x. log_end x.log) (log_here s.nodes n c (region_in s.nodes n).inodes longer has)
-      ∙ counted
+  counted = grind (arith, length-append, length-take, length-drop)
 
   pub delivered_prefix : Delivers w n c k w'
   unfolding world_of
-  delivered_prefix = record {
-    full_node = may.full_node;
-    from = may.from;
-    to = may.to;
-    border_to = may.border_to;
-    logs = logs_as s t refl refl (λ d. ap (λ x. x.log.records) (same_own d)) (λ d. ap (λ x. x.log.first) (same_own d)) (λ d j. ap (λ x. is_border x.log j) (same_own d));
-    clients = clients_as s t refl;
-    goals = goals_as s t refl;
-    leases = leases_as s t (λ i. refl);
-    full = refl;
-    log_here = log_now;
-    log_else = λ m d f other. ap (λ x. x.log.records) (same_else m d other);
-    received_here = received_now;
-    received_else = λ m d f other. ap (λ x. log_end x.log) (same_else m d other);
-    digested = λ m d f. log_same s.nodes n c (region_in s.nodes n).inodes longer (λ x. x.digested) m d refl;
-    area = λ m i f. same_area s n c k m i;
-  }
+  delivered_prefix =
+      let logs = logs_as s t refl refl (λ d. ap (λ x. x.log.records) (same_own d)) (λ d. ap (λ x. x.log.first) (same_own d))
+      (λ d j. ap (λ x. is_border x.log j) (same_own d)) in
+      let here = log_here s.nodes n c (region_in s.nodes n).inodes longer has in
+      let log_now : w'.log n c ≡ w.log n c ++ more = ap (λ x. x.log.records) here in
+      let received_now : w'.received n c ≡ k = ap (λ x. log_end x.log) here ∙ counted in
+      let log_beside : (m d : ℕ) → (m ≡ n → d ≡ c → ⊥) → w'.log m d ≡ w.log m d = λ m d other. ap (λ x. x.log.records) (same_else m d other) in
+      let beside : (m d : ℕ) → (m ≡ n → d ≡ c → ⊥) → w'.received m d ≡ w.received m d = λ m d other. ap (λ x. log_end x.log) (same_else m d other) in
+      let digested = log_same s.nodes n c (region_in s.nodes n).inodes longer (λ x. x.digested) in
+      search (log_beside, beside, digested, same_area, clients_as, goals_as, leases_as) parts 3
 
 pub delivered : (s : StateValue) (n c k : ℕ) → ShapeInvariant s → WorldInvariant (world_of s) → IsNumber s.clients c → MayDeliver (world_of s) n c k → Delivers (world_of s) n c k (world_of (after_delivery s n c k))
 delivered s n c k shape sound client may = delivered_prefix s n c k shape (has_prefix s n c sound may.full_node) client may

@@ -1,85 +1,36 @@
 -- Records and logs come to a region one after another.
-use Rattle.std.proofs.Common.{◌≡◌, ◌≢◌, ℕ, suc, ◌+◌, ◌<◌, ◌≤◌, Bool, List, [], ◌∷◌, ◌++◌, false, length, map, take, take-suc, get_or, inl, inr, ap, sym, subst, ◌∙◌, arith}
+use Rattle.std.proofs.Common.{◌≡◌, ◌≢◌, ℕ, suc, ◌+◌, ◌<◌, Bool, List, [], ◌∷◌, ◌++◌, false, length, map, take, take-suc, get_or, inl, inr, ap, sym, subst, ◌∙◌}
+use Rattle.std.proofs.Common.{arith}
 use Rattle.std.proofs.lemmas.Bool.{cases_eq}
 use Rattle.std.proofs.lemmas.List.{append_assoc, length_push, map-append}
 use Rattle.assise_record.specs.LogRecord.{LogRecord}
 use Rattle.assise_private_log.specs.NumberedLog.{NumberedLog, end, is_border, with_grouped}
 use Rattle.assise_private_log.proofs.Borders.{border_end, border_grouped}
-use Rattle.assise_digest.specs.Region.{AreWhole, HasClient, IsBegun, ReceivedLog, RegionValue, no_log, with_one}
-use Rattle.assise_model_events.specs.NodeEvents.{border_marks}
-use Rattle.assise_machine_state.specs.NodeValues.{AreTaken, HasGroupsOf, HasLog, away, copied, log_in, region_in, with_log_in, with_next, with_records, with_region}
-use Rattle.assise_machine_state.specs.Places.{with_item}
-use Rattle.assise_machine_state.proofs.LogChanges.{log_back, log_else, log_here, none_more, region_else, region_here, region_with}
+use Rattle.assise_digest.specs.Region.{AreWhole, IsBegun, ReceivedLog, RegionValue, no_log, with_one}
+use Rattle.assise_machine_state.specs.NodeValues.{AreTaken, HasGroupsOf, HasLog, away, copied, log_in, region_in, with_log_in, with_next, with_records}
+use Rattle.assise_machine_state.proofs.LogChanges.{log_back, log_else, log_here, logs_count, none_more, region_here, region_with}
 use Rattle.assise_machine_state.proofs.ItemSeen.{length-with, with-with}
 
 -- ---- records
 
 one_then_others : (border : ℕ → Bool) (l : ReceivedLog) (a : LogRecord) (rest : List LogRecord) → with_records border (with_one l a (border (end l.log))) rest ≡ with_records border l (a ∷ rest)
-one_then_others border l a rest =
-    let next : end (with_one l a (border (end l.log))).log ≡ suc (end l.log) = omega (arith, length_push l.log.records a) in
-    λ i. record {
-      log = record {
-        first = l.log.first;
-        limit = l.log.limit;
-        records = append_assoc l.log.records (a ∷ []) rest i;
-        begins = append_assoc l.log.begins (border (end l.log) ∷ []) (border_marks border (next i) rest) i;
-      };
-      digested = l.digested;
-      at_home = l.at_home;
-    }
+one_then_others border l a rest = grind (arith, length_push, append_assoc)
 
 -- a later change of the log stands
 put_again : (rs : List RegionValue) (n c : ℕ) (l m : ReceivedLog) → HasLog rs n c → with_log_in (with_log_in rs n c l) n c m ≡ with_log_in rs n c m
-put_again rs n c l m has =
-    ap (λ r. with_region (with_log_in rs n c l) n (record r { logs = with_item r.logs c m }))
-    (region_here rs n (region_with rs n c (region_in rs n).inodes l) has.node)
-    ∙ with-with rs n _ _ ∙ ap (λ ls. with_region rs n (record (region_in rs n) { logs = ls })) (with-with (region_in rs n).logs c l m)
-
-region_then : (border : ℕ → Bool) (rs : List RegionValue) (n c : ℕ) (a : LogRecord) → HasLog rs n c →
-    region_in (with_next border rs n c a) n ≡ region_with rs n c (region_in rs n).inodes (with_one (log_in rs n c) a (border (end (log_in rs n c).log)))
-region_then border rs n c a has =
-    region_here rs n (region_with rs n c (region_in rs n).inodes (with_one (log_in rs n c) a (border (end (log_in rs n c).log)))) has.node
+put_again rs n c l m has = grind (arith, region_here, region_with, with-with)
 
 log_then : (border : ℕ → Bool) (rs : List RegionValue) (n c : ℕ) (a : LogRecord) → HasLog rs n c →
     log_in (with_next border rs n c a) n c ≡ with_one (log_in rs n c) a (border (end (log_in rs n c).log))
-log_then border rs n c a has =
-    log_here rs n c (region_in rs n).inodes (with_one (log_in rs n c) a (border (end (log_in rs n c).log))) has
+log_then border rs n c a has = grind (arith, log_here)
 
-has_then : (border : ℕ → Bool) (rs : List RegionValue) (n c : ℕ) (a : LogRecord) → HasLog rs n c → HasLog (with_next border rs n c a) n c
-has_then border rs n c a has =
-    let more : ReceivedLog = with_one (log_in rs n c) a (border (end (log_in rs n c).log)) in
-    let nodes : length (with_next border rs n c a) ≡ length rs = length-with rs n (region_with rs n c (region_in rs n).inodes more) in
-    let logs : length (region_in (with_next border rs n c a) n).logs ≡ length (region_in rs n).logs =
-    ap (λ r. length r.logs) (region_then border rs n c a has) ∙ length-with (region_in rs n).logs c more in
-    record {
-      node = record { some = has.node.some; there = subst (λ k. n ≤ k) (sym nodes) has.node.there };
-      client = record { some = has.client.some; there = subst (λ k. c ≤ k) (sym logs) has.client.there };
-    }
-
--- another node's log stays
-log_beside : (border : ℕ → Bool) (rs : List RegionValue) (n m c : ℕ) (a : LogRecord) → HasLog rs n c → m ≢ n →
-    log_in (with_next border rs n c a) m c ≡ log_in rs m c
-log_beside border rs n m c a has differs =
-    log_else rs n c (region_in rs n).inodes (with_one (log_in rs n c) a (border (end (log_in rs n c).log))) has m c (λ is same. differs is)
+-- each node has the logs that it had
+has_then : (border : ℕ → Bool) (rs : List RegionValue) (n m c : ℕ) (a : LogRecord) → HasLog rs m c → HasLog (with_next border rs n c a) m c
+has_then border rs n m c a has = grind (arith, length-with, region_with, logs_count)
 
 pub one_taken : (border : ℕ → Bool) (rs : List RegionValue) (n c : ℕ) (a : LogRecord) (rest : List LogRecord) → HasLog rs n c →
     with_log_in (with_next border rs n c a) n c (with_records border (log_in (with_next border rs n c a) n c) rest) ≡ with_log_in rs n c (with_records border (log_in rs n c) (a ∷ rest))
-one_taken border rs n c a rest has =
-    let one : ReceivedLog = with_one (log_in rs n c) a (border (end (log_in rs n c).log)) in
-    ap (λ l. with_log_in (with_next border rs n c a) n c (with_records border l rest)) (log_then border rs n c a has)
-    ∙ put_again rs n c one (with_records border one rest) has
-    ∙ ap (with_log_in rs n c) (one_then_others border (log_in rs n c) a rest)
-
-has_beside : (border : ℕ → Bool) (rs : List RegionValue) (n m c : ℕ) (a : LogRecord) → HasLog rs n c → HasLog rs m c → m ≢ n →
-    HasLog (with_next border rs n c a) m c
-has_beside border rs n m c a has other differs =
-    let more : RegionValue = region_with rs n c (region_in rs n).inodes (with_one (log_in rs n c) a (border (end (log_in rs n c).log))) in
-    let nodes : length (with_next border rs n c a) ≡ length rs = length-with rs n more in
-    let region : region_in (with_next border rs n c a) m ≡ region_in rs m = region_else rs n more has.node m differs in
-    record {
-      node = record { some = other.node.some; there = subst (λ k. m ≤ k) (sym nodes) other.node.there };
-      client = subst (λ r. HasClient r c) (sym region) other.client;
-    }
+one_taken border rs n c a rest has = grind (arith, log_then, put_again, one_then_others)
 
 -- the groups of the own log go on
 
@@ -113,10 +64,11 @@ takes_one rs n own c a has own_has other groups elsewhere =
     let l : ReceivedLog = log_in rs n c in
     let border : ℕ → Bool = is_border (log_in rs own c).log in
     let now : log_in (with_next border rs n c a) n c ≡ with_one l a (border (end l.log)) = log_then border rs n c a has in
-    let kept : log_in (with_next border rs n c a) own c ≡ log_in rs own c = log_beside border rs n own c a has other in
+    let kept : log_in (with_next border rs n c a) own c ≡ log_in rs own c =
+    log_else rs n c (region_in rs n).inodes (with_one l a (border (end l.log))) has own c (λ is same. other is) in
     record {
-      there = has_then border rs n c a has;
-      own_there = has_beside border rs n own c a has own_has other;
+      there = has_then border rs n n c a has;
+      own_there = has_then border rs n own c a own_has;
       own_log = kept;
       groups = subst (λ o. HasGroupsOf o.log (log_in (with_next border rs n c a) n c).log) (sym kept)
           (subst (λ m. HasGroupsOf (log_in rs own c).log m.log) (sym now) (groups_then (log_in rs own c).log l.log a groups));

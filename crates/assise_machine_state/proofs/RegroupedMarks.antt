@@ -1,5 +1,5 @@
 -- A log whose last records became groups marks its own borders.
-use Rattle.std.proofs.Common.{◌≡◌, ℕ, zero, suc, ◌+◌, ◌-◌, ◌<◌, Bool, true, false, List, [], ◌∷◌, ◌++◌, length, get_or, take, inl, inr, refl, ap, sym, subst, ◌∙◌, arith}
+use Rattle.std.proofs.Common.{◌≡◌, ℕ, suc, ◌+◌, ◌-◌, ◌<◌, Bool, true, List, [], ◌∷◌, ◌++◌, length, get_or, take, refl, ap, ◌∙◌, arith}
 use Rattle.std.proofs.lemmas.Bool.{cases_eq}
 use Rattle.std.proofs.lemmas.List.{length-append, length-map, length-take}
 use Rattle.assise_record.specs.Groups.{all_marks, all_records, marks_of}
@@ -25,13 +25,7 @@ marks_at f k (m ∷ ms) (r ∷ rs) same at =
 
 -- a log whose first record begins a group marks its borders
 marks_own : (l : NumberedLog) → length l.begins ≡ length l.records → get_or l.begins 0 true ≡ true → IsMarked (is_border l) l
-marks_own l so_many first = marks_at (is_border l) l.first l.begins l.records so_many (λ i low.
-    elim (cases_eq i 0) [
-      | inl none ↦ ap (λ j. get_or l.begins j true) none ∙ first ∙ sym (border_first l (l.first + i) (omega (arith, none)))
-      | inr some ↦
-          let place : (l.first + i) - l.first ≡ i = omega arith in
-          ap (λ j. get_or l.begins j true) (sym place) ∙ sym (border_marked l (l.first + i) (omega (arith, some)))
-    ])
+marks_own l so_many first = grind (arith, marks_at, cases_eq, border_first, border_marked)
 
 first_mark : (f : ℕ → Bool) (k : ℕ) (rs : List LogRecord) → f k ≡ true → get_or (border_marks f k rs) 0 true ≡ true
 first_mark f k [] is = refl
@@ -43,13 +37,10 @@ first_begins ([] ∷ gs) = first_begins gs
 first_begins ((r ∷ rs) ∷ gs) = refl
 
 first_of_both : (n : ℕ) (ms more : List Bool) → get_or ms 0 true ≡ true → get_or more 0 true ≡ true → get_or (take n ms ++ more) 0 true ≡ true
-first_of_both zero ms more prefix behind = behind
-first_of_both (suc n) [] more prefix behind = behind
-first_of_both (suc n) (m ∷ ms) more prefix behind = prefix
+first_of_both n ms more h1 h2 = grind arith
 
 group_marks : (rs : List LogRecord) → length (marks_of rs) ≡ length rs
-group_marks [] = refl
-group_marks (r ∷ rs) = ap suc (length-map rs (λ (q : LogRecord). false))
+group_marks rs = grind (arith, length-map)
 
 groups_marks : (gs : List (List LogRecord)) → length (all_marks gs) ≡ length (all_records gs)
 groups_marks [] = refl
@@ -60,21 +51,10 @@ module _ (l : NumberedLog) (from : ℕ) (marked : IsMarked (is_border l) l) wher
   now = with_all (without_tail l from) (groups_from l from)
 
   so_many : length now.begins ≡ length now.records
-  so_many = omega (
-    arith,
-    length-append (take (from - l.first) l.begins) (all_marks (groups_from l from)),
-    length-append (take (from - l.first) l.records) (all_records (groups_from l from)),
-    length-take (from - l.first) l.begins,
-    length-take (from - l.first) l.records,
-    so_many_marks (is_border l) l marked,
-    groups_marks (groups_from l from),
-  )
+  so_many = grind (arith, length-append, length-take, so_many_marks, groups_marks)
 
   begins_first : get_or l.begins 0 true ≡ true
   begins_first = ap (λ ms. get_or ms 0 true) marked ∙ first_mark (is_border l) l.first l.records (border_first l l.first (omega arith))
 
-  now_marked : IsMarked (is_border now) now
-  now_marked = marks_own now so_many (first_of_both (from - l.first) l.begins (all_marks (groups_from l from)) begins_first (first_begins (groups_from l from)))
-
   pub regrouped_marked : IsMarked (is_border (regrouped l from)) (regrouped l from)
-  regrouped_marked = subst (λ m. IsMarked (is_border m) m) (sym (regrouped_all l from)) now_marked
+  regrouped_marked = grind (arith, regrouped_all, marks_own, so_many, first_of_both, begins_first, first_begins)

@@ -1,7 +1,7 @@
 -- What the laws observe as the same where parts of the state are.
-use Rattle.std.proofs.Common.{◌≡◌, ℕ, Bool, not, length, ap, ◌∙◌}
+use Rattle.std.proofs.Common.{◌≡◌, ℕ, Bool, ap, arith}
 use Rattle.assise_inode_table.specs.Contents.{values}
-use Rattle.assise_private_log.specs.NumberedLog.{end as log_end, is_border}
+use Rattle.assise_private_log.specs.NumberedLog.{is_border}
 use Rattle.assise_lease_table.specs.declared.lease.Lease.{Lease}
 use Rattle.assise_lease_table.specs.Leases.{revoke, lease_of}
 use Rattle.assise_model_world.specs.Staying.{SameClients, SameGoals, KeepsLeases, SameLogs, SameNode}
@@ -17,12 +17,7 @@ module _ (s t : StateValue) where
   -- clients, and with them their goals
   pub clients_as : t.clients ≡ s.clients → SameClients (world_of s) (world_of t)
   unfolding world_of
-  clients_as same = record {
-    clients = ap length same;
-    home = λ c. ap (λ cs. (client_in cs c).home) same;
-    lives = λ c. ap (λ cs. not (client_in cs c).failed) same;
-    crashed = λ c. ap (λ cs. (client_in cs c).crashed) same;
-  }
+  clients_as same = grind arith
 
   pub goals_as : t.clients ≡ s.clients → SameGoals (world_of s) (world_of t)
   unfolding world_of
@@ -33,26 +28,14 @@ module _ (s t : StateValue) where
       → ((c : ℕ) → (own_seen t c).log.first ≡ (own_seen s c).log.first) → ((c k : ℕ) → is_border (own_seen t c).log k ≡ is_border (own_seen s c).log k)
       → SameLogs (world_of s) (world_of t)
   unfolding world_of
-  logs_as same calls records first border = record {
-    calls = calls;
-    records = records;
-    first = first;
-    next = λ c. ap (λ cs. (client_in cs c).next) same;
-    border = border;
-    made = λ c. ap (λ cs. (client_in cs c).made) same;
-  }
+  logs_as same calls records first border = grind arith
 
   -- one node
   pub node_as : (n : ℕ) → ((i : ℕ) → values (region_in t.nodes n).inodes i ≡ values (region_in s.nodes n).inodes i) →
       ((c : ℕ) → log_in t.nodes n c ≡ log_in s.nodes n c) →
       SameNode (world_of s) (world_of t) n
   unfolding world_of
-  node_as n inodes logs = record {
-    area = inodes;
-    log = λ c. ap (λ l. l.log.records) (logs c);
-    received = λ c. ap (λ l. log_end l.log) (logs c);
-    digested = λ c. ap (λ l. l.digested) (logs c);
-  }
+  node_as n inodes logs = grind arith
 
   -- leases, which are held as before where some are revoked
   pub leases_as : ((i : ℕ) → t.levels.clients i ≡ s.levels.clients i) → KeepsLeases (world_of s) (world_of t)
@@ -61,7 +44,4 @@ module _ (s t : StateValue) where
 
   pub leases_revoked : (choice : Lease → Bool) → ((i : ℕ) → t.levels.clients i ≡ revoke choice (s.levels.clients i)) → KeepsLeases (world_of s) (world_of t)
   unfolding world_of leases_of
-  leases_revoked choice revoked = record {
-    holds = λ c i. ap (λ ls. is_held (lease_of ls c)) (revoked i) ∙ ap is_held (revoke_of choice (s.levels.clients i) c) ∙ held_one choice (lease_of (s.levels.clients i) c);
-    writes = λ c i. ap (λ ls. is_written (lease_of ls c)) (revoked i) ∙ ap is_written (revoke_of choice (s.levels.clients i) c) ∙ written_one choice (lease_of (s.levels.clients i) c);
-  }
+  leases_revoked choice revoked = grind (arith, revoke_of, held_one, written_one)

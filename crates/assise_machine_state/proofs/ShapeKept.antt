@@ -1,8 +1,7 @@
 -- What keeps the shape of the state.
-use Rattle.std.proofs.Common.{◌≡◌, ℕ, ◌≤◌, true, false, not, ◌&&◌, ◌==◌, [], length, map, inl, inr, refl, ap, sym, subst, ◌∙◌, arith}
+use Rattle.std.proofs.Common.{◌≡◌, ℕ, true, false, not, ◌&&◌, ◌==◌, [], length, map, arith}
 use Rattle.std.proofs.lemmas.Bool.{cases_Bool}
 use Rattle.std.proofs.lemmas.List.{length-map, nil_from_length}
-use Rattle.assise_names.specs.declared.limits.TheConstants.{MOST_NODES}
 use Rattle.assise_history.specs.Legal.{durability_of}
 use Rattle.assise_inode_table.specs.Contents.{InodeMap}
 use Rattle.assise_private_log.specs.NumberedLog.{is_border}
@@ -15,7 +14,7 @@ use Rattle.assise_machine_state.specs.Places.{IsNumber}
 use Rattle.assise_machine_state.specs.Invariant.{IsMarked, ShapeInvariant}
 use Rattle.assise_machine_state.specs.StateValues.{StateValue, standings}
 use Rattle.assise_machine_state.proofs.Fullness.{has_log}
-use Rattle.assise_machine_state.proofs.LogChanges.{count_seen, log_changed, log_same, logs_count, part_seen, region_with}
+use Rattle.assise_machine_state.proofs.LogChanges.{count_seen, log_changed, log_same, logs_count, part_seen}
 use Rattle.assise_machine_state.proofs.ItemSeen.{length-with}
 
 -- ---- limits
@@ -30,12 +29,7 @@ pub limits_all : (s : StateValue) → ((n : ℕ) → is_full_in (standings s) n 
     ((n : ℕ) → is_full_in (standings s) n ≡ false → (region_in s.nodes n).logs ≡ []) →
     ((n c : ℕ) → is_full_in (standings s) n ≡ true → IsNumber s.clients c → (log_in s.nodes n c).log.limit ≡ s.limit) →
     (n c : ℕ) → HasLog s.nodes n c → (log_in s.nodes n c).log.limit ≡ s.limit
-limits_all s logs no_logs seen n c has =
-    let few : c ≤ length (region_in s.nodes n).logs = has.client.there in
-    elim (cases_Bool (is_full_in (standings s) n)) [
-      | inl f ↦ seen n c f record { some = has.client.some; there = subst (λ k. c ≤ k) (logs n f) few }
-      | inr away ↦ (let none : c ≤ 0 = subst (λ ls. c ≤ length ls) (no_logs n away) few in absurd (omega (arith, none, has.client.some)))
-    ]
+limits_all s logs no_logs seen n c has = grind (arith, cases_Bool)
 
 -- ---- homes
 
@@ -54,11 +48,14 @@ pub own_marked : (s : StateValue) → AreMarked s → (c : ℕ) → IsMarked (is
 unfolding own_seen
 own_marked s all c = all (own_node (standings s) (client_in s.clients c)) c
 
--- so it is where logs stay
+-- so it is where the two logs stay
+pub kept_marks : (own own' l l' : ReceivedLog) → own' ≡ own → l' ≡ l → IsMarked (is_border own.log) l.log → IsMarked (is_border own'.log) l'.log
+kept_marks own own' l l' own_stays stays marked = rw (own_stays, stays) marked
+
+-- and where all do
 pub still_marked : (s t : StateValue) → ((n c : ℕ) → (log_in t.nodes n c).log ≡ (log_in s.nodes n c).log) →
     ((c : ℕ) → (own_seen t c).log ≡ (own_seen s c).log) → AreMarked s → AreMarked t
-still_marked s t logs own all n c =
-    subst (IsMarked (is_border (own_seen t c).log)) (sym (logs n c)) (subst (λ l. IsMarked (is_border l) (log_in s.nodes n c).log) (sym (own c)) (all n c))
+still_marked s t logs own all n c = grind arith
 
 -- ---- the same nodes are full and have as many logs, and limits and homes stay
 
@@ -78,25 +75,7 @@ pub record KeepsShape (s t : StateValue) : Type 0 where
   pub opened : (c : ℕ) → durability_of c t.history ≡ durability_of c s.history
 
 pub shaped_as : (s t : StateValue) → ShapeInvariant s → KeepsShape s t → ShapeInvariant t
-shaped_as s t shape same =
-    let was_full : (n : ℕ) → is_full_in (standings t) n ≡ true → is_full_in (standings s) n ≡ true = λ n f. sym (same.full n) ∙ f in
-    let logs : (n : ℕ) → is_full_in (standings t) n ≡ true → length (region_in t.nodes n).logs ≡ length t.clients =
-    λ n f. same.logs n ∙ shape.logs n (was_full n f) ∙ sym same.clients in
-    let no_logs : (n : ℕ) → is_full_in (standings t) n ≡ false → (region_in t.nodes n).logs ≡ [] =
-    λ n away. nil_from_length (region_in t.nodes n).logs (same.logs n ∙ ap length (shape.no_logs n (sym (same.full n) ∙ away))) in
-    let was_client : (c : ℕ) → IsNumber t.clients c → IsNumber s.clients c = λ c client. record { some = client.some; there = subst (λ k. c ≤ k) same.clients client.there } in
-    record {
-      nodes = same.nodes ∙ shape.nodes ∙ sym same.members;
-      few_nodes = subst (λ k. k ≤ MOST_NODES) (sym same.nodes) shape.few_nodes;
-      logs = logs;
-      no_logs = no_logs;
-      at_home = λ n c. same.at_home n c ∙ shape.at_home n c ∙ sym (λ i. (n == same.home c i) && not (same.failed c i));
-      limits = limits_all t logs no_logs (λ n c f client. same.limits n c ∙ limit_seen s n c shape (was_full n f) (was_client c client) ∙ sym same.limit);
-      least_limit = subst (λ k. 8 ≤ k) (sym same.limit) shape.least_limit;
-      most_limit = subst (λ k. k ≤ 4096) (sym same.limit) shape.most_limit;
-      marked = same.marked shape.marked;
-      durabilities = λ c. same.durability c ∙ shape.durabilities c ∙ sym (same.opened c);
-    }
+shaped_as s t shape same = grind (arith, nil_from_length, limits_all, limit_seen)
 
 -- one node's log of a client changes, with the node's inodes
 pub shaped_log : (s : StateValue) (members : Membership) (n c : ℕ) (inodes : InodeMap) (l : ReceivedLog) → ShapeInvariant s
@@ -105,21 +84,8 @@ pub shaped_log : (s : StateValue) (members : Membership) (n c : ℕ) (inodes : I
     → length members.nodes ≡ length (standings s) → ((k : ℕ) → is_full_in members.nodes k ≡ is_full_in (standings s) k)
     → ShapeInvariant (record s { nodes = log_changed s.nodes n c inodes l; members = members })
 shaped_log s members n c inodes l shape limit at_home marked count full =
-    shaped_as s (record s { nodes = log_changed s.nodes n c inodes l; members = members }) shape record {
-      nodes = length-with s.nodes n (region_with s.nodes n c inodes l);
-      members = count;
-      full = full;
-      logs = logs_count s.nodes n c inodes l;
-      clients = refl;
-      home = λ d. refl;
-      failed = λ d. refl;
-      limit = refl;
-      limits = λ m d. log_same s.nodes n c inodes l (λ x. x.log.limit) m d limit;
-      at_home = λ m d. log_same s.nodes n c inodes l (λ x. x.at_home) m d at_home;
-      marked = marked;
-      durability = λ d. refl;
-      opened = λ d. refl;
-    }
+    shaped_as s (record s { nodes = log_changed s.nodes n c inodes l; members = members }) shape
+    (search (length-with, logs_count, log_same s.nodes n c inodes l (λ x. x.log.limit), log_same s.nodes n c inodes l (λ x. x.at_home)) parts 3)
 
 -- a client's logs change at all nodes
 pub shaped_all : (s : StateValue) (c : ℕ) (g : ReceivedLog → ReceivedLog) → ShapeInvariant s
@@ -127,18 +93,5 @@ pub shaped_all : (s : StateValue) (c : ℕ) (g : ReceivedLog → ReceivedLog) �
     → (AreMarked s → AreMarked (record s { nodes = map (changed_in c g) s.nodes }))
     → ShapeInvariant (record s { nodes = map (changed_in c g) s.nodes })
 shaped_all s c g shape limit at_home marked =
-    shaped_as s (record s { nodes = map (changed_in c g) s.nodes }) shape record {
-      nodes = length-map s.nodes (changed_in c g);
-      members = refl;
-      full = λ n. refl;
-      logs = count_seen c g s.nodes;
-      clients = refl;
-      home = λ d. refl;
-      failed = λ d. refl;
-      limit = refl;
-      limits = λ n d. part_seen c g (λ x. x.log.limit) s.nodes n d limit;
-      at_home = λ n d. part_seen c g (λ x. x.at_home) s.nodes n d at_home;
-      marked = marked;
-      durability = λ d. refl;
-      opened = λ d. refl;
-    }
+    shaped_as s (record s { nodes = map (changed_in c g) s.nodes }) shape
+    (search (length-map, count_seen, part_seen c g (λ x. x.log.limit), part_seen c g (λ x. x.at_home)) parts 3)

@@ -1,15 +1,14 @@
--- What stays of the state where the value of one client changes, and the node of its own log doesn't.
-use Rattle.std.proofs.Common.{◌≡◌, ℕ, not, List, length, refl, ap}
+-- What stays of the state where the values of clients change, and the nodes of their own logs don't.
+use Rattle.std.proofs.Common.{◌≡◌, ℕ, not, List, length, refl, ap, arith}
 use Rattle.assise_history.specs.Legal.{durability_of}
 use Rattle.assise_history.specs.Entries.{EntryValue}
-use Rattle.assise_private_log.specs.NumberedLog.{is_border}
 use Rattle.assise_lease_table.specs.declared.lease.Asked.{Asked}
 use Rattle.assise_lease_tree.specs.TwoLevels.{TwoLevels}
 use Rattle.assise_model_world.specs.Staying.{SameClients, SameLogs, SameNodes}
 use Rattle.assise_model_leases.specs.Handing.{HoldsAsLeased}
 use Rattle.assise_model_members.specs.Returns.{OtherAreasStay}
 use Rattle.assise_model_history.specs.Numbered.{kept_numbered}
-use Rattle.assise_machine_state.specs.Changes.{after_leases}
+use Rattle.assise_machine_state.specs.Changes.{after_leases, after_letting_go}
 use Rattle.assise_machine_state.specs.ClientValues.{ClientValue, client_in, with_client}
 use Rattle.assise_machine_state.specs.Observed.{own_seen, world_of}
 use Rattle.assise_machine_state.specs.Invariant.{ShapeInvariant}
@@ -18,17 +17,30 @@ use Rattle.assise_machine_state.proofs.ItemSeen.{client_same, length-with}
 use Rattle.assise_machine_state.proofs.ShapeKept.{shaped_as, still_marked}
 use Rattle.assise_machine_state.proofs.SameObserved.{clients_as, goals_as, logs_as, node_as}
 
--- another value of one client, and maybe other leases, other answers and another history
-abbrev pub changed : StateValue → ℕ → ClientValue → TwoLevels → List Asked → List EntryValue → StateValue
-changed s c x levels cuts h = record s { clients = with_client s.clients c x; levels = levels; cuts = cuts; history = h }
+-- other values of clients, and maybe other leases, other answers and another history
+abbrev pub changed : StateValue → List ClientValue → TwoLevels → List Asked → List EntryValue → StateValue
+changed s cs levels cuts h = record s { clients = cs; levels = levels; cuts = cuts; history = h }
 
--- the client's own log is where it was, and its counts are what they were
-pub record Remains (old new : ClientValue) : Type 0 where
-  pub home : new.home ≡ old.home
-  pub failed : new.failed ≡ old.failed
-  pub next : new.next ≡ old.next
-  pub made : new.made ≡ old.made
-  pub durability : new.durability ≡ old.durability
+-- each client's own log is where it was, and its counts are what they were
+pub record Remain (old new : List ClientValue) : Type 0 where
+  pub count : length new ≡ length old
+  pub home : (d : ℕ) → (client_in new d).home ≡ (client_in old d).home
+  pub failed : (d : ℕ) → (client_in new d).failed ≡ (client_in old d).failed
+  pub next : (d : ℕ) → (client_in new d).next ≡ (client_in old d).next
+  pub made : (d : ℕ) → (client_in new d).made ≡ (client_in old d).made
+  pub durability : (d : ℕ) → (client_in new d).durability ≡ (client_in old d).durability
+
+-- of one client that changes it is to be shown
+pub one_remains : (cs : List ClientValue) (c : ℕ) (x : ClientValue) → x.home ≡ (client_in cs c).home → x.failed ≡ (client_in cs c).failed →
+    x.next ≡ (client_in cs c).next → x.made ≡ (client_in cs c).made → x.durability ≡ (client_in cs c).durability → Remain cs (with_client cs c x)
+one_remains cs c x home failed next made durability = record {
+  count = length-with cs c x;
+  home = client_same (λ y. y.home) cs c x home;
+  failed = client_same (λ y. y.failed) cs c x failed;
+  next = client_same (λ y. y.next) cs c x next;
+  made = client_same (λ y. y.made) cs c x made;
+  durability = client_same (λ y. y.durability) cs c x durability;
+}
 
 -- nodes stay
 pub areas_stay : (s s' : StateValue) → s'.nodes ≡ s.nodes → OtherAreasStay (world_of s) (world_of s')
@@ -38,85 +50,33 @@ areas_stay s s' same k i away = rw same refl
 -- leases alone
 pub leases_held : (s : StateValue) (levels : TwoLevels) → HoldsAsLeased (world_of s) (world_of (after_leases s levels)) (leases_of (after_leases s levels))
 unfolding world_of own_seen
-leases_held s levels = record {
-  logs = logs_as s (after_leases s levels) refl refl (λ c. refl) (λ c. refl) (λ c k. refl);
-  clients = clients_as s (after_leases s levels) refl;
-  goals = goals_as s (after_leases s levels) refl;
-  nodes = record { full = refl; same = λ n f. node_as s (after_leases s levels) n (λ i. refl) (λ d. refl) };
-  held = record { holds = λ c i. refl; writes = λ c i. refl };
-}
+leases_held s levels = grind (arith, logs_as, clients_as, goals_as, node_as)
+
+-- leases and answers alone
+pub letting_go_shaped : (s : StateValue) (levels : TwoLevels) (cuts : List Asked) → ShapeInvariant s → ShapeInvariant (after_letting_go s levels cuts)
+unfolding own_seen
+letting_go_shaped s levels cuts shape = grind arith
 
 pub leases_shaped : (s : StateValue) (levels : TwoLevels) → ShapeInvariant s → ShapeInvariant (after_leases s levels)
-unfolding own_seen
-leases_shaped s levels shape = record {
-  nodes = shape.nodes;
-  few_nodes = shape.few_nodes;
-  logs = shape.logs;
-  no_logs = shape.no_logs;
-  at_home = shape.at_home;
-  limits = shape.limits;
-  least_limit = shape.least_limit;
-  most_limit = shape.most_limit;
-  marked = shape.marked;
-  durabilities = shape.durabilities;
-}
+leases_shaped s levels = letting_go_shaped s levels s.cuts
 
-module _ (s : StateValue) (c : ℕ) (x : ClientValue) (levels : TwoLevels) (cuts : List Asked) (h : List EntryValue) where
-  pub nodes_stay : SameNodes (world_of s) (world_of (changed s c x levels cuts h))
+module _ (s : StateValue) (cs : List ClientValue) (levels : TwoLevels) (cuts : List Asked) (h : List EntryValue) where
+  pub nodes_stay : SameNodes (world_of s) (world_of (changed s cs levels cuts h))
   unfolding world_of
-  nodes_stay = record { full = refl; same = λ n f. node_as s (changed s c x levels cuts h) n (λ i. refl) (λ d. refl) }
+  nodes_stay = record { full = refl; same = λ n f. node_as s (changed s cs levels cuts h) n (λ i. refl) (λ d. refl) }
 
-  pub same_count : length (changed s c x levels cuts h).clients ≡ length s.clients
-  same_count = length-with s.clients c x
-
-  module _ (remains : Remains (client_in s.clients c) x) where
-    pub home_stays : (d : ℕ) → (client_in (with_client s.clients c x) d).home ≡ (client_in s.clients d).home
-    home_stays = client_same (λ y. y.home) s.clients c x remains.home
-
-    failed_stays : (d : ℕ) → (client_in (with_client s.clients c x) d).failed ≡ (client_in s.clients d).failed
-    failed_stays = client_same (λ y. y.failed) s.clients c x remains.failed
-
-    pub lives_stays : (d : ℕ) → (world_of (changed s c x levels cuts h)).lives d ≡ (world_of s).lives d
-    unfolding world_of
-    lives_stays d = ap not (failed_stays d)
-
-    pub own_stays : (d : ℕ) → own_seen (changed s c x levels cuts h) d ≡ own_seen s d
+  module _ (remain : Remain s.clients cs) where
+    own_stays : (d : ℕ) → own_seen (changed s cs levels cuts h) d ≡ own_seen s d
     unfolding own_seen
-    own_stays d = rw (home_stays d, failed_stays d) refl
+    own_stays d = rw (remain.home d, remain.failed d) refl
 
-    pub logs_stay : kept_numbered h ≡ kept_numbered s.history → SameLogs (world_of s) (world_of (changed s c x levels cuts h))
+    pub logs_stay : kept_numbered h ≡ kept_numbered s.history → SameLogs (world_of s) (world_of (changed s cs levels cuts h))
     unfolding world_of
-    logs_stay calls = record {
-      calls = calls;
-      records = λ d. ap (λ l. l.log.records) (own_stays d);
-      first = λ d. ap (λ l. l.log.first) (own_stays d);
-      next = client_same (λ y. y.next) s.clients c x remains.next;
-      border = λ d k. ap (λ l. is_border l.log k) (own_stays d);
-      made = client_same (λ y. y.made) s.clients c x remains.made;
-    }
+    logs_stay calls = grind (arith, own_stays)
 
-    pub clients_stay : x.crashed ≡ (client_in s.clients c).crashed → SameClients (world_of s) (world_of (changed s c x levels cuts h))
+    pub clients_stay : ((d : ℕ) → (client_in cs d).crashed ≡ (client_in s.clients d).crashed) → SameClients (world_of s) (world_of (changed s cs levels cuts h))
     unfolding world_of
-    clients_stay same = record {
-      clients = same_count;
-      home = home_stays;
-      lives = lives_stays;
-      crashed = client_same (λ y. y.crashed) s.clients c x same;
-    }
+    clients_stay same = record { clients = remain.count; home = remain.home; lives = λ d. ap not (remain.failed d); crashed = same }
 
-    pub still_shaped : ((d : ℕ) → durability_of d h ≡ durability_of d s.history) → ShapeInvariant s → ShapeInvariant (changed s c x levels cuts h)
-    still_shaped opened shape = shaped_as s (changed s c x levels cuts h) shape record {
-      nodes = refl;
-      members = refl;
-      full = λ n. refl;
-      logs = λ n. refl;
-      clients = same_count;
-      home = home_stays;
-      failed = failed_stays;
-      limit = refl;
-      limits = λ n d. refl;
-      at_home = λ n d. refl;
-      marked = still_marked s (changed s c x levels cuts h) (λ n d. refl) (λ d. ap (λ l. l.log) (own_stays d));
-      durability = client_same (λ y. y.durability) s.clients c x remains.durability;
-      opened = opened;
-    }
+    pub still_shaped : ((d : ℕ) → durability_of d h ≡ durability_of d s.history) → ShapeInvariant s → ShapeInvariant (changed s cs levels cuts h)
+    still_shaped opened shape = grind (arith, shaped_as, still_marked, own_stays)

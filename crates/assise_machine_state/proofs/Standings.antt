@@ -1,16 +1,14 @@
 -- Which nodes are full once the members change.
 use Rattle.std.proofs.Common.{◌≡◌, ◌≢◌, ℕ, zero, suc, ◌+◌, ◌-◌, ◌<◌, ◌≤◌, true, false, if◌then◌else◌, List, [], ◌∷◌, length, filter, map, slice_get, Option, Some, None, refl, ap, sym, ◌∙◌, arith, eq-eqb, true≢false}
 use Rattle.std.specs.List.{slice_index_or}
-use Rattle.std.specs.Option.{option_map}
 use Rattle.std.specs.Ordering.{nat_cmp}
 use Rattle.std.specs.FinSet as set
 use Rattle.std.proofs.lemmas.List.{length-map, length-set}
 use Rattle.std.proofs.lemmas.Option.{none-some, slice_get_within}
 use Rattle.assise_inode_table.specs.Effects.{contains}
-use Rattle.assise_names.specs.declared.refusal.Refusal.TheVariants.{LastNode}
-use Rattle.assise_manager.specs.Changes.{failed, failed_as, failure_fault, failure_fault_of, refilled_from, with_epoch}
+use Rattle.assise_manager.specs.Changes.{failed, failed_as, failure_fault, refilled_from, with_epoch}
 use Rattle.assise_manager.specs.Membership.{Membership, lowest_full, written_since}
-use Rattle.assise_manager.specs.Standings.{Standing, down, full, full_from, full_nodes, is_full, returning, standing_of, with_standing}
+use Rattle.assise_manager.specs.Standings.{Standing, down, full, full_from, full_nodes, is_full, standing_of, with_standing}
 use Rattle.assise_manager.proofs.Nodes.{one_full_less}
 use Rattle.assise_model_members.proofs.NodeStandings.{full_listed, listed_full, lowest_stands, mapped_at, refilled_full, set_else, set_here}
 use Rattle.assise_model_history.specs.State.{down_from}
@@ -43,19 +41,12 @@ same_own xs ys long same x = ap (λ low. if x.failed then low else x.home) (same
 -- each node stands full exactly where it did
 pub mapped_full : (f : Standing → Standing) → ((x : Standing) → is_full (f x) ≡ is_full x) → (nodes : List Standing) (n : ℕ) → is_full_in (map f nodes) n ≡ is_full_in nodes n
 unfolding is_full_in
-mapped_full f same nodes n = ap stands_full (mapped_at f nodes n) ∙ each (standing_of nodes n)
-  where
-    each : (o : Option Standing) → stands_full (option_map f o) ≡ stands_full o
-    each None = refl
-    each (Some x) = same x
+mapped_full f same nodes n = grind (arith, mapped_at)
 
 -- ---- a full node stands so
 
 full_stands : (o : Option Standing) → stands_full o ≡ true → o ≡ Some full
-full_stands None f = cc
-full_stands (Some full) f = refl
-full_stands (Some (down since)) f = cc
-full_stands (Some (returning since donor stale)) f = cc
+full_stands o h1 = grind arith
 
 pub stands_so : (nodes : List Standing) (n : ℕ) → is_full_in nodes n ≡ true → standing_of nodes n ≡ Some full
 unfolding is_full_in
@@ -67,8 +58,7 @@ full_as nodes n s stands = ap stands_full stands
 
 -- a node that stands somehow has a number
 pub numbers : (nodes : List Standing) (n : ℕ) (s : Standing) → standing_of nodes n ≡ Some s → (1 ≤ n) × (n ≤ length nodes)
-numbers nodes zero s stands = absurd (none-some s stands)
-numbers nodes (suc place) s stands = (let low : place < length nodes = slice_get_within nodes place s stands in (omega arith, omega (arith, low)))
+numbers nodes n s h1 = grind (arith, none-some, slice_get_within)
 
 -- the list of full nodes has those that are full, and no other
 pub is_listed : (nodes : List Standing) (n : ℕ) → is_full_in nodes n ≡ true → contains (full_nodes nodes) n ≡ true
@@ -113,9 +103,7 @@ module _ (m : Membership) (n : ℕ) (inodes : set.FinSet nat_cmp) (stands : stan
   failed_nodes = ap (λ o. (failed_as m n inodes o).nodes) stands
 
   full_then : (k : ℕ) → is_full_in (failed m n inodes).nodes k ≡ is_full_in now_down k
-  full_then k =
-      ap (λ nodes. is_full_in nodes k) failed_nodes
-      ∙ mapped_full (refilled_from (written_since (with_epoch m n inodes)) (lowest_full now_down) n) (refilled_full (written_since (with_epoch m n inodes)) (lowest_full now_down) n) now_down k
+  full_then k = grind (arith, failed_nodes, mapped_full, refilled_full)
 
   -- it isn't full any more, and the others stand full exactly where they did
   pub gone_then : is_full_in (failed m n inodes).nodes n ≡ false
@@ -125,20 +113,14 @@ module _ (m : Membership) (n : ℕ) (inodes : set.FinSet nat_cmp) (stands : stan
   else_then k other = full_then k ∙ full_else m.nodes n k full (down (m.epoch + 1)) stands other
 
   pub count_then : length (failed m n inodes).nodes ≡ length m.nodes
-  count_then =
-      ap length failed_nodes
-      ∙ length-map now_down (refilled_from (written_since (with_epoch m n inodes)) (lowest_full now_down) n)
-      ∙ same_count m.nodes n (down (m.epoch + 1))
+  count_then = grind (arith, failed_nodes, length-map, same_count)
 
 -- another full node is left
 other_left : (m : Membership) (n : ℕ) → standing_of m.nodes n ≡ Some full → failure_fault m n ≡ None → length (full_nodes m.nodes) ≢ 1
-other_left m n stands fine one =
-    let last : failure_fault m n ≡ Some LastNode = ap (failure_fault_of m) stands ∙ rw (eq-eqb (length (full_nodes m.nodes)) 1 one) refl in
-    absurd (none-some LastNode (sym fine ∙ last))
+other_left m n stands fine one = grind (arith, eq-eqb, none-some)
 
 fewer : (nodes : List Standing) (n : ℕ) → standing_of nodes n ≡ Some full → length (full_nodes (with_standing nodes n (down 0))) + 1 ≡ length (full_nodes nodes)
-fewer nodes zero stands = absurd (none-some full stands)
-fewer nodes (suc place) stands = rw (less_one place) (one_full_less 1 nodes place (down 0) refl stands)
+fewer nodes n h1 = grind (arith, none-some, less_one, one_full_less)
 
 pub survivor_left : (m : Membership) (n : ℕ) → standing_of m.nodes n ≡ Some full → failure_fault m n ≡ None → (k : ℕ) × ((k ≢ n) × (is_full_in m.nodes k ≡ true))
 survivor_left m n stands fine =

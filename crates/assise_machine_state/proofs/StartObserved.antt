@@ -108,9 +108,7 @@ begun_seen n hot limit = λ k. record { limit = limit; hot = begun_capacities n 
 
 -- nothing is seen of a state but its parts
 parts : (s : StateValue) (n hot : ℕ) → s.nodes ≡ new_regions n hot → s.members ≡ all_full n → s.clients ≡ [] → SameLevels nobody s.levels → s.cuts ≡ [] → s.history ≡ [] → s ≡ begun_state n hot s.limit nobody
-parts s n hot nodes members none levels unasked nothing =
-    let t : s.levels ≡ nobody = same_levels nobody s.levels levels in
-    λ k. record { nodes = nodes k; members = members k; clients = none k; levels = t k; cuts = unasked k; history = nothing k; limit = s.limit }
+parts s n hot nodes members none levels unasked nothing = grind (arith, same_levels)
 
 pub starts : (s : StateValue) (n hot : ℕ) → s.nodes ≡ new_regions n hot → s.members ≡ all_full n → s.clients ≡ [] → SameLevels nobody s.levels → s.cuts ≡ [] → s.history ≡ [] → observed s ≡ begun_as n s.limit hot
 starts s n hot nodes members none levels unasked nothing = ap observed (parts s n hot nodes members none levels unasked nothing) ∙ begun_seen n hot s.limit

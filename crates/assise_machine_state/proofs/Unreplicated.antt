@@ -1,5 +1,5 @@
 -- The first call of which some full node may lack a record, as a client's own log has it.
-use Rattle.std.proofs.Common.{◌≡◌, ℕ, zero, suc, ◌-◌, ◌<◌, List, [], ◌∷◌, length, drop, refl, sym, ◌∙◌}
+use Rattle.std.proofs.Common.{◌≡◌, ℕ, zero, suc, ◌-◌, ◌<◌, List, [], ◌∷◌, length, drop, refl, arith}
 use Rattle.assise_record.specs.LogRecord.{LogRecord}
 use Rattle.assise_record.specs.Records.{call_of}
 use Rattle.assise_private_log.specs.NumberedLog.{NumberedLog, records_from}
@@ -22,7 +22,4 @@ pub first_behind : (s : StateValue) (c : ℕ) → ShapeInvariant s → IsNumber 
     (l : NumberedLog) → l ≡ (log_in s.nodes (own_node (standings s) (client_in s.clients c)) c).log → (place : ℕ) → place ≡ received_by_all (world_of s) c →
     call_of (records_from l place) 0 (client_in s.clients c).next ≡ first_unreplicated (world_of s) c
 unfolding world_of own_seen call_at first_unreplicated
-first_behind s c shape client some l is place acked =
-    let same : l ≡ (own_seen s c).log = is in
-    (λ i. call_of (drop (acked i - (same i).first) (same i).records) 0 (client_in s.clients c).next)
-    ∙ sym (call_behind ((world_of s).records c) (received_by_all (world_of s) c - (world_of s).first c) ((world_of s).next c))
+first_behind s c shape client some l is place acked = grind (arith, call_behind)

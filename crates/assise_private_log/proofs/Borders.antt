@@ -1,5 +1,6 @@
 -- Where the borders of a log lie, and where they stay.
-use Rattle.std.proofs.Common.{◌≡◌, ℕ, zero, suc, ◌+◌, ◌-◌, ◌<◌, ◌≤◌, ◌||◌, ◌⊎◌, nat_le, Bool, true, false, not, None, List, [], ◌∷◌, ◌++◌, length, take, drop, get_or, ap, sym, ◌∙◌, refl, arith, inl, inr, cond, subst, length-take, length-drop, ◌^◌}
+use Rattle.std.proofs.Common.{◌≡◌, ℕ, zero, suc, ◌+◌, ◌-◌, ◌<◌, ◌≤◌, ◌||◌, ◌⊎◌, Bool, true, false, not, None, List, [], ◌∷◌, ◌++◌, length, take, drop, get_or}
+use Rattle.std.proofs.Common.{ap, sym, ◌∙◌, refl, arith, inl, inr, cond, subst, length-take, length-drop, ◌^◌}
 use Rattle.std.specs.List.{prefix_len, slice_get}
 use Rattle.std.proofs.lemmas.Bool.{both_ways, cases_eq, cases_lt, cases_order, le-leb, lt-leb, not-true}
 use Rattle.std.proofs.lemmas.List.{get_or-drop, get_or_past, length_push}
@@ -23,11 +24,7 @@ border_marked l k high = ap (λ b. b || get_or l.begins (k - l.first) true) (lt-
 -- either way
 pub by_place : (l : NumberedLog) (k : ℕ) (P : Bool → Type 0) → (k ≤ l.first → P true) → (l.first < k → P (get_or l.begins (k - l.first) true))
     → P (is_border l k)
-by_place l k P first marked =
-    elim (cases_lt l.first k) [
-      | inl later ↦ subst P (sym (border_marked l k later)) (marked later)
-      | inr low ↦ subst P (sym (border_first l k low)) (first low)
-    ]
+by_place l k P first marked = grind (arith, cases_lt, border_marked, border_first)
 
 -- nothing is behind the last record
 pub border_end : (l : NumberedLog) (k : ℕ) → length l.begins ≡ length l.records → end l ≤ k → is_border l k ≡ true
@@ -51,17 +48,12 @@ pushed (x ∷ ms) m zero same = refl
 pushed (x ∷ ms) m (suc i) same = pushed ms m i (λ e. same (ap suc e))
 
 pub border_grouped : (l : NumberedLog) (r : LogRecord) (begins : Bool) (k : ℕ) → length l.begins ≡ length l.records → (k ≡ end l → begins ≡ true) → is_border (with_grouped l r begins) k ≡ is_border l k
-border_grouped l r begins k marks same =
-    by_place (with_grouped l r begins) k (λ b. b ≡ is_border l k) (λ low. sym (border_first l k low))
-    (λ later. pushed l.begins begins (k - l.first) (λ e. same (omega arith)) ∙ sym (border_marked l k later))
+border_grouped l r begins k marks same = grind (arith, by_place, border_first, pushed, border_marked)
 
 -- ---- without those in front, or behind
 
 pub border_prefix : (l : NumberedLog) (to k : ℕ) → l.first ≤ to → is_border l k ≡ true → is_border (without_prefix l to) k ≡ true
-border_prefix l to k from_first is =
-    by_place (without_prefix l to) k (λ b. b ≡ true) (λ _. refl) (λ later.
-    let place : (to - l.first) + (k - to) ≡ k - l.first = omega arith in
-    get_or-drop (to - l.first) l.begins (k - to) true ∙ ap (λ i. get_or l.begins i true) place ∙ sym (border_marked l k (omega arith)) ∙ is)
+border_prefix l to k from_first is = grind (arith, by_place, get_or-drop, border_marked)
 
 taken : (ms : List Bool) (n i : ℕ) → get_or ms i true ≡ true → get_or (take n ms) i true ≡ true
 taken ms zero i is = refl
@@ -70,9 +62,7 @@ taken (m ∷ ms) (suc n) zero is = is
 taken (m ∷ ms) (suc n) (suc i) is = taken ms n i is
 
 pub border_tail : (l : NumberedLog) (from k : ℕ) → is_border l k ≡ true → is_border (without_tail l from) k ≡ true
-border_tail l from k is =
-    by_place (without_tail l from) k (λ b. b ≡ true) (λ _. refl)
-    (λ later. taken l.begins (from - l.first) (k - l.first) (sym (border_marked l k later) ∙ is))
+border_tail l from k is = grind (arith, by_place, taken, border_marked)
 
 -- ---- groups have at most 64 records
 
@@ -150,9 +140,7 @@ run_end (false ∷ ms) = let one : 1 + prefix_len not ms ≡ suc (prefix_len not
 
 -- the marks behind a number, from it on
 marks_from : (l : NumberedLog) (number i : ℕ) → l.first < number → is_border l (number + i) ≡ get_or (drop (number - l.first) l.begins) i true
-marks_from l number i high =
-    let place : (number + i) - l.first ≡ (number - l.first) + i = omega arith in
-    border_marked l (number + i) (omega arith) ∙ ap (λ k. get_or l.begins k true) place ∙ sym (get_or-drop (number - l.first) l.begins i true)
+marks_from l number i high = grind (arith, border_marked, get_or-drop)
 
 next_behind : (l : NumberedLog) (number : ℕ) → l.first < number → IsNextBorder l number (number + prefix_len not (drop (number - l.first) l.begins))
 next_behind l number high =
@@ -166,29 +154,15 @@ next_behind l number high =
     }
 
 pub next_border : (l : NumberedLog) (number : ℕ) → IsNextBorder l number (group_end l number)
-next_border l number =
-    elim (cases_lt l.first number) [
-      | inl high ↦
-          let is_high : nat_le number l.first ≡ false = lt-leb number l.first high in
-          rw is_high (next_behind l number high)
-      | inr low ↦
-          let is_low : nat_le number l.first ≡ true = le-leb number l.first low in
-          rw is_low (record { behind = omega arith; border = border_first l number low; least = λ k from below. absurd (omega arith) })
-    ]
+next_border l number = grind (arith, cases_lt, lt-leb, next_behind, le-leb, border_first)
 
 -- there is one
 pub next_is_one : (l : NumberedLog) (number a b : ℕ) → IsNextBorder l number a → IsNextBorder l number b → a ≡ b
-next_is_one l number a b one other =
-    elim (cases_order a b) [
-      | inl same ↦ same
-      | inr (inl less) ↦ absurd (both_ways (is_border l a) (other.least a one.behind less) one.border)
-      | inr (inr more) ↦ absurd (both_ways (is_border l b) (one.least b other.behind more) other.border)
-    ]
+next_is_one l number a b one other = grind (arith, cases_order, both_ways)
 
 -- what is the next border is what `group_end` says
 pub next_is_group_end : (l : NumberedLog) (number next : ℕ) → number ≤ next → is_border l next ≡ true → ((k : ℕ) → number ≤ k → k < next → is_border l k ≡ false) → next ≡ group_end l number
-next_is_group_end l number next behind border least =
-    next_is_one l number next (group_end l number) (record { behind = behind; border = border; least = least }) (next_border l number)
+next_is_group_end l number next behind border least = grind (arith, next_is_one, next_border)
 
 -- ---- how many records end with a group
 
@@ -209,16 +183,7 @@ whole_passed l from zero some is = absurd (omega arith)
 whole_passed l from (suc n) some is = let less : suc n - 1 ≡ n = omega arith in whole_suc l from n false is ∙ ap (whole_count l from) (sym less)
 
 whole_step : (l : NumberedLog) (from n : ℕ) (b : Bool) → is_border l (from + suc n) ≡ b → IsWholeCount l from n (whole_count l from n) → IsWholeCount l from (suc n) (cond b (suc n) (whole_count l from n))
-whole_step l from n true is before = record { within = omega arith; border = λ some. is; greatest = λ k more most. absurd (omega arith) }
-whole_step l from n false is before = record {
-  within = omega (arith, before.within);
-  border = before.border;
-  greatest = λ k more most.
-      elim (cases_eq k (suc n)) [
-        | inl last ↦ ap (λ i. is_border l (from + i)) last ∙ is
-        | inr other ↦ before.greatest k more (omega arith)
-      ];
-}
+whole_step l from n b h1 h2 = grind (arith, cases_eq)
 
 pub is_whole : (l : NumberedLog) (from most : ℕ) → IsWholeCount l from most (whole_count l from most)
 is_whole l from zero = subst (IsWholeCount l from 0) (sym (whole_none l from)) (record { within = omega arith; border = λ some. absurd (omega arith); greatest = λ k more most. absurd (omega arith) })
@@ -254,19 +219,7 @@ pub record IsLastBorder (l : NumberedLog) (number last : ℕ) : Type 0 where
 
 last_step : (l : NumberedLog) (n : ℕ) (b : Bool) → is_border l (suc n) ≡ b → (last : ℕ) × IsLastBorder l n last → (last : ℕ) × IsLastBorder l (suc n) last
 last_step l n true is before = (suc n, record { before = omega arith; is = is; none = λ k low high. absurd (omega arith) })
-last_step l n false is before =
-    let b : IsLastBorder l n before.0 = before.1 in (
-      before.0,
-      record {
-        before = omega (arith, b.before);
-        is = b.is;
-        none = λ k low high.
-            elim (cases_eq k (suc n)) [
-              | inl here ↦ ap (is_border l) here ∙ is
-              | inr other ↦ b.none k low (omega arith)
-            ];
-      },
-    )
+last_step l n false is before = grind (arith, cases_eq)
 
 last_border : (l : NumberedLog) (n : ℕ) → (last : ℕ) × IsLastBorder l n last
 last_border l zero = (0, record { before = omega arith; is = border_first l 0 (omega arith); none = λ k low high. absurd (omega arith) })
@@ -286,18 +239,7 @@ open_group own l law inside same =
 -- ---- a cut at the end of a group
 
 pub covers_group : (l : NumberedLog) (inode cut : ℕ) → IsNumberedLog l → Covers l inode cut → Covers l inode (group_end l cut)
-covers_group l inode cut law covers =
-    let next : IsNextBorder l cut (group_end l cut) = next_border l cut in
-    let high : group_end l cut ≤ end l =
-    elim (cases_lt (end l) (group_end l cut)) [
-      | inl past ↦ absurd (both_ways (is_border l (end l)) (next.least (end l) covers.to_end past) (border_end l (end l) law.marks (omega arith)))
-      | inr within ↦ within
-    ] in
-    record {
-      from_first = omega (arith, covers.from_first, next.behind);
-      to_end = high;
-      untouched = λ n from. covers.untouched n (omega (arith, next.behind));
-    }
+covers_group l inode cut law covers = grind (arith, next_border, cases_lt, both_ways, border_end)
 
 -- ---- the two rings of a log
 
@@ -311,9 +253,7 @@ pub rings_grouped : (first : ℕ) (records : Buffer LogRecord) (begins : Buffer 
     → records' ≡ buffer (records.items ++ r ∷ []) records.capacity → begins' ≡ buffer (begins.items ++ b ∷ []) begins.capacity
     → IsNumberedLog (of_rings first records' begins') × (begins'.capacity ≡ records'.capacity)
 rings_grouped first records begins r b records' begins' law room_in_group fits room more marked =
-    subst (λ a. IsNumberedLog (of_rings first a begins') × (begins'.capacity ≡ a.capacity)) (sym more)
-    (subst (λ a. IsNumberedLog (of_rings first (buffer (records.items ++ r ∷ []) records.capacity) a) × (a.capacity ≡ records.capacity)) (sym marked)
-    (lawful_grouped (of_rings first records begins) r b law.0 room_in_group fits room, law.1))
+    rw (more, marked) (lawful_grouped (of_rings first records begins) r b law.0 room_in_group fits room, law.1)
 
 pub rings_prefix : (first to kept : ℕ) (records : Buffer LogRecord) (begins : Buffer Bool) (records' : Buffer LogRecord) (begins' : Buffer Bool)
     → IsNumberedLog (of_rings first records begins) × (begins.capacity ≡ records.capacity) → first ≤ to → to ≤ first + length records.items
@@ -321,23 +261,13 @@ pub rings_prefix : (first to kept : ℕ) (records : Buffer LogRecord) (begins : 
     → records' ≡ buffer (keep_last kept records.items) records.capacity → begins' ≡ buffer (keep_last kept begins.items) begins.capacity
     → IsNumberedLog (of_rings to records' begins') × (begins'.capacity ≡ records'.capacity)
 rings_prefix first to kept records begins records' begins' law from_first to_end keeps less marked =
-    let l : NumberedLog = of_rings first records begins in
     let gone : length records.items - kept ≡ to - first = omega arith in
     let unmarked : length begins.items - kept ≡ to - first = omega (arith, law.0.marks) in
-    let fewer : records' ≡ buffer (drop (to - first) records.items) records.capacity = less ∙ ap (λ n. buffer (drop n records.items) records.capacity) gone in
-    let marks : begins' ≡ buffer (drop (to - first) begins.items) begins.capacity = marked ∙ ap (λ n. buffer (drop n begins.items) begins.capacity) unmarked in
-    subst (λ a. IsNumberedLog (of_rings to a begins') × (begins'.capacity ≡ a.capacity)) (sym fewer)
-    (subst (λ a. IsNumberedLog (of_rings to (buffer (drop (to - first) records.items) records.capacity) a) × (a.capacity ≡ records.capacity)) (sym marks)
-    (lawful_prefix l to law.0 from_first to_end, law.1))
+    rw (less, marked, gone, unmarked) (lawful_prefix (of_rings first records begins) to law.0 from_first to_end, law.1)
 
 pub rings_tail : (first from kept : ℕ) (records : Buffer LogRecord) (begins : Buffer Bool) (records' : Buffer LogRecord) (begins' : Buffer Bool)
     → IsNumberedLog (of_rings first records begins) × (begins.capacity ≡ records.capacity) → kept ≡ from - first
     → records' ≡ buffer (take kept records.items) records.capacity → begins' ≡ buffer (take kept begins.items) begins.capacity
     → IsNumberedLog (of_rings first records' begins') × (begins'.capacity ≡ records'.capacity)
 rings_tail first from kept records begins records' begins' law keeps less marked =
-    let l : NumberedLog = of_rings first records begins in
-    let fewer : records' ≡ buffer (take (from - first) records.items) records.capacity = less ∙ ap (λ n. buffer (take n records.items) records.capacity) keeps in
-    let marks : begins' ≡ buffer (take (from - first) begins.items) begins.capacity = marked ∙ ap (λ n. buffer (take n begins.items) begins.capacity) keeps in
-    subst (λ a. IsNumberedLog (of_rings first a begins') × (begins'.capacity ≡ a.capacity)) (sym fewer)
-    (subst (λ a. IsNumberedLog (of_rings first (buffer (take (from - first) records.items) records.capacity) a) × (a.capacity ≡ records.capacity)) (sym marks)
-    (lawful_tail l from law.0, law.1))
+    rw (less, marked, keeps) (lawful_tail (of_rings first records begins) from law.0, law.1)

@@ -6,7 +6,8 @@ use Rattle.std.proofs.lemmas.List.{get_or-append_right, get_or-take, get_or_appe
 use Rattle.std.proofs.lemmas.List.Folds.{list_any-append}
 use Rattle.assise_record.specs.declared.effect.Effect.{Effect}
 use Rattle.assise_record.specs.Coalesced.{overridden, overrides}
-use Rattle.assise_record.specs.Groups.{AllHaveEffects, all_coalesced, all_marks, all_records, are_whole, begun_by, coalesced_group, groups_of, left_in, left_of, marks_of}
+use Rattle.assise_record.specs.Groups.{AllHaveEffects, all_coalesced, all_marks, all_records, are_whole, begun_by, coalesced_group, groups_of, left_in}
+use Rattle.assise_record.specs.Groups.{marks_of}
 use Rattle.assise_record.specs.LogRecord.{LogRecord}
 use Rattle.assise_record.specs.Records.{all_effects, record_of}
 use Rattle.assise_record.proofs.GroupRest.{group-shorter}
@@ -29,13 +30,11 @@ overridden_both e es rs = ap (λ b. overridden e es || b) (any_effects e rs) ∙
 -- ---- records
 
 with_left-first : (call own : ℕ) (es : List Effect) (xs : List LogRecord) → begun_by call (record_of call es ++ xs) ≡ begun_by call (record_of own es ++ xs)
-with_left-first call own [] xs = refl
-with_left-first call own (e ∷ es) xs = refl
+with_left-first call own es xs = grind arith
 
 -- with one more of the records that are left
 pub left_more : (call : ℕ) (qs : List LogRecord) (r : LogRecord) (rs : List LogRecord) → begun_by call (with_left call qs r (all_effects rs) ++ left_in rs) ≡ begun_by call (qs ++ left_in (r ∷ rs))
-left_more call [] r rs = with_left-first call r.call (left_of r.effects (all_effects rs)) (left_in rs)
-left_more call (q ∷ qs) r rs = ap (λ xs. begun_by call (q ∷ xs)) (append_assoc qs (record_of r.call (left_of r.effects (all_effects rs))) (left_in rs))
+left_more call qs r rs = grind (arith, with_left-first, append_assoc)
 
 -- once there are no more
 pub left_all : (call : ℕ) (qs rest : List LogRecord) → length rest ≡ 0 → begun_by call qs ≡ qs → begun_by call (qs ++ left_in rest) ≡ qs
@@ -69,30 +68,19 @@ groups_more done rest prefix behind g n some count is_prefix is_behind is =
 -- ---- a log with groups behind the last
 
 marks_more : (rs : List LogRecord) (r : LogRecord) → marks_of (rs ++ r ∷ []) ≡ marks_of rs ++ (length rs == 0) ∷ []
-marks_more [] r = refl
-marks_more (q ∷ rs) r =
-    let some : (suc (length rs) == 0) ≡ false = ne_eqb (suc (length rs)) 0 (λ e. omega arith) in
-    ap (λ ms. true ∷ ms) (map_push (λ (x : LogRecord). false) rs r) ∙ ap (λ b. (true ∷ map (λ (x : LogRecord). false) rs) ++ b ∷ []) (sym some)
+marks_more rs r = grind (arith, ne_eqb, map_push)
 
 -- a group grows by a record
 pub group_more : (l : NumberedLog) (rs : List LogRecord) (r : LogRecord) (begins : Bool) → begins ≡ (length rs == 0) → with_grouped (with_group l rs) r begins ≡ with_group l (rs ++ r ∷ [])
-group_more l rs r begins is = λ i. record {
-  first = l.first;
-  limit = l.limit;
-  records = append_assoc l.records rs (r ∷ []) i;
-  begins = (append_assoc l.begins (marks_of rs) (begins ∷ []) ∙ ap (λ b. l.begins ++ (marks_of rs ++ b ∷ [])) is ∙ ap (λ ms. l.begins ++ ms) (sym (marks_more rs r))) i;
-}
+group_more l rs r begins is = grind (arith, append_assoc, marks_more)
 
 begun_border : (l : NumberedLog) (r : LogRecord) (rs : List LogRecord) → length l.begins ≡ length l.records → is_border (with_group l (r ∷ rs)) (end l) ≡ true
-begun_border l r rs marks =
-    by_place (with_group l (r ∷ rs)) (end l) (λ b. b ≡ true) (λ _. refl)
-    (λ later. get_or_at l.begins true (map (λ (x : LogRecord). false) rs) true (end l - l.first) (omega arith))
+begun_border l r rs marks = grind (arith, by_place, get_or_at)
 
 -- and may grow while it has fewer than 64
 -- a record is the first of its group where the log ends as before the group
 pub first_begins : (l now : NumberedLog) (rs : List LogRecord) → now ≡ with_group l rs → (end now == end l) ≡ (length rs == 0)
-first_begins l now [] is = eq-eqb _ _ (let long : length (l.records ++ []) ≡ length l.records + 0 = length-append l.records [] in omega (arith, long, ap end is))
-first_begins l now (r ∷ rs) is = ne_eqb _ _ (λ same. (let long : length (l.records ++ r ∷ rs) ≡ length l.records + suc (length rs) = length-append l.records (r ∷ rs) in omega (arith, long, ap end is, same))) ∙ sym (ne_eqb (length (r ∷ rs)) 0 (λ none. omega (arith, none)))
+first_begins l now rs h1 = grind (arith, eq-eqb, length-append, ne_eqb)
 
 pub group_open : (l now : NumberedLog) (rs : List LogRecord) (begins : Bool) → length l.begins ≡ length l.records → now ≡ with_group l rs → begins ≡ (length rs == 0) → length rs < 64 → begins ≡ false → HasOpenGroup now
 group_open l now [] begins marks is begun few not_first = absurd (both_ways begins not_first begun)
@@ -157,11 +145,7 @@ pub record HasRest (l now : NumberedLog) (done group : List LogRecord) : Type 0 
   pub few : length done < length group
 
 pub has_rest : (l now : NumberedLog) (done rest group : List LogRecord) (r : LogRecord) → now ≡ with_group l done → done ++ r ∷ rest ≡ group → HasRest l now done group
-has_rest l now done rest group r is all =
-    let long : length now.records ≡ length l.records + length done = ap (λ m. length m.records) is ∙ length-append l.records done in
-    let first : now.first ≡ l.first = ap (λ m. m.first) is in
-    let whole : length done + suc (length rest) ≡ length group = sym (length-append done (r ∷ rest)) ∙ ap length all in
-    record { fits = omega arith; room = omega arith; limit = ap (λ m. m.limit) is; few = omega arith }
+has_rest l now done rest group r is all = grind (arith, length-append)
 
 -- one more of them, of what is left
 pub one_passed : {X : Type 0} (done rest left all : List X) (x : X) → done ++ left ≡ all → left ≡ x ∷ rest → (done ++ x ∷ []) ++ rest ≡ all
@@ -192,39 +176,20 @@ cut_same l from n enough = groups-steps (length (records_from l from)) n (record
 
 pub regrouped_records : (l : NumberedLog) (from n : ℕ) → length (records_from l from) ≤ n
     → (regrouped l from).records ≡ take (from - l.first) l.records ++ all_coalesced (groups_of n (records_from l from))
-regrouped_records l from n enough =
-    ap (λ m. m.records) (regrouped_all l from)
-    ∙ ap (λ rs. take (from - l.first) l.records ++ rs) (all-coalesced (groups_of (length (records_from l from)) (records_from l from)))
-    ∙ ap (λ gs. take (from - l.first) l.records ++ all_coalesced gs) (cut_same l from n enough)
+regrouped_records l from n enough = grind (arith, regrouped_all, all-coalesced, cut_same)
 
 -- no more than there were
 pub regrouped_shorter : (l : NumberedLog) (from : ℕ) → length (regrouped l from).records ≤ length l.records
-regrouped_shorter l from =
-    let more : HasMore (without_tail l from) (regrouped l from) (total (groups_from l from)) = with_groups_more (without_tail l from) (groups_from l from) in
-    let less = total_less (length (records_from l from)) (records_from l from) in
-    omega (arith, more.count, less, length-take (from - l.first) l.records, length-drop (from - l.first) l.records)
+regrouped_shorter l from = grind (arith, with_groups_more, total_less, length-take, length-drop)
 
 -- before them the marks are as they were
 pub regrouped_before : (l : NumberedLog) (from number : ℕ) → IsNumberedLog l → from ≤ end l → number < from → is_border (regrouped l from) number ≡ is_border l number
 regrouped_before l from number law last before =
-    let prefix : List Bool = take (from - l.first) l.begins in
-    let kept : length prefix ≡ from - l.first = omega (arith, law.marks, length-take (from - l.first) l.begins) in
-    ap (λ m. is_border m number) (regrouped_all l from)
-    ∙ by_place (with_all (without_tail l from) (groups_from l from)) number (λ b. b ≡ is_border l number) (λ low. sym (border_first l number low)) (λ high.
-    get_or_append_left prefix (all_marks (groups_from l from)) true (number - l.first) (omega arith)
-    ∙ get_or-take (from - l.first) l.begins (number - l.first) true (omega arith) ∙ sym (border_marked l number high))
+    grind (arith, length-take, regrouped_all, by_place, border_first, get_or_append_left, get_or-take, border_marked)
 
 -- a border among them is where one begins
 border_among : (l : NumberedLog) (from k : ℕ) → IsNumberedLog l → l.first < from + k → l.first ≤ from → from ≤ end l → is_border (regrouped l from) (from + k) ≡ get_or (all_marks (groups_from l from)) k true
-border_among l from k law high low last =
-    let place : (from + k) - l.first ≡ (from - l.first) + k = omega arith in
-    let kept : length (take (from - l.first) l.begins) ≡ from - l.first = omega (arith, law.marks, length-take (from - l.first) l.begins) in
-    let there : ((from - l.first) + k) - (from - l.first) ≡ k = omega arith in
-    ap (λ m. is_border m (from + k)) (regrouped_all l from)
-    ∙ border_marked (with_all (without_tail l from) (groups_from l from)) (from + k) high
-    ∙ ap (λ n. get_or (take (from - l.first) l.begins ++ all_marks (groups_from l from)) n true) place
-    ∙ get_or-append_right (take (from - l.first) l.begins) (all_marks (groups_from l from)) (from - l.first) ((from - l.first) + k) true kept (omega arith)
-    ∙ ap (λ n. get_or (all_marks (groups_from l from)) n true) there
+border_among l from k law high low last = grind (arith, length-take, regrouped_all, border_marked, get_or-append_right)
 
 -- and that is where the records before are whole groups
 pub regrouped_among : (l : NumberedLog) (from n k : ℕ) → IsNumberedLog l → l.first ≤ from → from ≤ end l → AllHaveEffects (records_from l from) → length (records_from l from) ≤ n

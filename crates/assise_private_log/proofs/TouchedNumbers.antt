@@ -1,5 +1,6 @@
 -- Which numbers of a log are those of records that touch an inode.
-use Rattle.std.proofs.Common.{◌≡◌, ℕ, zero, suc, ◌+◌, ◌-◌, ◌<◌, ◌≤◌, ◌||◌, ◌↔◌, nat_lt, Bool, true, false, Option, Some, None, List, [], ◌∷◌, length, drop, ap, sym, ◌∙◌, refl, subst, arith, inl, inr}
+use Rattle.std.proofs.Common.{◌≡◌, ℕ, zero, suc, ◌+◌, ◌-◌, ◌<◌, ◌≤◌, ◌||◌, ◌↔◌, nat_lt, Bool, true, false, Option, Some, None, List, [], ◌∷◌, length, drop, ap}
+use Rattle.std.proofs.Common.{sym, ◌∙◌, refl, arith}
 use Rattle.std.specs.List.{list_any, slice_get, slice_index_or}
 use Rattle.std.proofs.lemmas.Option.{get_or_from_slice_get, slice_get_cases, slice_get_within}
 use Rattle.circular_buffer.proofs.Places.{slice_get-some}
@@ -37,21 +38,11 @@ at_place l number high = let is_high : nat_lt number l.first ≡ false = search 
 
 none_at : (l : NumberedLog) (inode k : ℕ) → ((r : LogRecord) → slice_get l.records k ≡ Some r → record_touches r inode ≡ false)
     → found_touches (slice_get l.records k) inode ≡ false
-none_at l inode k none =
-    elim (slice_get_cases l.records k).1 [
-      | inl found ↦ ap (λ o. found_touches o inode) found.2 ∙ none found.0 found.2
-      | inr past ↦ ap (λ o. found_touches o inode) past.1
-    ]
+none_at l inode k none = grind (arith, slice_get_cases)
 
 -- where no record touches the inode at a place from that of the number on, none of a number from it on does
 untouched : (l : NumberedLog) (inode from : ℕ) → ((k : ℕ) (r : LogRecord) → from ≤ l.first + k → slice_get l.records k ≡ Some r → record_touches r inode ≡ false) → UntouchedFrom l inode from
-untouched l inode from none number high =
-    elim (cases_lt number l.first) [
-      | inl low ↦ before l number inode low
-      | inr behind ↦
-          ap (λ o. found_touches o inode) (at_place l number behind)
-          ∙ none_at l inode (number - l.first) (λ r s. none (number - l.first) r (omega arith) s)
-    ]
+untouched l inode from none number high = grind (arith, cases_lt, before, at_place, none_at)
 
 -- and where none does, none touches it at such a place
 untouched_places : (l : NumberedLog) (inode from : ℕ) → UntouchedFrom l inode from → (k : ℕ) (r : LogRecord) → from ≤ l.first + k → slice_get l.records k ≡ Some r → record_touches r inode ≡ false
@@ -62,11 +53,7 @@ untouched_places l inode from none k r high s =
 
 -- what `touches_after` answers says which it is
 pub untouched_exactly : (l : NumberedLog) (inode from : ℕ) (answer : Bool) → answer ≡ touches_after l inode from → (answer ≡ false) ↔ UntouchedFrom l inode from
-untouched_exactly l inode from answer exact =
-    let p : LogRecord → Bool = λ r. record_touches r inode in (
-      (λ none. untouched l inode from (λ k r high s. reads_from_any p l.records (from - l.first) (sym exact ∙ none) k r (omega arith) s)),
-      (λ none. exact ∙ any_from_reads p l.records (from - l.first) (λ k r high s. untouched_places l inode from none k r (omega arith) s)),
-    )
+untouched_exactly l inode from answer exact = grind (arith, untouched, reads_from_any, any_from_reads, untouched_places)
 
 -- ---- the last record that touches an inode
 
@@ -98,6 +85,4 @@ last_of_place l inode place number is_at inside here later = (
 pub no_last : (l : NumberedLog) (inode : ℕ) (found : Option ℕ) → found ≡ None
     → ((k : ℕ) (d : LogRecord) → k < length l.records → record_touches (slice_index_or l.records k d) inode ≡ false)
     → IsLastTouch l inode found
-no_last l inode found is_none none =
-    let all : UntouchedFrom l inode 0 = untouched l inode 0 (λ k r high there. read_there l.records k inode r false there (none k r (slice_get_within l.records k r there))) in
-    subst (λ o. IsLastTouch l inode o) (sym is_none) all
+no_last l inode found is_none none = grind (arith, untouched, read_there, slice_get_within)

@@ -1,6 +1,6 @@
-use Rattle.std.proofs.Common.{◌≡◌, ◌<◌, ◌-◌, ◌+◌, ◌∙◌, get_or, length, map, ap, subst, sym, arith}
+use Rattle.std.proofs.Common.{◌≡◌, ◌<◌, ◌-◌, ◌+◌, ◌∙◌, get_or, length, ap, subst, arith}
 use Rattle.assise_digest.specs.Region.{IsBegun, log_of, no_log}
-use Rattle.assise_machine_state.specs.NodeValues.{AreTaken, copied}
+use Rattle.assise_machine_state.specs.NodeValues.{copied}
 use Rattle.assise_machine_state.proofs.RecordsTaken.{one_copied, one_sound}
 use Rattle.assise_machine_state.proofs.nodes.copies_of.Goals as goal
 
@@ -15,7 +15,4 @@ loop-place-preserved c =
     let same_log : c.in_ok-log.log ≡ (get_or ls k no_log).log = c.in_ok-log.ensures.equal ∙ c.log.ensures.log ∙ ap (λ l. l.log) here in
     let same_digested : c.digested-digested.result ≡ (get_or ls k no_log).digested = c.digested-digested.ensures.value ∙ ap (λ l. l.digested) here in
     let begun : IsBegun (copied (c.in_ok-log.log, c.digested-digested.result)) = rw (same_log, same_digested) (subst (λ l. IsBegun (copied (l.log, l.digested))) here (record { from_first = c.digested-digested.ensures.begun.from_first; to_end = c.digested-digested.ensures.begun.to_end })) in
-    record {
-      copies = ap (map copied) c.in_ok-push.ensures.items ∙ one_copied xs ls k c.in_ok-log.log c.digested-digested.result c.loop-place.invariant.copies low same_log same_digested;
-      sound = subst AreTaken (sym c.in_ok-push.ensures.items) (one_sound xs c.in_ok-log.log c.digested-digested.result c.loop-place.invariant.sound begun (rw (c.in_ok-log.ensures.equal, c.log.ensures.log) c.log.ensures.whole));
-    }
+    (search (one_copied, one_sound, arith) parts 3)

@@ -3,15 +3,11 @@ use Rattle.assise_machine_state.proofs.CallObserved.{call_areas, call_seen, call
 use Rattle.assise_machine_state.proofs.Noted.{call_noted}
 use Rattle.assise_machine_state.proofs.seen_clients.a_call_is_observed.Goals as goal
 
-pub returns-clause-call : goal.returns-clause-call
+pub returns : goal.returns
 unfolding observed
-returns-clause-call r = λ s x shape sound recorded may. call_seen s x shape (recorded.made x.client) (sound.coherent.fewer x.client) may
-
-pub returns-clause-others : goal.returns-clause-others
-returns-clause-others r = λ s x. call_areas s x
-
-pub returns-clause-shape : goal.returns-clause-shape
-returns-clause-shape r = λ s x shape lives. call_shaped s x shape lives
-
-pub returns-clause-noted : goal.returns-clause-noted
-returns-clause-noted r = λ s x noted. call_noted s x noted
+returns r = record {
+  call = λ s x shape sound recorded may. call_seen s x shape (recorded.made x.client) (sound.coherent.fewer x.client) may;
+  others = call_areas;
+  shape = call_shaped;
+  noted = call_noted;
+}

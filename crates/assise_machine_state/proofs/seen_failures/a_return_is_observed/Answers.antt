@@ -1,8 +1,8 @@
 use Rattle.assise_machine_state.proofs.JoinObserved.{join_shaped, node_rejoins}
 use Rattle.assise_machine_state.proofs.seen_failures.a_return_is_observed.Goals as goal
 
-pub returns-clause-rejoins : goal.returns-clause-rejoins
-returns-clause-rejoins r = λ s n since donor stale shape sound lawful stands fine. node_rejoins s n since donor stale shape lawful stands sound fine
-
-pub returns-clause-shape : goal.returns-clause-shape
-returns-clause-shape r = λ s n since donor stale shape sound lawful stands. join_shaped s n since donor stale shape lawful stands ∣ sound ∣₁
+pub returns : goal.returns
+returns r = record {
+  rejoins = λ s n since donor stale shape sound lawful stands fine. node_rejoins s n since donor stale shape lawful stands sound fine;
+  shape = λ s n since donor stale shape sound lawful stands. join_shaped s n since donor stale shape lawful stands ∣ sound ∣₁;
+}

@@ -1,6 +1,5 @@
 use Rattle.std.proofs.Common.{◌≡◌, ◌==◌, ◌++◌, ◌∙◌, Result, Err, IsOk, length, ap, sym, subst, true≢false, arith}
-use Rattle.assise_private_log.specs.Groups.{with_group}
-use Rattle.assise_private_log.specs.NumberedLog.{end, with_grouped}
+use Rattle.assise_private_log.specs.NumberedLog.{end}
 use Rattle.assise_private_log.proofs.LogGroups.{HasRest, all_passed, first_begins, group_more, group_open, has_rest, one_passed}
 use Rattle.assise_private_log.proofs.log.Log.append_group.Goals as goal
 use Rattle.assise_private_log.proofs.log.Log.append_group.Goals.{In-Some, After-end}
@@ -16,13 +15,10 @@ rest c =
 
 -- the first record begins the group
 begins : (c : After-end) → (c.end.result == c.end-first.result) ≡ (length c.loop-record.yielded == 0)
-begins c =
-    ap (λ e. e == c.end-first.result) c.end.ensures.end ∙ ap (λ e. end c.loop-record.self == e) c.end-first.ensures.end
-    ∙ first_begins c.args.self.now c.loop-record.self c.loop-record.yielded c.loop-record.invariant.log
+begins c = grind (arith, first_begins)
 
 pub append_grouped-requires-clause-number_fits : goal.append_grouped-requires-clause-number_fits
-append_grouped-requires-clause-number_fits c =
-    let has = rest (goal.at.append_grouped-requires-clause-number_fits c).In-Some in omega (arith, has.fits, c.requires.numbers_fit)
+append_grouped-requires-clause-number_fits c = grind (arith, rest)
 
 pub append_grouped-requires-clause-open_group : goal.append_grouped-requires-clause-open_group
 append_grouped-requires-clause-open_group c =
@@ -31,20 +27,10 @@ append_grouped-requires-clause-open_group c =
     (begins (goal.at.append_grouped-requires-clause-open_group c).After-end) (omega (arith, has.few, c.group.invariant, ap length c.group.view_is))
 
 pub unreachable-requires : goal.unreachable-requires
-unreachable-requires c =
-    let has = rest (goal.at.unreachable-requires c).In-Some in
-    refused_not_ok c.append_grouped.result c.in_default.field-0 c.in_default.is
-    (c.append_grouped.ensures.room.1 (omega (arith, has.room, has.limit, c.requires.room)))
+unreachable-requires c = grind (arith, rest, refused_not_ok)
 
 pub loop-record-preserved : goal.loop-record-preserved
-loop-record-preserved c = record {
-  log = c.in-Ok.ensures.ok
-      ∙ ap (λ l. with_grouped l c.in-Some.record (c.end.result == c.end-first.result)) c.loop-record.invariant.log
-      ∙ group_more c.args.self.now c.loop-record.yielded c.in-Some.record _ (begins (goal.at.loop-record-preserved c).After-end);
-  items = one_passed c.loop-record.yielded _ _ c.args.group c.in-Some.record c.loop-record.invariant.items c.in-Some.ensures.steps.0;
-}
+loop-record-preserved c = grind (arith, group_more, begins, one_passed)
 
 pub returns : goal.returns
-returns c =
-    c.loop-record.invariant.log
-    ∙ ap (with_group c.args.self.now) (all_passed c.loop-record.yielded c.loop-record.record-iterator.rest.items c.args.group c.loop-record.invariant.items (omega (arith, c.in-None.ensures.steps)))
+returns c = grind (arith, all_passed, rest)

@@ -5,11 +5,7 @@ use Rattle.assise_private_log.proofs.Borders.{some_whole, whole_here, whole_none
 use Rattle.assise_private_log.proofs.log_view.LogView.whole_count.Goals as goal
 
 pub loop-count-preserved : goal.loop-count-preserved
-loop-count-preserved c = record {
-  same = sym (whole_passed c.args.self.now c.args.from c.loop-count.count (search rules) (search rules)) ∙ c.loop-count.invariant.same;
-  within = omega (arith, c.loop-count.invariant.within);
-  lawful = λ fewer. c.is_border.ensures.lawful;
-}
+loop-count-preserved c = grind (arith, whole_passed)
 
 pub returns-else-not-is_border-clause-count : goal.returns-else-not-is_border-clause-count
 returns-else-not-is_border-clause-count c = sym (whole_here c.args.self.now c.args.from c.loop-count.count (search rules)) ∙ c.loop-count.invariant.same
