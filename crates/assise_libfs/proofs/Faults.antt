@@ -1,12 +1,14 @@
 -- Why a cluster refuses what its clients ask, in the words of its history.
 use Rattle.std.proofs.Common.{◌≡◌, ◌≢◌, ℕ, ◌≤◌, arith, Bool, true, false, Option, Some, None, refl, sym, ◌∙◌, subst}
-use Rattle.std.specs.Prelude.{not, ◌&&◌, nat_le, Result, Ok, Err, IfErr}
+use Rattle.std.specs.Prelude.{not, nat_le, Result, Ok, Err, IfErr}
 use Rattle.std.specs.List.{list_any}
-use Rattle.std.proofs.Math.Bridge.{le_prop}
+use Rattle.std.specs.Coded.{Coded-set, coded_ℕ}
 use Rattle.std.proofs.Math.Logic.{∥∥₁_elim, ∥∥₁_map}
+use Rattle.std.proofs.lemmas.Bool.{and_from, and_parts, le-leb, leb-true, not-false, not-true}
 use Rattle.std.proofs.lemmas.Bool.Decides.{nat_tests}
+use Rattle.assise_model_events.proofs.Faultless.{first_none}
 use Rattle.assise_names.specs.declared.call.Op.{Op}
-use Rattle.assise_names.specs.declared.call.Op.TheVariants.{Create, Mkdir, Read, Write, Truncate, Rename, Unlink, Rmdir, List as ListCall, Stat, Fsync, Dsync}
+use Rattle.assise_names.specs.declared.call.Op.TheVariants.{Create, Mkdir, Write, Fsync, Dsync}
 use Rattle.assise_names.specs.declared.durability.Durability.{Durability}
 use Rattle.assise_names.specs.declared.durability.Durability.TheVariants.{Pessimistic, Optimistic}
 use Rattle.assise_names.specs.declared.reply.Reply.{Reply}
@@ -55,62 +57,24 @@ no_client_fault true true l e = absurd (let x : Some ClientGone ≡ None = e in 
 no_client_fault true false false e = absurd (let x : Some NodeDown ≡ None = e in cc)
 no_client_fault true false true e = (refl, (refl, refl))
 
-no_first_fault : (x y : Option Refusal) → or_else x y ≡ None → x ≡ None
-no_first_fault (Some q) y e = e
-no_first_fault None y e = refl
-
-le_true : (a b : ℕ) → nat_le a b ≡ true → a ≤ b
-le_true a b e = grind (arith, nat_tests)
-
-true_le : (a b : ℕ) → a ≤ b → nat_le a b ≡ true
-true_le a b e = grind (arith, nat_tests)
-
-not_true : (b : Bool) → not b ≡ true → b ≡ false
-not_true false e = refl
-not_true true e = absurd (cc)
-
-not_false : (b : Bool) → not b ≡ false → b ≡ true
-not_false true e = refl
-not_false false e = absurd (cc)
-
-&&_left : (a b : Bool) → (a && b) ≡ true → a ≡ true
-&&_left true b e = refl
-&&_left false b e = absurd (cc)
-
-&&_right : (a b : Bool) → (a && b) ≡ true → b ≡ true
-&&_right true b e = e
-&&_right false b e = absurd (cc)
-
-&&_both : (a b : Bool) → a ≡ true → b ≡ true → (a && b) ≡ true
-&&_both true b e f = f
-&&_both false b e f = absurd (cc)
-
-same_number : {A : Type 0} → ∥ A ∥₁ → (a b : ℕ) → (A → a ≡ b) → a ≡ b
-same_number x a b f =
-    let few : a ≤ b = ∥∥₁_elim x le_prop (λ h. let e = f h in omega (arith, e)) in
-    let many : b ≤ a = ∥∥₁_elim x le_prop (λ h. let e = f h in omega (arith, e)) in
-    omega (arith, few, many)
-
-no_proofs : (x y : ⊥) → x ≡ y
-no_proofs x y = absurd x
-
 module _ (m : Machine) (h : MachineInvariant m) (c : ℕ) where
   client_of : is_client m.world c ≡ true → IsClient m.world c
-  client_of e = (le_true 1 c (&&_left (nat_le 1 c) (nat_le c m.world.clients) e), le_true c m.world.clients (&&_right (nat_le 1 c) (nat_le c m.world.clients) e))
+  client_of e = (let parts = and_parts (nat_le 1 c) (nat_le c m.world.clients) e in (leb-true 1 c parts.0, leb-true c m.world.clients parts.1))
 
   never_opened : is_client m.world c ≡ false → (n : ℕ) → IsOpenedOn m.history c n → ⊥
   never_opened none n o =
       let first = next_opened o.before c n o.durability (fits_in m.history o.before o.since (opens c n o.durability) h.recorded.legal o.split) in
       let within = opened_within m.history o.before o.since c n o.durability h.recorded.legal o.split in
       let count = h.recorded.count in
-      let some : is_client m.world c ≡ true = &&_both (nat_le 1 c) (nat_le c m.world.clients) (true_le 1 c (omega arith)) (true_le c m.world.clients (omega arith)) in
+      let some : is_client m.world c ≡ true =
+      and_from (nat_le 1 c) (nat_le c m.world.clients) (le-leb 1 c (omega arith)) (le-leb c m.world.clients (omega arith)) in
       cc
 
   lost_node : is_client m.world c ≡ true → m.world.lives c ≡ false → HasLostNode c m.history
   lost_node known over = let o = h.recorded.opened c (client_of known) in record {
     node = m.world.home c;
     opened = o.opened;
-    failure = not_false (list_any (is_failure_of (m.world.home c)) o.opened.since) (sym o.lives ∙ over);
+    failure = not-false (list_any (is_failure_of (m.world.home c)) o.opened.since) (sym o.lives ∙ over);
   }
 
   cut_off : is_client m.world c ≡ true → m.world.crashed c ≡ false → m.world.lives c ≡ false → IsCutOff c m.history
@@ -125,7 +89,7 @@ module _ (m : Machine) (h : MachineInvariant m) (c : ℕ) where
         node = m.world.home c;
         opened = o.opened;
         no_crash = sym o.crashed ∙ sound.1.0;
-        no_failure = not_true (list_any (is_failure_of (m.world.home c)) o.opened.since) (sym o.lives ∙ sound.1.1);
+        no_failure = not-true (list_any (is_failure_of (m.world.home c)) o.opened.since) (sym o.lives ∙ sound.1.1);
       }
 
   has_crashed : is_client m.world c ≡ true → m.world.crashed c ≡ true → HasCrashed c m.history
@@ -138,32 +102,13 @@ module _ (m : Machine) (h : MachineInvariant m) (c : ℕ) where
 -- ---- the faults of a call
 
 writes_too_much : (op : Op) → is_too_large op ≡ true → WritesTooMuch op
-writes_too_much (Create p) e = cc
-writes_too_much (Mkdir p) e = cc
-writes_too_much (Read p offset n) e = cc
 writes_too_much (Write p offset bytes) e = grind (arith, nat_tests)
-writes_too_much (Truncate p size) e = cc
-writes_too_much (Rename p q) e = cc
-writes_too_much (Unlink p) e = cc
-writes_too_much (Rmdir p) e = cc
-writes_too_much (ListCall p) e = cc
-writes_too_much (Stat p) e = cc
-writes_too_much Fsync e = cc
-writes_too_much Dsync e = cc
+writes_too_much _ e = cc
 
 makes_by : (op : Op) (reply : Reply) → makes_inode op reply ≡ true → MakesInode op
 makes_by (Create p) reply e = tt
 makes_by (Mkdir p) reply e = tt
-makes_by (Read p offset n) reply e = cc
-makes_by (Write p offset bytes) reply e = cc
-makes_by (Truncate p size) reply e = cc
-makes_by (Rename p q) reply e = cc
-makes_by (Unlink p) reply e = cc
-makes_by (Rmdir p) reply e = cc
-makes_by (ListCall p) reply e = cc
-makes_by (Stat p) reply e = cc
-makes_by Fsync reply e = cc
-makes_by Dsync reply e = cc
+makes_by _ reply e = cc
 
 data CallFault (fault : Option Refusal) (op : Op) (r : Refusal) : Type 0 where
   of_client : fault ≡ Some r → CallFault fault op r
@@ -179,7 +124,8 @@ same_refusal q r a e is = let x : refused q ≡ refused r = sym e ∙ is in cc
 
 module _ (m : Machine) (holds : ∥ MachineInvariant m ∥₁) where
   client_refused : (c : ℕ) (op : Op) (r : Refusal) → ClientFault (is_client m.world c) (m.world.crashed c) (m.world.lives c) r → MayRefuseTry c op m.history r
-  client_refused c op r (is_bad none is) = subst (MayRefuseTry c op m.history) (sym is) (λ n o. ∥∥₁_elim holds no_proofs (λ h. never_opened m h c none n o))
+  client_refused c op r (is_bad none is) =
+      subst (MayRefuseTry c op m.history) (sym is) (λ n o. ∥∥₁_elim holds (λ x y. absurd x) (λ h. never_opened m h c none n o))
   client_refused c op r (is_gone known over is) = subst (MayRefuseTry c op m.history) (sym is) (∥∥₁_map holds (λ h. has_crashed m h c known over))
   client_refused c op r (is_cut_off known sound over is) = subst (MayRefuseTry c op m.history) (sym is) (∥∥₁_map holds (λ h. cut_off m h c known sound over))
 
@@ -197,10 +143,12 @@ module _ (m : Machine) (holds : ∥ MachineInvariant m ∥₁) where
       let w = last_world m.world granted in
       let x = call_of_client m.world c op reply in
       let own = makes_own (view w (w.home c) c) op x.fresh x.fresh s.makes in
-      let fine = no_first_fault (client_fault m c) _ s.tried.fine in
-      let made : made_in c m.history ≡ 1048576 = same_number holds (made_in c m.history) 1048576 (λ h. sym (h.recorded.made c) ∙ s.made) in
+      let fine = first_none (client_fault m c) _ s.tried.fine in
+      let made : made_in c m.history ≡ 1048576 = ∥∥₁_elim holds (Coded-set coded_ℕ _ _) (λ h. sym (h.recorded.made c) ∙ s.made) in
       subst (MayRefuseTry c op m.history) (sym (same_refusal InodesSpent r a e is)) (makes_by op _ own.1, (∥∥₁_map holds (λ h. may_call m h c fine), made))
-  calling_refused m' c op a r (is_full reply granted e s k) is = subst (MayRefuseTry c op m.history) (sym (same_refusal LogFull r a e is)) (∥∥₁_map holds (λ h. may_call m h c (no_first_fault (client_fault m c) _ s.tried.fine)))
+  calling_refused m' c op a r (is_full reply granted e s k) is =
+      subst (MayRefuseTry c op m.history) (sym (same_refusal LogFull r a e is))
+      (∥∥₁_map holds (λ h. may_call m h c (first_none (client_fault m c) _ s.tried.fine)))
   calling_refused m' c op a r (lacks_memory reply granted e s k) is = subst (MayRefuseTry c op m.history) (sym (same_refusal OutOfMemory r a e is)) tt
   calling_refused m' c op a r (is_refused q fault e same) is =
       subst (MayRefuseTry c op m.history) (sym (same_refusal q r a e is)) (faulty_call c op q (which_call_fault (client_fault m c) (is_too_large op) op q refl fault))
@@ -233,16 +181,7 @@ module _ (m : Machine) (holds : ∥ MachineInvariant m ∥₁) where
   pub trying_refused : (m' : Machine) (c : ℕ) (op : Op) (a : Answer) (r : Refusal) → Trying m c op a m' → a ≡ refused r → MayRefuseTry c op m.history r
   trying_refused m' c Fsync a r h is = fsyncing_refused m' (durability_of c m.history) c a r h is
   trying_refused m' c Dsync a r h is = dsyncing_refused m' (durability_of c m.history) c a r h is
-  trying_refused m' c (Create p) a r h is = calling_refused m' c (Create p) a r h is
-  trying_refused m' c (Mkdir p) a r h is = calling_refused m' c (Mkdir p) a r h is
-  trying_refused m' c (Read p o n) a r h is = calling_refused m' c (Read p o n) a r h is
-  trying_refused m' c (Write p o b) a r h is = calling_refused m' c (Write p o b) a r h is
-  trying_refused m' c (Truncate p n) a r h is = calling_refused m' c (Truncate p n) a r h is
-  trying_refused m' c (Rename p q) a r h is = calling_refused m' c (Rename p q) a r h is
-  trying_refused m' c (Unlink p) a r h is = calling_refused m' c (Unlink p) a r h is
-  trying_refused m' c (Rmdir p) a r h is = calling_refused m' c (Rmdir p) a r h is
-  trying_refused m' c (ListCall p) a r h is = calling_refused m' c (ListCall p) a r h is
-  trying_refused m' c (Stat p) a r h is = calling_refused m' c (Stat p) a r h is
+  trying_refused m' c op a r h is = calling_refused m' c op a r h is
 
 -- ---- the faults of an open
 
@@ -259,9 +198,6 @@ which_open_fault (Some full) false r e = absurd (cc)
 which_open_fault (Some (down since)) b r e = not_up (down since) refl (λ is. cc) (let x : Some NodeDown ≡ Some r = e in cc)
 which_open_fault (Some (returning since donor stale)) b r e = not_up (returning since donor stale) refl (λ is. cc) (let x : Some NodeDown ≡ Some r = e in cc)
 
-is_up : (m : Machine) (n : ℕ) → MachineInvariant m → standing_of m.members.nodes n ≡ Some full → IsDown m.history n → ⊥
-is_up m n h at fell = h.recorded.up n (h.members.nodes_full n at) fell
-
 is_down : (m : Machine) (n : ℕ) (t : Standing) → MachineInvariant m → standing_of m.members.nodes n ≡ Some t → t ≢ full → IsDown m.history n
 is_down m n t h at other = h.recorded.down n (stands_is_node m n t at) (λ f. other (let x : Some full ≡ Some t = sym (h.members.full_nodes n f) ∙ at in cc))
 
@@ -269,9 +205,10 @@ module _ (m : Machine) (holds : ∥ MachineInvariant m ∥₁) (n : ℕ) (u : Du
   faulty_open : (r : Refusal) → OpenFault (standing_of m.members.nodes n) (nat_le MOST_CLIENTS m.world.clients) r → MayRefuseOpen n m.history r
   faulty_open r (no_node is) = subst (MayRefuseOpen n m.history) (sym is) tt
   faulty_open r (no_client_left up many is) =
-      let enough : MOST_CLIENTS ≤ m.world.clients = le_true MOST_CLIENTS m.world.clients many in
-      let count = same_number holds (clients_opened m.history) MOST_CLIENTS (λ h. let few = h.clients in let opened = h.recorded.count in omega (arith, enough, few, opened)) in
-      subst (MayRefuseOpen n m.history) (sym is) ((λ fell. ∥∥₁_elim holds no_proofs (λ h. is_up m n h up fell)), count)
+      let enough : MOST_CLIENTS ≤ m.world.clients = leb-true MOST_CLIENTS m.world.clients many in
+      let count : clients_opened m.history ≡ MOST_CLIENTS =
+      ∥∥₁_elim holds (Coded-set coded_ℕ _ _) (λ h. let few = h.clients in let opened = h.recorded.count in omega (arith, enough, few, opened)) in
+      subst (MayRefuseOpen n m.history) (sym is) ((λ fell. ∥∥₁_elim holds (λ x y. absurd x) (λ h. h.recorded.up n (h.members.nodes_full n up) fell)), count)
   faulty_open r (not_up t at other is) = subst (MayRefuseOpen n m.history) (sym is) (∥∥₁_map holds (λ h. is_down m n t h at other))
 
   pub opening_refused : (m' : Machine) (a : Answer) (r : Refusal) → Opening m n u a m' → a ≡ refused r → MayRefuseOpen n m.history r

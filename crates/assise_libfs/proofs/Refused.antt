@@ -3,7 +3,7 @@ use Rattle.std.proofs.Common.{ℕ, List}
 use Rattle.std.proofs.Math.Logic.{∥∥₁_elim}
 use Rattle.assise_names.specs.declared.call.Op.{Op}
 use Rattle.assise_names.specs.declared.refusal.Refusal.{Refusal}
-use Rattle.assise_names.specs.declared.refusal.Refusal.TheVariants.{OutOfMemory, Busy, NodeDown, ClientGone, InodesSpent, TooLarge, LastNode, BadNode, BadClient, WrongPhase, StaleMessage, LogFull}
+use Rattle.assise_names.specs.declared.refusal.Refusal.TheVariants.{OutOfMemory, Busy, BadClient}
 use Rattle.assise_history.specs.Entries.{EntryValue}
 use Rattle.assise_libfs.specs.Calling.{MayRefuse, MayRefuseTry}
 use Rattle.assise_history.specs.Legal.{IsOpenedOn}
@@ -11,13 +11,5 @@ use Rattle.assise_history.specs.Legal.{IsOpenedOn}
 pub refused-opened : (c n : ℕ) (op : Op) (h : List EntryValue) (r : Refusal) → ∥ IsOpenedOn h c n ∥₁ → MayRefuseTry c op h r → MayRefuse c op h r
 refused-opened c n op h OutOfMemory o f = tt
 refused-opened c n op h Busy o f = tt
-refused-opened c n op h NodeDown o f = f
-refused-opened c n op h ClientGone o f = f
-refused-opened c n op h InodesSpent o f = f
-refused-opened c n op h TooLarge o f = f
-refused-opened c n op h LastNode o f = f
-refused-opened c n op h BadNode o f = f
 refused-opened c n op h BadClient o f = ∥∥₁_elim o (λ x y. absurd x) (f n)
-refused-opened c n op h WrongPhase o f = f
-refused-opened c n op h StaleMessage o f = f
-refused-opened c n op h LogFull o f = f
+refused-opened c n op h _ o f = f

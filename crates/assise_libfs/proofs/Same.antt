@@ -1,11 +1,8 @@
 -- A client stays the same over several turns.
-use Rattle.std.proofs.Common.{refl, ◌∙◌}
+use Rattle.std.proofs.Common.{◌∙◌}
 use Rattle.assise_libfs.specs.declared.libfs.LibFs.{LibFs}
 use Rattle.assise_libfs.specs.Clients.{IsSameClient}
 
 module _ {S : Type 0} where
-  pub same-itself : (l : LibFs S) → IsSameClient l l
-  same-itself l = record { client = refl; node = refl; keeper = refl; limit = refl; right = refl }
-
   pub same-then : (a b d : LibFs S) → IsSameClient a b → IsSameClient b d → IsSameClient a d
   same-then a b d s t = record { client = t.client ∙ s.client; node = t.node ∙ s.node; keeper = t.keeper ∙ s.keeper; limit = t.limit ∙ s.limit; right = t.right ∙ s.right }

@@ -1,5 +1,5 @@
 -- What the caller of a turn has seen behind it.
-use Rattle.std.proofs.Common.{◌≡◌, ℕ, List, Option, Some, None, Result, Ok, Err, refl, sym, ◌∙◌, subst}
+use Rattle.std.proofs.Common.{◌≡◌, ℕ, List, Option, Some, Result, Ok, Err, refl, sym, ◌∙◌, subst}
 use Rattle.std.specs.Prelude.{IfErr}
 use Rattle.assise_names.specs.declared.call.Op.{Op}
 use Rattle.assise_names.specs.declared.refusal.Refusal.{Refusal}
@@ -19,8 +19,7 @@ sees-tried c op old h (Ok (Some reply)) h' extends same e =
     let x : _ = record { client = c; number = calls_made c h; op = op; reply = reply } in
     let one : ExtendsByOne c h h' (told_call c h op reply) = subst (λ z. ExtendsByOne c h z (told_call c h op reply)) (sym e) (extends_by_one c x h h refl (extends-same h) refl) in
     others_then_one c old h h' op reply (by_others c old h extends same) one
-sees-tried c op old h (Ok None) h' extends same e = subst (ExtendsByOthers c old) (sym e) (by_others c old h extends same)
-sees-tried c op old h (Err refusal) h' extends same e = subst (ExtendsByOthers c old) (sym e) (by_others c old h extends same)
+sees-tried c op old h _ h' extends same e = subst (ExtendsByOthers c old) (sym e) (by_others c old h extends same)
 
 -- the state was taken by a pass of this client, and is given back after the try
 pub sees : (c : ℕ) (o : Option ℕ) (op : Op) (old h : List EntryValue) (r : Result (Option Reply) Refusal) (h' : List EntryValue) → o ≡ Some c → Extends h old → calls_of o h ≡ calls_of o old → Tries c op h r h' → SeesTry c op old r h'

@@ -1,7 +1,8 @@
 -- What follows from what tries and calls make of what their caller has seen.
-use Rattle.std.proofs.Common.{◌≡◌, ℕ, ◌+◌, ◌≤◌, List, [], ◌∷◌, ◌++◌, length, sym, refl, ap, ◌∙◌, subst, arith, append_assoc, append-nil, add-zero, length-append, Option, Some, None, Result, Ok, Err}
+use Rattle.std.proofs.Common.{◌≡◌, ℕ, ◌+◌, ◌≤◌, List, [], ◌∷◌, ◌++◌, length, sym, refl, ap, ◌∙◌, subst, arith, append_assoc, append-nil, add-zero, length-append, Option, Some, Result, Ok, Err}
 use Rattle.std.specs.Prelude.{IfOk}
 use Rattle.std.proofs.Math.Bridge.{le_prop}
+use Rattle.std.proofs.lemmas.List.{append_cancel_left}
 use Rattle.std.proofs.Math.Logic.{∥∥₁_elim}
 use Rattle.assise_history.proofs.Legality.{fits_in, prefix_in}
 use Rattle.assise_names.specs.declared.call.Op.{Op}
@@ -15,23 +16,17 @@ use Rattle.assise_history.proofs.LivesOneMore.{made-still}
 use Rattle.assise_keeper.specs.Clients.{calls_by, Extends, ExtendsByOne}
 use Rattle.assise_keeper.proofs.PassAdds.{calls-append}
 use Rattle.assise_libfs.specs.Calling.{told_call, ExtendsByOthers, SeesTry, answers}
-use Rattle.assise_libfs.specs.Lives.{IsOpenedAs}
-
-nothing_more : (xs ys : List EntryValue) → xs ++ ys ≡ xs → ys ≡ []
-nothing_more [] ys e = e
-nothing_more (x ∷ xs) ys e = nothing_more xs ys (cc)
 
 -- what was taken extends by others what was seen
 pub by_others : (c : ℕ) (old taken : List EntryValue) → Extends taken old → calls_by c taken ≡ calls_by c old → ExtendsByOthers c old taken
 by_others c old taken extends same = record {
   between = extends.0;
   split = extends.1;
-  others = nothing_more (calls_by c old) (calls_by c extends.0) (sym (calls-append c old extends.0) ∙ (ap (calls_by c) (sym extends.1) ∙ same));
+  others =
+      append_cancel_left (calls_by c old) (calls_by c extends.0) []
+      (sym (calls-append c old extends.0) ∙ (ap (calls_by c) (sym extends.1) ∙ (same ∙ sym (append-nil (calls_by c old)))));
   same = same;
 }
-
-pub others_itself : (c : ℕ) (h : List EntryValue) → ExtendsByOthers c h h
-others_itself c h = record { between = []; split = sym (append-nil h); others = refl; same = refl }
 
 -- others, and then others
 pub others_then_others : (c : ℕ) (a b d : List EntryValue) → ExtendsByOthers c a b → ExtendsByOthers c b d → ExtendsByOthers c a d
@@ -56,8 +51,7 @@ others_then_one c a b d op reply o e = let call = told_same c a b op reply o.sam
 
 others_then_own : (c : ℕ) (op : Op) (a b : List EntryValue) (r : Result (Option Reply) Refusal) (e : List EntryValue) → ExtendsByOthers c a b → SeesTry c op b r e → SeesTry c op a r e
 others_then_own c op a b (Ok (Some reply)) e o s = others_then_one c a b e op reply o s
-others_then_own c op a b (Ok None) e o s = others_then_others c a b e o s
-others_then_own c op a b (Err refusal) e o s = others_then_others c a b e o s
+others_then_own c op a b _ e o s = others_then_others c a b e o s
 
 -- others, and then a try
 pub others_then_try : (c d : ℕ) (op : Op) (a b : List EntryValue) (r : Result (Option Reply) Refusal) (e : List EntryValue) → d ≡ c → ExtendsByOthers c a b → SeesTry d op b r e → SeesTry c op a r e
@@ -73,8 +67,7 @@ others-extends c a d o = (o.between, o.split)
 
 pub try-extends : (c : ℕ) (op : Op) (a : List EntryValue) (r : Result (Option Reply) Refusal) (d : List EntryValue) → SeesTry c op a r d → Extends d a
 try-extends c op a (Ok (Some reply)) d s = one-extends c a d (told_call c a op reply) s
-try-extends c op a (Ok None) d s = others-extends c a d s
-try-extends c op a (Err refusal) d s = others-extends c a d s
+try-extends c op a _ d s = others-extends c a d s
 
 pub opened-extends : (c n : ℕ) (a d : List EntryValue) → Extends d a → IsOpenedOn a c n → IsOpenedOn d c n
 opened-extends c n a d e o = record {
@@ -84,26 +77,15 @@ opened-extends c n a d e o = record {
   split = e.1 ∙ (ap (λ z. z ++ e.0) o.split ∙ append_assoc o.before (opens c n o.durability ∷ o.since) e.0);
 }
 
-pub opened_on : (c n : ℕ) (u : Durability) (h : List EntryValue) → IsOpenedAs c n u h → IsOpenedOn h c n
-opened_on c n u h o = record { durability = u; before = o.before; since = o.since; split = o.split }
-
 -- ---- counts
 
-pub one-counts : (c : ℕ) (a d : List EntryValue) (x : EntryValue) → ExtendsByOne c a d x → calls_made c d ≡ calls_made c a + 1
-one-counts c a d x e = ap length e.grown ∙ length-append (calls_by c a) (x ∷ [])
-
-pub others-counts : (c : ℕ) (a d : List EntryValue) → ExtendsByOthers c a d → calls_made c d ≡ calls_made c a
-others-counts c a d o = ap length o.same
-
 pub try-counts : (c : ℕ) (op : Op) (a : List EntryValue) (r : Result (Option Reply) Refusal) (d : List EntryValue) → SeesTry c op a r d → calls_made c d ≡ calls_made c a + answers r
-try-counts c op a (Ok (Some reply)) d s = one-counts c a d (told_call c a op reply) s
-try-counts c op a (Ok None) d s = others-counts c a d s ∙ sym (add-zero (calls_made c a))
-try-counts c op a (Err refusal) d s = others-counts c a d s ∙ sym (add-zero (calls_made c a))
+try-counts c op a (Ok (Some reply)) d s = ap length s.grown ∙ length-append (calls_by c a) (told_call c a op reply ∷ [])
+try-counts c op a _ d s = ap length s.same ∙ sym (add-zero (calls_made c a))
 
 pub answers-few : (r : Result (Option Reply) Refusal) → answers r ≤ 1
 answers-few (Ok (Some reply)) = omega arith
-answers-few (Ok None) = omega arith
-answers-few (Err refusal) = omega arith
+answers-few _ = omega arith
 
 -- ---- a client that was just opened
 

@@ -2,7 +2,7 @@
 use Rattle.std.proofs.Common.{◌≡◌, ◌∙◌, ℕ, suc, ◌+◌, ◌<◌, List, Option, None, Some, Result, Ok, Err, sym, subst, ap, arith, inl, inr}
 use Rattle.assise_names.specs.declared.call.Op.{Op}
 use Rattle.assise_names.specs.declared.refusal.Refusal.{Refusal}
-use Rattle.assise_names.specs.declared.refusal.Refusal.TheVariants.{OutOfMemory, Busy, NodeDown, ClientGone, InodesSpent, TooLarge, LastNode, BadNode, BadClient, WrongPhase, StaleMessage, LogFull}
+use Rattle.assise_names.specs.declared.refusal.Refusal.TheVariants.{OutOfMemory, Busy}
 use Rattle.assise_names.specs.declared.reply.Reply.{Reply}
 use Rattle.assise_history.specs.Entries.{EntryValue}
 use Rattle.assise_model_events.specs.Events.{Answer, ClusterEvent, not_yet, refused, replied, try_call}
@@ -38,16 +38,7 @@ module _ {S : Type 0} (history : S → List EntryValue) (acts : S → ClusterEve
   other : (e : Refusal) (limit : ℕ) (old new : List EntryValue) (h : List EntryValue) → MayRefuseTry c op h e → EndsBy history acts c op limit (refused e) old new → TurnsTo history acts c op limit (Err e) old new
   other OutOfMemory limit old new h may ends = inl ends
   other Busy limit old new h may ends = absurd may
-  other NodeDown limit old new h may ends = ends
-  other ClientGone limit old new h may ends = ends
-  other InodesSpent limit old new h may ends = ends
-  other TooLarge limit old new h may ends = ends
-  other LastNode limit old new h may ends = ends
-  other BadNode limit old new h may ends = ends
-  other BadClient limit old new h may ends = ends
-  other WrongPhase limit old new h may ends = ends
-  other StaleMessage limit old new h may ends = ends
-  other LogFull limit old new h may ends = ends
+  other _ limit old new h may ends = ends
 
   pub refused_by : (d k limit : ℕ) (old mid new : List EntryValue) (r : Result (Option Reply) Refusal) (e : Refusal) → d ≡ c → r ≡ Err e → k < limit → HasWaited history acts c op k old mid → TurnsOnce history acts d op r mid new → MayRefuseTry d op new e
       → TurnsTo history acts c op limit (Err e) old new

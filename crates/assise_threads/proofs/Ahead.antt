@@ -12,23 +12,7 @@ data CallOrNot (command : Command) : Type 0 where
 
 call_or_not : (command : Command) → CallOrNot command
 call_or_not (Call c op) = is_call tt (λ k. refl)
-call_or_not (Cluster nodes log hot) = is_none (λ is. is) (λ k. refl)
-call_or_not Manual = is_none (λ is. is) (λ k. refl)
-call_or_not (Open node kind u) = is_none (λ is. is) (λ k. refl)
-call_or_not (Carry node) = is_none (λ is. is) (λ k. refl)
-call_or_not (Link node kind) = is_none (λ is. is) (λ k. refl)
-call_or_not (Hot node capacity) = is_none (λ is. is) (λ k. refl)
-call_or_not (Digest node) = is_none (λ is. is) (λ k. refl)
-call_or_not Release = is_none (λ is. is) (λ k. refl)
-call_or_not (Crash client) = is_none (λ is. is) (λ k. refl)
-call_or_not (Fail node) = is_none (λ is. is) (λ k. refl)
-call_or_not (Back node) = is_none (λ is. is) (λ k. refl)
-call_or_not (Refill node) = is_none (λ is. is) (λ k. refl)
-call_or_not (Join node) = is_none (λ is. is) (λ k. refl)
-call_or_not (Raise node) = is_none (λ is. is) (λ k. refl)
-call_or_not (Tree node) = is_none (λ is. is) (λ k. refl)
-call_or_not History = is_none (λ is. is) (λ k. refl)
-call_or_not Check = is_none (λ is. is) (λ k. refl)
+call_or_not _ = is_none (λ is. is) (λ k. refl)
 
 -- ---- what is counted are calls, and behind them is none
 

@@ -51,23 +51,7 @@ open_ends n u a old new (is_nowhere is far same) = rw is (tt, tt)
 
 answer_ends : (turns : ℕ) (command : Command) (a : Response) (old new : Machine) → AnswersCommand turns command a old new → EndsWith (opening_in command a) old.history new.history × MadeNone (opening_in command a) new.history
 answer_ends turns (Open n kind u) a old new h = open_ends n u a old new h
-answer_ends turns (Cluster nodes log hot) a old new h = (tt, tt)
-answer_ends turns Manual a old new h = (tt, tt)
-answer_ends turns (Call c op) a old new h = (tt, tt)
-answer_ends turns (Carry n) a old new h = (tt, tt)
-answer_ends turns (Link n kind) a old new h = (tt, tt)
-answer_ends turns (Hot n capacity) a old new h = (tt, tt)
-answer_ends turns (Digest n) a old new h = (tt, tt)
-answer_ends turns Release a old new h = (tt, tt)
-answer_ends turns (Crash c) a old new h = (tt, tt)
-answer_ends turns (Fail n) a old new h = (tt, tt)
-answer_ends turns (Back n) a old new h = (tt, tt)
-answer_ends turns (Refill n) a old new h = (tt, tt)
-answer_ends turns (Join n) a old new h = (tt, tt)
-answer_ends turns (Raise n) a old new h = (tt, tt)
-answer_ends turns (Tree n) a old new h = (tt, tt)
-answer_ends turns History a old new h = (tt, tt)
-answer_ends turns Check a old new h = (tt, tt)
+answer_ends turns _ a old new h = (tt, tt)
 
 lines-append : (ss ts : List Said) → said_lines (ss ++ ts) ≡ said_lines ss ++ said_lines ts
 lines-append ss ts = flat_map-append said_line ss ts
@@ -78,7 +62,8 @@ module _ (turns : ℕ) (first : Machine) (done : List NumberedCommand) (seen : M
     said = all.said ++ more.said;
     each = commands-append all.said more.said ∙ ap₂ (λ x y. x ++ y) all.each more.each;
     main = said-append turns first seen seen all.said more.said all.main more.main;
-    appends = subst (Appends old new) (sym (lines-append all.said more.said)) (adds_more old mid new (said_lines all.said) (said_lines more.said) all.appends more.appends);
+    appends = subst (Appends old new) (sym (lines-append all.said more.said))
+        (adds_more old mid new (said_lines all.said) (said_lines more.said) all.appends more.appends);
     heard = λ c. heard_then c all.said more.said turns (sight_of c before) (sight_of c after) (all.heard c) (more.clients c) (more.on c);
     known = λ c. known_then turns c more.said (sight_of c before) (sight_of c after) seen.history (more.clients c) (all.known c);
     opened = all.opened ∙ sym (openings-said all.said more.said ∙ (ap (λ z. openings_said all.said ++ z) more.quiet ∙ append-nil (openings_said all.said)));

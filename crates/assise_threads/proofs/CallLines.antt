@@ -28,8 +28,7 @@ use Rattle.assise_threads.proofs.Heard.{calls_more, calls_same, tells-append, te
 abbrev pub LeavesToTell : ℕ → List Said → List NumberedCommand → Option (List (Result Reply Refusal)) → Option (List (Result Reply Refusal)) → Type 0
 LeavesToTell c ss rest None None = AreTold c ss None
 LeavesToTell c ss rest (Some all) (Some left) = (rs : List (Result Reply Refusal)) × (TellsClient c ss rs × ((rs ++ left ≡ all) × (length left ≡ length (calls_in c rest))))
-LeavesToTell c ss rest None (Some left) = ⊥
-LeavesToTell c ss rest (Some all) None = ⊥
+LeavesToTell c ss rest _ _ = ⊥
 
 -- the calls so far were said, and so much is left to tell of the rest
 pub record AreSaidSoFar (turns : ℕ) (done rest : List NumberedCommand) (seen : Machine) (first now : Untold) (old new : Option (List ℕ)) : Type 0 where
@@ -62,23 +61,7 @@ said_now l seen outcome = record { command = l; answer = outcome_answer (next_or
 is_answered : (turns : ℕ) (command : Command) (seen : Machine) (r : Result Reply Refusal) → IsClientCall command → AnswersCommand turns command (outcome_answer r) seen seen
 is_answered turns (Call c op) seen (Ok reply) is = is_replied reply refl refl
 is_answered turns (Call c op) seen (Err refusal) is = is_refused refusal refl refl
-is_answered turns (Cluster nodes log hot) seen r is = absurd is
-is_answered turns Manual seen r is = absurd is
-is_answered turns (Open node kind u) seen r is = absurd is
-is_answered turns (Carry node) seen r is = absurd is
-is_answered turns (Link node kind) seen r is = absurd is
-is_answered turns (Hot node capacity) seen r is = absurd is
-is_answered turns (Digest node) seen r is = absurd is
-is_answered turns Release seen r is = absurd is
-is_answered turns (Crash client) seen r is = absurd is
-is_answered turns (Fail node) seen r is = absurd is
-is_answered turns (Back node) seen r is = absurd is
-is_answered turns (Refill node) seen r is = absurd is
-is_answered turns (Join node) seen r is = absurd is
-is_answered turns (Raise node) seen r is = absurd is
-is_answered turns (Tree node) seen r is = absurd is
-is_answered turns History seen r is = absurd is
-is_answered turns Check seen r is = absurd is
+is_answered turns _ seen r is = absurd is
 
 line_same : (n : ℕ) (h : List EntryValue) (r : Result Reply Refusal) → line_text n [] (outcome_answer r) ≡ line_text n h (outcome_answer r)
 line_same n h (Ok reply) = refl
@@ -91,23 +74,7 @@ one_or_none c (Call d op) = by_case (d == c) refl
     by_case : (b : Bool) → (d == c) ≡ b → (call_in c (Call d op) ≡ []) ⊎ ((o : Op) × (call_in c (Call d op) ≡ o ∷ []))
     by_case true is = inr (op, rw is refl)
     by_case false is = inl (rw is refl)
-one_or_none c (Cluster nodes log hot) = inl refl
-one_or_none c Manual = inl refl
-one_or_none c (Open node kind u) = inl refl
-one_or_none c (Carry node) = inl refl
-one_or_none c (Link node kind) = inl refl
-one_or_none c (Hot node capacity) = inl refl
-one_or_none c (Digest node) = inl refl
-one_or_none c Release = inl refl
-one_or_none c (Crash client) = inl refl
-one_or_none c (Fail node) = inl refl
-one_or_none c (Back node) = inl refl
-one_or_none c (Refill node) = inl refl
-one_or_none c (Join node) = inl refl
-one_or_none c (Raise node) = inl refl
-one_or_none c (Tree node) = inl refl
-one_or_none c History = inl refl
-one_or_none c Check = inl refl
+one_or_none c _ = inl refl
 
 all-bad : (rs : List (Result Reply Refusal)) (r : Result Reply Refusal) → AllByRecursion (λ x. x ≡ Err BadClient) rs → r ≡ Err BadClient → AllByRecursion (λ x. x ≡ Err BadClient) (rs ++ r ∷ [])
 all-bad [] r bad is = (is, tt)
@@ -126,8 +93,7 @@ module _ (c : ℕ) (ss : List Said) (l : NumberedCommand) (seen : Machine) (outc
       let same = calls_same c ss s none in
       (rs, (tells_nothing c ss s rs none tells, (count ∙ ap length (sym same), ((λ k. ap (λ z. told_all c k z rs) same ∙ nothing k), bad))))
   passes-by rest (Some all) (Some left) none (rs, (tells, (is, count))) = (rs, (tells_nothing c ss s rs none tells, (is, count ∙ ap (λ z. length (z ++ calls_in c rest)) none)))
-  passes-by rest None (Some left) none e = absurd e
-  passes-by rest (Some all) None none e = absurd e
+  passes-by rest _ _ none e = absurd e
 
   is-told : (rest : List NumberedCommand) (first now later : Option (List (Result Reply Refusal))) (op : Op) → call_in c l.command ≡ op ∷ [] → TakesFirst now outcome later → LeavesToTell c ss (l ∷ rest) first now
       → LeavesToTell c (ss ++ s ∷ []) rest first later
@@ -158,8 +124,7 @@ module _ (c : ℕ) (ss : List Said) (l : NumberedCommand) (seen : Machine) (outc
       ),
     ),
   )
-  is-told rest None (Some left) later op one takes e = absurd e
-  is-told rest (Some all) None later op one takes e = absurd e
+  is-told rest _ _ later op one takes e = absurd e
 
 module _ (done rest : List NumberedCommand) (l : NumberedCommand) (seen : Machine) (first now later : Untold) (old mid new : Option (List ℕ)) where
   goes_on : (c : ℕ) (ss : List Said) (is : IsCallSaid l now later mid new) → LeavesToTell c ss (l ∷ rest) (outcomes_of c first) (outcomes_of c now)
@@ -204,8 +169,7 @@ nothing_left : (c : ℕ) (ss : List Said) (first now : Option (List (Result Repl
 nothing_left c ss None None told = told
 nothing_left c ss (Some all) (Some []) (rs, (tells, (is, count))) = subst (TellsClient c ss) (sym (append-nil rs) ∙ is) tells
 nothing_left c ss (Some all) (Some (x ∷ xs)) (rs, (tells, (is, count))) = absurd (let n : suc (length xs) ≡ 0 = count in omega arith)
-nothing_left c ss None (Some left) e = absurd e
-nothing_left c ss (Some all) None e = absurd e
+nothing_left c ss _ _ e = absurd e
 
 all_said : (turns : ℕ) (stretch : List NumberedCommand) (seen : Machine) (first now : Untold) (old new : Option (List ℕ)) → AreSaidSoFar turns stretch [] seen first now old new → AreCallsSaid turns stretch seen first old new
 all_said turns stretch seen first now old new so_far = record {

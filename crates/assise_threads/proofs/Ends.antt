@@ -1,6 +1,7 @@
 -- What the ends of clients say of a stretch of calls.
 use Rattle.std.proofs.Common.{◌≡◌, ◌≢◌, ◌∙◌, ℕ, suc, refl, ap, true, false, ◌==◌, if◌then◌else◌, List, [], ◌∷◌, map, length, Option, None, Some, Result, IfSome, sym, subst, ◌⊎◌, inl, inr}
 use Rattle.std.specs.List.{AllByRecursion, AllZip}
+use Rattle.std.proofs.lemmas.Bool.{cond_both, eqb-true}
 use Rattle.std.proofs.lemmas.Bool.Decides.{eqb_tells}
 use Rattle.assise_names.specs.declared.refusal.Refusal.{Refusal}
 use Rattle.assise_names.specs.declared.reply.Reply.{Reply}
@@ -29,12 +30,7 @@ use Rattle.assise_threads.specs.Stretches.{AreCalls, AreCallsSaid, AreTold, HasA
 abbrev pub HasEnded : ℕ → ℕ → List NumberedCommand → Option (List EntryValue) → Option (List EntryValue) → Option (List (Result Reply Refusal)) → Type 0
 HasEnded turns c stretch None None None = Unit {0}
 HasEnded turns c stretch (Some old) (Some new) (Some rs) = SeesAll (TurnedThere turns) c (calls_in c stretch) old rs new
-HasEnded turns c stretch None None (Some rs) = ⊥
-HasEnded turns c stretch None (Some new) None = ⊥
-HasEnded turns c stretch None (Some new) (Some rs) = ⊥
-HasEnded turns c stretch (Some old) None None = ⊥
-HasEnded turns c stretch (Some old) None (Some rs) = ⊥
-HasEnded turns c stretch (Some old) (Some new) None = ⊥
+HasEnded turns c stretch _ _ _ = ⊥
 
 -- ---- of all clients
 
@@ -59,20 +55,14 @@ module _ (turns c : ℕ) (stretch : List NumberedCommand) where
         (sym made.0.client.client)
         (first_or_behind (client_of l) (seen_by l) (seen_by e.libfs) e.replies.items (sight_of c (sights ls)) (sight_of c (map sight_at es)) (outcomes_of c (map outcomes_at es)) (one_sees l e made.0 limits.0)
         (all_served ls es made.1 limits.1))
-    all_served [] (e ∷ es) made limits = absurd made
-    all_served (l ∷ ls) [] made limits = absurd made
+    all_served _ _ made limits = absurd made
 
 -- ---- what follows
 
 hears : (turns c : ℕ) (stretch : List NumberedCommand) (ss : List Said) (u v : Option (List EntryValue)) (w : Option (List (Result Reply Refusal))) → commands_said ss ≡ stretch → HasEnded turns c stretch u v w → AreTold c ss w → HearsStretch turns c ss u v
 hears turns c stretch ss None None None each served told = told
 hears turns c stretch ss (Some old) (Some new) (Some rs) each served told = (rs, (told, subst (λ z. SeesAll (TurnedThere turns) c (calls_in c z) old rs new) (sym each) served))
-hears turns c stretch ss None None (Some rs) each served told = absurd served
-hears turns c stretch ss None (Some new) None each served told = absurd served
-hears turns c stretch ss None (Some new) (Some rs) each served told = absurd served
-hears turns c stretch ss (Some old) None None each served told = absurd served
-hears turns c stretch ss (Some old) None (Some rs) each served told = absurd served
-hears turns c stretch ss (Some old) (Some new) None each served told = absurd served
+hears turns c stretch ss _ _ _ each served told = absurd served
 
 all_calls : (stretch : List NumberedCommand) (ss : List Said) → commands_said ss ≡ stretch → AreCalls stretch → AreCalls (commands_said ss)
 all_calls stretch ss each calls = subst AreCalls (sym each) calls
@@ -83,8 +73,7 @@ module _ {S : Type 0} (stretch : List NumberedCommand) where
       → AllByRecursion (λ l. of l ≡ x) (map libfs_at ends)
   still of x same [] [] made all = tt
   still of x same (l ∷ ls) (e ∷ es) made all = (same l e.libfs made.0.client ∙ all.0, still of x same ls es made.1 all.1)
-  still of x same [] (e ∷ es) made all = absurd made
-  still of x same (l ∷ ls) [] made all = absurd made
+  still of x same _ _ made all = absurd made
 
   -- the clients are of the same keeper, and have as many turns
   pub still_at : (k : Keeper S) (ls : List (LibFs S)) (ends : List (ClientEnd S)) → AllZip (MakesCalls stretch) ls ends → AreAt k ls → AreAt k (map libfs_at ends)
@@ -95,16 +84,12 @@ module _ {S : Type 0} (stretch : List NumberedCommand) where
 
   pub has_all : (ls : List (LibFs S)) (ends : List (ClientEnd S)) → AllZip (MakesCalls stretch) ls ends → HasAllOf stretch (map outcomes_at ends)
   has_all [] [] made c = tt
-  has_all (l ∷ ls) (e ∷ es) made c = by_case (has_all ls es made.1 c) (eqb_tells (client_of e.libfs) c)
-    where
-      by_case : IfSome (outcomes_of c (map outcomes_at es)) (λ all. length all ≡ length (calls_in c stretch)) → (((client_of e.libfs == c) ≡ true) × (client_of e.libfs ≡ c)) ⊎ (((client_of e.libfs == c) ≡ false) × (client_of e.libfs ≢ c))
-          → IfSome (outcomes_of c (map outcomes_at (e ∷ es))) (λ all. length all ≡ length (calls_in c stretch))
-      by_case rest (inl (is, same)) =
-          subst (λ b. IfSome (if b then Some e.replies.items else outcomes_of c (map outcomes_at es)) (λ all. length all ≡ length (calls_in c stretch))) (sym is)
-          (made.0.sees.count ∙ ap (λ d. length (calls_in d stretch)) (sym made.0.client.client ∙ same))
-      by_case rest (inr (is, other)) = subst (λ b. IfSome (if b then Some e.replies.items else outcomes_of c (map outcomes_at es)) (λ all. length all ≡ length (calls_in c stretch))) (sym is) rest
-  has_all [] (e ∷ es) made c = absurd made
-  has_all (l ∷ ls) [] made c = absurd made
+  has_all (l ∷ ls) (e ∷ es) made c =
+      cond_both (client_of e.libfs == c) (Some e.replies.items) (outcomes_of c (map outcomes_at es))
+      (λ o. IfSome o (λ all. length all ≡ length (calls_in c stretch)))
+      (λ is. made.0.sees.count ∙ ap (λ d. length (calls_in d stretch)) (sym made.0.client.client ∙ eqb-true (client_of e.libfs) c is))
+      (λ is. has_all ls es made.1 c)
+  has_all _ _ made c = absurd made
 
 module _ (turns : ℕ) {S : Type 0} (stretch : List NumberedCommand) (ls : List (LibFs S)) (ends : List (ClientEnd S)) (made : AllZip (MakesCalls stretch) ls ends) (limits : HaveTurns turns ls) where
   hears_its : (ss : List Said) → commands_said ss ≡ stretch → (c : ℕ) → AreTold c ss (outcomes_of c (map outcomes_at ends)) → HearsStretch turns c ss (sight_of c (sights ls)) (sight_of c (map sight_at ends))
@@ -135,7 +120,6 @@ module _ {C : Type 0} (stretch : List NumberedCommand) where
   pub all_make : (ls : List (LibFs (ClusterOf C))) (lists : List (ClientList (ClusterOf C))) (ends : List (ClientEnd (ClusterOf C))) → AllZip (HasCalls stretch) ls lists → AllZip (HasServed cluster_history cluster_acts) lists ends → AllZip (MakesCalls stretch) ls ends
   all_make [] [] [] calls served = tt
   all_make (l ∷ ls) (x ∷ xs) (e ∷ es) calls served = (one_makes l x e calls.0 served.0, all_make ls xs es calls.1 served.1)
-  all_make [] (x ∷ xs) ends calls served = absurd calls
-  all_make (l ∷ ls) [] ends calls served = absurd calls
-  all_make [] [] (e ∷ es) calls served = absurd served
-  all_make (l ∷ ls) (x ∷ xs) [] calls served = absurd served
+  all_make [] [] _ calls served = absurd served
+  all_make (l ∷ ls) (x ∷ xs) _ calls served = absurd served
+  all_make _ _ _ calls served = absurd calls

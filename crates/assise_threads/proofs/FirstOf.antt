@@ -1,7 +1,7 @@
 -- The first client of a number among those of which something isn't told yet.
 use Rattle.std.proofs.Common.{◌≡◌, ◌∙◌, ◌<◌, ℕ, ◌+◌, ◌==◌, Bool, true, false, if◌then◌else◌, List, [], ◌∷◌, ◌++◌, length, take, drop, get_or, slice_set, Option, None, Some, IsSome, option_to_list, ◌↔◌, Result, refl, sym, ap, ap₂, subst, arith, take-append-drop}
 use Rattle.std.proofs.lemmas.List.{drop-set, set-get_or, take-set, take_more}
-use Rattle.std.proofs.lemmas.Bool.{ne_eqb}
+use Rattle.std.proofs.lemmas.Bool.{eq-eqb, ne_eqb}
 use Rattle.assise_names.specs.declared.refusal.Refusal.{Refusal}
 use Rattle.assise_names.specs.declared.reply.Reply.{Reply}
 use Rattle.assise_threads.specs.declared.outcomes.Outcomes.{Outcomes}
@@ -18,7 +18,7 @@ module _ (os : List Outcomes) (i : ℕ) (within : i < length os) where
 
 -- ---- behind others
 
-first-skips : {X : Type 0} (b : Bool) (x : X) (u v w : Option X) → (if b then Some x else u) ≡ None → (u ≡ None → v ≡ w) → (if b then Some x else v) ≡ w
+pub first-skips : {X : Type 0} (b : Bool) (x : X) (u v w : Option X) → (if b then Some x else u) ≡ None → (u ≡ None → v ≡ w) → (if b then Some x else v) ≡ w
 first-skips true x u v w e f = cc
 first-skips false x u v w e f = f e
 
@@ -28,10 +28,7 @@ passed c (x ∷ xs) ys none =
     first-skips (x.client == c) x.left.rest.items (outcomes_of c (untold xs)) (outcomes_of c (untold (xs ++ ys))) (outcomes_of c (untold ys)) none (λ h. passed c xs ys h)
 
 here : (c : ℕ) (o : Outcomes) (ys : List Outcomes) → o.client ≡ c → outcomes_of c (untold (o ∷ ys)) ≡ Some o.left.rest.items
-here c o ys is = ap (λ b. if b then Some o.left.rest.items else outcomes_of c (untold ys)) (ap (λ d. d == c) is ∙ same c)
-  where
-    same : (n : ℕ) → (n == n) ≡ true
-    same n = grind arith
+here c o ys is = ap (λ b. if b then Some o.left.rest.items else outcomes_of c (untold ys)) (eq-eqb o.client c is)
 
 not-here : (c : ℕ) (o : Outcomes) (ys : List Outcomes) → (o.client ≡ c → ⊥) → outcomes_of c (untold (o ∷ ys)) ≡ outcomes_of c (untold ys)
 not-here c o ys ne = ap (λ b. if b then Some o.left.rest.items else outcomes_of c (untold ys)) (ne_eqb o.client c ne)

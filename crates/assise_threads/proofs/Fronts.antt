@@ -27,29 +27,14 @@ use Rattle.assise_threads.specs.Hearing.{HearsStretch, sight_of}
 use Rattle.assise_threads.specs.Openings.{Sights, opening_in, openings_said, with_opened}
 use Rattle.assise_threads.specs.Said.{Said, TellsCall, TellsClient, call_in, calls_in, commands_said, outcome_answer}
 use Rattle.assise_threads.specs.Stretches.{AreCalls, IsClientCall}
+use Rattle.assise_threads.proofs.FirstOf.{first-skips}
 use Rattle.assise_threads.proofs.CallLines.{one_or_none}
 
 -- ---- a stretch of calls
 
 no_opening : (command : Command) (a : Response) → IsClientCall command → opening_in command a ≡ []
 no_opening (Call c op) a is = refl
-no_opening (Cluster nodes log hot) a is = absurd is
-no_opening Manual a is = absurd is
-no_opening (Open node kind u) a is = absurd is
-no_opening (Carry node) a is = absurd is
-no_opening (Link node kind) a is = absurd is
-no_opening (Hot node capacity) a is = absurd is
-no_opening (Digest node) a is = absurd is
-no_opening Release a is = absurd is
-no_opening (Crash client) a is = absurd is
-no_opening (Fail node) a is = absurd is
-no_opening (Back node) a is = absurd is
-no_opening (Refill node) a is = absurd is
-no_opening (Join node) a is = absurd is
-no_opening (Raise node) a is = absurd is
-no_opening (Tree node) a is = absurd is
-no_opening History a is = absurd is
-no_opening Check a is = absurd is
+no_opening _ a is = absurd is
 
 pub calls_open_none : (ss : List Said) → AreCalls (commands_said ss) → openings_said ss ≡ []
 calls_open_none [] are = refl
@@ -102,18 +87,13 @@ some_hear turns c (s ∷ ss) rs old new (is_call, are) (now, (later, (first, (re
 pub hears_on : (turns c : ℕ) (ss : List Said) (p q : Option (List EntryValue)) → AreCalls (commands_said ss) → HearsStretch turns c ss p q → HearsOn turns c p ss q
 hears_on turns c ss None None are (rs, (tells, (count, (none, bad)))) = none_hear turns c ss rs are tells bad
 hears_on turns c ss (Some old) (Some new) are (rs, (tells, sees)) = some_hear turns c ss rs old new are tells sees.each
-hears_on turns c ss None (Some new) are e = absurd e
-hears_on turns c ss (Some old) None are e = absurd e
+hears_on turns c ss _ _ are e = absurd e
 
 -- ---- a client more
 
-first_none : (b : Bool) (x h : List EntryValue) (u v : Option (List EntryValue)) → (if b then Some x else u) ≡ None → (u ≡ None → v ≡ Some h) → (if b then Some x else v) ≡ Some h
-first_none true x h u v none more = absurd (let y : Some x ≡ None = none in cc)
-first_none false x h u v none more = more none
-
 last_is : (c d : ℕ) (h : List EntryValue) (xs : Sights) → (d == c) ≡ true → sight_of c xs ≡ None → sight_of c (xs ++ (d, h) ∷ []) ≡ Some h
 last_is c d h [] is none = ap (λ b. if b then Some h else None) is
-last_is c d h (x ∷ xs) is none = first_none (x.0 == c) x.1 h (sight_of c xs) (sight_of c (xs ++ (d, h) ∷ [])) none (λ e. last_is c d h xs is e)
+last_is c d h (x ∷ xs) is none = first-skips (x.0 == c) x.1 (sight_of c xs) (sight_of c (xs ++ (d, h) ∷ [])) (Some h) none (λ e. last_is c d h xs is e)
 
 last_isnt : (c d : ℕ) (h : List EntryValue) (xs : Sights) → (d == c) ≡ false → sight_of c (xs ++ (d, h) ∷ []) ≡ sight_of c xs
 last_isnt c d h [] is = ap (λ b. if b then Some h else None) is
@@ -121,15 +101,10 @@ last_isnt c d h (x ∷ xs) is = ap (λ z. if x.0 == c then Some x.1 else z) (las
 
 -- who is opened wasn't there
 abbrev pub AreNew : Sights → List EntryValue → Type 0
-AreNew us [] = Unit {0}
 AreNew us (opens d n u ∷ es) = sight_of d us ≡ None
-AreNew us (calls x ∷ es) = Unit {0}
-AreNew us (crashes d ∷ es) = Unit {0}
-AreNew us (fails n losses ∷ es) = Unit {0}
-AreNew us (returns n ∷ es) = Unit {0}
+AreNew us _ = Unit {0}
 
 opening_hears : (c : ℕ) (os h : List EntryValue) (us : Sights) → AreNew us os → HearsOpening c os h (sight_of c us) (sight_of c (with_opened us h os))
-opening_hears c [] h us new = refl
 opening_hears c (opens d n u ∷ es) h us new = by_case (eqb_tells d c)
   where
     goal-at : Bool → Type 0
@@ -138,10 +113,7 @@ opening_hears c (opens d n u ∷ es) h us new = by_case (eqb_tells d c)
     by_case : (((d == c) ≡ true) × (d ≡ c)) ⊎ (((d == c) ≡ false) × (d ≢ c)) → goal-at (d == c)
     by_case (inl (is, same)) = let none : sight_of c us ≡ None = subst (λ n. sight_of n us ≡ None) same new in subst goal-at (sym is) (none, last_is c d h us is none)
     by_case (inr (is, other)) = subst goal-at (sym is) (last_isnt c d h us is)
-opening_hears c (calls x ∷ es) h us new = refl
-opening_hears c (crashes d ∷ es) h us new = refl
-opening_hears c (fails n losses ∷ es) h us new = refl
-opening_hears c (returns n ∷ es) h us new = refl
+opening_hears c _ h us new = refl
 
 pub one_hears : (turns c : ℕ) (s : Said) (earlier later : Sights) → call_in c s.command.command ≡ [] → later ≡ with_opened earlier s.machine.history (opening_in s.command.command s.answer) → AreNew earlier (opening_in s.command.command s.answer)
     → HearsOn turns c (sight_of c earlier) (s ∷ []) (sight_of c later)
@@ -170,17 +142,12 @@ known_anyway c (Some h) seen some_opening = some_opening
 pub known_then : (turns c : ℕ) (ss : List Said) (x y : Option (List EntryValue)) (seen : List EntryValue) → HearsStretch turns c ss x y → IfSome x (λ h. 0 < openings c seen) → IfSome y (λ h. 0 < openings c seen)
 known_then turns c ss None None seen hears known = tt
 known_then turns c ss (Some old) (Some new) seen hears known = known
-known_then turns c ss None (Some new) seen hears known = absurd hears
-known_then turns c ss (Some old) None seen hears known = absurd hears
+known_then turns c ss _ _ seen hears known = absurd hears
 
 -- what is seen ends with these openings, each of a client of its own
 abbrev pub EndsWith : List EntryValue → List EntryValue → List EntryValue → Type 0
-EndsWith [] old new = Unit {0}
 EndsWith (opens d n u ∷ es) old new = EndsWithOpening d n u old new × ∥ IsLegal new ∥₁
-EndsWith (calls x ∷ es) old new = Unit {0}
-EndsWith (crashes d ∷ es) old new = Unit {0}
-EndsWith (fails n losses ∷ es) old new = Unit {0}
-EndsWith (returns n ∷ es) old new = Unit {0}
+EndsWith _ old new = Unit {0}
 
 module _ (d n : ℕ) (u : Durability) (old new : List EntryValue) (last : EndsWithOpening d n u old new) where
   opening_counts : openings d (opens d n u ∷ []) ≡ 1
@@ -188,10 +155,7 @@ module _ (d n : ℕ) (u : Durability) (old new : List EntryValue) (last : EndsWi
 
   counts : openings d new ≡ openings d old + openings d last.0 + 1
   counts =
-      let a = openings-append d (old ++ last.0) (opens d n u ∷ []) in
-      let b = openings-append d old last.0 in
-      let e = ap (openings d) last.1 in
-      omega (arith, a, b, e, opening_counts)
+      omega (arith, openings-append d (old ++ last.0) (opens d n u ∷ []), openings-append d old last.0, ap (openings d) last.1, opening_counts)
 
   opened_now : 0 < openings d new
   opened_now = let e = counts in omega (arith, e)
@@ -204,21 +168,13 @@ is_none d None old few known = refl
 is_none d (Some h) old few known = absurd (omega (arith, few, known))
 
 pub are_new : (us : Sights) (os old new : List EntryValue) → AreKnown us old → EndsWith os old new → AreNew us os
-are_new us [] old new known ends = tt
 are_new us (opens d n u ∷ es) old new known (last, legal) = is_none d (sight_of d us) old (wasnt_opened d n u old new last legal) (known d)
-are_new us (calls x ∷ es) old new known ends = tt
-are_new us (crashes d ∷ es) old new known ends = tt
-are_new us (fails n losses ∷ es) old new known ends = tt
-are_new us (returns n ∷ es) old new known ends = tt
+are_new us _ old new known ends = tt
 
 pub known_one : (us : Sights) (os old new : List EntryValue) → Extends new old → AreKnown us old → EndsWith os old new → AreKnown (with_opened us new os) new
-known_one us [] old new more known ends = λ c. known_on c (sight_of c us) old new more (known c)
 known_one us (opens d n u ∷ es) old new more known (last, legal) = λ c. by_case c (eqb_tells d c)
   where
     by_case : (c : ℕ) → (((d == c) ≡ true) × (d ≡ c)) ⊎ (((d == c) ≡ false) × (d ≢ c)) → IfSome (sight_of c (us ++ (d, new) ∷ [])) (λ h. 0 < openings c new)
     by_case c (inl (is, same)) = known_anyway c (sight_of c (us ++ (d, new) ∷ [])) new (subst (λ k. 0 < openings k new) same (opened_now d n u old new last))
     by_case c (inr (is, other)) = subst (λ z. IfSome z (λ h. 0 < openings c new)) (sym (last_isnt c d new us is)) (known_on c (sight_of c us) old new more (known c))
-known_one us (calls x ∷ es) old new more known ends = λ c. known_on c (sight_of c us) old new more (known c)
-known_one us (crashes d ∷ es) old new more known ends = λ c. known_on c (sight_of c us) old new more (known c)
-known_one us (fails n losses ∷ es) old new more known ends = λ c. known_on c (sight_of c us) old new more (known c)
-known_one us (returns n ∷ es) old new more known ends = λ c. known_on c (sight_of c us) old new more (known c)
+known_one us _ old new more known ends = λ c. known_on c (sight_of c us) old new more (known c)

@@ -2,7 +2,7 @@
 use Rattle.std.proofs.Common.{◌≡◌, ◌∙◌, ℕ, ◌+◌, Bool, true, false, List, [], ◌∷◌, ◌++◌, length, Option, None, Some, Result, refl, sym, ap, ap₂, subst, arith, append_assoc, append-nil, length-append, ◌==◌, ◌≢◌, if◌then◌else◌, ◌⊎◌, inl, inr}
 use Rattle.std.proofs.lemmas.Grind.{flat_map-append}
 use Rattle.std.proofs.lemmas.List.{map-append}
-use Rattle.std.proofs.lemmas.Bool.Decides.{eqb_tells}
+use Rattle.std.proofs.lemmas.Bool.{cond_both, eqb-true}
 use Rattle.assise_names.specs.declared.call.Op.{Op}
 use Rattle.assise_names.specs.declared.refusal.Refusal.{Refusal}
 use Rattle.assise_names.specs.declared.reply.Reply.{Reply}
@@ -68,30 +68,13 @@ module _ (c : ℕ) (ss ts : List Said) where
         calls = sees.told ∙ (ap₂ (λ x y. x ++ y) h.calls told ∙ goes-on h.outcomes came h.count);
         on = on-append turns c None ss (Some old) ts (Some new) h.on on;
       }
-  heard_then turns None (Some new) h e on = absurd e
-  heard_then turns (Some old) None h e on = absurd e
+  heard_then turns _ _ h e on = absurd e
 
 -- ---- a command that is no call
 
 pub no_call : (c : ℕ) (command : Command) → (IsClientCall command → ⊥) → call_in c command ≡ []
 no_call c (Call d op) none = absurd (none tt)
-no_call c (Cluster nodes log hot) none = refl
-no_call c Manual none = refl
-no_call c (Open node kind u) none = refl
-no_call c (Carry node) none = refl
-no_call c (Link node kind) none = refl
-no_call c (Hot node capacity) none = refl
-no_call c (Digest node) none = refl
-no_call c Release none = refl
-no_call c (Crash client) none = refl
-no_call c (Fail node) none = refl
-no_call c (Back node) none = refl
-no_call c (Refill node) none = refl
-no_call c (Join node) none = refl
-no_call c (Raise node) none = refl
-no_call c (Tree node) none = refl
-no_call c History none = refl
-no_call c Check none = refl
+no_call c _ none = refl
 
 -- what is seen of client c of the first client's or, where that has another number, of those behind it
 first_keeps : (c : ℕ) (b : Bool) (h : List EntryValue) (u v : Option (List EntryValue)) → calls_of_sight c v ≡ calls_of_sight c u → calls_of_sight c (if b then Some h else v) ≡ calls_of_sight c (if b then Some h else u)
@@ -100,29 +83,18 @@ first_keeps c false h u v same = same
 
 -- a client that comes last made no call
 last_made_none : (c d : ℕ) (h : List EntryValue) (xs : List (ℕ × List EntryValue)) → calls_by d h ≡ [] → calls_of_sight c (sight_of c (xs ++ (d, h) ∷ [])) ≡ calls_of_sight c (sight_of c xs)
-last_made_none c d h [] none = by_case (eqb_tells d c)
-  where
-    by_case : (((d == c) ≡ true) × (d ≡ c)) ⊎ (((d == c) ≡ false) × (d ≢ c)) → calls_of_sight c (if d == c then Some h else None) ≡ []
-    by_case (inl (is, same)) = ap (λ b. calls_of_sight c (if b then Some h else None)) is ∙ subst (λ n. calls_by n h ≡ []) same none
-    by_case (inr (is, other)) = ap (λ b. calls_of_sight c (if b then Some h else None)) is
+last_made_none c d h [] none =
+    cond_both (d == c) (Some h) None (λ o. calls_of_sight c o ≡ []) (λ is. subst (λ n. calls_by n h ≡ []) (eqb-true d c is) none) (λ is. refl)
 last_made_none c d h (x ∷ xs) none = first_keeps c (x.0 == c) x.1 (sight_of c xs) (sight_of c (xs ++ (d, h) ∷ [])) (last_made_none c d h xs none)
 
 -- who is opened made no call
 abbrev pub MadeNone : List EntryValue → List EntryValue → Type 0
-MadeNone [] h = Unit {0}
 MadeNone (opens d n u ∷ es) h = calls_by d h ≡ []
-MadeNone (calls x ∷ es) h = Unit {0}
-MadeNone (crashes d ∷ es) h = Unit {0}
-MadeNone (fails n losses ∷ es) h = Unit {0}
-MadeNone (returns n ∷ es) h = Unit {0}
+MadeNone _ h = Unit {0}
 
 calls_stay : (c : ℕ) (us : Sights) (h os : List EntryValue) → MadeNone os h → calls_of_sight c (sight_of c (with_opened us h os)) ≡ calls_of_sight c (sight_of c us)
-calls_stay c us h [] none = refl
 calls_stay c us h (opens d n u ∷ es) none = last_made_none c d h us none
-calls_stay c us h (calls x ∷ es) none = refl
-calls_stay c us h (crashes d ∷ es) none = refl
-calls_stay c us h (fails n losses ∷ es) none = refl
-calls_stay c us h (returns n ∷ es) none = refl
+calls_stay c us h _ none = refl
 
 module _ (c : ℕ) (ss : List Said) (s : Said) where
   pub calls_more : calls_in c (commands_said (ss ++ s ∷ [])) ≡ calls_in c (commands_said ss) ++ call_in c s.command.command

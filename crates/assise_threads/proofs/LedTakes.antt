@@ -13,6 +13,7 @@ use Rattle.assise_threads.specs.Takes.{Happened, InOneTake}
 use Rattle.assise_fault_script.specs.declared.command.Command.{Command}
 use Rattle.assise_fault_script.specs.declared.command.Command.TheVariants.{Cluster, Manual, Open, Call, Carry, Link, Hot, Digest as DigestOf, Release as ReleaseAll, Crash as CrashOf, Fail as FailOf, Back, Refill as RefillOf, Join as JoinOf, Raise as RaiseOf, Tree as TreeOf, History, Check as CheckAll}
 use Rattle.assise_fault_script.specs.declared.parse.NumberedCommand.{NumberedCommand}
+use Rattle.assise_keeper.proofs.LedStates.{led_from}
 use Rattle.assise_keeper.specs.Rule.{IsLed}
 use Rattle.assise_machine.specs.Clusters.{machine}
 use Rattle.assise_machine.specs.Following.{IsLedTo, IsWorkedTo, led_by, led_to_itself}
@@ -57,6 +58,12 @@ cluster_leads s t = IsLedTo (machine s) (machine t)
 abbrev pub cluster_works : {C : Type 0} → ClusterOf C → ClusterOf C → Type 0
 cluster_works s t = IsWorkedTo (machine s) (machine t)
 
+-- a state that is given back as it was taken
+pub leads_itself : {C : Type 0} (held : Option (ClusterOf C)) (took given : ClusterOf C) → held ≡ Some took → given ≡ took →
+    IsLed cluster_leads held (Some given)
+leads_itself held took given is same =
+    led_from cluster_leads held took given is (subst (λ z. IsLedTo (machine took) (machine z)) (sym same) (led_to_itself (machine took)))
+
 pub not_never : (o : Opens) → o ≡ Alone → o ≡ Never → ⊥
 not_never o alone never = let x : Alone ≡ Never = sym alone ∙ never in cc
 
@@ -88,23 +95,7 @@ module _ {C : Type 0} where
 
 first_history : (command : Command) → (machine_made command).history ≡ []
 first_history (Cluster nodes log hot) = refl
-first_history Manual = refl
-first_history (Open n kind u) = refl
-first_history (Call c op) = refl
-first_history (Carry n) = refl
-first_history (Link n kind) = refl
-first_history (Hot n capacity) = refl
-first_history (DigestOf n) = refl
-first_history ReleaseAll = refl
-first_history (CrashOf c) = refl
-first_history (FailOf n) = refl
-first_history (Back n) = refl
-first_history (RefillOf n) = refl
-first_history (JoinOf n) = refl
-first_history (RaiseOf n) = refl
-first_history (TreeOf n) = refl
-first_history History = refl
-first_history CheckAll = refl
+first_history _ = refl
 
 pub begun_history : (ls : List NumberedCommand) → (machine_begun ls).history ≡ []
 begun_history [] = refl

@@ -50,20 +50,10 @@ module _ (C : Type 0) where
     untried_of limit old new e = record { waits = e.waits; few = e.few; waited = waited_of e.waits old new e.waited; full = e.full }
 
     turns_of : (limit : ℕ) (r : Result Reply Refusal) (old new : List EntryValue) → TurnsTo there does c op limit r old new → TurnsTo history_seen HappensSoundly c op limit r old new
-    turns_of limit (Ok reply) old new t = ends_of limit _ old new t
     turns_of limit (Err Busy) old new t = waited_of limit old new t
     turns_of limit (Err OutOfMemory) old new (inl t) = inl (ends_of limit _ old new t)
     turns_of limit (Err OutOfMemory) old new (inr t) = inr (untried_of limit old new t)
-    turns_of limit (Err NodeDown) old new t = ends_of limit _ old new t
-    turns_of limit (Err ClientGone) old new t = ends_of limit _ old new t
-    turns_of limit (Err InodesSpent) old new t = ends_of limit _ old new t
-    turns_of limit (Err TooLarge) old new t = ends_of limit _ old new t
-    turns_of limit (Err LastNode) old new t = ends_of limit _ old new t
-    turns_of limit (Err BadNode) old new t = ends_of limit _ old new t
-    turns_of limit (Err BadClient) old new t = ends_of limit _ old new t
-    turns_of limit (Err WrongPhase) old new t = ends_of limit _ old new t
-    turns_of limit (Err StaleMessage) old new t = ends_of limit _ old new t
-    turns_of limit (Err LogFull) old new t = ends_of limit _ old new t
+    turns_of limit _ old new t = ends_of limit _ old new t
 
   made_of : (limit c : ℕ) (ops : List Op) (old : List EntryValue) (rs : List (Result Reply Refusal)) (new : List EntryValue) → AreCallsMade (Turned there does limit) c ops old rs new → AreCallsMade (TurnedThere limit) c ops old rs new
   made_of limit c [] old [] new same = same
@@ -99,11 +89,7 @@ module _ (C : Type 0) where
 
   module _ (F : Type 0) (faithful : F) (k n : ℕ) where
     there_of : (end is : TurnEnd) (seen old later : List EntryValue) → k ≡ n → end ≡ is → old ≡ seen → Replicates there does F cluster_reads k end old later → Replicates history_seen HappensSoundly ⊤ versions_read n is seen later
-    there_of end is seen old later same e from t =
-        let one = replicates_of F ⊤ (λ all. faithful) k end old later t in
-        let two = subst (λ z. Replicates history_seen HappensSoundly ⊤ versions_read z end old later) same one in
-        let three = subst (λ z. Replicates history_seen HappensSoundly ⊤ versions_read n z old later) e two in
-        subst (λ z. Replicates history_seen HappensSoundly ⊤ versions_read n is z later) from three
+    there_of end is seen old later same e from t = rw (← same, ← e, ← from) (replicates_of F ⊤ (λ all. faithful) k end old later t)
 
     pub carried_by : (count : ℕ) (end : TurnEnd) (seen now : Machine) (old later : List EntryValue) → k ≡ n → end ≡ Did count → old ≡ seen.history → now ≡ seen → Replicates there does F cluster_reads k end old later → CarriesSome n (Carried count) seen now
     carried_by count end seen now old later same e from stays t = is_carried count later refl (there_of end (Did count) seen.history old later same e from t) stays

@@ -1,7 +1,8 @@
 -- Where clients meet with a pass of nobody, each twice, there is one history with the calls of all.
 use Rattle.std.proofs.Common.{is_some, ◌≡◌, ◌≢◌, ◌∙◌, ℕ, true, false, List, [], ◌∷◌, ◌++◌, Option, None, Some, refl, sym, ap, subst, append_assoc, append-nil, ◌==◌, if◌then◌else◌, ◌⊎◌, inl, inr}
 use Rattle.std.specs.List.{AllByRecursion}
-use Rattle.std.proofs.lemmas.Bool.Decides.{eqb_tells}
+use Rattle.std.proofs.lemmas.Bool.{cond_both, eqb-true}
+use Rattle.std.proofs.lemmas.List.{append_cancel_left}
 use Rattle.assise_history.specs.Entries.{EntryValue}
 use Rattle.assise_history.specs.Legal.{IsLegal}
 use Rattle.assise_keeper.specs.Clients.{Extends, calls_by, calls_of, openings_of}
@@ -20,10 +21,6 @@ use Rattle.assise_threads.specs.LastSeen.{machine_seen}
 use Rattle.assise_libfs.specs.Clients.{client_of, pass_of, seen_by}
 use Rattle.assise_libfs.specs.declared.libfs.LibFs.{LibFs}
 
-nothing_more : (xs ys : List EntryValue) → xs ++ ys ≡ xs → ys ≡ []
-nothing_more [] ys e = e
-nothing_more (x ∷ xs) ys e = nothing_more xs ys (cc)
-
 first_nothing : (xs ys : List EntryValue) → xs ++ ys ≡ [] → xs ≡ []
 first_nothing [] ys e = refl
 first_nothing (x ∷ xs) ys e = absurd (cc)
@@ -33,7 +30,9 @@ same_between : (c : ℕ) (a b d : List EntryValue) → Extends b a → Extends d
 same_between c a b d more behind same =
     let first : calls_by c b ≡ calls_by c a ++ calls_by c more.0 = ap (calls_by c) more.1 ∙ calls-append c a more.0 in
     let all : calls_by c d ≡ calls_by c a ++ (calls_by c more.0 ++ calls_by c behind.0) = ap (calls_by c) behind.1 ∙ (calls-append c b behind.0 ∙ (ap (λ z. z ++ calls_by c behind.0) first ∙ append_assoc (calls_by c a) (calls_by c more.0) (calls_by c behind.0))) in
-    let none : calls_by c more.0 ≡ [] = first_nothing (calls_by c more.0) (calls_by c behind.0) (nothing_more (calls_by c a) (calls_by c more.0 ++ calls_by c behind.0) (sym all ∙ same)) in
+    let none : calls_by c more.0 ≡ [] =
+    first_nothing (calls_by c more.0) (calls_by c behind.0)
+    (append_cancel_left (calls_by c a) (calls_by c more.0 ++ calls_by c behind.0) [] (sym all ∙ (same ∙ sym (append-nil (calls_by c a))))) in
     first ∙ (ap (λ z. calls_by c a ++ z) none ∙ append-nil (calls_by c a))
 
 -- what a pass has of its client
@@ -58,17 +57,12 @@ met_one c m0 m1 g us s2 s3 worked from none own first met behind second = let h 
 pub met_none : (m0 m1 : Machine) → IsWorkedTo m0 m1 → Extends m1.history m0.history → ∥ IsLegal m1.history ∥₁ → openings_of m1.history ≡ openings_of m0.history → AreMet m0 [] m1.history
 met_none m0 m1 worked on legal none = record { between = m1; legal = legal; worked = worked; since = on; until = extends-same m1.history; clients = tt; openings = none }
 
-first_or_later : (c : ℕ) (h : List EntryValue) (a : ℕ) (g : List EntryValue) (later : Option (List EntryValue)) → Covers h (a, g) → CoversSight c h later → CoversSight c h (if a == c then Some g else later)
-first_or_later c h a g later first rest = by_case (eqb_tells a c)
-  where
-    by_case : (((a == c) ≡ true) × (a ≡ c)) ⊎ (((a == c) ≡ false) × (a ≢ c)) → CoversSight c h (if a == c then Some g else later)
-    by_case (inl (is, same)) = subst (λ b. CoversSight c h (if b then Some g else later)) (sym is) (subst (λ d. Covers h (d, g)) same first)
-    by_case (inr (is, other)) = subst (λ b. CoversSight c h (if b then Some g else later)) (sym is) rest
-
 -- each client that is there is covered
 pub covers_each : (c : ℕ) (h : List EntryValue) (us : Sights) → AllByRecursion (Covers h) us → CoversSight c h (sight_of c us)
 covers_each c h [] all = tt
-covers_each c h (x ∷ xs) (first, rest) = first_or_later c h x.0 x.1 (sight_of c xs) first (covers_each c h xs rest)
+covers_each c h (x ∷ xs) (first, rest) =
+    cond_both (x.0 == c) (Some x.1) (sight_of c xs) (CoversSight c h)
+    (λ is. subst (λ d. Covers h (d, x.1)) (eqb-true x.0 c is) first) (λ is. covers_each c h xs rest)
 
 -- ---- of a pass
 
@@ -91,8 +85,7 @@ module _ {C : Type 0} (l : LibFs (ClusterOf C)) (p0 p a b d e f : Pass (ClusterO
       let m1 = machine_seen (last a) in
       let at0 : seen p0 ≡ m0.history = known0.1 in
       let at1 : seen a ≡ m1.history = known1.1 in
-      met_one (client_of l) m0 m1 (seen_by l) us (seen d) (seen e) worked (subst (λ z. Extends m1.history z) at0 (subst (λ z. Extends z (seen p0)) at1 first)) (subst (λ z. openings_of m1.history ≡ openings_of z) at0 (subst (λ z. openings_of z ≡ openings_of (seen p0)) at1 none))
-      (subst (λ z. Extends z (seen_by l)) at1 (subst (λ z. Extends z (seen_by l)) (sym one) (subst (Extends (seen b)) known second)))
+      met_one (client_of l) m0 m1 (seen_by l) us (seen d) (seen e) worked (rw (at0, at1) at first) (rw (at0, at1) at none) (rw (known, ← one, at1) at second)
       (ap (calls_by (client_of l)) (sym at1 ∙ one) ∙ (mine_same (client_of l) (client b) (client p) (seen b) (seen p) same its own ∙ ap (calls_by (client_of l)) known))
       met first2
       (ap (calls_by (client_of l)) one2 ∙ (mine_same (client_of l) (client f) (client b) (seen f) (seen b) same2 here own2 ∙ ap (calls_by (client_of l)) (sym one ∙ at1)))

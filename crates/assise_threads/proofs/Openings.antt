@@ -49,18 +49,9 @@ answers_on turns (Open n kind u) a old new h = opens_on n u a old new h
 answers_on turns (Call c op) a old new h = call_on a old new h
 answers_on turns (Carry n) a old new h = carry_on n a old new h
 answers_on turns (Link n kind) a old new h = extends_same_as new old h.stays
-answers_on turns (Hot n capacity) a old new h = h.grows
-answers_on turns (Digest n) a old new h = h.grows
-answers_on turns Release a old new h = h.grows
-answers_on turns (Crash c) a old new h = h.grows
-answers_on turns (Fail n) a old new h = h.grows
 answers_on turns (Back n) a old new h = back_on turns n a old new h
-answers_on turns (Refill n) a old new h = h.grows
-answers_on turns (Join n) a old new h = h.grows
-answers_on turns (Raise n) a old new h = h.grows
-answers_on turns (Tree n) a old new h = h.grows
 answers_on turns History a old new h = h.extends
-answers_on turns Check a old new h = h.grows
+answers_on turns _ a old new h = h.grows
 
 -- ---- of a whole run
 

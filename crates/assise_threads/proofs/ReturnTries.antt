@@ -12,10 +12,6 @@ use Rattle.assise_workers.proofs.Lists.{extends-on}
 use Rattle.assise_threads.specs.Answered.{IsReturnBegun, HasFilled, HasTried, IsNoRefusal, IsFilledOnce}
 use Rattle.assise_threads.specs.Takes.{InOneTake}
 
--- before the first time
-pub tried_none : (n : ℕ) (a : Response) (old begun : Machine) → IsNoRefusal a → InOneTake (IsOneAt back n a) old begun → HasTried n 0 old begun
-tried_none n a old begun done take = record { begun = begun; begins = record { answer = a; done = done; take = take }; tries = refl }
-
 -- once more
 pub tried_more : (n k : ℕ) (a : Response) (old tried filled new : Machine) → HasTried n k old tried → IsNoRefusal a → InOneTake (IsOneAt refill n a) tried filled → InOneTake (IsOneAt join n (Refused Busy)) filled new → HasTried n (k + 1) old new
 tried_more n k a old tried filled new before done take joins =
@@ -25,10 +21,6 @@ tried_more n k a old tried filled new before done take joins =
       begins = before.begins;
       tries = subst (λ j. HasFilled n j before.begun new) next (tried, (before.tries, (filled, (record { answer = a; done = done; take = take }, joins))));
     }
-
--- `turns` times in all
-pub tried_all : (n k turns : ℕ) (old new : Machine) → HasTried n k old new → k ≤ turns → turns ≤ k → HasTried n turns old new
-tried_all n k turns old new tried few many = let same : k ≡ turns = omega (arith, few, many) in subst (λ j. HasTried n j old new) same tried
 
 -- ---- what is seen goes on
 

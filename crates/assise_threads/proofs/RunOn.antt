@@ -59,25 +59,6 @@ pub nothing_run : (turns : ℕ) (commands : List NumberedCommand) (old : Option 
 nothing_run turns [] old none = let all = nothing_said turns (machine_begun []) old refl in record { said = all.said; run = is_run turns [] (machine_begun []) [] old old all (machine_begun []).history (no_one_met (machine_begun []) refl); appends = all.appends }
 nothing_run turns (l ∷ ls) old none = absurd (cc)
 
-pub on_ok : {X E : Type 0} (r : Result X E) (P Q : Type 0) → OnOk r P → (P → Q) → OnOk r Q
-on_ok (Ok x) P Q p f = f p
-on_ok (Err e) P Q p f = tt
-
--- a client comes behind the others
-pub gains_client : {S : Type 0} (before mid after : List (LibFs S)) (l : LibFs S) → mid ≡ before → after ≡ mid ++ l ∷ [] → sights after ≡ sights before ++ (client_of l, seen_by l) ∷ []
-gains_client before mid after l same more = ap sights more ∙ (map-append (λ x. (client_of x, seen_by x)) mid (l ∷ []) ∙ ap (λ z. sights z ++ (client_of l, seen_by l) ∷ []) same)
-
--- ---- what is handed on stays
-
-appends_kept : (u v w : Option (List ℕ)) (a : List ℕ) → Appends u v a → Keeps v w → Appends u w a
-appends_kept None v w a x y = tt
-appends_kept (Some xs) None w a x y = absurd x
-appends_kept (Some xs) (Some ys) None a x y = y
-appends_kept (Some xs) (Some ys) (Some zs) a x y = y ∙ x
-
-pub run_kept : (turns : ℕ) (commands : List NumberedCommand) (old mid new : Option (List ℕ)) → IsRunSaid turns commands old mid → Keeps mid new → IsRunSaid turns commands old new
-run_kept turns commands old mid new h keeps = record { said = h.said; run = h.run; appends = appends_kept old mid new (said_lines h.said) h.appends keeps }
-
 -- ---- the history is printed by its own command alone
 
 hot_not_whole : (n capacity : ℕ) (m : Machine) (es : Told) (m' : Machine) → SetsHot n capacity Whole m es m' → ⊥
@@ -125,40 +106,5 @@ not_whole turns History old new other h = other refl
 -- so a line shows no history where another command was answered
 pub line_shows_none : (turns n : ℕ) (command : Command) (a : Response) (shown : List EntryValue) (old new : Machine) → (command ≡ History → ⊥) → AnswersCommand turns command a old new → line_text n shown a ≡ line_text n new.history a
 line_shows_none turns n command Whole shown old new other h = absurd (not_whole turns command old new other h)
-line_shows_none turns n command Quiet shown old new other h = refl
-line_shows_none turns n command (Client c) shown old new other h = refl
-line_shows_none turns n command (Replied reply) shown old new other h = refl
-line_shows_none turns n command Waits shown old new other h = refl
-line_shows_none turns n command (Refused r) shown old new other h = refl
-line_shows_none turns n command (Carried k) shown old new other h = refl
-line_shows_none turns n command (Linked k) shown old new other h = refl
-line_shows_none turns n command (HotSet k) shown old new other h = refl
-line_shows_none turns n command (Digested k) shown old new other h = refl
-line_shows_none turns n command (Released k) shown old new other h = refl
-line_shows_none turns n command (Crashed c) shown old new other h = refl
-line_shows_none turns n command (Failed node losses) shown old new other h = refl
-line_shows_none turns n command (Began node stale) shown old new other h = refl
-line_shows_none turns n command (Left stale) shown old new other h = refl
-line_shows_none turns n command (Returned node) shown old new other h = refl
-line_shows_none turns n command (Raised node) shown old new other h = refl
-line_shows_none turns n command (Shown tree) shown old new other h = refl
 line_shows_none turns n command (Checked true) shown old new other h = refl
-line_shows_none turns n command (Checked false) shown old new other h = refl
-
--- ---- what ends a run
-
-pub read_ends : (e : EngineFault) (known old : Option (List ℕ)) → IsReadFault e → ThreadFault e known old old
-read_ends Read known old is = refl
-read_ends Memory known old is = tt
-read_ends (Script line fault) known old is = absurd is
-read_ends Write known old is = absurd is
-read_ends (NeedsSerial line command) known old is = absurd is
-read_ends NoThread known old is = absurd is
-
-pub run_ends : (e : EngineFault) (known old new : Option (List ℕ)) → EndsRun e → ThreadFault e known old new
-run_ends Memory known old new is = tt
-run_ends Write known old new is = tt
-run_ends NoThread known old new is = tt
-run_ends Read known old new is = absurd is
-run_ends (Script line fault) known old new is = absurd is
-run_ends (NeedsSerial line command) known old new is = absurd is
+line_shows_none turns n command _ shown old new other h = refl

@@ -41,8 +41,7 @@ module _ (m : Machine) (h : MachineInvariant m) where
 
   replicated : (n : ℕ) (t : Tree) → node_fault m n ≡ None → Spells (alone_at m.world n) t → IsReplicatedTree m.history t
   replicated n t fine spells =
-      let up = h.members.nodes_full n (is_full (standing_of m.members.nodes n) fine) in
-      let all = (safe m h).rebuilt n up in
+      let all = (safe m h).rebuilt n (h.members.nodes_full n (is_full (standing_of m.members.nodes n) fine)) in
       record {
         bound = first_unreplicated m.world;
         synced = h.recorded.synced;

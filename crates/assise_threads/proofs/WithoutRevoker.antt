@@ -10,27 +10,9 @@ of_refused : {X : Type 0} (fault : Option Refusal) (r : Result X Refusal) (q : R
 of_refused None r q is faults fine = absurd (let y : is_ok r ≡ true = fine refl in cc)
 of_refused (Some e) r q is faults fine = let y : Err e ≡ Err q = sym (faults e refl) ∙ is in cc
 
--- any fault but that the node isn't full is told as it is
-as_it_is : (q : Refusal) → (q ≡ WrongPhase → ⊥) → without_revoker (Some q) ≡ q
-as_it_is OutOfMemory other = refl
-as_it_is Busy other = refl
-as_it_is NodeDown other = refl
-as_it_is ClientGone other = refl
-as_it_is InodesSpent other = refl
-as_it_is TooLarge other = refl
-as_it_is LastNode other = refl
-as_it_is BadNode other = refl
-as_it_is BadClient other = refl
-as_it_is WrongPhase other = absurd (other refl)
-as_it_is StaleMessage other = refl
-as_it_is LogFull other = refl
-
 module _ {X : Type 0} (fault : Option Refusal) (r : Result X Refusal) where
   pub lacks_one : (x : X) → r ≡ Ok x → (IsOk r → fault ≡ None) → BadClient ≡ without_revoker fault
   lacks_one x is fine = sym (ap without_revoker (fine (subst IsOk (sym is) refl)))
 
   pub lacks_node : r ≡ Err WrongPhase → ((e : Refusal) → fault ≡ Some e → r ≡ Err e) → (fault ≡ None → IsOk r) → NodeDown ≡ without_revoker fault
   lacks_node is faults fine = sym (ap without_revoker (of_refused fault r WrongPhase is faults fine))
-
-  pub lacks_other : (q : Refusal) → r ≡ Err q → (q ≡ WrongPhase → ⊥) → ((e : Refusal) → fault ≡ Some e → r ≡ Err e) → (fault ≡ None → IsOk r) → q ≡ without_revoker fault
-  lacks_other q is other faults fine = sym (ap without_revoker (of_refused fault r q is faults fine) ∙ as_it_is q other)

@@ -34,53 +34,27 @@ deliveries-append : (cs ds : List Carried) → deliveries (cs ++ ds) ≡ deliver
 deliveries-append [] ds = refl
 deliveries-append (c ∷ cs) ds = ap (λ es. delivery c.node c.came ++ es) (deliveries-append cs ds) ∙ sym (append_assoc (delivery c.node c.came) (deliveries cs) (deliveries ds))
 
-letters-append : (cs ds : List Carried) → map letter (cs ++ ds) ≡ map letter cs ++ map letter ds
-letters-append [] ds = refl
-letters-append (c ∷ cs) ds = ap (λ ls. letter c ∷ ls) (letters-append cs ds)
-
 all-append : (P : Carried → Type 0) (cs ds : List Carried) → AllByRecursion P cs → AllByRecursion P ds → AllByRecursion P (cs ++ ds)
 all-append P [] ds all more = more
 all-append P (c ∷ cs) ds (first, all) more = (first, all-append P cs ds all more)
 
 taken-append : (cs ds : List Carried) → taken (cs ++ ds) ≡ taken cs + taken ds
 taken-append [] ds = (let none : taken [] ≡ 0 = refl in omega (arith, none))
-taken-append (c ∷ cs) ds = by_case (taken-append cs ds) (is_taken_in c.came) refl
-  where
-    by_case : taken (cs ++ ds) ≡ taken cs + taken ds → (t : Bool) → is_taken_in c.came ≡ t → taken (c ∷ cs ++ ds) ≡ taken (c ∷ cs) + taken ds
-    by_case rest true e = rw e (omega (arith, rest))
-    by_case rest false e = rw e rest
+taken-append (c ∷ cs) ds = (let rest = taken-append cs ds in grind arith)
 
 -- what wasn't sent on
 abbrev kept : LogFrame × ℕ → Carried
 kept l = record { frame = l.0; node = l.1; came = None }
 
-letters-kept : (ls : List (LogFrame × ℕ)) → map letter (map kept ls) ≡ ls
-letters-kept [] = refl
-letters-kept (l ∷ ls) = ap (λ ks. l ∷ ks) (letters-kept ls)
-
-deliveries-kept : (ls : List (LogFrame × ℕ)) → deliveries (map kept ls) ≡ []
-deliveries-kept [] = refl
-deliveries-kept (l ∷ ls) = deliveries-kept ls
-
-taken-kept : (ls : List (LogFrame × ℕ)) → taken (map kept ls) ≡ 0
-taken-kept [] = refl
-taken-kept (l ∷ ls) = taken-kept ls
-
-same-kept : (ls : List (LogFrame × ℕ)) → AreSame (map kept ls)
-same-kept [] = tt
-same-kept (l ∷ ls) = (tt, same-kept ls)
-
-read-kept : (reads : ℕ → ℕ) (ls : List (LogFrame × ℕ)) → AllByRecursion (λ c. IsRead (reads c.node) c.came) (map kept ls)
-read-kept reads [] = tt
-read-kept reads (l ∷ ls) = (tt, read-kept reads ls)
+all_kept : (reads : ℕ → ℕ) (ls : List (LogFrame × ℕ)) → (map letter (map kept ls) ≡ ls) × (deliveries (map kept ls) ≡ []) × (taken (map kept ls) ≡ 0)
+    × AreSame (map kept ls) × AllByRecursion (λ c. IsRead (reads c.node) c.came) (map kept ls)
+all_kept reads [] = (refl, refl, refl, tt, tt)
+all_kept reads (l ∷ ls) = (let rest = all_kept reads ls in (ap (λ ks. l ∷ ks) rest.0, rest.1, rest.2, (tt, rest.3), (tt, rest.4)))
 
 -- how many are taken in of one that came
 one_taken : (f g : LogFrame) (n : ℕ) (a : Answer) → taken (record { frame = f; node = n; came = Some (g, a) } ∷ []) ≡ taken_for a
-one_taken f g n a = by_answer a
-  where
-    by_answer : (b : Answer) → taken (record { frame = f; node = n; came = Some (g, b) } ∷ []) ≡ taken_for b
-    by_answer (received place) = refl
-    by_answer b = refl
+one_taken f g n (received place) = refl
+one_taken f g n _ = refl
 
 -- ---- what came of letters
 
@@ -92,14 +66,14 @@ module _ {S : Type 0} (history : S → List EntryValue) (acts : S → ClusterEve
   module _ (F : Type 0) (reads : ℕ → ℕ) where
     -- none of these was sent
     pub none_carried : (ls : List (LogFrame × ℕ)) (a : List EntryValue) → HasCarried history acts F reads ls 0 a a
-    none_carried ls a = record {
+    none_carried ls a = (let none = all_kept reads ls in record {
       carried = map kept ls;
-      all = letters-kept ls;
-      same = λ faithful. same-kept ls;
-      read = read-kept reads ls;
-      done = subst (λ es. HasDone history acts es a a) (sym (deliveries-kept ls)) refl;
-      counts = (let none = taken-kept ls in record { few = omega arith; all = λ less. sym none });
-    }
+      all = none.0;
+      same = λ faithful. none.3;
+      read = none.4;
+      done = subst (λ es. HasDone history acts es a a) (sym none.1) refl;
+      counts = record { few = omega (arith, none.2); all = λ less. sym none.2 };
+    })
 
     -- one came, and was answered so
     pub one_carried : (f g : LogFrame) (n count : ℕ) (x : Answer) (a b : List EntryValue) → (F → g ≡ f) → g.version ≤ reads n → count ≡ taken_for x → InOneTurn history acts (deliver g n) x a b → HasCarried history acts F reads ((f, n) ∷ []) count a b
@@ -117,16 +91,14 @@ module _ {S : Type 0} (history : S → List EntryValue) (acts : S → ClusterEve
         → HasCarried history acts F reads ls n a b → HasCarried history acts F reads ms k b d → HasCarried history acts F reads (ls ++ ms) both a d
     then_carried ls ms n k both a b d is x y =
         let sum = taken-append x.carried y.carried in
-        let low = x.counts.few in
-        let low2 = y.counts.few in
         record {
           carried = x.carried ++ y.carried;
-          all = letters-append x.carried y.carried ∙ ap (λ ks. ks ++ map letter y.carried) x.all ∙ ap (λ ks. ls ++ ks) y.all;
+          all = map-append letter x.carried y.carried ∙ ap (λ ks. ks ++ map letter y.carried) x.all ∙ ap (λ ks. ls ++ ks) y.all;
           same = λ faithful. all-append (λ c. IsSame c.frame c.came) x.carried y.carried (x.same faithful) (y.same faithful);
           read = all-append (λ c. IsRead (reads c.node) c.came) x.carried y.carried x.read y.read;
           done = subst (λ es. HasDone history acts es a d) (sym (deliveries-append x.carried y.carried)) (done-append (deliveries x.carried) (deliveries y.carried) a b d x.done y.done);
           counts = record {
-            few = (let m = min_le (n + k) 18446744073709551615 in omega (arith, is, sum, low, low2, m));
+            few = (let m = min_le (n + k) 18446744073709551615 in omega (arith, is, sum, x.counts.few, y.counts.few, m));
             all = λ less. (let e = x.counts.all (omega (arith, sum, less)) in let f = y.counts.all (omega (arith, sum, less)) in let m = min_small (n + k) 18446744073709551615 (omega (arith, sum, less, e, f)) in omega (arith, is, sum, e, f, m));
           };
         }
@@ -148,24 +120,7 @@ module _ {S : Type 0} (history : S → List EntryValue) (acts : S → ClusterEve
 
 -- ---- what is read
 
-read_first : (reads : ℕ → ℕ) (ls ms : List Letter) → AreReadBy reads (ls ++ ms) → AreReadBy reads ls
-read_first reads [] ms all = tt
-read_first reads (l ∷ ls) ms (first, all) = (first, read_first reads ls ms all)
-
-read_then : (reads : ℕ → ℕ) (ls ms : List Letter) → AreReadBy reads (ls ++ ms) → AreReadBy reads ms
-read_then reads [] ms all = all
-read_then reads (l ∷ ls) ms (first, all) = read_then reads ls ms all
-
--- of these and one more
-pub before_read : (reads : ℕ → ℕ) (ls : List Letter) (l : Letter) → AreReadBy reads (ls ++ l ∷ []) → AreReadBy reads ls
-before_read reads ls l all = read_first reads ls (l ∷ []) all
-
-pub last_read : (reads : ℕ → ℕ) (ls : List Letter) (l : Letter) → AreReadBy reads (ls ++ l ∷ []) → l.newest ≡ reads l.next
-last_read reads ls l all = (read_then reads ls (l ∷ []) all).0
-
--- of all
-pub earlier_read : (reads : ℕ → ℕ) (ls : List Letter) (l : Letter) (rest all : List Letter) → ls ++ l ∷ rest ≡ all → AreReadBy reads all → AreReadBy reads ls
-earlier_read reads ls l rest all whole read = read_first reads ls (l ∷ rest) (subst (λ ms. AreReadBy reads ms) (sym whole) read)
-
-pub one_read : (reads : ℕ → ℕ) (ls : List Letter) (l : Letter) (rest all : List Letter) → ls ++ l ∷ rest ≡ all → AreReadBy reads all → l.newest ≡ reads l.next
-one_read reads ls l rest all whole read = (read_then reads ls (l ∷ rest) (subst (λ ms. AreReadBy reads ms) (sym whole) read)).0
+-- of these and of those behind them
+pub read_parts : (reads : ℕ → ℕ) (ls ms : List Letter) → AreReadBy reads (ls ++ ms) → AreReadBy reads ls × AreReadBy reads ms
+read_parts reads [] ms all = (tt, all)
+read_parts reads (l ∷ ls) ms (first, all) = (let rest = read_parts reads ls ms all in ((first, rest.0), rest.1))

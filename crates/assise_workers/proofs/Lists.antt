@@ -29,26 +29,20 @@ both_ok P Q R (Err e) f p q = tt
 pub told-append : (c k : ℕ) (ops : List Op) (rs : List (Result Reply Refusal)) (more : List Op) (came : List (Result Reply Refusal)) → length rs ≡ length ops
     → told_all c k (ops ++ more) (rs ++ came) ≡ told_all c k ops rs ++ told_all c (k + length (told_all c k ops rs)) more came
 told-append c k [] [] more came same = ap (λ (j : ℕ). told_all c j more came) (sym (add-zero k))
-told-append c k [] (x ∷ rs) more came same = absurd (let n : suc (length rs) ≡ 0 = same in omega arith)
-told-append c k (o ∷ ops) [] more came same = absurd (let n : 0 ≡ suc (length ops) = same in omega arith)
 told-append c k (o ∷ ops) (Ok reply ∷ rs) more came same =
     let first = calls (record { client = c; number = k; op = o; reply = reply }) in
     let n : length rs ≡ length ops = omega (arith, same) in
-    let rest = told-append c (k + 1) ops rs more came n in
     let at : (k + 1) + length (told_all c (k + 1) ops rs) ≡ k + suc (length (told_all c (k + 1) ops rs)) = omega arith in
-    ap (λ z. first ∷ z) (rest ∙ ap (λ (j : ℕ). told_all c (k + 1) ops rs ++ told_all c j more came) at)
+    ap (λ z. first ∷ z) ((told-append c (k + 1) ops rs more came n) ∙ ap (λ (j : ℕ). told_all c (k + 1) ops rs ++ told_all c j more came) at)
 told-append c k (o ∷ ops) (Err refusal ∷ rs) more came same = let n : length rs ≡ length ops = omega (arith, same) in told-append c k ops rs more came n
+told-append c k _ _ more came same = absurd (omega (arith, same))
 
 -- one call more
 pub one_made : (T : ℕ → Op → List EntryValue → Result Reply Refusal → List EntryValue → Type 0) (c : ℕ) (ops : List Op) (a : List EntryValue) (rs : List (Result Reply Refusal)) (b : List EntryValue) (op : Op) (r : Result Reply Refusal) (d : List EntryValue)
     → AreCallsMade T c ops a rs b → IsCallMade T c op b r d → AreCallsMade T c (ops ++ op ∷ []) a (rs ++ r ∷ []) d
 one_made T c [] a [] b op r d made one = (d, (subst (λ z. IsCallMade T c op z r d) made one, refl))
-one_made T c [] a (q ∷ rs) b op r d made one = absurd made
-one_made T c (o ∷ ops) a [] b op r d made one = absurd made
 one_made T c (o ∷ ops) a (q ∷ rs) b op r d made one = (made.0, (made.1.0, one_made T c ops made.0 rs b op r d made.1.1 one))
-
-pub none_seen : (T : ℕ → Op → List EntryValue → Result Reply Refusal → List EntryValue → Type 0) (c : ℕ) (h : List EntryValue) → SeesAll T c [] h [] h
-none_seen T c h = record { count = refl; extends = extends-same h; told = sym (append-nil (calls_by c h)); each = refl }
+one_made T c _ a _ b op r d made one = absurd made
 
 module _ (T : ℕ → Op → List EntryValue → Result Reply Refusal → List EntryValue → Type 0) (c : ℕ) (ops : List Op) (a : List EntryValue) (rs : List (Result Reply Refusal)) (b : List EntryValue) (s : SeesAll T c ops a rs b) where
   count_more : (op : Op) (r : Result Reply Refusal) → length (rs ++ r ∷ []) ≡ length (ops ++ op ∷ [])

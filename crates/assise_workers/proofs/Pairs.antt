@@ -4,15 +4,13 @@ use Rattle.std.specs.List.{AllZip}
 
 pub all_zip-push : {A B : Type 0} (R : A → B → Type 0) (xs : List A) (ys : List B) (x : A) (y : B) → AllZip R xs ys → R x y → AllZip R (xs ++ x ∷ []) (ys ++ y ∷ [])
 all_zip-push R [] [] x y all one = (one, tt)
-all_zip-push R [] (b ∷ ys) x y all one = absurd all
-all_zip-push R (a ∷ xs) [] x y all one = absurd all
 all_zip-push R (a ∷ xs) (b ∷ ys) x y all one = (all.0, all_zip-push R xs ys x y all.1 one)
+all_zip-push R _ _ x y all one = absurd all
 
 pub all_zip-map : {H A B : Type 0} (f : H → A) (R : A → B → Type 0) (hs : List H) (ys : List B) → AllZip (λ h y. R (f h) y) hs ys → AllZip R (map f hs) ys
 all_zip-map f R [] [] all = tt
-all_zip-map f R [] (b ∷ ys) all = absurd all
-all_zip-map f R (h ∷ hs) [] all = absurd all
 all_zip-map f R (h ∷ hs) (b ∷ ys) all = (all.0, all_zip-map f R hs ys all.1)
+all_zip-map f R _ _ all = absurd all
 
 pub zip_pushed : {A B : Type 0} (R : A → B → Type 0) (xs : List A) (ys zs : List B) (x : A) (y : B) → zs ≡ ys ++ y ∷ [] → AllZip R xs ys → R x y → AllZip R (xs ++ x ∷ []) zs
 zip_pushed R xs ys zs x y is all one = subst (AllZip R (xs ++ x ∷ [])) (sym is) (all_zip-push R xs ys x y all one)

@@ -9,8 +9,7 @@ pub returns-clause-sees : goal.returns-clause-sees
 returns-clause-sees g c =
     let took = c.take-held.ensures in
     let given : seen c.give.new.pass ≡ g.S.Growing.history c.try_call-tried.new.self = search rules in
-    let tried = c.try_call-tried.ensures.tries in
-    let tries = rw c.state.ensures.value at tried in
+    let tries = rw c.state.ensures.value at c.try_call-tried.ensures.tries in
     subst (SeesTry c.args.caller c.args.op.now (seen c.args.pass.now) c.try_call-tried.result) (sym given)
     (sees c.args.caller (client c.args.pass.now) c.args.op.now _ _ _ _ c.requires.1 took.extends took.mine tries)
 

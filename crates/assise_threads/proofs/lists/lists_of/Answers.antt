@@ -6,9 +6,8 @@ pub loop-libfs-preserved : goal.loop-libfs-preserved
 loop-libfs-preserved g c =
     let before = c.loop-libfs.invariant in
     let step = c.in-Some.ensures.steps.0 in
-    let one_less = ap length step in
     record {
       all = one_taken _ _ _ _ _ step before.all;
       kept = zip_pushed _ _ _ _ _ _ c.push_reserved.ensures.items before.kept c.in_ok-list_of.ensures.list;
-      room = omega (arith, one_less, c.push_reserved.ensures.len, c.push_reserved.ensures.capacity, before.room);
+      room = omega (arith, ap length step, c.push_reserved.ensures.len, c.push_reserved.ensures.capacity, before.room);
     }

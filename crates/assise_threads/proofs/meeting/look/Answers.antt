@@ -1,12 +1,10 @@
 use Rattle.std.proofs.Common.{◌∙◌, [], ap, refl, sym, subst}
 use Rattle.assise_keeper.specs.Clients.{Extends, openings_of}
-use Rattle.assise_keeper.proofs.LedStates.{led_from}
 use Rattle.assise_keeper.specs.Passes.{last}
 use Rattle.assise_machine.specs.Clusters.{machine}
-use Rattle.assise_machine.specs.Following.{led_to_itself}
 use Rattle.assise_threads.specs.LastSeen.{machine_seen}
 use Rattle.assise_threads.specs.OneHistory.{AreMet}
-use Rattle.assise_threads.proofs.LedTakes.{cluster_leads, not_never, seen_works}
+use Rattle.assise_threads.proofs.LedTakes.{leads_itself, not_never, seen_works}
 use Rattle.assise_threads.proofs.Meetings.{met_none}
 use Rattle.assise_threads.proofs.Nobodys.{is_legal, may_give_same}
 use Rattle.assise_threads.proofs.meeting.look.Goals as goal
@@ -26,4 +24,4 @@ pub give-requires-clause-works : goal.give-requires-clause-works
 give-requires-clause-works g c = λ never. absurd (not_never _ (c.take-held.ensures.right ∙ c.requires.alone) never)
 
 pub give-requires-clause-leads : goal.give-requires-clause-leads
-give-requires-clause-leads g c = led_from cluster_leads _ c.take-held.result c.take-held.result c.take-held.ensures.state (led_to_itself (machine c.take-held.result))
+give-requires-clause-leads g c = leads_itself _ _ _ c.take-held.ensures.state refl

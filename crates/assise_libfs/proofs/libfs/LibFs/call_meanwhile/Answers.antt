@@ -19,13 +19,11 @@ returns-clause-same g c = c.loop-turn.invariant.same
 
 pub returns-in-Ok-Some-clause-sees : goal.returns-in-Ok-Some-clause-sees
 returns-in-Ok-Some-clause-sees g c = let inv = c.loop-turn.invariant in
-    let t = others_then_try _ _ c.args.op.now _ _ c.turn.result _ inv.same.client inv.others c.turn.ensures.sees in
-    rw (c.in-Ok-Some.is, c.in-Ok-Some.field-0-is) at t
+    rw (c.in-Ok-Some.is, c.in-Ok-Some.field-0-is) at (others_then_try _ _ c.args.op.now _ _ c.turn.result _ inv.same.client inv.others c.turn.ensures.sees)
 
 pub returns-in-Err-clause-sees : goal.returns-in-Err-clause-sees
 returns-in-Err-clause-sees g c = let inv = c.loop-turn.invariant in
-    let t = others_then_try _ _ c.args.op.now _ _ c.turn.result _ inv.same.client inv.others c.turn.ensures.sees in
-    rw c.in-Err.is at t
+    rw c.in-Err.is at (others_then_try _ _ c.args.op.now _ _ c.turn.result _ inv.same.client inv.others c.turn.ensures.sees)
 
 pub returns-in-Err-clause-refused : goal.returns-in-Err-clause-refused
 returns-in-Err-clause-refused g c =

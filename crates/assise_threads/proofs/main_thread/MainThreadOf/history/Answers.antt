@@ -1,13 +1,11 @@
 use Rattle.std.proofs.Common.{rules, ◌≡◌, ◌∙◌, ap, is_some, subst, sym}
-use Rattle.assise_keeper.proofs.LedStates.{led_from}
 use Rattle.assise_keeper.specs.Clients.{Extends, openings_of}
 use Rattle.assise_keeper.specs.Passes.{last, seen, taken}
 use Rattle.assise_machine.specs.Clusters.{machine}
-use Rattle.assise_machine.specs.Following.{IsLedTo, led_to_itself}
 use Rattle.assise_threads.specs.LastSeen.{machine_seen}
 use Rattle.assise_threads.specs.Openings.{OpensNone}
 use Rattle.assise_threads.specs.Threads.{main_seen}
-use Rattle.assise_threads.proofs.LedTakes.{between, cluster_leads, not_never, works_seen}
+use Rattle.assise_threads.proofs.LedTakes.{between, leads_itself, not_never, works_seen}
 use Rattle.assise_threads.proofs.Nobodys.{may_give_same, same_opens_none, stays_nobody_same}
 use Rattle.assise_threads.proofs.main_thread.MainThreadOf.history.Goals as goal
 
@@ -17,8 +15,7 @@ give-requires-clause-grows g c =
     may_give_same _ _ _ _ is
 
 pub give-requires-clause-leads : goal.give-requires-clause-leads
-give-requires-clause-leads g c =
-    led_from cluster_leads _ c.take-held.result c.state.result.now c.take-held.ensures.state (subst (λ z. IsLedTo (machine c.take-held.result) (machine z)) (sym c.state.ensures.value) (led_to_itself (machine c.take-held.result)))
+give-requires-clause-leads g c = leads_itself _ _ _ c.take-held.ensures.state c.state.ensures.value
 
 pub invariant_of-self : goal.invariant_of-self
 invariant_of-self g c =

@@ -1,10 +1,10 @@
-use Rattle.std.proofs.Common.{rules, ◌≡◌, ◌++◌, ◌∷◌, [], ◌∙◌, append_assoc, refl, subst}
+use Rattle.std.proofs.Common.{rules, ◌≡◌, ◌++◌, ◌∷◌, [], ◌∙◌, append_assoc, refl, subst, sym}
 use Rattle.assise_keeper.proofs.PassAdds.{extends-same}
 use Rattle.assise_link.specs.Kinds.{perfect}
 use Rattle.assise_workers.specs.Acting.{HasCarried}
-use Rattle.assise_workers.specs.Letters.{letter_of}
+use Rattle.assise_workers.specs.Letters.{AreReadBy, letter_of}
 use Rattle.assise_workers.specs.Working.{seen_at}
-use Rattle.assise_workers.proofs.Deliveries.{before_read, earlier_read, last_read, none_carried, one_more_carried, one_read, rest_kept}
+use Rattle.assise_workers.proofs.Deliveries.{none_carried, one_more_carried, read_parts, rest_kept}
 use Rattle.assise_workers.proofs.Lists.{extends-on}
 use Rattle.assise_workers.proofs.worker.Worker.send_all.Goals as goal
 
@@ -27,15 +27,17 @@ loop-letter-preserved g c = let before = c.loop-letter.invariant in let now = c.
       stays = now.stays ∙ before.stays;
       all = append_assoc c.loop-letter.yielded (letter ∷ []) rest ∙ whole;
       carried = λ reads all. one_more_carried g.S.Growing.history g.S.Replicated.acts _ reads c.loop-letter.yielded letter c.loop-letter.taken c.in-Some-send.one _ _ _ _ c.saturating_add-taken.ensures
-          (before.carried reads (before_read reads c.loop-letter.yielded letter all))
-          (subst (λ kind. HasCarried g.S.Growing.history g.S.Replicated.acts (kind ≡ perfect) reads (letter_of letter ∷ []) c.in-Some-send.one (seen_at c.loop-letter.self) (seen_at c.send.new.self)) before.stays (now.turn reads (last_read reads c.loop-letter.yielded letter all)));
+          (before.carried reads (read_parts reads c.loop-letter.yielded (letter ∷ []) all).0)
+          (subst (λ kind. HasCarried g.S.Growing.history g.S.Replicated.acts (kind ≡ perfect) reads (letter_of letter ∷ []) c.in-Some-send.one
+          (seen_at c.loop-letter.self) (seen_at c.send.new.self)) before.stays (now.turn reads (read_parts reads c.loop-letter.yielded (letter ∷ []) all).1.0));
     }
 
 pub returns-in-None-send-clause-turn : goal.returns-in-None-send-clause-turn
 returns-in-None-send-clause-turn g c = let before = c.loop-letter.invariant in let letter = c.in-Some.letter in let rest = c.next.new.self.rest.items in
     let whole : c.loop-letter.yielded ++ letter ∷ rest ≡ c.args.letters.items = search rules in
     λ reads all.
-    let now = c.in-None-send.ensures.turn reads (one_read reads c.loop-letter.yielded letter rest c.args.letters.items whole all) in
+    let read = read_parts reads c.loop-letter.yielded (letter ∷ rest) (subst (AreReadBy reads) (sym whole) all) in
+    let now = c.in-None-send.ensures.turn reads read.1.0 in
     rest_kept g.S.Growing.history g.S.Replicated.acts _ reads c.loop-letter.yielded letter rest c.args.letters.items c.loop-letter.taken now.0 (seen_at c.args.self.now) (seen_at c.loop-letter.self) (seen_at c.send.new.self) whole
-    (before.carried reads (earlier_read reads c.loop-letter.yielded letter rest c.args.letters.items whole all))
+    (before.carried reads read.0)
     (subst (λ kind. HasCarried g.S.Growing.history g.S.Replicated.acts (kind ≡ perfect) reads (letter_of letter ∷ []) now.0 (seen_at c.loop-letter.self) (seen_at c.send.new.self)) before.stays now.1)
