@@ -42,9 +42,6 @@ no_open m n far = ap (λ s. or_else (unless_full NodeDown s) (fault_if (nat_le M
 pub opens_nowhere : (m : Machine) (n : ℕ) (u : Durability) → length m.members.nodes < n → Opening m n u (refused BadNode) m
 opens_nowhere m n u far = is_refused BadNode (no_open m n far) refl refl
 
-pub sends_nowhere : (m : Machine) (n : ℕ) → length m.members.nodes < n → Sending m n (refused BadNode) m
-sends_nowhere m n far = node_refused BadNode (no_node m n far) refl refl
-
 pub sets_nowhere : (m : Machine) (n capacity : ℕ) → length m.members.nodes < n → SettingHot m n capacity (refused BadNode) m
 sets_nowhere m n capacity far = node_refused BadNode (no_node m n far) refl refl
 

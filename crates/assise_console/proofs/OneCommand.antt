@@ -194,9 +194,6 @@ sets_hot m n k capacity a e m' same least most tells h = hot_made n capacity a m
 pub hot_nowhere : (m : Machine) (n capacity : ℕ) → 1 ≤ capacity → capacity ≤ 4096 → length m.members.nodes < n → (es : Told) × SetsHot n capacity (Refused BadNode) m es m
 hot_nowhere m n capacity least most far = hot_made n capacity (Refused BadNode) m m least most (refuses_at (λ j. set_hot j capacity) m n BadNode (sets_nowhere m n capacity far))
 
-pub hot_out : (m : Machine) (n capacity : ℕ) → (1 ≤ capacity → capacity ≤ 4096 → ⊥) → (es : Told) × SetsHot n capacity Quiet m es m
-hot_out m n capacity out = ([], is_out out refl record { told = refl; stays = refl })
-
 -- ---- the same of a console, whose cluster alone changes
 
 pub changes : (What : Machine → Told → Machine → Type 0) (s : ConsoleState) (m' : Machine) → (es : Told) × What s.machine es m' → (es : Told) × Changes What s es (with_machine s m')

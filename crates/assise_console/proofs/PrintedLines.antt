@@ -54,21 +54,3 @@ prints-push s (k ∷ ls) es text t l fs a u p q = record {
 pub on_ok : {X E : Type 0} (r : Result X E) (P Q : Type 0) → OnOk r P → (P → Q) → OnOk r Q
 on_ok (Ok x) P Q p f = f p
 on_ok (Err e) P Q p f = tt
-
--- a reader's failure leaves what was written
-pub read_failed : (e : EngineFault) (known old : Option (List ℕ)) → IsReadFault e → FaultFrom e known old old
-read_failed Read known old h = refl
-read_failed Memory known old h = refl
-read_failed (Script line fault) known old h = absurd h
-read_failed Write known old h = absurd h
-read_failed (NeedsSerial line command) known old h = absurd h
-read_failed NoThread known old h = absurd h
-
--- a fault of the bytes that were read is one of what the reader gave
-pub fault_from : (e : EngineFault) (known old new : Option (List ℕ)) (input : List ℕ) → IsInput known input → FaultOf e input old new → FaultFrom e known old new
-fault_from Read known old new input read h = absurd h
-fault_from Memory known old new input read h = h.1
-fault_from (Script line fault) known old new input read h = (input, (read, h))
-fault_from Write known old new input read h = (input, (read, h))
-fault_from (NeedsSerial line command) known old new input read h = absurd h
-fault_from NoThread known old new input read h = absurd h

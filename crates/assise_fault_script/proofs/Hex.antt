@@ -36,8 +36,3 @@ two_more prefix (high ∷ low ∷ digits) b l h =
 pub none_left : (prefix rest : List ℕ) → length rest ≡ 0 → with_prefix prefix (hex_bytes rest) ≡ Ok prefix
 none_left prefix [] h = ap Ok (append-nil prefix)
 none_left prefix (b ∷ rest) h = absurd (omega arith)
-
-pub one_left : (prefix rest : List ℕ) → 0 < length rest → length rest < 2 → with_prefix prefix (hex_bytes rest) ≡ Err BadData
-one_left prefix [] h l = absurd (omega arith)
-one_left prefix (b ∷ []) h l = refl
-one_left prefix (b ∷ c ∷ rest) h l = absurd (omega arith)

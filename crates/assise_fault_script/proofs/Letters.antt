@@ -10,10 +10,6 @@ use Rattle.assise_fault_script.specs.Number.{number_of}
 abbrev pub Begins : ℕ → List ℕ → Option (Bor (List ℕ)) → Type 0
 Begins letter word r = MatchOption r ((rest : List ℕ) → word ≢ letter ∷ rest) (λ x. word ≡ letter ∷ x.now)
 
-pub does_begin : (letter : ℕ) (word : List ℕ) (r : Option (Bor (List ℕ))) (x : Bor (List ℕ)) → Begins letter word r → r ≡ Some x → word ≡ letter ∷ x.now
-does_begin letter word (Some y) x h e = let same : y ≡ x = cc in h ∙ ap (λ z. letter ∷ z.now) same
-does_begin letter word None x h e = cc
-
 pub does_not : (letter : ℕ) (word : List ℕ) (r : Option (Bor (List ℕ))) → Begins letter word r → r ≡ None → (rest : List ℕ) → word ≢ letter ∷ rest
 does_not letter word None h e = h
 does_not letter word (Some y) h e = cc
@@ -39,9 +35,3 @@ given_text word None h is = cc
 pub no_text : (word : List ℕ) (r : Option (Bor (List ℕ))) → Begins 116 word r → false ≡ is_some r → (rest : List ℕ) → word ≢ 116 ∷ rest
 no_text word None h is = h
 no_text word (Some x) h is = cc
-
-pub hex_letter : (word rest : List ℕ) → word ≡ 120 ∷ rest → data_of word ≡ hex_bytes rest
-hex_letter word rest h = ap data_of h
-
-pub zeros_letter : (word rest : List ℕ) → word ≡ 122 ∷ rest → data_of word ≡ zeros (number_of rest)
-zeros_letter word rest h = ap data_of h

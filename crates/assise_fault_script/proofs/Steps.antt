@@ -51,9 +51,6 @@ pub record IsReadTo (bytes : List ℕ) (p : Progress) (lines : List (List ℕ)) 
   pub counted : p.number ≡ length prefix + 1
   pub reads : (others : List (List ℕ)) → commands_from 1 false (prefix ++ others) ≡ comes_of p others
 
-pub none_read : (bytes : List ℕ) (p : Progress) → p ≡ start → IsReadTo bytes p (lines_of bytes)
-none_read bytes p h = rw h (record { prefix = []; parts = refl; counted = refl; reads = λ others. sym (with_prefix-nil (commands_from 1 false others)) })
-
 -- one line more is read
 pub one_read : (bytes : List ℕ) (p q : Progress) (line : List ℕ) (lines whole : List (List ℕ)) → whole ≡ line ∷ lines → IsReadTo bytes p whole → next p line ≡ Ok q → q.number ≡ p.number + 1 → IsReadTo bytes q lines
 one_read bytes p q line lines whole parts read gives counts =

@@ -10,8 +10,3 @@ use Rattle.assise_inode_plan.specs.Leased.{LeaseView, NotesAVisit}
 pub note_walk : (leased : LeaseView) (v : Values) (p : List (List ℕ)) (next : ℕ → Content → Interaction) → leased 0 Read ≡ true → NotesAVisit leased (visits_of v (walk p next))
 note_walk leased v [] next seen = seen
 note_walk leased v (name ∷ p) next seen = seen
-
--- a path that isn't the root
-pub note_below : (leased : LeaseView) (v : Values) (at_root below : Interaction) (p : List (List ℕ)) → 1 ≤ length p → NotesAVisit leased (visits_of v below) →
-    NotesAVisit leased (visits_of v (cond (length p == 0) at_root below))
-note_below leased v at_root below p some notes = subst (λ b. NotesAVisit leased (visits_of v (cond b at_root below))) (sym (ne_eqb (length p) 0 (λ none. absurd (omega (arith, some, none))))) notes

@@ -26,8 +26,5 @@ pub effect_lacks : (leased : LeaseView) (es : List Effect) (k : ℕ) (e : Effect
     first_missing leased (for_writing (touched es)) ≡ Some (touched_by e, Write)
 effect_lacks leased es k e so_far few is bare = at_effect leased es k e so_far few is ∙ lacking leased e (drop (k + 1) es) bare
 
-pub effect_leased : (leased : LeaseView) (es : List Effect) (k : ℕ) (e : Effect) → LooksAt leased es k → k < length es → e ≡ slice_index_or es k e → leased (touched_by e) Write ≡ true → LooksAt leased es (k + 1)
-effect_leased leased es k e so_far few is held = at_effect leased es k e so_far few is ∙ holding leased e (drop (k + 1) es) held
-
 pub all_leased : (leased : LeaseView) (es : List Effect) (k : ℕ) → LooksAt leased es k → length es ≤ k → first_missing leased (for_writing (touched es)) ≡ None
 all_leased leased es k so_far all = so_far ∙ ap (λ fs. first_missing leased (for_writing (touched fs))) (drop_of_length-le es all)

@@ -50,10 +50,6 @@ given_back m i c had is =
 pub inserted_there : (m : InodeMap) (i : ℕ) (c : Content) → IsSome (map.get (map.insert m i c) i)
 inserted_there m i c = ap is_some (get-with_value m i (Some c) i ∙ ap (λ b. cond b (Some c) (map.get m i)) (eq-eqb i i refl))
 
-pub some_not_none : {A : Type 0} (o : Option A) → IsSome o → o ≡ None → ⊥
-some_not_none None some none = cc
-some_not_none (Some x) some none = cc
-
 -- ---- which effects may ask for memory
 
 pub first_of_away : (es : List Effect) → OnlyTakeAway es → OnlyFirstAsks es

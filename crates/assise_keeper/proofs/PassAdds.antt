@@ -79,9 +79,6 @@ pub drop-prefix : (h xs : List EntryValue) → drop (length h) (h ++ xs) ≡ xs
 drop-prefix [] xs = refl
 drop-prefix (e ∷ h) xs = drop-prefix h xs
 
-pub drop-whole : (h : List EntryValue) → drop (length h) h ≡ []
-drop-whole h = ap (drop (length h)) (sym (append-nil h)) ∙ drop-prefix h []
-
 nothing_more : (xs ys : List EntryValue) → xs ++ ys ≡ xs → ys ≡ []
 nothing_more [] ys e = e
 nothing_more (x ∷ xs) ys e = nothing_more xs ys (cc)
