@@ -1,10 +1,10 @@
 -- Why nothing can be delivered to a node, and where it can.
-use Rattle.std.proofs.Common.{◌≡◌, ℕ, ◌<◌, ◌≤◌, nat_le, Bool, true, false, not, ◌&&◌, Option, Some, None, length, inl, inr, refl, sym, ◌∙◌, arith}
+use Rattle.std.proofs.Common.{◌≡◌, ℕ, ◌<◌, ◌≤◌, nat_le, Bool, true, false, not, ◌&&◌, Option, Some, None, length, refl, sym, ◌∙◌, arith}
 use Rattle.std.proofs.lemmas.Bool.{and_from, and_parts, and_right, cases_Bool, le-leb, leb-true}
 use Rattle.assise_names.specs.declared.refusal.Refusal.{Refusal}
 use Rattle.assise_names.specs.declared.refusal.Refusal.TheVariants.{BadClient, WrongPhase}
 use Rattle.assise_record.specs.LogFrame.{LogFrame}
-use Rattle.assise_manager.specs.Standings.{Standing, down, full, returning, standing_of}
+use Rattle.assise_manager.specs.Standings.{Standing, standing_of}
 use Rattle.assise_model_events.specs.Faults.{delivery_fault, fault_if, node_fault, or_else, unless_full}
 use Rattle.assise_machine_state.specs.Observed.{is_full_in, observed, stands_full, world_of}
 use Rattle.assise_machine_state.specs.Places.{IsNumber}
@@ -28,11 +28,7 @@ pub node_refused : (s : StateValue) (f : LogFrame) (n : ℕ) (r : Refusal) → n
 node_refused s f n r same = fault_is s f n ∙ rw (sym (node_is s n) ∙ same) refl
 
 past_last : (c k : ℕ) → k < c → nat_le c k ≡ false
-past_last c k past =
-    elim (cases_Bool (nat_le c k)) [
-      | inl low ↦ (let there : c ≤ k = leb-true c k low in absurd (omega (arith, past, there)))
-      | inr high ↦ high
-    ]
+past_last c k past = grind (arith, cases_Bool, leb-true)
 
 pub no_client : (s : StateValue) (f : LogFrame) (n : ℕ) → node_fault (observed s) n ≡ None → length s.clients < f.client → delivery_fault (observed s) f n ≡ Some BadClient
 no_client s f n same past =
@@ -47,19 +43,11 @@ may_deliver s f n same some low =
 
 -- ---- what holds where there is none
 
-some_none : (r : Refusal) (o : Option Refusal) → or_else (Some r) o ≡ None → ⊥
-some_none r o same = cc
-
 full_then : (o : Option Standing) (later : Option Refusal) → or_else (unless_full WrongPhase o) later ≡ None → stands_full o ≡ true
-full_then None later fine = cc
-full_then (Some full) later fine = refl
-full_then (Some (down since)) later fine = cc
-full_then (Some (returning since donor stale)) later fine = cc
+full_then o later fine = grind arith
 
 known_then : (o : Option Refusal) (b : Bool) → or_else o (fault_if (not b) BadClient) ≡ None → b ≡ true
-known_then None true fine = refl
-known_then None false fine = cc
-known_then (Some r) b fine = absurd (some_none r (fault_if (not b) BadClient) fine)
+known_then o b fine = grind arith
 
 pub fine_full : (s : StateValue) (f : LogFrame) (n : ℕ) → delivery_fault (observed s) f n ≡ None → is_full_in (standings s) n ≡ true
 unfolding is_full_in

@@ -10,8 +10,7 @@ use Rattle.assise_model_events.specs.ClientEvents.{is_refused}
 use Rattle.assise_model_events.specs.Events.{Answer, ClusterEvent, all_entries, entries_of, open_client, refused}
 use Rattle.assise_model_events.specs.Faults.{open_fault}
 use Rattle.assise_model_events.specs.Happenings.{Leads}
-use Rattle.assise_model_events.specs.Machine.{MachineInvariant, Machine, begun_as, state_of}
-use Rattle.assise_model_events.proofs.StartKeeps.{begun_holds}
+use Rattle.assise_model_events.specs.Machine.{MachineInvariant, Machine, state_of}
 use Rattle.assise_model_events.proofs.EachEvent.{event_keeps, event_leads, event_told}
 use Rattle.assise_model_events.proofs.EventTraces.{same_leads, same_told}
 use Rattle.assise_model_events.proofs.Whatever.{then_leads}
@@ -56,9 +55,6 @@ pub all_last : (k : ℕ) (m m' : Machine) (es : List (ClusterEvent × Answer)) �
 all_last k m m' es h run =
     let l : Leads m m' = all_lead k m m' es h run in
     subst (IsLasting (state_of m)) l.last (trace_lasts (state_of m) l.states h.sound h.recorded l.trace)
-
-pub reached_holds : (k nodes limit hot : ℕ) (es : List (ClusterEvent × Answer)) (m : Machine) → 0 < nodes → AllServed k (begun_as nodes limit hot) es m → MachineInvariant m
-reached_holds k nodes limit hot es m some run = all_keep k (begun_as nodes limit hot) m es (begun_holds nodes limit hot some) run
 
 -- ---- one event more
 

@@ -14,7 +14,7 @@ use Rattle.assise_model_world.proofs.Views.{ahead_between}
 use Rattle.assise_model_events.specs.Events.{Answer, failed}
 use Rattle.assise_model_events.specs.Machine.{MachineInvariant, Machine}
 use Rattle.assise_model_events.specs.MemberEvents as member
-use Rattle.assise_model_events.specs.MemberEvents.{Failing, IsFailed, IsFailedAgain}
+use Rattle.assise_model_events.specs.MemberEvents.{Failing, IsFailed}
 use Rattle.assise_model_events.proofs.LeaseSteps.{full_after}
 use Rattle.assise_machine.proofs.Others.{dropped_ahead, leaves_all, leaves_nodes}
 

