@@ -31,15 +31,10 @@ past_last : (c k : ℕ) → k < c → nat_le c k ≡ false
 past_last c k past = grind (arith, cases_Bool, leb-true)
 
 pub no_client : (s : StateValue) (f : LogFrame) (n : ℕ) → node_fault (observed s) n ≡ None → length s.clients < f.client → delivery_fault (observed s) f n ≡ Some BadClient
-no_client s f n same past =
-    let unknown : is_known f.client (length s.clients) ≡ false = and_right (nat_le 1 f.client) (nat_le f.client (length s.clients)) (past_last f.client (length s.clients) past) in
-    fault_is s f n ∙ rw (sym (node_is s n) ∙ same, unknown) refl
+no_client s f n same past = grind (arith, and_right, past_last, fault_is, node_is)
 
 pub may_deliver : (s : StateValue) (f : LogFrame) (n : ℕ) → node_fault (observed s) n ≡ None → 0 < f.client → f.client ≤ length s.clients → delivery_fault (observed s) f n ≡ None
-may_deliver s f n same some low =
-    let known : is_known f.client (length s.clients) ≡ true =
-    and_from (nat_le 1 f.client) (nat_le f.client (length s.clients)) (le-leb 1 f.client some) (le-leb f.client (length s.clients) low) in
-    fault_is s f n ∙ rw (sym (node_is s n) ∙ same, known) refl
+may_deliver s f n same some low = grind (arith, and_from, le-leb, fault_is, node_is)
 
 -- ---- what holds where there is none
 
@@ -54,7 +49,4 @@ unfolding is_full_in
 fine_full s f n fine = full_then (standing_of (standings s) n) (fault_if (not (is_known f.client (length s.clients))) BadClient) (sym (fault_is s f n) ∙ fine)
 
 pub fine_client : (s : StateValue) (f : LogFrame) (n : ℕ) → delivery_fault (observed s) f n ≡ None → IsNumber s.clients f.client
-fine_client s f n fine =
-    let known : is_known f.client (length s.clients) ≡ true = known_then (unless_full WrongPhase (standing_of (standings s) n)) (is_known f.client (length s.clients)) (sym (fault_is s f n) ∙ fine) in
-    let parts = and_parts (nat_le 1 f.client) (nat_le f.client (length s.clients)) known in
-    record { some = leb-true 1 f.client parts.0; there = leb-true f.client (length s.clients) parts.1 }
+fine_client s f n fine = grind (arith, known_then, fault_is, and_parts, leb-true)

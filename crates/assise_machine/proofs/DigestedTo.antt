@@ -129,7 +129,8 @@ module _ (s : StateValue) (n : ℕ) (shape : ShapeInvariant s) (sound : ∥ Worl
   pub same_to : (count m : ℕ) → m ≤ length s.clients → EndWithGroups w n count m → StillSame s (digests_to s n count m) n m
   same_to count zero last whole = assumption
   same_to count (suc m) last whole =
-      next_same (digests_to s n count m) m (same_to count m (omega (arith, last)) (fewer_whole count m whole)) (omega (arith, last)) (part_of w n count (suc m)) (omega arith) (whole m (omega arith))
+      next_same (digests_to s n count m) m (same_to count m (omega (arith, last)) (fewer_whole count m whole))
+      (omega (arith, last)) (part_of w n count (suc m)) (omega arith) (whole m (omega arith))
 
   pub trace_to : (count m : ℕ) → m ≤ length s.clients → EndWithGroups w n count m → DigestsTo n count w w s.members m (world_of (digests_to s n count m)) (digests_to s n count m).members
   trace_to count zero last whole = (refl, refl)
@@ -217,14 +218,7 @@ module _ (s : StateValue) (n : ℕ) (shape : ShapeInvariant s) (sound : ∥ Worl
   -- a client's part behind those of the clients before
   pub part_behind : (a b m : ℕ) → a ≡ min most_digested (undigested_to w n m) → b ≤ min (most_digested - a) (undigested w n (suc m)) →
       digests_some (digests_to s n a m) n (suc m) b ≡ digests_to s n (a + b) (suc m)
-  part_behind a b m all few =
-      let part : b ≡ part_of w n (a + b) (suc m) = omega (arith, all, few) in
-      elim (cases_lt a (undigested_to w n m)) [
-        | inl most ↦ (let none : a ≡ a + b = omega (arith, all, few, most) in (λ i. digests_some (digests_to s n (none i) m) n (suc m) (part i)))
-        | inr enough ↦
-            let before = enough_same a (a + b) m (omega (arith, enough)) (omega (arith, enough)) in
-            (λ i. digests_some (before i) n (suc m) (part i))
-      ]
+  part_behind a b m all few = grind (arith, cases_lt, enough_same)
 
   -- ---- as the code finds it
 

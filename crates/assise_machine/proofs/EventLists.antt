@@ -111,9 +111,7 @@ module _ (k j : ℕ) (m v m' : Machine) (es : List Event) (bs cs : List Answered
 
 -- a prefix of a prefix
 pub prefix_on : {X : Type 0} (xs ys zs : List X) → ys ≡ take (length ys) xs → zs ≡ take (length zs) ys → zs ≡ take (length zs) xs
-prefix_on xs ys zs first second =
-    let few : length zs ≤ length ys = (let taken = length-take (length zs) ys in let same = ap length second in omega (arith, taken, same)) in
-    second ∙ ap (take (length zs)) first ∙ take-take (length zs) (length ys) xs few
+prefix_on xs ys zs first second = grind (arith, length-take, take-take)
 
 -- a whole list
 pub told_all : (k : ℕ) (m m' : Machine) (es : List Event) (bs : List Answered) (i : ℕ) → length es ≤ i → AllServed k m (told (take i es) bs) m' →

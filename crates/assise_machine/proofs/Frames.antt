@@ -98,7 +98,8 @@ module _ (s : StateValue) (n c : ℕ) (shape : ShapeInvariant s) (holds : ∥ Ma
 
         pub some_sent : (k : ℕ) → next ≡ Some k →
             frame_for (observed s) n c (next_node (observed s) n c)
-            ≡ for_node k (message_of (log_in s.nodes n c).log (sends_marks (level_of s.members.levels n)) s.members.epoch c (log_end (log_in s.nodes k c).log) (min (client_in s.clients c).goal (log_end (log_in s.nodes n c).log)))
+            ≡ for_node k (message_of (log_in s.nodes n c).log (sends_marks (level_of s.members.levels n)) s.members.epoch c (log_end (log_in s.nodes k c).log)
+            (min (client_in s.clients c).goal (log_end (log_in s.nodes n c).log)))
         unfolding observed world_of
         some_sent k is =
             let l = (log_in s.nodes n c).log in

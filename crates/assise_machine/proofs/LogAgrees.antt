@@ -1,5 +1,5 @@
 -- A log goes on with some records.
-use Rattle.std.proofs.Common.{◌≡◌, ℕ, zero, suc, ◌+◌, ◌-◌, ◌<◌, ◌≤◌, nat_lt, List, [], ◌∷◌, length, take, drop, slice_get, Some, None, inl, inr, refl, ap, sym, subst, ◌∙◌, arith}
+use Rattle.std.proofs.Common.{◌≡◌, ℕ, zero, suc, ◌+◌, ◌-◌, ◌≤◌, List, [], ◌∷◌, length, take, drop, slice_get, Some, None, refl, ap, sym, subst, ◌∙◌, arith}
 use Rattle.std.proofs.lemmas.Bool.{cases_Bool, ltb-true}
 use Rattle.std.proofs.lemmas.List.{length-drop, take_all}
 use Rattle.std.proofs.lemmas.Option.{get_or_from_slice_get, slice_get_within}
@@ -12,11 +12,7 @@ drop_here : (xs : List LogRecord) (i : ℕ) (x : LogRecord) → slice_get xs i �
 drop_here xs i x is = drop-cons xs i x (slice_get_within xs i x is) ∙ ap (λ y. y ∷ drop (suc i) xs) (get_or_from_slice_get xs i x x is)
 
 place_at : (l : NumberedLog) (from : ℕ) → l.first ≤ from → record_at l from ≡ slice_get l.records (from - l.first)
-place_at l from begun =
-    elim (cases_Bool (nat_lt from l.first)) [
-      | inl low ↦ (let before : from < l.first = ltb-true from l.first low in absurd (omega (arith, begun, before)))
-      | inr high ↦ rw high refl
-    ]
+place_at l from begun = grind (arith, cases_Bool, ltb-true)
 
 pub goes_on : (l : NumberedLog) (from : ℕ) (r : LogRecord) → l.first ≤ from → Some r ≡ record_at l from → records_from l from ≡ r ∷ records_from l (from + 1)
 goes_on l from r begun is =

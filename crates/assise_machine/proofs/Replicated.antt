@@ -160,7 +160,8 @@ module _ (s : StateValue) (shape : ShapeInvariant s) (some : 0 < length (full_no
       ∙ ap (tree_after opening) (kept_below_is (first_unreplicated (observed s).world) s.history)
       ∙ ap (tree_after_calls opening) (plain_ops (filter (below (first_unreplicated (observed s).world)) (kept_numbered s.history)))
 
-  module _ (places : List ℕ) (count : length places ≡ length s.clients) (each : (c : ℕ) → c < length s.clients → slice_index_or places c 0 ≡ acked (suc c)) where
+  module _ (places : List ℕ) (count : length places ≡ length s.clients)
+      (each : (c : ℕ) → c < length s.clients → slice_index_or places c 0 ≡ acked (suc c)) where
     same_values : (n : ℕ) → MachineInvariant (observed s) → Full (observed s).world n → (i : ℕ) →
         alone (region_in s.nodes n) places i ≡ alone_observed (observed s).world n i
     unfolding observed
@@ -185,7 +186,7 @@ module _ (s : StateValue) (shape : ShapeInvariant s) (some : 0 < length (full_no
   unfolding observed
   run_known b past = ∥∥₁_elim holds (answered_prop opening (map exchange (kept_below b s.history))) (λ h.
       let high : (c : ℕ) → first_undigested (observed s).world c ≤ b c = λ c.
-          omega (arith, first_undigested-below (observed s).world h.sound.coherent c, bound_known c, past c) in
+      omega (arith, first_undigested-below (observed s).world h.sound.coherent c, bound_known c, past c) in
       let answered : AreAnswered opening (exchanges (filter (below b) (observed s).world.calls)) = answered_at (observed s).world b h.sound.coherent high in
       subst (IsRun opening) (sym (kept_below_is b s.history))
       (subst (AreAnswered opening) (sym (plain_exchanges (filter (below b) (kept_numbered s.history))))
@@ -259,7 +260,8 @@ module _ {C : Type 0} (cluster later : ClusterOf C)
   where
     pub nodes_stay : length (regions_of later) ≡ length (regions_of cluster)
     unfolding observed
-    nodes_stay = ∥∥₁_elim cluster.sound.invariant.holds (search props) (λ h. later.sound.invariant.shape.nodes ∙ (lasts h).nodes ∙ sym cluster.sound.invariant.shape.nodes)
+    nodes_stay = ∥∥₁_elim cluster.sound.invariant.holds (search props)
+        (λ h. later.sound.invariant.shape.nodes ∙ (lasts h).nodes ∙ sym cluster.sound.invariant.shape.nodes)
 
     pub bounds_stay : (c : ℕ) → replicated_to cluster c ≤ replicated_to later c
     bounds_stay c = ∥∥₁_elim cluster.sound.invariant.holds le_prop (λ h.

@@ -214,9 +214,7 @@ module _ (s : StateValue) (shape : ShapeInvariant s) (some : 0 < length (full_no
   none_made c nobody = sym (counted c) ∙ ap (λ x. x.next) nobody
 
   least_of_nobody : (c : ℕ) → next c ≡ 0 → least_end c s.nodes (next c) ≡ received_by_all w c
-  least_of_nobody c none =
-      let high : least_end c s.nodes (next c) ≤ next c = least_end-most c s.nodes (next c) in
-      omega (arith, high, none, received-end c, few c)
+  least_of_nobody c none = grind (arith, least_end-most, received-end, few)
 
   unopened : (c : ℕ) → length s.clients < c → client_in s.clients c ≡ no_client
   unfolding client_in
@@ -251,7 +249,8 @@ module _ (s : StateValue) (shape : ShapeInvariant s) (some : 0 < length (full_no
               }
           | inr away ↦ record {
             taken = 0;
-            is = ap (λ ls. records_from (item_at no_log ls c).log place) (none_there j c away) ∙ ap (λ l. records_from l.log place) (seen_nothing no_log c) ∙ drop-nil (place - 0) ∙ sym (drop-nil d);
+            is = ap (λ ls. records_from (item_at no_log ls c).log place) (none_there j c away)
+                ∙ ap (λ l. records_from l.log place) (seen_nothing no_log c) ∙ drop-nil (place - 0) ∙ sym (drop-nil d);
           }
         ]
 

@@ -63,7 +63,9 @@ module _ {s : StateValue} {n : ℕ} (begun : Begins s n) where
 
     pub lacks : is_refused ≡ true → a ≡ 0 → Digesting (observed s) n (refused OutOfMemory) (observed t)
     unfolding observed world_of
-    lacks stops none = (let short = go.ended (go.refused stops) in lacks_memory begun.fine (omega (arith, short, none)) refl (ap observed (nothing_digested none)))
+    lacks stops none =
+        let short = go.ended (go.refused stops) in
+        lacks_memory begun.fine (omega (arith, short, none)) refl (ap observed (nothing_digested none))
 
     pub same : StillSame s t n (length s.clients)
     same = same_as s n begun.shape sound here (length s.clients) (omega arith) go

@@ -186,7 +186,11 @@ module _ (s : StateValue) (n : ℕ) (inodes : set.FinSet nat_cmp) (levels : TwoL
       leases = subst (LeasesFail w (leases_of s) n (world_of t)) (sym leases_end) seen;
       drops = drops;
       others = λ k i away. dropping.area k i;
-      adds = record { history = dropping.history ∙ ap (λ x. x.history) losing.same; limit = dropping.limit ∙ ap (λ x. x.limit) losing.same; hot = dropping.hot ∙ losing.hot ∙ failure_keeps s.nodes n s.clients (kept_at_failure w n) (length s.clients) };
+      adds = record {
+        history = dropping.history ∙ ap (λ x. x.history) losing.same;
+        limit = dropping.limit ∙ ap (λ x. x.limit) losing.same;
+        hot = dropping.hot ∙ losing.hot ∙ failure_keeps s.nodes n s.clients (kept_at_failure w n) (length s.clients);
+      };
     }
 
     happens_so : AreTouched (world_of t) inodes → Failing (observed s) n (failed_answer (losses_of w n)) (observed v)

@@ -106,7 +106,8 @@ still_returning : (t v : StateValue) (ks : List ℕ) → v ≡ record t { nodes 
 still_returning t v [] same are = tt
 still_returning t v (k ∷ ks) same (first, rest) = (ap (λ x. is_returning (standing_of (standings x) k)) same ∙ first, still_returning t v ks same rest)
 
-pub loses_at : (t : StateValue) (k : ℕ) (v : StateValue) → ShapeInvariant t → is_returning (standing_of (standings t) k) ≡ true → LosesStale t k v → LosesAt t k v
+pub loses_at : (t : StateValue) (k : ℕ) (v : StateValue) → ShapeInvariant t → is_returning (standing_of (standings t) k) ≡ true →
+    LosesStale t k v → LosesAt t k v
 loses_at t k v shape is loses = record {
   still = record {
     same = lost_is t k v shape is loses;

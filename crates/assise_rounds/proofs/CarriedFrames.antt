@@ -43,27 +43,27 @@ none_carried F m = record { carried = []; same = λ f. tt; letters = refl; count
 module _ {F G : Type 0} (stays : F → G) {m v m' : Machine} {frames : List (LogFrame × ℕ)} {count : ℕ} {f : LogFrame} {n : ℕ} {is_in : Bool}
     (before : AreCarried F frames count m v) (now : DeliversOver G f n is_in v m')
   where
-  abbrev carried_now : Carried
-  carried_now = record { frame = f; node = n; came = now.came }
+    abbrev carried_now : Carried
+    carried_now = record { frame = f; node = n; came = now.came }
 
-  same_now : F → AreSame (before.carried ++ carried_now ∷ [])
-  same_now faithful = same-more before.carried carried_now (before.same faithful) (now.same (stays faithful))
+    same_now : F → AreSame (before.carried ++ carried_now ∷ [])
+    same_now faithful = same-more before.carried carried_now (before.same faithful) (now.same (stays faithful))
 
-  letters_now : map letter (before.carried ++ carried_now ∷ []) ≡ frames ++ (f, n) ∷ []
-  letters_now = letters-more before.carried carried_now ∙ ap (λ fs. fs ++ (f, n) ∷ []) before.letters
+    letters_now : map letter (before.carried ++ carried_now ∷ []) ≡ frames ++ (f, n) ∷ []
+    letters_now = letters-more before.carried carried_now ∙ ap (λ fs. fs ++ (f, n) ∷ []) before.letters
 
-  happen_now : AllHappen m (deliveries (before.carried ++ carried_now ∷ [])) m'
-  happen_now =
-      subst (λ es. AllHappen m es m') (sym (deliveries-more before.carried carried_now)) (happen_then m v m' (deliveries before.carried) (delivery n now.came) before.happen now.happen)
+    happen_now : AllHappen m (deliveries (before.carried ++ carried_now ∷ [])) m'
+    happen_now =
+        subst (λ es. AllHappen m es m') (sym (deliveries-more before.carried carried_now)) (happen_then m v m' (deliveries before.carried) (delivery n now.came) before.happen now.happen)
 
-  one_more : {k : ℕ} → k ≡ taken (before.carried ++ carried_now ∷ []) → AreCarried F (frames ++ (f, n) ∷ []) k m m'
-  one_more counts = record { carried = before.carried ++ carried_now ∷ []; same = same_now; letters = letters_now; counts = counts; happen = happen_now }
+    one_more : {k : ℕ} → k ≡ taken (before.carried ++ carried_now ∷ []) → AreCarried F (frames ++ (f, n) ∷ []) k m m'
+    one_more counts = record { carried = before.carried ++ carried_now ∷ []; same = same_now; letters = letters_now; counts = counts; happen = happen_now }
 
-  pub one_taken : is_in ≡ true → AreCarried F (frames ++ (f, n) ∷ []) (count + 1) m m'
-  one_taken is = one_more (ap (λ k. k + 1) before.counts ∙ sym (taken-in before.carried carried_now (sym now.taken ∙ is)))
+    pub one_taken : is_in ≡ true → AreCarried F (frames ++ (f, n) ∷ []) (count + 1) m m'
+    one_taken is = one_more (ap (λ k. k + 1) before.counts ∙ sym (taken-in before.carried carried_now (sym now.taken ∙ is)))
 
-  pub one_lost : is_in ≡ false → AreCarried F (frames ++ (f, n) ∷ []) count m m'
-  one_lost is = one_more (before.counts ∙ sym (taken-out before.carried carried_now (sym now.taken ∙ is)))
+    pub one_lost : is_in ≡ false → AreCarried F (frames ++ (f, n) ∷ []) count m m'
+    one_lost is = one_more (before.counts ∙ sym (taken-out before.carried carried_now (sym now.taken ∙ is)))
 
 -- what a node sent was carried
 pub carried_turn : (F : Type 0) (m v : Machine) (n count : ℕ) (frames : List (LogFrame × ℕ)) → Sending m n (sent frames) m → (h : AreCarried F frames count m v) → Replicates F n count m ((outgoing n, sent (map letter h.carried)) ∷ deliveries h.carried) v

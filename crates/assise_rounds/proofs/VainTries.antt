@@ -14,7 +14,8 @@ use Rattle.assise_rounds.specs.Trying.{settled_answer}
 use Rattle.assise_rounds.specs.CallTries.{InVain, IsTriedOut, MakesRoom, waits_in_vain, full_in_vain, settles_at_last, ends_full, ends_waiting}
 use Rattle.assise_rounds.proofs.Traces.{both, event}
 
-pub room_made : (faithful : ℕ → Type 0) (busy : Bool) (c : ℕ) (a : Answer) (m v m' : Machine) → Trying m c Dsync a v → (es : Told) × RoundsOver faithful busy v es m' →
+pub room_made : (faithful : ℕ → Type 0) (busy : Bool) (c : ℕ) (a : Answer) (m v m' : Machine) → Trying m c Dsync a v →
+    (es : Told) × RoundsOver faithful busy v es m' →
     (gs : Told) × MakesRoom faithful busy c m gs m'
 room_made faithful busy c a m v m' h round = (_, record { answer = a; trace = both _ _ _ (event h) round.1 })
 
@@ -22,7 +23,8 @@ room_made faithful busy c a m v m' h round = (_, record { answer = a; trace = bo
 
 pub awaited_in_vain : (faithful : ℕ → Type 0) (busy : Bool) (c : ℕ) (op : Op) (k j : ℕ) (m u v m' : Machine) → busy ≡ true → j ≡ suc k → (es : Told) × InVain faithful c op k m es u → Trying u c op not_yet v →
     (fs : Told) × RoundsOver faithful busy v fs m' → (gs : Told) × InVain faithful c op j m gs m'
-awaited_in_vain faithful busy c op k j m u v m' work is before h round = rw is (_, both _ _ _ before.1 (waits_in_vain (both _ _ _ (event h) (rw work at round.1))))
+awaited_in_vain faithful busy c op k j m u v m' work is before h round =
+    rw is (_, both _ _ _ before.1 (waits_in_vain (both _ _ _ (event h) (rw work at round.1))))
 
 pub found_full : (faithful : ℕ → Type 0) (busy : Bool) (c : ℕ) (op : Op) (k j : ℕ) (m u v m' : Machine) → busy ≡ true → j ≡ suc k → (es : Told) × InVain faithful c op k m es u → Trying u c op (refused LogFull) v →
     (fs : Told) × MakesRoom faithful busy c v fs m' → (gs : Told) × InVain faithful c op j m gs m'
@@ -36,8 +38,10 @@ tried_settled faithful turns c op r k m v m' few other before h = (_, settles_at
 
 pub tried_idle : (faithful : ℕ → Type 0) (turns c : ℕ) (op : Op) (busy : Bool) (k : ℕ) (m u v m' : Machine) → k < turns → busy ≡ false → (es : Told) × InVain faithful c op k m es u → Trying u c op not_yet v →
     (fs : Told) × RoundsOver faithful busy v fs m' → (gs : Told) × IsTriedOut faithful turns c op (Err Busy) m gs m'
-tried_idle faithful turns c op busy k m u v m' few work before h round = (_, ends_waiting k few refl (both _ _ _ before.1 (both _ _ _ (event h) (rw work at round.1))))
+tried_idle faithful turns c op busy k m u v m' few work before h round =
+    (_, ends_waiting k few refl (both _ _ _ before.1 (both _ _ _ (event h) (rw work at round.1))))
 
 pub tried_full : (faithful : ℕ → Type 0) (turns c : ℕ) (op : Op) (busy : Bool) (k : ℕ) (m u v m' : Machine) → k < turns → busy ≡ false → (es : Told) × InVain faithful c op k m es u →
     Trying u c op (refused LogFull) v → (fs : Told) × MakesRoom faithful busy c v fs m' → (gs : Told) × IsTriedOut faithful turns c op (Err LogFull) m gs m'
-tried_full faithful turns c op busy k m u v m' few work before h room = (_, ends_full k few refl (both _ _ _ before.1 (both _ _ _ (event h) (rw work at room.1))))
+tried_full faithful turns c op busy k m u v m' few work before h room =
+    (_, ends_full k few refl (both _ _ _ before.1 (both _ _ _ (event h) (rw work at room.1))))

@@ -75,7 +75,15 @@ given_now : (g : given_of.Over) (c : After-extend g) →
     Gives (value_of c.args.sound.now.state) c.args.frame c.args.node (c.first.result + length c.records.result.now)
     (record (value_of c.args.sound.now.state) { nodes = c.extend.new.self })
 given_now g c =
-    rw (c.first.ensures.first, c.records.ensures.records, c.extend.ensures, c.own_node-own.ensures.node, c.first-2.ensures.first, c.with_own_payloads-records.ensures, c.client-client.ensures.client)
+    rw (
+      c.first.ensures.first,
+      c.records.ensures.records,
+      c.extend.ensures,
+      c.own_node-own.ensures.node,
+      c.first-2.ensures.first,
+      c.with_own_payloads-records.ensures,
+      c.client-client.ensures.client,
+    )
     (given (came g (goal.at.After-extend g c).After-end-received) (c.is_next.ensures.timely c.if-not-is_next.false)
     (past g (goal.at.After-extend g c).After-with_own_payloads-records))
 

@@ -73,7 +73,8 @@ drop_digested-requires-clause-parts g c =
 
 -- what is given then
 
-given_now : (g : given.Over) (c : After-drop_digested g) → Gives (value_of c.args.sound.now.state) c.args.node c.digest_to-progress.result.count (value_of c.drop_digested.new.state)
+given_now : (g : given.Over) (c : After-drop_digested g) →
+    Gives (value_of c.args.sound.now.state) c.args.node c.digest_to-progress.result.count (value_of c.drop_digested.new.state)
 given_now g c =
     let at = (goal.at.After-drop_digested g c).After-digest_to-progress in
     let go = gone g at in

@@ -28,13 +28,15 @@ log-requires g c = record {
 
 -- the most that may be digested; some of these end with a group where there are 64
 
-most : (g : given.Over) (c : After-whole_count-wanted g) → c.min-most.result ≡ min c.args.at_most (undigested (world_of (value_of c.args.state.now)) c.args.node c.args.client)
+most : (g : given.Over) (c : After-whole_count-wanted g) →
+    c.min-most.result ≡ min c.args.at_most (undigested (world_of (value_of c.args.state.now)) c.args.node c.args.client)
 most g c =
     wanted_as (value_of c.args.state.now) c.args.node c.args.client c.requires.parts.shape c.requires.parts.world c.requires.full c.requires.client
     c.digested-from.result c.acked-acked.result c.args.at_most c.min-most.result
     c.digested-from.ensures c.acked-acked.ensures c.min-most.ensures
 
-some : (g : given.Over) (c : After-whole_count-wanted g) → c.args.at_most ≡ 64 → 0 < undigested (world_of (value_of c.args.state.now)) c.args.node c.args.client →
+some : (g : given.Over) (c : After-whole_count-wanted g) → c.args.at_most ≡ 64 →
+    0 < undigested (world_of (value_of c.args.state.now)) c.args.node c.args.client →
     0 < c.whole_count-wanted.result
 some g c =
     some_wanted (value_of c.args.state.now) c.args.node c.args.client c.requires.parts.shape c.requires.parts.world c.requires.full c.requires.client

@@ -32,7 +32,8 @@ pub log-requires : goal.log-requires
 log-requires g c =
     let x = c.args.sound.now.invariant in
     let is = next_now g (goal.at.log-requires g c).After-successor in
-    record { there = next_log (value_of c.args.sound.now.state) c.args.node c.args.client x.shape x.holds c.requires.client c.in-Some.next (sym is ∙ c.in-Some.is) }
+    let s = value_of c.args.sound.now.state in
+    record { there = next_log s c.args.node c.args.client x.shape x.holds c.requires.client c.in-Some.next (sym is ∙ c.in-Some.is) }
 
 pub returns-clause-frame : goal.returns-clause-frame
 returns-clause-frame g c =
@@ -40,10 +41,22 @@ returns-clause-frame g c =
     let mapped : option_to_list c.map.result ≡ for_node c.in-Some.next c.in_ok-frame.frame = search rules in
     let is = next_now g (goal.at.returns-clause-frame g c).After-successor in
     let there =
-    some_sent (value_of c.args.sound.now.state) c.args.node c.args.client x.shape x.holds c.requires.client c.requires.full c.in-Some.next (sym is ∙ c.in-Some.is) in
+    some_sent (value_of c.args.sound.now.state) c.args.node c.args.client x.shape x.holds c.requires.client c.requires.full
+    c.in-Some.next (sym is ∙ c.in-Some.is) in
     mapped
-    ∙ rw (c.in_ok-frame.ensures.exact, c.sends_marks-marked.ensures, c.level.ensures, c.epoch.ensures.epoch, c.min-to.ensures, c.goal.ensures,
-    c.get-known.ensures, c.end.ensures.end, c.end-from.ensures.end, c.log.ensures.log, c.log-log.ensures.log) (sym there)
+    ∙ rw (
+      c.in_ok-frame.ensures.exact,
+      c.sends_marks-marked.ensures,
+      c.level.ensures,
+      c.epoch.ensures.epoch,
+      c.min-to.ensures,
+      c.goal.ensures,
+      c.get-known.ensures,
+      c.end.ensures.end,
+      c.end-from.ensures.end,
+      c.log.ensures.log,
+      c.log-log.ensures.log,
+    ) (sym there)
 
 pub returns-in_err-frame-clause-nothing_asked : goal.returns-in_err-frame-clause-nothing_asked
 returns-in_err-frame-clause-nothing_asked g c = λ none.
@@ -52,5 +65,12 @@ returns-in_err-frame-clause-nothing_asked g c = λ none.
     let is = next_now g (goal.at.returns-in_err-frame-clause-nothing_asked g c).After-successor in
     let there = some_sent s c.args.node c.args.client x.shape x.holds c.requires.client c.requires.full c.in-Some.next (sym is ∙ c.in-Some.is) in
     let unsent = nothing_sent c.in-Some.next _ s.members.epoch c.args.client _ _ _ (sym there ∙ none) in
-    absurd (never c.in_err-frame.ensures.nothing_asked (rw (c.min-to.ensures, c.goal.ensures, c.get-known.ensures, c.end.ensures.end,
-    c.end-from.ensures.end, c.log.ensures.log, c.log-log.ensures.log) unsent))
+    absurd (never c.in_err-frame.ensures.nothing_asked (rw (
+      c.min-to.ensures,
+      c.goal.ensures,
+      c.get-known.ensures,
+      c.end.ensures.end,
+      c.end-from.ensures.end,
+      c.log.ensures.log,
+      c.log-log.ensures.log,
+    ) unsent))
