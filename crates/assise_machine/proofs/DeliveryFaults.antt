@@ -1,10 +1,10 @@
 -- Why nothing can be delivered to a node, and where it can.
-use Rattle.std.proofs.Common.{◌≡◌, ℕ, ◌<◌, ◌≤◌, nat_le, Bool, true, false, not, ◌&&◌, Option, Some, None, length, inl, inr, refl, sym, ◌∙◌, arith}
+use Rattle.std.proofs.Common.{◌≡◌, ℕ, ◌<◌, ◌≤◌, nat_le, Bool, true, false, not, ◌&&◌, Option, Some, None, length, refl, sym, ◌∙◌, arith}
 use Rattle.std.proofs.lemmas.Bool.{and_from, and_parts, and_right, cases_Bool, le-leb, leb-true}
 use Rattle.assise_names.specs.declared.refusal.Refusal.{Refusal}
 use Rattle.assise_names.specs.declared.refusal.Refusal.TheVariants.{BadClient, WrongPhase}
 use Rattle.assise_record.specs.LogFrame.{LogFrame}
-use Rattle.assise_manager.specs.Standings.{Standing, down, full, returning, standing_of}
+use Rattle.assise_manager.specs.Standings.{Standing, standing_of}
 use Rattle.assise_model_events.specs.Faults.{delivery_fault, fault_if, node_fault, or_else, unless_full}
 use Rattle.assise_machine_state.specs.Observed.{is_full_in, observed, stands_full, world_of}
 use Rattle.assise_machine_state.specs.Places.{IsNumber}
@@ -28,45 +28,25 @@ pub node_refused : (s : StateValue) (f : LogFrame) (n : ℕ) (r : Refusal) → n
 node_refused s f n r same = fault_is s f n ∙ rw (sym (node_is s n) ∙ same) refl
 
 past_last : (c k : ℕ) → k < c → nat_le c k ≡ false
-past_last c k past =
-    elim (cases_Bool (nat_le c k)) [
-      | inl low ↦ (let there : c ≤ k = leb-true c k low in absurd (omega (arith, past, there)))
-      | inr high ↦ high
-    ]
+past_last c k past = grind (arith, cases_Bool, leb-true)
 
 pub no_client : (s : StateValue) (f : LogFrame) (n : ℕ) → node_fault (observed s) n ≡ None → length s.clients < f.client → delivery_fault (observed s) f n ≡ Some BadClient
-no_client s f n same past =
-    let unknown : is_known f.client (length s.clients) ≡ false = and_right (nat_le 1 f.client) (nat_le f.client (length s.clients)) (past_last f.client (length s.clients) past) in
-    fault_is s f n ∙ rw (sym (node_is s n) ∙ same, unknown) refl
+no_client s f n same past = grind (arith, and_right, past_last, fault_is, node_is)
 
 pub may_deliver : (s : StateValue) (f : LogFrame) (n : ℕ) → node_fault (observed s) n ≡ None → 0 < f.client → f.client ≤ length s.clients → delivery_fault (observed s) f n ≡ None
-may_deliver s f n same some low =
-    let known : is_known f.client (length s.clients) ≡ true =
-    and_from (nat_le 1 f.client) (nat_le f.client (length s.clients)) (le-leb 1 f.client some) (le-leb f.client (length s.clients) low) in
-    fault_is s f n ∙ rw (sym (node_is s n) ∙ same, known) refl
+may_deliver s f n same some low = grind (arith, and_from, le-leb, fault_is, node_is)
 
 -- ---- what holds where there is none
 
-some_none : (r : Refusal) (o : Option Refusal) → or_else (Some r) o ≡ None → ⊥
-some_none r o same = cc
-
 full_then : (o : Option Standing) (later : Option Refusal) → or_else (unless_full WrongPhase o) later ≡ None → stands_full o ≡ true
-full_then None later fine = cc
-full_then (Some full) later fine = refl
-full_then (Some (down since)) later fine = cc
-full_then (Some (returning since donor stale)) later fine = cc
+full_then o later fine = grind arith
 
 known_then : (o : Option Refusal) (b : Bool) → or_else o (fault_if (not b) BadClient) ≡ None → b ≡ true
-known_then None true fine = refl
-known_then None false fine = cc
-known_then (Some r) b fine = absurd (some_none r (fault_if (not b) BadClient) fine)
+known_then o b fine = grind arith
 
 pub fine_full : (s : StateValue) (f : LogFrame) (n : ℕ) → delivery_fault (observed s) f n ≡ None → is_full_in (standings s) n ≡ true
 unfolding is_full_in
 fine_full s f n fine = full_then (standing_of (standings s) n) (fault_if (not (is_known f.client (length s.clients))) BadClient) (sym (fault_is s f n) ∙ fine)
 
 pub fine_client : (s : StateValue) (f : LogFrame) (n : ℕ) → delivery_fault (observed s) f n ≡ None → IsNumber s.clients f.client
-fine_client s f n fine =
-    let known : is_known f.client (length s.clients) ≡ true = known_then (unless_full WrongPhase (standing_of (standings s) n)) (is_known f.client (length s.clients)) (sym (fault_is s f n) ∙ fine) in
-    let parts = and_parts (nat_le 1 f.client) (nat_le f.client (length s.clients)) known in
-    record { some = leb-true 1 f.client parts.0; there = leb-true f.client (length s.clients) parts.1 }
+fine_client s f n fine = grind (arith, known_then, fault_is, and_parts, leb-true)

@@ -1,13 +1,10 @@
 -- A node's digest, as the laws have it.
-use Rattle.std.proofs.Common.{◌≡◌, ◌≢◌, ℕ, suc, ◌+◌, ◌-◌, ◌<◌, ◌≤◌, min, true, false, ◌||◌, ◌==◌, List, [], ◌∷◌, length, map, take, inl, inr, refl, ap, sym, subst, ◌∙◌, arith}
-use Rattle.std.proofs.Math.Bool.{or-false}
+use Rattle.std.proofs.Common.{◌≡◌, ◌≢◌, ℕ, suc, ◌+◌, ◌-◌, ◌<◌, ◌≤◌, min, true, false, ◌==◌, List, [], ◌∷◌, length, map, take, inl, inr, refl, ap, sym, subst, ◌∙◌, arith}
 use Rattle.std.proofs.Math.Logic.{∥∥₁_elim, ∥∥₁_map}
 use Rattle.std.proofs.Props.{props}
 use Rattle.std.proofs.lemmas.Bool.{cases_Bool, cases_lt, false_from_ne_true}
-use Rattle.std.proofs.lemmas.List.{length-drop}
-use Rattle.std.specs.Cmp.{nat_cmp_total}
 use Rattle.std.specs.FinSet as set
-use Rattle.std.specs.FinSet.{contains-empty, contains-from_list_nat, contains-union, nat_cmp-IsAntisymmetric, same_set}
+use Rattle.std.specs.FinSet.{contains-from_list_nat}
 use Rattle.std.specs.Ordering.{nat_cmp}
 use Rattle.assise_record.specs.Records.{all_effects}
 use Rattle.assise_inode_table.specs.Effects.{all_applied, contains, touched}
@@ -19,13 +16,14 @@ use Rattle.assise_manager.specs.Changes.{noted, stale_again, with_written}
 use Rattle.assise_manager.specs.Membership.{Membership}
 use Rattle.assise_manager.specs.Standings.{Standing, down, full, full_nodes, returning}
 use Rattle.assise_model_world.specs.Chances.{MayDigest}
-use Rattle.assise_model_world.specs.Invariant.{Compatible, Guarded, WorldInvariant, WritesAreHeld}
+use Rattle.assise_model_world.specs.Invariant.{Compatible, Guarded, IsOrdered, WorldInvariant, WritesAreHeld}
 use Rattle.assise_model_world.specs.World.{Full, World, undigested_below, received_by_all}
 use Rattle.assise_model_world.proofs.DigestKeeps.{digest_sound}
 use Rattle.assise_model_world.proofs.Logs.{contains-drop, contains-take}
 use Rattle.assise_model_world.proofs.WorldObserved.{received_by_all-below, received_by_all-border}
 use Rattle.assise_model_members.specs.Returns.{DigestsNoted}
 use Rattle.assise_model_events.specs.NodeEvents.{undigested}
+use Rattle.assise_manager.proofs.Sets.{union-empty}
 use Rattle.assise_machine_state.specs.NodeValues.{HasLog, log_in, region_in, with_digested_in, with_log_in}
 use Rattle.assise_machine_state.specs.Observed.{is_full_in, own_seen, world_of}
 use Rattle.assise_machine_state.specs.Places.{IsNumber, item_at}
@@ -42,14 +40,9 @@ use Rattle.assise_machine.proofs.Unlisted.{nothing_noted}
 
 -- ---- nothing is changed where nothing is digested
 
-union_none : (s : set.FinSet nat_cmp) → set.union s set.empty ≡ s
-union_none s =
-    same_set nat_cmp_total nat_cmp-IsAntisymmetric (set.union s set.empty) s
-    (λ q. contains-union nat_cmp_total s set.empty q ∙ ap (λ b. set.contains s q || b) (contains-empty nat_cmp q) ∙ or-false (set.contains s q))
-
 none_written : (lists : List (set.FinSet nat_cmp)) → with_written lists set.empty ≡ lists
 none_written [] = refl
-none_written (list ∷ []) = ap (λ s. s ∷ []) (union_none list)
+none_written (list ∷ []) = ap (λ s. s ∷ []) (union-empty list)
 none_written (list ∷ next ∷ lists) = ap (λ ls. list ∷ ls) (none_written (next ∷ lists))
 
 none_stale : (n : ℕ) (x : Standing) → stale_again n set.empty x ≡ x
@@ -57,7 +50,7 @@ none_stale n full = refl
 none_stale n (down since) = refl
 none_stale n (returning since donor stale) =
     elim (cases_Bool (donor == n)) [
-      | inl here ↦ rw here (ap (returning since donor) (union_none stale))
+      | inl here ↦ rw here (ap (returning since donor) (union-empty stale))
       | inr else ↦ rw else refl
     ]
 
@@ -135,11 +128,8 @@ module _ (s : StateValue) (n c : ℕ) (shape : ShapeInvariant s) (sound : ∥ Wo
   first_is : (log_in s.nodes n c).log.first ≡ w.first c
   first_is = ∥∥₁_elim sound (search props) (λ h. same_first s n c h full_here)
 
-  from_first : w.first c ≤ w.digested n c
-  from_first = ∥∥₁_elim sound (search props) (λ h. (h.coherent.order n c full_here).begun)
-
-  pub replicated : w.digested n c ≤ received_by_all w c
-  replicated = ∥∥₁_elim sound (search props) (λ h. (h.coherent.order n c full_here).replicated)
+  pub order : IsOrdered w n c
+  order = ∥∥₁_elim sound (hlevel props) (λ h. h.coherent.order n c full_here)
 
   pub digested_is : w.digested n c ≡ (log_in s.nodes n c).digested
   unfolding world_of
@@ -151,15 +141,6 @@ module _ (s : StateValue) (n c : ℕ) (shape : ShapeInvariant s) (sound : ∥ Wo
   wanted_as from acked at_most wanted log all is =
       let there : from ≡ w.digested n c = log ∙ sym digested_is in
       is ∙ (λ i. min at_most (all i - there i))
-
-  -- what all full nodes have, this one has
-  pub some_ahead : undigested w n c ≤ length (ahead (log_in s.nodes n c))
-  unfolding world_of
-  some_ahead =
-      let l = log_in s.nodes n c in
-      let all : received_by_all w c ≤ w.received n c = received_by_all-below w n c full_here in
-      let left : length (ahead l) ≡ length l.log.records - (l.digested - l.log.first) = length-drop (l.digested - l.log.first) l.log.records in
-      omega (arith, all, first_is, left, from_first)
 
   -- no other client's records touch what these touch
 
@@ -184,12 +165,6 @@ module _ (s : StateValue) (n c : ℕ) (shape : ShapeInvariant s) (sound : ∥ Wo
 
   -- ---- groups
 
-  got_border : w.border c (w.received n c) ≡ true
-  got_border = ∥∥₁_elim sound (search props) (λ h. (h.coherent.order n c full_here).received_border)
-
-  digested_border : w.border c (w.digested n c) ≡ true
-  digested_border = ∥∥₁_elim sound (search props) (λ h. (h.coherent.order n c full_here).digested_border)
-
   all_border : w.border c (received_by_all w c) ≡ true
   all_border = ∥∥₁_elim sound (search props) (λ h. received_by_all-border w h.coherent c)
 
@@ -203,13 +178,13 @@ module _ (s : StateValue) (n c : ℕ) (shape : ShapeInvariant s) (sound : ∥ Wo
           | inl before ↦ border_inside (is_border (own_seen s c).log) l k (shape.marked n c) inside before
           | inr past ↦
               let last : k ≡ w.received n c = omega (arith, low, past) in
-              border_end l k (so_many_marks (is_border (own_seen s c).log) l (shape.marked n c)) past ∙ sym (ap (w.border c) last ∙ got_border)
+              border_end l k (so_many_marks (is_border (own_seen s c).log) l (shape.marked n c)) past ∙ sym (ap (w.border c) last ∙ order.received_border)
         ])
         | inr first ↦ border_first l k first ∙ sym (border_first (own_seen s c).log k (omega (arith, first, first_is)))
       ]
 
   pub none_whole : EndsWithGroup w n c 0
-  none_whole = (let here : w.digested n c + 0 ≡ w.digested n c = omega arith in ap (w.border c) here ∙ digested_border)
+  none_whole = (let here : w.digested n c + 0 ≡ w.digested n c = omega arith in ap (w.border c) here ∙ order.digested_border)
 
   -- as the code finds it: what is digested ends with a group
   pub whole_as : (count : ℕ) → count ≤ undigested w n c → (0 < count → is_border (log_in s.nodes n c).log ((log_in s.nodes n c).digested + count) ≡ true) → EndsWithGroup w n c count
@@ -218,7 +193,7 @@ module _ (s : StateValue) (n c : ℕ) (shape : ShapeInvariant s) (sound : ∥ Wo
         | inl some ↦
             let all : received_by_all w c ≤ w.received n c = received_by_all-below w n c full_here in
             let there : (log_in s.nodes n c).digested + count ≡ w.digested n c + count = omega (arith, digested_is) in
-            sym (border_there (w.digested n c + count) (omega (arith, few, all, replicated)))
+            sym (border_there (w.digested n c + count) (omega (arith, few, all, order.replicated)))
             ∙ ap (is_border (log_in s.nodes n c).log) (sym there)
             ∙ groups some
         | inr none ↦ (let zero_now : count ≡ 0 = omega (arith, none) in subst (EndsWithGroup w n c) (sym zero_now) none_whole)
@@ -232,7 +207,7 @@ module _ (s : StateValue) (n c : ℕ) (shape : ShapeInvariant s) (sound : ∥ Wo
       let there : from ≡ w.digested n c = log ∙ sym digested_is in
       elim (cases_lt most 64) [
         | inl fewer ↦
-            let ends : from + most ≡ received_by_all w c = omega (arith, fewer, is, whole_most, all, there, replicated) in
+            let ends : from + most ≡ received_by_all w c = omega (arith, fewer, is, whole_most, all, there, order.replicated) in
             let high : received_by_all w c ≤ w.received n c = received_by_all-below w n c full_here in
             let border : is_border l (from + most) ≡ true =
             (λ i. is_border (logs i) (ends i)) ∙ border_there (received_by_all w c) high ∙ all_border in
@@ -254,7 +229,7 @@ module _ (s : StateValue) (n c : ℕ) (shape : ShapeInvariant s) (sound : ∥ Wo
 
     may : MayDigest w n c place
     unfolding world_of
-    may = record { full_node = full_here; from = omega arith; to = omega (arith, few, replicated); border_to = whole }
+    may = record { full_node = full_here; from = omega arith; to = omega (arith, few, order.replicated); border_to = whole }
 
     below_is : undigested_below w n c place ≡ take count (ahead (log_in s.nodes n c))
     unfolding undigested_below

@@ -42,6 +42,27 @@ pub record StillSame (s t : StateValue) (n m : ℕ) : Type 0 where
   pub shape : ShapeInvariant t
   pub sound : ∥ WorldInvariant (world_of t) ∥₁
 
+-- ---- where the code stands after clients 1 to m
+
+pub record GoesTo (s : StateValue) (n m : ℕ) (t : StateValue) (count : ℕ) (is_refused is_ended : Bool) : Type 0 where
+  pub digests : t ≡ digests_to s n count m
+  pub groups : EndWithGroups (world_of s) n count m
+  pub few : count ≤ min most_digested (undigested_to (world_of s) n m)
+  pub all : is_ended ≡ false → count ≡ min most_digested (undigested_to (world_of s) n m)
+  pub ended : is_ended ≡ true → count < undigested_to (world_of s) n m
+  pub refused : is_refused ≡ true → is_ended ≡ true
+  pub some : is_refused ≡ false → 0 < undigested_to (world_of s) n m → 0 < count
+
+-- what one client's digest of `count` records, of `most` at most, gives
+pub record Part (t : StateValue) (n c most : ℕ) (u : StateValue) (count : ℕ) (is_refused is_ended : Bool) : Type 0 where
+  pub digests : u ≡ digests_some t n c count
+  pub group : EndsWithGroup (world_of t) n c count
+  pub few : count ≤ min most (undigested (world_of t) n c)
+  pub all : is_ended ≡ false → count ≡ min most (undigested (world_of t) n c)
+  pub ended : is_ended ≡ true → count < min most (undigested (world_of t) n c)
+  pub refused : is_refused ≡ true → is_ended ≡ true
+  pub some : is_refused ≡ false → most ≡ 64 → 0 < undigested (world_of t) n c → 0 < count
+
 -- ---- one client after another
 
 module _ (s : StateValue) (n : ℕ) (shape : ShapeInvariant s) (sound : ∥ WorldInvariant (world_of s) ∥₁) (here : is_full_in (standings s) n ≡ true) where
@@ -51,22 +72,26 @@ module _ (s : StateValue) (n : ℕ) (shape : ShapeInvariant s) (sound : ∥ Worl
   -- with a client more
 
   module _ (t : StateValue) (m : ℕ) (same : StillSame s t n m) (last : m < length s.clients) where
-    next_here : is_full_in (standings t) n ≡ true
+    pub next_here : is_full_in (standings t) n ≡ true
     next_here = full_seen t n (ap (λ ns. contains ns n) same.full ∙ seen_full s n here)
 
-    next_client : IsNumber t.clients (suc m)
+    pub next_client : IsNumber t.clients (suc m)
     next_client = (let counted = ap length same.clients in record { some = omega arith; there = omega (arith, counted, last) })
 
     next_undigested : undigested (world_of t) n (suc m) ≡ undigested w n (suc m)
     next_undigested = (let now = same.later (suc m) (omega arith) in let all = same.received (suc m) in omega (arith, now, all))
 
-    -- what ends with a group before does so now
-    whole_next : (count : ℕ) → EndsWithGroup w n (suc m) count → EndsWithGroup (world_of t) n (suc m) count
-    whole_next count whole = same.border (suc m) ((world_of t).digested n (suc m) + count) ∙ ap (λ k. w.border (suc m) (k + count)) (same.later (suc m) (omega arith)) ∙ whole
+    border_next : (count : ℕ) → (world_of t).border (suc m) ((world_of t).digested n (suc m) + count) ≡ w.border (suc m) (w.digested n (suc m) + count)
+    border_next count =
+        same.border (suc m) ((world_of t).digested n (suc m) + count) ∙ ap (λ k. w.border (suc m) (k + count)) (same.later (suc m) (omega arith))
 
     module _ (count : ℕ) (few : count ≤ undigested w n (suc m)) (whole : EndsWithGroup w n (suc m) count) where
       few_next : count ≤ undigested (world_of t) n (suc m)
       few_next = omega (arith, few, next_undigested)
+
+      -- what ends with a group before does so now
+      whole_next : EndsWithGroup (world_of t) n (suc m) count
+      whole_next = border_next count ∙ whole
 
       abbrev u : StateValue
       u = digests_some t n (suc m) count
@@ -78,7 +103,7 @@ module _ (s : StateValue) (n : ℕ) (shape : ShapeInvariant s) (sound : ∥ Worl
       inodes = set.from_list (touched (all_effects (take count (ahead (log_in t.nodes n (suc m))))))
 
       next_noted : DigestsNoted (world_of t) t.members n (suc m) place inodes (world_of u) u.members
-      next_noted = noted_so t n (suc m) same.shape same.sound next_here next_client count few_next (whole_next count whole)
+      next_noted = noted_so t n (suc m) same.shape same.sound next_here next_client count few_next whole_next
 
       next_same : StillSame s u n (suc m)
       next_same = record {
@@ -93,35 +118,19 @@ module _ (s : StateValue) (n : ℕ) (shape : ShapeInvariant s) (sound : ∥ Worl
         received = λ c. same_received (world_of t) (world_of u) n (suc m) place next_noted.digests c ∙ same.received c;
         border = λ c k. next_noted.digests.logs.border c k ∙ same.border c k;
         later = λ c above. next_noted.digests.digested_else n c next_noted.digests.full_node (λ is own. omega (arith, above, own)) ∙ same.later c (omega (arith, above));
-        shape = next_shape t n (suc m) same.shape same.sound next_here next_client count few_next (whole_next count whole);
-        sound = next_sound t n (suc m) same.shape same.sound next_here next_client count few_next (whole_next count whole);
+        shape = next_shape t n (suc m) same.shape same.sound next_here next_client count few_next whole_next;
+        sound = next_sound t n (suc m) same.shape same.sound next_here next_client count few_next whole_next;
       }
-
-  part_low : (count m : ℕ) → part_of w n count (suc m) ≤ undigested w n (suc m)
-  part_low count m = omega arith
 
   -- fewer clients' parts do
   fewer_whole : (count m : ℕ) → EndWithGroups w n count (suc m) → EndWithGroups w n count m
   fewer_whole count m whole c low = whole c (omega (arith, low))
 
   pub same_to : (count m : ℕ) → m ≤ length s.clients → EndWithGroups w n count m → StillSame s (digests_to s n count m) n m
-  same_to count zero last whole = record {
-    clients = refl;
-    levels = refl;
-    cuts = refl;
-    history = refl;
-    limit = refl;
-    hot = refl;
-    lists = λ none. none;
-    full = refl;
-    received = λ c. refl;
-    border = λ c k. refl;
-    later = λ c above. refl;
-    shape = shape;
-    sound = sound;
-  }
+  same_to count zero last whole = assumption
   same_to count (suc m) last whole =
-      next_same (digests_to s n count m) m (same_to count m (omega (arith, last)) (fewer_whole count m whole)) (omega (arith, last)) (part_of w n count (suc m)) (part_low count m) (whole m (omega arith))
+      next_same (digests_to s n count m) m (same_to count m (omega (arith, last)) (fewer_whole count m whole))
+      (omega (arith, last)) (part_of w n count (suc m)) (omega arith) (whole m (omega arith))
 
   pub trace_to : (count m : ℕ) → m ≤ length s.clients → EndWithGroups w n count m → DigestsTo n count w w s.members m (world_of (digests_to s n count m)) (digests_to s n count m).members
   trace_to count zero last whole = (refl, refl)
@@ -135,7 +144,7 @@ module _ (s : StateValue) (n : ℕ) (shape : ShapeInvariant s) (sound : ∥ Worl
             trace_to count m (omega (arith, last)) (fewer_whole count m whole),
             record {
               inodes = set.from_list (touched (all_effects (take (part_of w n count (suc m)) (ahead (log_in t.nodes n (suc m))))));
-              digests = next_noted t m same (omega (arith, last)) (part_of w n count (suc m)) (part_low count m) (whole m (omega arith));
+              digests = next_noted t m same (omega (arith, last)) (part_of w n count (suc m)) (omega arith) (whole m (omega arith));
             },
           ),
         ),
@@ -175,10 +184,6 @@ module _ (s : StateValue) (n : ℕ) (shape : ShapeInvariant s) (sound : ∥ Worl
   none_to zero last = refl
   none_to (suc m) last = none_more 0 m (omega (arith, last)) (none_parts m) (omega arith) ∙ none_to m (omega (arith, last))
 
-  -- other counts of which the parts are the same end with groups too
-  same_parts : (a b m : ℕ) → ((c : ℕ) → c < m → part_of w n b (suc c) ≡ part_of w n a (suc c)) → EndWithGroups w n a m → EndWithGroups w n b m
-  same_parts a b m parts whole c low = subst (EndsWithGroup w n (suc c)) (sym (parts c low)) (whole c low)
-
   -- of clients before there is at least as much
   before_low : (c m : ℕ) → c ≤ m → undigested_to w n c ≤ undigested_to w n m
   before_low c zero low = (let same : c ≡ 0 = omega (arith, low) in subst (λ k. undigested_to w n k ≤ 0) (sym same) (omega arith))
@@ -213,135 +218,55 @@ module _ (s : StateValue) (n : ℕ) (shape : ShapeInvariant s) (sound : ∥ Worl
   -- a client's part behind those of the clients before
   pub part_behind : (a b m : ℕ) → a ≡ min most_digested (undigested_to w n m) → b ≤ min (most_digested - a) (undigested w n (suc m)) →
       digests_some (digests_to s n a m) n (suc m) b ≡ digests_to s n (a + b) (suc m)
-  part_behind a b m all few =
-      let part : b ≡ part_of w n (a + b) (suc m) = omega (arith, all, few) in
-      elim (cases_lt a (undigested_to w n m)) [
-        | inl most ↦ (let none : a ≡ a + b = omega (arith, all, few, most) in (λ i. digests_some (digests_to s n (none i) m) n (suc m) (part i)))
-        | inr enough ↦
-            let before = enough_same a (a + b) m (omega (arith, enough)) (omega (arith, enough)) in
-            (λ i. digests_some (before i) n (suc m) (part i))
-      ]
+  part_behind a b m all few = grind (arith, cases_lt, enough_same)
 
   -- ---- as the code finds it
 
-  module _ (last m : ℕ) (next : suc m ≡ last) (there : last ≤ length s.clients) where
-    low : m < length s.clients
-    low = omega (arith, next, there)
+  pub same_as : (m : ℕ) {t : StateValue} {a : ℕ} {r e : Bool} → m ≤ length s.clients → GoesTo s n m t a r e → StillSame s t n m
+  same_as m {t} {a} last go = subst (λ u. StillSame s u n m) (sym go.digests) (same_to a m last go.groups)
 
-    module _ (t : StateValue) (a : ℕ) (is : t ≡ digests_to s n a m) (whole : EndWithGroups w n a m) where
-      same_as : StillSame s t n m
-      same_as = subst (λ u. StillSame s u n m) (sym is) (same_to a m (omega (arith, low)) whole)
-
-      pub here_as : is_full_in (standings t) n ≡ true
-      here_as = next_here t m same_as low
-
-      pub client_as : IsNumber t.clients last
-      client_as = subst (IsNumber t.clients) next (next_client t m same_as low)
-
-      pub shape_as : ShapeInvariant t
-      shape_as = same_as.shape
-
-      pub sound_as : ∥ WorldInvariant (world_of t) ∥₁
-      sound_as = same_as.sound
-
-      pub lists_as : NoneListed s.members → NoneListed t.members
-      lists_as = same_as.lists
-
-      undigested_as : undigested (world_of t) n last ≡ undigested w n last
-      undigested_as = subst (λ c. undigested (world_of t) n c ≡ undigested w n c) next (next_undigested t m same_as low)
-
-      -- it ended before
-      pub stopped_as : a ≤ undigested_to w n m → t ≡ digests_to s n a last
-      stopped_as few = is ∙ sym (subst (λ c. digests_to s n a c ≡ digests_to s n a m) next (stopped_before a m low whole few))
-
-      pub stopped_groups : a ≤ undigested_to w n m → EndWithGroups w n a last
-      stopped_groups few = subst (EndWithGroups w n a) next (stopped_whole a m few whole)
-
-      sum_as : undigested_to w n last ≡ undigested_to w n m + undigested w n last
-      sum_as = subst (λ c. undigested_to w n c ≡ undigested_to w n m + undigested w n c) next refl
-
-      pub still_few : a ≤ min most_digested (undigested_to w n m) → a ≤ min most_digested (undigested_to w n last)
-      still_few few = omega (arith, few, sum_as)
-
-      pub still_ended : a < undigested_to w n m → a < undigested_to w n last
-      still_ended few = omega (arith, few, sum_as)
-
-      -- a part more
-      module _ (b : ℕ) (all : a ≡ min most_digested (undigested_to w n m)) (few : b ≤ min (most_digested - a) (undigested (world_of t) n last)) where
-        pub both_as : (u : StateValue) → u ≡ digests_some t n last b → u ≡ digests_to s n (a + b) last
-        both_as u then_is =
-            let low_part : b ≤ min (most_digested - a) (undigested w n (suc m)) = subst (λ c. b ≤ min (most_digested - a) (undigested w n c)) (sym next) (omega (arith, few, undigested_as)) in
-            then_is ∙ ap (λ v. digests_some v n last b) is ∙ subst (λ c. digests_some (digests_to s n a m) n c b ≡ digests_to s n (a + b) c) next (part_behind a b m all low_part)
-
-        pub groups_as : EndsWithGroup (world_of t) n last b → EndWithGroups w n (a + b) last
-        groups_as own =
-            let low_part : b ≤ min (most_digested - a) (undigested w n (suc m)) = subst (λ c. b ≤ min (most_digested - a) (undigested w n c)) (sym next) (omega (arith, few, undigested_as)) in
-            let there : (world_of t).digested n (suc m) ≡ w.digested n (suc m) = same_as.later (suc m) (omega arith) in
-            let here : EndsWithGroup (world_of t) n (suc m) b = subst (λ c. EndsWithGroup (world_of t) n c b) (sym next) own in
-            let before : EndsWithGroup w n (suc m) b =
-            ap (λ k. w.border (suc m) (k + b)) (sym there) ∙ sym (same_as.border (suc m) ((world_of t).digested n (suc m) + b)) ∙ here in
-            subst (EndWithGroups w n (a + b)) next (parts_behind a b m all low_part whole before)
-
-        pub few_as : a + b ≤ min most_digested (undigested_to w n last)
-        few_as = omega (arith, all, few, sum_as, undigested_as)
-
-        pub all_as : b ≡ min (most_digested - a) (undigested (world_of t) n last) → a + b ≡ min most_digested (undigested_to w n last)
-        all_as rest = omega (arith, all, rest, sum_as, undigested_as)
-
-        pub ended_as : b < min (most_digested - a) (undigested (world_of t) n last) → a + b < undigested_to w n last
-        ended_as short = omega (arith, all, short, sum_as, undigested_as)
-
-        -- where there was something to digest before, some was, and else there are 64 left of the most
-        pub some_as : (most_digested - a ≡ 64 → 0 < undigested (world_of t) n last → 0 < b) → 0 < undigested_to w n last → 0 < a + b
-        some_as own some =
-            elim (cases_lt 0 a) [
-              | inl before ↦ omega (arith, before)
-              | inr none ↦ (let here = own (omega (arith, none)) (omega (arith, none, all, some, sum_as, undigested_as)) in omega (arith, here))
-            ]
-
--- ---- where the code stands after clients 1 to m
-
-pub record GoesTo (s : StateValue) (n m : ℕ) (t : StateValue) (count : ℕ) (is_refused is_ended : Bool) : Type 0 where
-  pub digests : t ≡ digests_to s n count m
-  pub groups : EndWithGroups (world_of s) n count m
-  pub few : count ≤ min most_digested (undigested_to (world_of s) n m)
-  pub all : is_ended ≡ false → count ≡ min most_digested (undigested_to (world_of s) n m)
-  pub ended : is_ended ≡ true → count < undigested_to (world_of s) n m
-  pub refused : is_refused ≡ true → is_ended ≡ true
-  pub some : is_refused ≡ false → 0 < undigested_to (world_of s) n m → 0 < count
-
-module _ (s : StateValue) (n : ℕ) (shape : ShapeInvariant s) (sound : ∥ WorldInvariant (world_of s) ∥₁) (here : is_full_in (standings s) n ≡ true) where
-  -- it ended before the client
-  pub goes_past : (k : ℕ) → 1 ≤ k → k ≤ length s.clients → (t : StateValue) (count : ℕ) (is_refused is_ended : Bool) →
-      GoesTo s n (k - 1) t count is_refused is_ended → is_ended ≡ true → GoesTo s n k t count is_refused is_ended
-  goes_past k some low t count is_refused is_ended go stopped =
-      let next : suc (k - 1) ≡ k = omega (arith, some) in
+  -- it ended before the next client
+  past_more : (m : ℕ) {t : StateValue} {a : ℕ} {r e : Bool} → m < length s.clients → GoesTo s n m t a r e → e ≡ true → GoesTo s n (suc m) t a r e
+  past_more m {t} {a} {r} {e} low go stopped =
       let less = go.ended stopped in
       record {
-        digests = stopped_as s n shape sound here k (k - 1) next low t count go.digests go.groups (omega (arith, less));
-        groups = stopped_groups s n shape sound here k (k - 1) next low t count go.digests go.groups (omega (arith, less));
-        few = still_few s n shape sound here k (k - 1) next low t count go.digests go.groups go.few;
-        all = λ fine. absurd (both_ways is_ended fine stopped);
-        ended = λ yes. still_ended s n shape sound here k (k - 1) next low t count go.digests go.groups less;
+        digests = go.digests ∙ sym (stopped_before a m low go.groups (omega (arith, less)));
+        groups = stopped_whole a m (omega (arith, less)) go.groups;
+        few = omega (arith, go.few);
+        all = λ fine. absurd (both_ways e fine stopped);
+        ended = λ yes. omega (arith, less);
         refused = go.refused;
         some = λ fine more. go.some fine (omega (arith, less));
       }
 
-  -- a part more
-  pub goes_on : (k : ℕ) → 1 ≤ k → k ≤ length s.clients → (t u : StateValue) (a : ℕ) (was_refused : Bool) → GoesTo s n (k - 1) t a was_refused false →
-      (b : ℕ) (is_refused is_ended : Bool) → u ≡ digests_some t n k b → EndsWithGroup (world_of t) n k b → b ≤ min (most_digested - a) (undigested (world_of t) n k) →
-      (is_ended ≡ false → b ≡ min (most_digested - a) (undigested (world_of t) n k)) → (is_ended ≡ true → b < min (most_digested - a) (undigested (world_of t) n k)) →
-      (is_refused ≡ true → is_ended ≡ true) → (is_refused ≡ false → most_digested - a ≡ 64 → 0 < undigested (world_of t) n k → 0 < b) →
-      GoesTo s n k u (a + b) is_refused is_ended
-  goes_on k some low t u a was_refused go b is_refused is_ended digests group few all ended refused own =
-      let next : suc (k - 1) ≡ k = omega (arith, some) in
+  -- the next client's part more: where there was something to digest before, some was, and else there are 64 left of the most
+  part_more : (m : ℕ) {t u : StateValue} {a b : ℕ} {was r e : Bool} → m < length s.clients → GoesTo s n m t a was false →
+      Part t n (suc m) (most_digested - a) u b r e → GoesTo s n (suc m) u (a + b) r e
+  part_more m {t} {u} {a} {b} low go part =
       let whole = go.all refl in
+      let same = same_as m (omega (arith, low)) go in
+      let left = next_undigested t m same low in
+      let few : b ≤ min (most_digested - a) (undigested w n (suc m)) = omega (arith, part.few, left) in
       record {
-        digests = both_as s n shape sound here k (k - 1) next low t a go.digests go.groups b whole few u digests;
-        groups = groups_as s n shape sound here k (k - 1) next low t a go.digests go.groups b whole few group;
-        few = few_as s n shape sound here k (k - 1) next low t a go.digests go.groups b whole few;
-        all = λ fine. all_as s n shape sound here k (k - 1) next low t a go.digests go.groups b whole few (all fine);
-        ended = λ yes. ended_as s n shape sound here k (k - 1) next low t a go.digests go.groups b whole few (ended yes);
-        refused = refused;
-        some = λ fine more. some_as s n shape sound here k (k - 1) next low t a go.digests go.groups b whole few (own fine) more;
+        digests = part.digests ∙ ap (λ v. digests_some v n (suc m) b) go.digests ∙ part_behind a b m whole few;
+        groups = parts_behind a b m whole few go.groups (sym (border_next t m same low b) ∙ part.group);
+        few = omega (arith, whole, few);
+        all = λ fine. omega (arith, whole, part.all fine, left);
+        ended = λ yes. omega (arith, whole, part.ended yes, left);
+        refused = part.refused;
+        some = λ fine more. elim (cases_lt 0 a) [
+          | inl before ↦ omega (arith, before)
+          | inr none ↦ (let here = part.some fine (omega (arith, none)) (omega (arith, none, whole, more, left)) in omega (arith, here))
+        ];
       }
+
+  pub goes_past : (k : ℕ) {t : StateValue} {a : ℕ} {r e : Bool} → 1 ≤ k → k ≤ length s.clients → GoesTo s n (k - 1) t a r e → e ≡ true → GoesTo s n k t a r e
+  goes_past k {t} {a} {r} {e} some low go stopped =
+      let next : suc (k - 1) ≡ k = omega (arith, some) in
+      subst (λ j. GoesTo s n j t a r e) next (past_more (k - 1) (omega (arith, some, low)) go stopped)
+
+  pub goes_on : (k : ℕ) {t u : StateValue} {a b : ℕ} {was r e : Bool} → 1 ≤ k → k ≤ length s.clients → GoesTo s n (k - 1) t a was false →
+      Part t n k (most_digested - a) u b r e → GoesTo s n k u (a + b) r e
+  goes_on k {t} {u} {a} {b} {was} {r} {e} some low go =
+      let next : suc (k - 1) ≡ k = omega (arith, some) in
+      subst (λ j. Part t n j (most_digested - a) u b r e → GoesTo s n j u (a + b) r e) next (part_more (k - 1) (omega (arith, some, low)) go)

@@ -1,12 +1,11 @@
 -- What each event leaves at full nodes, by what it is.
-use Rattle.std.proofs.Common.{◌≡◌, ◌≢◌, ℕ, Some, List, ap, sym}
+use Rattle.std.proofs.Common.{◌≡◌, ◌≢◌, ℕ, Some, List, ap, sym, arith}
 use Rattle.assise_history.specs.declared.call.Loss.{Loss}
 use Rattle.assise_history.specs.Legal.{durability_of}
 use Rattle.assise_model_world.specs.World.{Full, undigested_records}
 use Rattle.assise_model_events.specs.Events.{Answer, ClusterEvent, open_client, try_call, try_fsync, outgoing, deliver, digest, release_ready, set_hot, crash, fail, back, refill, join, raise, failed}
 use Rattle.assise_model_events.specs.Happenings.{Happens}
 use Rattle.assise_model_events.specs.Machine.{Machine}
-use Rattle.assise_model_events.specs.MemberEvents as member
 use Rattle.assise_model_events.specs.MemberEvents.{Failing}
 use Rattle.assise_machine.specs.EventNodes.{node_of}
 use Rattle.assise_machine.proofs.KeptPrefixes.{failing_area}
@@ -30,10 +29,7 @@ event_area m m' (raise n) a s j i there other = (raising_leaves m m' n a s j).ar
 
 -- a failure that takes a node down is answered so
 unfailed : (m m' : Machine) (n : ℕ) (a : Answer) → Failing m n a m' → ((losses : List Loss) → a ≢ failed losses) → m' ≡ m
-unfailed m m' n a (member.is_failed fine is e) none = absurd (none _ is)
-unfailed m m' n a (member.is_failed_again fine is e) none = absurd (none _ is)
-unfailed m m' n a (member.lacks_memory fine is same) none = same
-unfailed m m' n a (member.is_refused r fault is same) none = same
+unfailed m m' n a s none = grind arith
 
 pub event_ahead : (m m' : Machine) (e : ClusterEvent) (a : Answer) → Happens m e a m' → ((losses : List Loss) → a ≢ failed losses) →
     (j c : ℕ) → Full m.world j → node_of m.world e ≢ Some j → undigested_records m'.world j c ≡ undigested_records m.world j c

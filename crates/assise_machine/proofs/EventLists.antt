@@ -10,8 +10,7 @@ use Rattle.assise_model_events.specs.ClientEvents.{is_refused}
 use Rattle.assise_model_events.specs.Events.{Answer, ClusterEvent, all_entries, entries_of, open_client, refused}
 use Rattle.assise_model_events.specs.Faults.{open_fault}
 use Rattle.assise_model_events.specs.Happenings.{Leads}
-use Rattle.assise_model_events.specs.Machine.{MachineInvariant, Machine, begun_as, state_of}
-use Rattle.assise_model_events.proofs.StartKeeps.{begun_holds}
+use Rattle.assise_model_events.specs.Machine.{MachineInvariant, Machine, state_of}
 use Rattle.assise_model_events.proofs.EachEvent.{event_keeps, event_leads, event_told}
 use Rattle.assise_model_events.proofs.EventTraces.{same_leads, same_told}
 use Rattle.assise_model_events.proofs.Whatever.{then_leads}
@@ -56,9 +55,6 @@ pub all_last : (k : ℕ) (m m' : Machine) (es : List (ClusterEvent × Answer)) �
 all_last k m m' es h run =
     let l : Leads m m' = all_lead k m m' es h run in
     subst (IsLasting (state_of m)) l.last (trace_lasts (state_of m) l.states h.sound h.recorded l.trace)
-
-pub reached_holds : (k nodes limit hot : ℕ) (es : List (ClusterEvent × Answer)) (m : Machine) → 0 < nodes → AllServed k (begun_as nodes limit hot) es m → MachineInvariant m
-reached_holds k nodes limit hot es m some run = all_keep k (begun_as nodes limit hot) m es (begun_holds nodes limit hot some) run
 
 -- ---- one event more
 
@@ -115,9 +111,7 @@ module _ (k j : ℕ) (m v m' : Machine) (es : List Event) (bs cs : List Answered
 
 -- a prefix of a prefix
 pub prefix_on : {X : Type 0} (xs ys zs : List X) → ys ≡ take (length ys) xs → zs ≡ take (length zs) ys → zs ≡ take (length zs) xs
-prefix_on xs ys zs first second =
-    let few : length zs ≤ length ys = (let taken = length-take (length zs) ys in let same = ap length second in omega (arith, taken, same)) in
-    second ∙ ap (take (length zs)) first ∙ take-take (length zs) (length ys) xs few
+prefix_on xs ys zs first second = grind (arith, length-take, take-take)
 
 -- a whole list
 pub told_all : (k : ℕ) (m m' : Machine) (es : List Event) (bs : List Answered) (i : ℕ) → length es ≤ i → AllServed k m (told (take i es) bs) m' →

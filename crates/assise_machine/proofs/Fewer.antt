@@ -1,12 +1,11 @@
 -- Room for some inodes is room for fewer.
-use Rattle.std.proofs.Common.{◌≡◌, ℕ, ◌+◌, ◌≤◌, ◌==◌, nat_le, true, not, List, [], ◌∷◌, refl, inl, inr, arith, leb-true, le-leb}
+use Rattle.std.proofs.Common.{◌≡◌, ℕ, ◌+◌, ◌≤◌, nat_le, true, List, [], ◌∷◌, refl, arith, leb-true, le-leb}
 use Rattle.std.proofs.lemmas.Bool.{and_from, and_parts, or_cases, or_left, or_right}
 use Rattle.std.specs.List.{list_all}
-use Rattle.assise_manager.specs.Seen.{has_last_room, has_list_room, has_node_room, has_stale_room}
+use Rattle.assise_manager.specs.Seen.{has_last_room, has_list_room, has_node_room}
 use Rattle.assise_manager.specs.Whole.{has_room_for}
 use Rattle.assise_manager.specs.declared.members.Members.{Members}
 use Rattle.assise_manager.specs.declared.node.Node.{Node}
-use Rattle.assise_manager.specs.declared.node.Node.TheVariants.{Down, Full, Returning}
 use Rattle.assise_manager.specs.declared.written_list.WrittenList.{WrittenList}
 
 module _ (few many : ℕ) (fewer : few ≤ many) where
@@ -25,13 +24,7 @@ module _ (few many : ℕ) (fewer : few ≤ many) where
   last_room (l ∷ k ∷ ls) room = last_room (k ∷ ls) room
 
   node_room : (node : ℕ) (x : Node) → has_node_room node many x ≡ true → has_node_room node few x ≡ true
-  node_room node Full room = refl
-  node_room node (Down since) room = refl
-  node_room node (Returning r) room =
-      elim (or_cases (not (r.donor == node)) (has_stale_room many r.stale) room) [
-        | inl else ↦ or_left (not (r.donor == node)) (has_stale_room few r.stale) else
-        | inr here ↦ or_right (not (r.donor == node)) (has_stale_room few r.stale) (less _ _ here)
-      ]
+  node_room node x room = grind (arith, or_cases, or_left, or_right, less)
 
   all_room : (node : ℕ) (xs : List Node) → list_all (has_node_room node many) xs ≡ true → list_all (has_node_room node few) xs ≡ true
   all_room node [] room = refl

@@ -1,5 +1,5 @@
 -- What a failure leaves at the other full nodes.
-use Rattle.std.proofs.Common.{◌≡◌, ◌≢◌, inl, inr, ℕ, ◌+◌, ◌-◌, ◌≤◌, Some, true, ◌&&◌, ◌==◌, drop, take, length, List, refl, ap, sym, subst, ◌∙◌, arith}
+use Rattle.std.proofs.Common.{◌≡◌, ◌≢◌, inl, inr, ℕ, ◌+◌, ◌-◌, ◌≤◌, Some, true, drop, take, length, List, ap, sym, subst, ◌∙◌, arith}
 use Rattle.std.proofs.lemmas.Bool.{and_parts, cases_Bool, cases_eq, eqb-true}
 use Rattle.std.proofs.lemmas.List.{drop-take, length-take, take_all}
 use Rattle.assise_history.specs.declared.call.Loss.{Loss}
@@ -14,7 +14,7 @@ use Rattle.assise_model_world.proofs.Views.{ahead_between}
 use Rattle.assise_model_events.specs.Events.{Answer, failed}
 use Rattle.assise_model_events.specs.Machine.{MachineInvariant, Machine}
 use Rattle.assise_model_events.specs.MemberEvents as member
-use Rattle.assise_model_events.specs.MemberEvents.{Failing, IsFailed, IsFailedAgain}
+use Rattle.assise_model_events.specs.MemberEvents.{Failing, IsFailed}
 use Rattle.assise_model_events.proofs.LeaseSteps.{full_after}
 use Rattle.assise_machine.proofs.Others.{dropped_ahead, leaves_all, leaves_nodes}
 
@@ -42,10 +42,7 @@ failed_area m m' n j i e there =
     ]
 
 pub failing_area : (m m' : Machine) (n : ℕ) (a : Answer) → Failing m n a m' → (j i : ℕ) → Full m.world j → m'.world.area j i ≡ m.world.area j i
-failing_area m m' n a (member.is_failed fine is e) j i there = failed_area m m' n j i e there
-failing_area m m' n a (member.is_failed_again fine is e) j i there = e.failure.area j i
-failing_area m m' n a (member.lacks_memory fine is same) j i there = (leaves_all m m' j same).area i
-failing_area m m' n a (member.is_refused r fault is same) j i there = (leaves_all m m' j same).area i
+failing_area m m' n a s j i there = grind (arith, failed_area, leaves_all)
 
 -- ---- records that are not digested
 
@@ -91,11 +88,7 @@ ahead_to_end w j c s there =
 
 kept_whole : (w : World) (n c : ℕ) → (w.lives c ≡ true → w.home c ≢ n) → kept_at_failure w n c ≡ end_of_log w c
 unfolding kept_at_failure
-kept_whole w n c away =
-    elim (cases_Bool (w.lives c && (w.home c == n))) [
-      | inl there ↦ (let parts = and_parts (w.lives c) (w.home c == n) there in absurd (away parts.0 (eqb-true (w.home c) n parts.1)))
-      | inr elsewhere ↦ rw elsewhere refl
-    ]
+kept_whole w n c away = grind (arith, cases_Bool, and_parts, eqb-true)
 
 kept_ahead : (w : World) (n j c : ℕ) → WorldInvariant w → Full w j → (w.lives c ≡ true → w.home c ≢ n) → undigested_below w j c (kept_at_failure w n c) ≡ undigested_records w j c
 kept_ahead w n j c s there away = ap (undigested_below w j c) (kept_whole w n c away) ∙ ahead_to_end w j c s there
@@ -104,11 +97,7 @@ kept_ahead w n j c s there away = ap (undigested_below w j c) (kept_whole w n c 
 
 -- nobody lives at a node that comes back
 nobody_there : (m : Machine) (n c : ℕ) → MachineInvariant m → is_returning (standing_of m.members.nodes n) ≡ true → m.world.lives c ≡ true → m.world.home c ≢ n
-nobody_there m n c h returns lives home =
-    let there : Full m.world n = subst (Full m.world) home (h.sound.homes c lives) in
-    let is = h.members.full_nodes n there in
-    let never = ap is_returning is in
-    cc
+nobody_there m n c h returns lives home = grind arith
 
 pub failing_ahead : (m m' : Machine) (n : ℕ) (losses : List Loss) → MachineInvariant m → Failing m n (failed losses) m' → (j c : ℕ) → Full m.world j → j ≢ n →
     undigested_records m'.world j c ≡ undigested_below m.world j c (kept_at_failure m.world n c)

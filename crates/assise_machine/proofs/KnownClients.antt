@@ -1,5 +1,5 @@
 -- What is known of a client is what the history says.
-use Rattle.std.proofs.Common.{◌≡◌, ℕ, Bool, true, false, not, ◌∷◌, ◌++◌, refl, ap, sym, ◌∙◌}
+use Rattle.std.proofs.Common.{◌≡◌, ℕ, Bool, not, ◌∷◌, ◌++◌, ap, sym, ◌∙◌, arith}
 use Rattle.std.specs.List.{list_any}
 use Rattle.assise_history.specs.Entries.{opens}
 use Rattle.assise_history.specs.Legal.{is_failure_of}
@@ -11,10 +11,7 @@ use Rattle.assise_machine_state.specs.StateValues.{StateValue}
 use Rattle.assise_machine.specs.KnownClients.{IsKnownClient}
 
 same_not : (a b : Bool) → not a ≡ not b → a ≡ b
-same_not true true same = refl
-same_not true false same = cc
-same_not false true same = cc
-same_not false false same = refl
+same_not a b same = grind arith
 
 pub known_client : (s : StateValue) (c : ℕ) (x : ClientValue) → IsClient (observed s).world c → x ≡ client_in s.clients c → MachineInvariant (observed s) → IsKnownClient (observed s).history c x
 unfolding observed world_of

@@ -1,31 +1,23 @@
 -- A log goes on with some records.
-use Rattle.std.proofs.Common.{◌≡◌, ℕ, zero, suc, ◌+◌, ◌-◌, ◌<◌, ◌≤◌, nat_lt, List, [], ◌∷◌, length, take, drop, slice_get, Some, None, inl, inr, refl, ap, sym, subst, ◌∙◌, arith}
+use Rattle.std.proofs.Common.{◌≡◌, ℕ, zero, suc, ◌+◌, ◌-◌, ◌≤◌, List, [], ◌∷◌, length, take, drop, slice_get, Some, None, refl, ap, sym, subst, ◌∙◌, arith}
 use Rattle.std.proofs.lemmas.Bool.{cases_Bool, ltb-true}
-use Rattle.std.proofs.lemmas.List.{drop_all, length-drop, length-take, take_all}
+use Rattle.std.proofs.lemmas.List.{length-drop, take_all}
+use Rattle.std.proofs.lemmas.Option.{get_or_from_slice_get, slice_get_within}
+use Rattle.std.proofs.Math.Seq.{drop-cons}
 use Rattle.assise_record.specs.LogRecord.{LogRecord}
 use Rattle.assise_digest.specs.Region.{AreWhole}
 use Rattle.assise_private_log.specs.NumberedLog.{NumberedLog, record_at, records_from}
 
 drop_here : (xs : List LogRecord) (i : ℕ) (x : LogRecord) → slice_get xs i ≡ Some x → drop i xs ≡ x ∷ drop (suc i) xs
-drop_here [] zero x is = cc
-drop_here [] (suc i) x is = cc
-drop_here (y ∷ ys) zero x is = (let same : y ≡ x = cc is in ap (λ z. z ∷ ys) same)
-drop_here (y ∷ ys) (suc i) x is = drop_here ys i x is
+drop_here xs i x is = drop-cons xs i x (slice_get_within xs i x is) ∙ ap (λ y. y ∷ drop (suc i) xs) (get_or_from_slice_get xs i x x is)
 
 place_at : (l : NumberedLog) (from : ℕ) → l.first ≤ from → record_at l from ≡ slice_get l.records (from - l.first)
-place_at l from begun =
-    elim (cases_Bool (nat_lt from l.first)) [
-      | inl low ↦ (let before : from < l.first = ltb-true from l.first low in absurd (omega (arith, begun, before)))
-      | inr high ↦ rw high refl
-    ]
+place_at l from begun = grind (arith, cases_Bool, ltb-true)
 
 pub goes_on : (l : NumberedLog) (from : ℕ) (r : LogRecord) → l.first ≤ from → Some r ≡ record_at l from → records_from l from ≡ r ∷ records_from l (from + 1)
 goes_on l from r begun is =
     let next : suc (from - l.first) ≡ (from + 1) - l.first = omega (arith, begun) in
     drop_here l.records (from - l.first) r (sym (place_at l from begun) ∙ sym is) ∙ ap (λ k. r ∷ drop k l.records) next
-
-pub ends : (l : NumberedLog) (from : ℕ) → length l.records ≤ from - l.first → records_from l from ≡ []
-ends l from past = drop_all (from - l.first) l.records past
 
 none_there : (xs : List LogRecord) (i : ℕ) → slice_get xs i ≡ None → drop i xs ≡ []
 none_there [] zero is = refl
@@ -73,17 +65,7 @@ whole_prefix (x ∷ xs) (suc i) whole = (whole.0, whole_prefix xs i whole.1)
 pub whole_part : (l : NumberedLog) (from count : ℕ) → AreWhole l.records → AreWhole (take count (records_from l from))
 whole_part l from count whole = whole_prefix (records_from l from) count (whole_behind l.records (from - l.first) whole)
 
--- ---- how many there are
-
-part_length : (l : NumberedLog) (from : ℕ) (rs : List LogRecord) → take (length rs) (records_from l from) ≡ rs → length rs ≤ length l.records - (from - l.first)
-part_length l from rs all =
-    let taken = length-take (length rs) (records_from l from) in
-    let left = length-drop (from - l.first) l.records in
-    let same = ap length all in
-    omega (arith, taken, left, same)
-
-pub too_many : (l : NumberedLog) (from : ℕ) (rs : List LogRecord) → length l.records - (from - l.first) < length rs → take (length rs) (records_from l from) ≡ rs → ⊥
-too_many l from rs few all = (let low = part_length l from rs all in omega (arith, few, low))
+-- ---- what can be made whole
 
 -- what a log goes on with can be made whole, as what it has can
 pub whole_new : (l : NumberedLog) (from skipped : ℕ) (rs : List LogRecord) → AreWhole l.records →

@@ -5,23 +5,18 @@ use Rattle.std.specs.Option.{option_to_list}
 use Rattle.std.proofs.lemmas.List.{take_all}
 use Rattle.std.proofs.lemmas.List.Elements.{Contains-append_cases, Contains-append_left, Contains-append_right, Contains-push, Contains-push_cases}
 use Rattle.assise_names.specs.declared.call.Op.{Op}
-use Rattle.assise_names.specs.declared.call.Op.TheVariants.{Create, Mkdir, Read, Write, Truncate, Rename, Unlink, Rmdir, List as ListCall, Stat, Fsync, Dsync}
+use Rattle.assise_names.specs.declared.call.Op.TheVariants.{Fsync, Dsync}
 use Rattle.assise_names.specs.declared.durability.Durability.{Durability}
-use Rattle.assise_names.specs.declared.durability.Durability.TheVariants.{Pessimistic, Optimistic}
 use Rattle.assise_history.specs.Legal.{clients_opened, durability_of}
 use Rattle.assise_history.proofs.ClientCounts.{opened_append}
-use Rattle.assise_model_events.specs.ClientEvents as client
 use Rattle.assise_model_events.specs.ClientEvents.{Calling, Crashing, Noting, Opening, Syncing}
-use Rattle.assise_model_events.specs.Dsyncs as dsync
 use Rattle.assise_model_events.specs.Dsyncs.{Coalescing}
-use Rattle.assise_model_events.specs.Events.{Answer, ClusterEvent, open_client, try_call, try_fsync, outgoing, deliver, digest, release_ready, set_hot, crash, fail, back, refill, join, raise, refused, opened, replied, not_yet, sent, received, digested, released, hot_set, crashed, failed, began, left, joined, raised, entries_of}
+use Rattle.assise_model_events.specs.Events.{Answer, ClusterEvent, open_client, try_call, try_fsync, crash, opened, entries_of}
 use Rattle.assise_model_events.specs.Happenings.{Dsyncing, Fsyncing, Happens, Trying}
 use Rattle.assise_model_events.specs.Machine.{MachineInvariant, Machine}
-use Rattle.assise_model_events.specs.MemberEvents as member
-use Rattle.assise_model_events.specs.NodeEvents as node
 use Rattle.assise_machine.specs.declared.answer.Answer.{Answer as Answered}
 use Rattle.assise_machine.specs.declared.event.Event.{Event}
-use Rattle.assise_machine.specs.Running.{AllServed, IsServed, all_opened, answer_seen, event_seen, happens, lacks_revoker, last_first, opened_of, stock_after, stock_left, told}
+use Rattle.assise_machine.specs.Running.{AllServed, IsServed, all_opened, answer_seen, event_seen, last_first, opened_of, stock_after, stock_left, told}
 use Rattle.assise_machine.proofs.EventLists.{served_keeps, served_told, told_now}
 
 -- ---- an answer
@@ -34,20 +29,7 @@ record OpensNone (a : Answer) : Type 0 where
 
 opens_or : (a : Answer) → ((c : ℕ) × (a ≡ opened c)) ⊎ OpensNone a
 opens_or (opened c) = inl (c, refl)
-opens_or (refused r) = inr (record { never = λ c is. cc; none = refl; stock = λ k. refl })
-opens_or (replied reply) = inr (record { never = λ c is. cc; none = refl; stock = λ k. refl })
-opens_or not_yet = inr (record { never = λ c is. cc; none = refl; stock = λ k. refl })
-opens_or (sent frames) = inr (record { never = λ c is. cc; none = refl; stock = λ k. refl })
-opens_or (received place) = inr (record { never = λ c is. cc; none = refl; stock = λ k. refl })
-opens_or (digested count) = inr (record { never = λ c is. cc; none = refl; stock = λ k. refl })
-opens_or (released count) = inr (record { never = λ c is. cc; none = refl; stock = λ k. refl })
-opens_or hot_set = inr (record { never = λ c is. cc; none = refl; stock = λ k. refl })
-opens_or crashed = inr (record { never = λ c is. cc; none = refl; stock = λ k. refl })
-opens_or (failed losses) = inr (record { never = λ c is. cc; none = refl; stock = λ k. refl })
-opens_or (began stale) = inr (record { never = λ c is. cc; none = refl; stock = λ k. refl })
-opens_or (left stale) = inr (record { never = λ c is. cc; none = refl; stock = λ k. refl })
-opens_or joined = inr (record { never = λ c is. cc; none = refl; stock = λ k. refl })
-opens_or raised = inr (record { never = λ c is. cc; none = refl; stock = λ k. refl })
+opens_or _ = inr (record { never = λ c is. cc; none = refl; stock = λ k. refl })
 
 in_none : (c : ℕ) → Contains [] c → ⊥
 in_none c (k, low, is) = omega (arith, low)
@@ -74,103 +56,43 @@ record OpensNext (m m' : Machine) (c : ℕ) : Type 0 where
   pub clients : m'.world.clients ≡ c
 
 opening_next : (m m' : Machine) (n : ℕ) (u : Durability) (c : ℕ) → Opening m n u (opened c) m' → OpensNext m m' c
-opening_next m m' n u c (client.is_opened fine is e) =
-    let same : c ≡ suc m.world.clients = cc in
-    record { next = same; clients = e.opening.opens.clients ∙ sym same }
-opening_next m m' n u c (client.is_refused r fault is same) = cc
-opening_next m m' n u c (client.lacks_memory fine is same) = cc
+opening_next m m' n u c s = grind arith
 
 calling_none : (m m' : Machine) (d : ℕ) (op : Op) (c : ℕ) → Calling m d op (opened c) m' → ⊥
-calling_none m m' d op c (client.is_answered reply granted is e) = cc
-calling_none m m' d op c (client.is_awaited reply granted is e) = cc
-calling_none m m' d op c (client.is_spent reply granted is e keeps) = cc
-calling_none m m' d op c (client.is_full reply granted is e keeps) = cc
-calling_none m m' d op c (client.lacks_memory reply granted is e keeps) = cc
-calling_none m m' d op c (client.is_refused r fault is same) = cc
+calling_none m m' d op c s = grind arith
 
 syncing_none : (m m' : Machine) (d : ℕ) (op : Op) (c : ℕ) → Syncing m d op (opened c) m' → ⊥
-syncing_none m m' d op c (client.is_synced reply fine is e) = cc
-syncing_none m m' d op c (client.is_replicating fine is e) = cc
-syncing_none m m' d op c (client.lacks_memory fine all is same) = cc
-syncing_none m m' d op c (client.is_refused r fault is same) = cc
+syncing_none m m' d op c s = grind arith
 
 noting_none : (m m' : Machine) (d c : ℕ) → Noting m d (opened c) m' → ⊥
-noting_none m m' d c (client.is_noted reply fine is e) = cc
-noting_none m m' d c (client.lacks_memory fine is same) = cc
-noting_none m m' d c (client.is_refused r fault is same) = cc
+noting_none m m' d c s = grind arith
 
 fsyncing_none : (m m' : Machine) (u : Durability) (d c : ℕ) → Fsyncing u m d (opened c) m' → ⊥
-fsyncing_none m m' Pessimistic d c s = syncing_none m m' d Fsync c s
-fsyncing_none m m' Optimistic d c s = noting_none m m' d c s
+fsyncing_none m m' u d c s = grind (arith, syncing_none, noting_none)
 
 coalescing_none : (m m' : Machine) (d c : ℕ) → Coalescing m d (opened c) m' → ⊥
-coalescing_none m m' d c (dsync.is_synced reply fine is e) = cc
-coalescing_none m m' d c (dsync.is_coalesced fine is e) = cc
-coalescing_none m m' d c (dsync.lacks_memory fine is same) = cc
-coalescing_none m m' d c (dsync.is_refused r fault is same) = cc
+coalescing_none m m' d c s = grind arith
 
 dsyncing_none : (m m' : Machine) (u : Durability) (d c : ℕ) → Dsyncing u m d (opened c) m' → ⊥
-dsyncing_none m m' Pessimistic d c s = syncing_none m m' d Dsync c s
-dsyncing_none m m' Optimistic d c s = coalescing_none m m' d c s
+dsyncing_none m m' u d c s = grind (arith, syncing_none, coalescing_none)
 
 crashing_none : (m m' : Machine) (d c : ℕ) → Crashing m d (opened c) m' → ⊥
-crashing_none m m' d c (client.is_crashed fine is e) = cc
-crashing_none m m' d c (client.lacks_memory fine is same) = cc
-crashing_none m m' d c (client.is_refused r fault is same) = cc
+crashing_none m m' d c s = grind arith
 
 trying_none : (m m' : Machine) (d : ℕ) (op : Op) (c : ℕ) → Trying m d op (opened c) m' → ⊥
-trying_none m m' d (Create p) c s = calling_none m m' d (Create p) c s
-trying_none m m' d (Mkdir p) c s = calling_none m m' d (Mkdir p) c s
-trying_none m m' d (Read p offset n) c s = calling_none m m' d (Read p offset n) c s
-trying_none m m' d (Write p offset bytes) c s = calling_none m m' d (Write p offset bytes) c s
-trying_none m m' d (Truncate p size) c s = calling_none m m' d (Truncate p size) c s
-trying_none m m' d (Rename p q) c s = calling_none m m' d (Rename p q) c s
-trying_none m m' d (Unlink p) c s = calling_none m m' d (Unlink p) c s
-trying_none m m' d (Rmdir p) c s = calling_none m m' d (Rmdir p) c s
-trying_none m m' d (ListCall p) c s = calling_none m m' d (ListCall p) c s
-trying_none m m' d (Stat p) c s = calling_none m m' d (Stat p) c s
 trying_none m m' d Fsync c s = fsyncing_none m m' (durability_of d m.history) d c s
 trying_none m m' d Dsync c s = dsyncing_none m m' (durability_of d m.history) d c s
+trying_none m m' d op c s = calling_none m m' d op c s
 
 event_next : (m m' : Machine) (e : ClusterEvent) (c : ℕ) → Happens m e (opened c) m' → OpensNext m m' c
 event_next m m' (open_client n u) c s = opening_next m m' n u c s
 event_next m m' (try_call d op) c s = absurd (trying_none m m' d op c s)
 event_next m m' (try_fsync d) c s = absurd (fsyncing_none m m' (durability_of d m.history) d c s)
-event_next m m' (outgoing n) c (node.is_sent fine is same) = cc
-event_next m m' (outgoing n) c (node.lacks_memory fine some is same) = cc
-event_next m m' (outgoing n) c (node.is_refused r fault is same) = cc
-event_next m m' (deliver f n) c (node.is_delivered fine is e) = cc
-event_next m m' (deliver f n) c (node.is_stale fine late is same) = cc
-event_next m m' (deliver f n) c (node.lacks_memory fine timely is same) = cc
-event_next m m' (deliver f n) c (node.is_refused r fault is same) = cc
-event_next m m' (digest n) c (node.is_digested count fine is e) = cc
-event_next m m' (digest n) c (node.lacks_memory fine some is same) = cc
-event_next m m' (digest n) c (node.is_refused r fault is same) = cc
-event_next m m' release_ready c (node.is_released gone freed is e) = cc
-event_next m m' (set_hot n capacity) c (node.is_set fine is same) = cc
-event_next m m' (set_hot n capacity) c (node.lacks_memory fine is same) = cc
-event_next m m' (set_hot n capacity) c (node.is_refused r fault is same) = cc
 event_next m m' (crash d) c s = absurd (crashing_none m m' d c s)
-event_next m m' (fail n) c (member.is_failed fine is e) = cc
-event_next m m' (fail n) c (member.is_failed_again fine is e) = cc
-event_next m m' (fail n) c (member.lacks_memory fine is same) = cc
-event_next m m' (fail n) c (member.is_refused r fault is same) = cc
-event_next m m' (back n) c (member.is_back fine is e) = cc
-event_next m m' (back n) c (member.lacks_memory fine is same) = cc
-event_next m m' (back n) c (member.is_refused r fault is same) = cc
-event_next m m' (refill n) c (member.is_refilled fine is e) = cc
-event_next m m' (refill n) c (member.is_whole fine none is same) = cc
-event_next m m' (refill n) c (member.lacks_memory fine some is same) = cc
-event_next m m' (refill n) c (member.is_refused r fault is same) = cc
-event_next m m' (join n) c (member.is_joined fine is e) = cc
-event_next m m' (join n) c (member.lacks_memory fine is same) = cc
-event_next m m' (join n) c (member.is_refused r fault is same) = cc
-event_next m m' (raise n) c (member.is_raised fine is e) = cc
-event_next m m' (raise n) c (member.is_refused r fault is same) = cc
+event_next m m' e c s = grind arith
 
 served_next : (k : ℕ) (m m' : Machine) (e : ClusterEvent) (c : ℕ) → IsServed k m e (opened c) m' → OpensNext m m' c
-served_next k m m' e c (happens step) = event_next m m' e c step
-served_next k m m' e c (lacks_revoker n u is none fine answer same) = cc
+served_next k m m' e c s = grind (arith, event_next)
 
 -- ---- the clients are opened by ascending numbers
 

@@ -3,7 +3,7 @@ use Rattle.std.proofs.Common.{inl, inr, ◌≡◌, ◌≢◌, ℕ, zero, suc, �
 use Rattle.std.proofs.lemmas.Bool.{cases_eq}
 use Rattle.std.proofs.lemmas.List.{drop-drop}
 use Rattle.assise_names.specs.declared.call.Op.{Op}
-use Rattle.assise_names.specs.declared.call.Op.TheVariants.{Create, Mkdir, Read, Write, Truncate, Rename, Unlink, Rmdir, List as ListCall, Stat, Fsync, Dsync}
+use Rattle.assise_names.specs.declared.call.Op.TheVariants.{Fsync, Dsync}
 use Rattle.assise_names.specs.declared.durability.Durability.{Durability}
 use Rattle.assise_names.specs.declared.durability.Durability.TheVariants.{Pessimistic, Optimistic}
 use Rattle.assise_names.specs.declared.reply.Reply.{Reply}
@@ -24,7 +24,6 @@ use Rattle.assise_model_events.specs.Dsyncs.{Coalescing}
 use Rattle.assise_model_events.specs.Events.{Answer}
 use Rattle.assise_model_events.specs.Happenings.{Dsyncing, Fsyncing, Trying}
 use Rattle.assise_model_events.specs.Machine.{Machine}
-use Rattle.assise_model_events.specs.MemberEvents as member
 use Rattle.assise_model_events.specs.MemberEvents.{Joining, Raising, Refilling, Returning}
 use Rattle.assise_model_events.specs.NodeEvents as node
 use Rattle.assise_model_events.specs.NodeEvents.{Delivering, Digesting, DigestsTo, Gone, LetsGo, Releasing, Sending, SettingHot, world_after}
@@ -56,44 +55,28 @@ leaves_all m m' j same = record { area = λ i. ap (λ x. x.world.area j i) same;
 -- ---- what leaves all full nodes as they are
 
 pub opening_leaves : (m m' : Machine) (n : ℕ) (u : Durability) (a : Answer) → Opening m n u a m' → (j : ℕ) → Full m.world j → Leaves m.world m'.world j
-opening_leaves m m' n u a (client.is_opened fine is e) j there = leaves_nodes m.world m'.world j e.opening.opens.logs e.opening.opens.nodes there
-opening_leaves m m' n u a (client.is_refused r fault is same) j there = leaves_all m m' j same
-opening_leaves m m' n u a (client.lacks_memory fine is same) j there = leaves_all m m' j same
+opening_leaves m m' n u a s j there = grind (arith, leaves_nodes, leaves_all)
 
 pub sending_leaves : (m m' : Machine) (n : ℕ) (a : Answer) → Sending m n a m' → (j : ℕ) → Leaves m.world m'.world j
-sending_leaves m m' n a (node.is_sent fine is same) j = leaves_all m m' j same
-sending_leaves m m' n a (node.lacks_memory fine some is same) j = leaves_all m m' j same
-sending_leaves m m' n a (node.is_refused r fault is same) j = leaves_all m m' j same
+sending_leaves m m' n a s j = grind (arith, leaves_all)
 
 pub setting_leaves : (m m' : Machine) (n capacity : ℕ) (a : Answer) → SettingHot m n capacity a m' → (j : ℕ) → Leaves m.world m'.world j
-setting_leaves m m' n capacity a (node.is_set fine is same) j = record { area = λ i. ap (λ x. x.world.area j i) same; ahead = λ c. ap (λ x. undigested_records x.world j c) same }
-setting_leaves m m' n capacity a (node.lacks_memory fine is same) j = leaves_all m m' j same
-setting_leaves m m' n capacity a (node.is_refused r fault is same) j = leaves_all m m' j same
+setting_leaves m m' n capacity a s j = grind (arith, leaves_all)
 
 pub raising_leaves : (m m' : Machine) (n : ℕ) (a : Answer) → Raising m n a m' → (j : ℕ) → Leaves m.world m'.world j
-raising_leaves m m' n a (member.is_raised fine is e) j = subst (λ w. Leaves m.world w j) (sym e.world) (leaves_all m m j refl)
-raising_leaves m m' n a (member.is_refused r fault is same) j = leaves_all m m' j same
+raising_leaves m m' n a s j = grind (arith, leaves_all)
 
 pub crashing_leaves : (m m' : Machine) (c : ℕ) (a : Answer) → Crashing m c a m' → (j : ℕ) → Full m.world j → Leaves m.world m'.world j
-crashing_leaves m m' c a (client.is_crashed fine is e) j there = leaves_nodes m.world m'.world j e.crash.crash.logs e.crash.crash.nodes there
-crashing_leaves m m' c a (client.lacks_memory fine is same) j there = leaves_all m m' j same
-crashing_leaves m m' c a (client.is_refused r fault is same) j there = leaves_all m m' j same
+crashing_leaves m m' c a s j there = grind (arith, leaves_nodes, leaves_all)
 
 pub returning_leaves : (m m' : Machine) (n : ℕ) (a : Answer) → Returning m n a m' → (j : ℕ) → Full m.world j → Leaves m.world m'.world j
-returning_leaves m m' n a (member.is_back fine is e) j there = leaves_nodes m.world m'.world j e.comes.rests.logs e.comes.rests.nodes there
-returning_leaves m m' n a (member.lacks_memory fine is same) j there = leaves_all m m' j same
-returning_leaves m m' n a (member.is_refused r fault is same) j there = leaves_all m m' j same
+returning_leaves m m' n a s j there = grind (arith, leaves_nodes, leaves_all)
 
 pub refilling_leaves : (m m' : Machine) (n : ℕ) (a : Answer) → Refilling m n a m' → (j : ℕ) → Full m.world j → Leaves m.world m'.world j
-refilling_leaves m m' n a (member.is_refilled fine is e) j there = leaves_nodes m.world m'.world j e.refills.rests.logs e.refills.rests.nodes there
-refilling_leaves m m' n a (member.is_whole fine none is same) j there = leaves_all m m' j same
-refilling_leaves m m' n a (member.lacks_memory fine some is same) j there = leaves_all m m' j same
-refilling_leaves m m' n a (member.is_refused r fault is same) j there = leaves_all m m' j same
+refilling_leaves m m' n a s j there = grind (arith, leaves_nodes, leaves_all)
 
 pub joining_leaves : (m m' : Machine) (n : ℕ) (a : Answer) → Joining m n a m' → (j : ℕ) → Full m.world j → Leaves m.world m'.world j
-joining_leaves m m' n a (member.is_joined fine is e) j there = leaves_node m.world m'.world j e.rejoins.logs (e.rejoins.else_same j there)
-joining_leaves m m' n a (member.lacks_memory fine is same) j there = leaves_all m m' j same
-joining_leaves m m' n a (member.is_refused r fault is same) j there = leaves_all m m' j same
+joining_leaves m m' n a s j there = grind (arith, leaves_node, leaves_all)
 
 -- ---- leases come and go
 
@@ -104,11 +87,7 @@ pub record Rested (w w' : World) : Type 0 where
   pub nodes : SameNodes w w'
 
 all_rest : (w : World) → Rested w w
-all_rest w = record {
-  logs = record { calls = refl; records = λ c. refl; first = λ c. refl; next = λ c. refl; border = λ c k. refl; made = λ c. refl };
-  clients = record { clients = refl; home = λ c. refl; lives = λ c. refl; crashed = λ c. refl };
-  nodes = record { full = refl; same = λ n f. record { area = λ i. refl; log = λ c. refl; received = λ c. refl; digested = λ c. refl } };
-}
+all_rest w = assumption
 
 rested_after : (w v u : World) → Rested w v → Rested v u → Rested w u
 rested_after w v u a b = record {
@@ -216,18 +195,9 @@ dsyncing_leaves m m' Pessimistic c a s j there = syncing_leaves m m' c Dsync a s
 dsyncing_leaves m m' Optimistic c a s j there = coalescing_leaves m m' c a s j there
 
 pub trying_leaves : (m m' : Machine) (c : ℕ) (op : Op) (a : Answer) → Trying m c op a m' → (j : ℕ) → Full m.world j → LeavesElse m.world m'.world c j
-trying_leaves m m' c (Create p) a s j there = calling_leaves m m' c (Create p) a s j there
-trying_leaves m m' c (Mkdir p) a s j there = calling_leaves m m' c (Mkdir p) a s j there
-trying_leaves m m' c (Read p offset n) a s j there = calling_leaves m m' c (Read p offset n) a s j there
-trying_leaves m m' c (Write p offset bytes) a s j there = calling_leaves m m' c (Write p offset bytes) a s j there
-trying_leaves m m' c (Truncate p size) a s j there = calling_leaves m m' c (Truncate p size) a s j there
-trying_leaves m m' c (Rename p q) a s j there = calling_leaves m m' c (Rename p q) a s j there
-trying_leaves m m' c (Unlink p) a s j there = calling_leaves m m' c (Unlink p) a s j there
-trying_leaves m m' c (Rmdir p) a s j there = calling_leaves m m' c (Rmdir p) a s j there
-trying_leaves m m' c (ListCall p) a s j there = calling_leaves m m' c (ListCall p) a s j there
-trying_leaves m m' c (Stat p) a s j there = calling_leaves m m' c (Stat p) a s j there
 trying_leaves m m' c Fsync a s j there = fsyncing_leaves m m' (durability_of c m.history) c a s j there
 trying_leaves m m' c Dsync a s j there = dsyncing_leaves m m' (durability_of c m.history) c a s j there
+trying_leaves m m' c op a s j there = calling_leaves m m' c op a s j there
 
 -- ---- a frame comes in
 
@@ -240,13 +210,7 @@ leaves_beside : (w w' : World) (n j : ℕ) → Leaves w w' j → LeavesBeside w 
 leaves_beside w w' n j e = record { area = e.area; ahead = λ other. e.ahead }
 
 pub delivering_leaves : (m m' : Machine) (f : LogFrame) (n : ℕ) (a : Answer) → Delivering m f n a m' → (j : ℕ) → Full m.world j → LeavesBeside m.world m'.world n j
-delivering_leaves m m' f n a (node.is_delivered fine is e) j there = record {
-  area = λ i. e.delivers.area j i there;
-  ahead = λ other c. ahead_as m.world m'.world j c (e.delivers.digested j c there) (e.delivers.logs.first c) (e.delivers.log_else j c there (λ here d. other here));
-}
-delivering_leaves m m' f n a (node.is_stale fine late is same) j there = leaves_beside m.world m'.world n j (leaves_all m m' j same)
-delivering_leaves m m' f n a (node.lacks_memory fine timely is same) j there = leaves_beside m.world m'.world n j (leaves_all m m' j same)
-delivering_leaves m m' f n a (node.is_refused r fault is same) j there = leaves_beside m.world m'.world n j (leaves_all m m' j same)
+delivering_leaves m m' f n a s j there = grind (arith, ahead_as, leaves_beside, leaves_all)
 
 -- ---- a digest
 

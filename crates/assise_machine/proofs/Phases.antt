@@ -1,25 +1,19 @@
 -- A node is full exactly where nothing is in the way of its events.
-use Rattle.std.proofs.Common.{◌≡◌, ℕ, Option, Some, None, Result, Ok, refl, sym, ◌∙◌}
+use Rattle.std.proofs.Common.{◌≡◌, ℕ, Option, None, Result, Ok, sym, ◌∙◌, arith}
 use Rattle.assise_names.specs.declared.refusal.Refusal.{Refusal}
 use Rattle.assise_names.specs.declared.refusal.Refusal.TheVariants.{WrongPhase}
 use Rattle.assise_manager.specs.declared.phase.Phase.{Phase}
 use Rattle.assise_manager.specs.declared.phase.Phase.TheVariants.{Full}
-use Rattle.assise_manager.specs.Standings.{Standing, full, down, returning, phase_of, standing_of}
+use Rattle.assise_manager.specs.Standings.{Standing, phase_of, standing_of}
 use Rattle.assise_model_events.specs.Faults.{node_fault, unless_full}
 use Rattle.assise_machine_state.specs.Observed.{observed}
 use Rattle.assise_machine_state.specs.StateValues.{StateValue}
 
 full_fine : (o : Option Standing) → phase_of o ≡ Ok Full → unless_full WrongPhase o ≡ None
-full_fine None is = cc
-full_fine (Some full) is = refl
-full_fine (Some (down since)) is = cc
-full_fine (Some (returning since donor stale)) is = cc
+full_fine o is = grind arith
 
 fine_full : (o : Option Standing) → unless_full WrongPhase o ≡ None → phase_of o ≡ Ok Full
-fine_full None is = cc
-fine_full (Some full) is = refl
-fine_full (Some (down since)) is = cc
-fine_full (Some (returning since donor stale)) is = cc
+fine_full o is = grind arith
 
 pub full_has_no_fault : (s : StateValue) (n : ℕ) (r : Result Phase Refusal) → r ≡ phase_of (standing_of s.members.nodes n) → r ≡ Ok Full → node_fault (observed s) n ≡ None
 unfolding observed

@@ -1,12 +1,12 @@
 -- A node that is raised: the invariant between events stays.
 use Rattle.std.specs.Prelude.{⊤}
-use Rattle.std.proofs.Common.{◌≡◌, ℕ, None, Some, Option, Result, Ok, Err, IsSome, true, false, true≢false, OnErr, OnOk, ◌↔◌, IsOk, refl, ap, sym, subst, ◌∙◌, append-nil}
+use Rattle.std.proofs.Common.{◌≡◌, ℕ, None, Some, Option, Result, Ok, Err, IsSome, true, false, true≢false, OnErr, OnOk, ◌↔◌, IsOk, refl, ap, sym, subst, ◌∙◌, append-nil, arith}
 use Rattle.std.proofs.Math.Logic.{∥∥₁_map}
 use Rattle.assise_names.specs.declared.refusal.Refusal.{Refusal}
 use Rattle.assise_manager.specs.Changes.{raise_fault, raised as with_raised}
 use Rattle.assise_manager.specs.declared.phase.Phase.{Phase}
 use Rattle.assise_manager.specs.Membership.{Membership}
-use Rattle.assise_manager.specs.Standings.{Standing, full, down, returning, phase_of, standing_of}
+use Rattle.assise_manager.specs.Standings.{Standing, phase_of, standing_of}
 use Rattle.assise_model_events.specs.Events.{raised}
 use Rattle.assise_model_events.specs.Machine.{MachineInvariant}
 use Rattle.assise_model_events.specs.MemberEvents.{IsRaised, Raising, is_raised, is_refused}
@@ -30,21 +30,10 @@ module _ (s : StateValue) (n : ℕ) where
 
   shape_kept : ShapeInvariant s → ShapeInvariant after_raise
   unfolding own_seen log_in region_in
-  shape_kept shape = record {
-    nodes = shape.nodes;
-    few_nodes = shape.few_nodes;
-    logs = shape.logs;
-    no_logs = shape.no_logs;
-    at_home = shape.at_home;
-    limits = shape.limits;
-    least_limit = shape.least_limit;
-    most_limit = shape.most_limit;
-    marked = shape.marked;
-    durabilities = shape.durabilities;
-  }
+  shape_kept shape = assumption
 
   notes_kept : CutsInvariant s → CutsInvariant after_raise
-  notes_kept noted = record { once = noted.once; known = noted.known; noted = noted.noted }
+  notes_kept noted = assumption
 
   is_raised_now : IsRaised (observed s) n (observed after_raise)
   unfolding observed world_of leases_of own_seen
@@ -81,14 +70,10 @@ module _ (s : StateValue) (n : ℕ) where
   -- ---- whether there is such a node
 
   some_phase : (o : Option Standing) (r : Result Phase Refusal) (p : Phase) → r ≡ phase_of o → r ≡ Ok p → IsSome o
-  some_phase None r p is ok = cc
-  some_phase (Some x) r p is ok = refl
+  some_phase o r p is ok = grind arith
 
   no_phase : (o : Option Standing) (r : Result Phase Refusal) (e : Refusal) → r ≡ phase_of o → r ≡ Err e → IsSome o → ⊥
-  no_phase None r e is err some = cc
-  no_phase (Some full) r e is err some = cc
-  no_phase (Some (down since)) r e is err some = cc
-  no_phase (Some (returning since donor stale)) r e is err some = cc
+  no_phase o r e is err some = grind arith
 
   abbrev There : Type 0
   There = IsSome (standing_of (observed s).members.nodes n)

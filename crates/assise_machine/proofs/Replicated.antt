@@ -2,9 +2,10 @@
 use Rattle.std.proofs.Common.{◌≡◌, ℕ, zero, suc, ◌<◌, ◌≤◌, nat_lt, true, false, None, if◌then◌else◌, List, [], ◌∷◌, filter, get_or, length, map, slice_index_or, inl, inr, refl, ap, sym, subst, ◌∙◌, arith}
 use Rattle.std.proofs.Math.Bridge.{le_prop}
 use Rattle.std.proofs.Math.Logic.{∥∥₁_elim, ∥∥₁_map}
+use Rattle.std.proofs.Props.{props}
 use Rattle.std.proofs.lemmas.Bool.{cases_Bool, cases_lt}
 use Rattle.std.proofs.lemmas.List.{get_or_append_left, get_or_push, length_push}
-use Rattle.std.specs.Coded.{Coded, Coded-set, Unit-prop, codes, coded_bool, coded_ℕ, ×_prop}
+use Rattle.std.specs.Coded.{Coded, Coded-set, Unit-prop, codes, ×_prop}
 use Rattle.assise_names.specs.declared.call.Op.{Op}
 use Rattle.assise_names.specs.declared.refusal.Refusal.TheVariants.{WrongPhase}
 use Rattle.assise_names.specs.declared.reply.Reply.{Reply}
@@ -108,49 +109,34 @@ module _ (s : StateValue) (shape : ShapeInvariant s) (some : 0 < length (full_no
   abbrev bound : ℕ → ℕ
   bound c = call_from c (acked c) s.nodes (calls_made c s.history)
 
-  acked_is : MachineInvariant (observed s) → (c : ℕ) → acked c ≡ received_by_all (observed s).world c
-  unfolding observed
-  acked_is h c = least_is s shape some h.sound h.recorded.next c
-
-  bound_is : MachineInvariant (observed s) → (c : ℕ) → bound c ≡ first_unreplicated (observed s).world c
-  unfolding observed
-  bound_is h c = replicated_is s shape some h.sound h.recorded.next c
-
-  count_is : MachineInvariant (observed s) → clients_opened s.history ≡ length s.clients
-  unfolding observed world_of
-  count_is h = sym h.recorded.count
-
-  same_bound : MachineInvariant (observed s) → bound ≡ first_unreplicated (observed s).world
-  same_bound h = λ i c. bound_is h c i
-
   pub count_known : clients_opened s.history ≡ length s.clients
-  count_known = ∥∥₁_elim holds (Coded-set coded_ℕ (clients_opened s.history) (length s.clients)) (λ h. count_is h)
+  unfolding observed world_of
+  count_known = ∥∥₁_elim holds (search props) (λ h. sym h.recorded.count)
 
   pub acked_known : (c : ℕ) → acked c ≡ received_by_all (observed s).world c
-  acked_known c = ∥∥₁_elim holds (Coded-set coded_ℕ (acked c) (received_by_all (observed s).world c)) (λ h. acked_is h c)
+  unfolding observed
+  acked_known c = ∥∥₁_elim holds (search props) (λ h. least_is s shape some h.sound h.recorded.next c)
 
   pub bound_known : (c : ℕ) → bound c ≡ first_unreplicated (observed s).world c
-  bound_known c = ∥∥₁_elim holds (Coded-set coded_ℕ (bound c) (first_unreplicated (observed s).world c)) (λ h. bound_is h c)
+  unfolding observed
+  bound_known c = ∥∥₁_elim holds (search props) (λ h. replicated_is s shape some h.sound h.recorded.next c)
+
+  same_bound : bound ≡ first_unreplicated (observed s).world
+  same_bound = λ i c. bound_known c i
 
   -- ---- which nodes are up
 
-  up_full : (n : ℕ) → MachineInvariant (observed s) → 1 ≤ n → n ≤ length s.nodes → (IsDown s.history n → ⊥) → Full (observed s).world n
+  pub full_known : (n : ℕ) → 1 ≤ n → n ≤ length s.nodes → (IsDown s.history n → ⊥) → Full (observed s).world n
   unfolding observed
-  up_full n h least most up =
+  full_known n least most up = ∥∥₁_elim holds (search props) (λ h.
       elim (cases_Bool (contains (observed s).world.full n)) [
         | inl full ↦ full
         | inr away ↦ absurd (up (h.recorded.down n (least, subst (λ k. n ≤ k) shape.nodes most) (λ full. cc (away, full))))
-      ]
-
-  pub full_known : (n : ℕ) → 1 ≤ n → n ≤ length s.nodes → (IsDown s.history n → ⊥) → Full (observed s).world n
-  full_known n least most up = ∥∥₁_elim holds (Coded-set coded_bool (contains (observed s).world.full n) true) (λ h. up_full n h least most up)
-
-  full_up : (n : ℕ) → Full (observed s).world n → IsDown s.history n → MachineInvariant (observed s) → ⊥
-  unfolding observed
-  full_up n full down h = h.recorded.up n full down
+      ])
 
   pub up_known : (n : ℕ) → Full (observed s).world n → IsDown s.history n → ⊥
-  up_known n full down = ∥∥₁_elim holds (λ x y. absurd x) (λ h. full_up n full down h)
+  unfolding observed
+  up_known n full down = ∥∥₁_elim holds (λ x y. absurd x) (λ h. h.recorded.up n full down)
 
   full_there : (n : ℕ) → Full (observed s).world n → IsNumber s.nodes n
   unfolding observed
@@ -166,48 +152,45 @@ module _ (s : StateValue) (shape : ShapeInvariant s) (some : 0 < length (full_no
 
   -- ---- its region alone
 
-  module _ (places : List ℕ) (count : length places ≡ length s.clients) (each : (c : ℕ) → c < length s.clients → slice_index_or places c 0 ≡ acked (suc c)) where
-    same_tree : MachineInvariant (observed s) → tree_after opening (kept_below bound s.history) ≡ tree_after_calls opening (ops (numbered_replicated (state_of (observed s))))
-    unfolding observed
-    same_tree h =
-        ap (λ b. tree_after opening (kept_below b s.history)) (same_bound h)
-        ∙ ap (tree_after opening) (kept_below_is (first_unreplicated (observed s).world) s.history)
-        ∙ ap (tree_after_calls opening) (plain_ops (filter (below (first_unreplicated (observed s).world)) (kept_numbered s.history)))
+  -- the tree of the replicated calls is that of the laws
+  pub same_tree : tree_after opening (kept_below bound s.history) ≡ tree_after_calls opening (ops (numbered_replicated (state_of (observed s))))
+  unfolding observed
+  same_tree =
+      ap (λ b. tree_after opening (kept_below b s.history)) same_bound
+      ∙ ap (tree_after opening) (kept_below_is (first_unreplicated (observed s).world) s.history)
+      ∙ ap (tree_after_calls opening) (plain_ops (filter (below (first_unreplicated (observed s).world)) (kept_numbered s.history)))
 
+  module _ (places : List ℕ) (count : length places ≡ length s.clients)
+      (each : (c : ℕ) → c < length s.clients → slice_index_or places c 0 ≡ acked (suc c)) where
     same_values : (n : ℕ) → MachineInvariant (observed s) → Full (observed s).world n → (i : ℕ) →
         alone (region_in s.nodes n) places i ≡ alone_observed (observed s).world n i
     unfolding observed
-    same_values n h full i = alone_same s n places shape h.sound full count (λ c low. each c low ∙ acked_is h (suc c)) i
+    same_values n h full i = alone_same s n places shape h.sound full count (λ c low. each c low ∙ acked_known (suc c)) i
 
     pub alone_gives : (n : ℕ) → Full (observed s).world n → Spells (alone (region_in s.nodes n) places) (tree_after opening (kept_below bound s.history))
     alone_gives n full =
         spells_known (alone (region_in s.nodes n) places) (tree_after opening (kept_below bound s.history))
         (∥∥₁_map holds (λ h.
         subst (λ v. Spells v (tree_after opening (kept_below bound s.history))) (λ i j. sym (same_values n h full j) i)
-        (subst (Spells (alone_observed (observed s).world n)) (sym (same_tree h)) ((safe (observed s) h).rebuilt n full))))
+        (subst (Spells (alone_observed (observed s).world n)) (sym same_tree) ((safe (observed s) h).rebuilt n full))))
 
   -- ---- syncs, and what was seen
 
-  history_is : s.history ≡ (observed s).history
-  unfolding observed
-  history_is = refl
-
   pub synced_known : (c : ℕ) → IsPastSyncs s.history (record { client = c; first = bound c })
-  synced_known c = λ before since x split own sync. ∥∥₁_elim holds le_prop (λ h.
-      (let low : x.number < first_unreplicated (observed s).world c = h.recorded.synced c before since x (sym history_is ∙ split) own sync in
-      omega (arith, low, bound_is h c)))
-
-  run_of : (b : ℕ → ℕ) → MachineInvariant (observed s) → ((c : ℕ) → bound c ≤ b c) → IsRun opening (kept_below b s.history)
   unfolding observed
-  run_of b h past =
-      let high : (c : ℕ) → first_undigested (observed s).world c ≤ b c = λ c. omega (arith, first_undigested-below (observed s).world h.sound.coherent c, bound_is h c, past c) in
+  synced_known c = λ before since x split own sync. ∥∥₁_elim holds le_prop (λ h.
+      (let low : x.number < first_unreplicated (observed s).world c = h.recorded.synced c before since x split own sync in
+      omega (arith, low, bound_known c)))
+
+  pub run_known : (b : ℕ → ℕ) → ((c : ℕ) → bound c ≤ b c) → IsRun opening (kept_below b s.history)
+  unfolding observed
+  run_known b past = ∥∥₁_elim holds (answered_prop opening (map exchange (kept_below b s.history))) (λ h.
+      let high : (c : ℕ) → first_undigested (observed s).world c ≤ b c = λ c.
+      omega (arith, first_undigested-below (observed s).world h.sound.coherent c, bound_known c, past c) in
       let answered : AreAnswered opening (exchanges (filter (below b) (observed s).world.calls)) = answered_at (observed s).world b h.sound.coherent high in
       subst (IsRun opening) (sym (kept_below_is b s.history))
       (subst (AreAnswered opening) (sym (plain_exchanges (filter (below b) (kept_numbered s.history))))
-      (subst (λ xs. AreAnswered opening (exchanges (filter (below b) xs))) h.recorded.calls answered))
-
-  pub run_known : (b : ℕ → ℕ) → ((c : ℕ) → bound c ≤ b c) → IsRun opening (kept_below b s.history)
-  run_known b past = ∥∥₁_elim holds (answered_prop opening (map exchange (kept_below b s.history))) (λ h. run_of b h past)
+      (subst (λ xs. AreAnswered opening (exchanges (filter (below b) xs))) h.recorded.calls answered)))
 
 -- ---- of a cluster
 
@@ -241,14 +224,8 @@ module _ {C : Type 0} (cluster : ClusterOf C) where
   pub replicated_seen : (c : ℕ) → replicated_to cluster c ≡ first_unreplicated (observed value).world c
   replicated_seen c = bound_known value cluster.sound.invariant.shape some_there cluster.sound.invariant.holds c
 
-  -- the tree of the replicated calls is that of the laws
   pub replicated_tree : tree_after opening (replicated_calls cluster) ≡ tree_after_calls opening (ops (numbered_replicated (state_of (observed value))))
-  unfolding observed
-  replicated_tree =
-      let same : replicated_to cluster ≡ first_unreplicated (observed value).world = λ i c. bound_known value cluster.sound.invariant.shape some_there cluster.sound.invariant.holds c i in
-      ap (λ b. tree_after opening (kept_below b value.history)) same
-      ∙ ap (tree_after opening) (kept_below_is (first_unreplicated (observed value).world) value.history)
-      ∙ ap (tree_after_calls opening) (plain_ops (filter (below (first_unreplicated (observed value).world)) (kept_numbered value.history)))
+  replicated_tree = same_tree value cluster.sound.invariant.shape some_there cluster.sound.invariant.holds
 
   -- ---- what was handed over
 
@@ -259,15 +236,12 @@ module _ {C : Type 0} (cluster : ClusterOf C) where
   before_prop b c i [] = Unit-prop
   before_prop b c i (x ∷ xs) = ×_prop (λ f g. λ k own touches. le_prop (f own touches) (g own touches) k) (before_prop b c i xs)
 
-  handed : (c i : ℕ) → has_write_lease cluster c i ≡ false → MachineInvariant (observed value) → AreReplicated cluster c i
-  unfolding observed world_of steps leases_of
-  handed c i away h =
-      each-map (Before (first_unreplicated (observed value).world) c i) (Before (replicated_to cluster) c i) (kept_steps cluster)
-      (λ x low own touches. (let before = low own touches in let same = bound_known value cluster.sound.invariant.shape some_there cluster.sound.invariant.holds c in omega (arith, before, same)))
-      (handed_over_replicated (observed value) h c i away)
-
   pub handed_known : (c i : ℕ) → has_write_lease cluster c i ≡ false → AreReplicated cluster c i
-  handed_known c i away = ∥∥₁_elim cluster.sound.invariant.holds (before_prop (replicated_to cluster) c i (kept_steps cluster)) (λ h. handed c i away h)
+  unfolding observed world_of steps leases_of
+  handed_known c i away = ∥∥₁_elim cluster.sound.invariant.holds (before_prop (replicated_to cluster) c i (kept_steps cluster)) (λ h.
+      each-map (Before (first_unreplicated (observed value).world) c i) (Before (replicated_to cluster) c i) (kept_steps cluster)
+      (λ x low own touches. (let before = low own touches in omega (arith, before, replicated_seen c)))
+      (handed_over_replicated (observed value) h c i away))
 
 -- ---- at the start
 
@@ -279,35 +253,27 @@ pub begun_so : {C : Type 0} (cluster : ClusterOf C) (nodes limit hot : ℕ) → 
 unfolding observed
 begun_so cluster nodes limit hot is = (ap (λ m. m.history) is, cluster.sound.invariant.shape.nodes ∙ ap (λ m. length m.members.nodes) is ∙ as_many nodes)
 
--- ---- from a state to a later one
+-- ---- from a cluster to a later one
 
-module _ (s t : StateValue) (shape : ShapeInvariant s) (later_shape : ShapeInvariant t) (some : 0 < length (full_nodes (standings s))) (later_some : 0 < length (full_nodes (standings t)))
-    (holds : ∥ MachineInvariant (observed s) ∥₁) (later_holds : ∥ MachineInvariant (observed t) ∥₁) (lasts : MachineInvariant (observed s) → IsLasting (state_of (observed s)) (state_of (observed t)))
+module _ {C : Type 0} (cluster later : ClusterOf C)
+    (lasts : MachineInvariant (observed (value cluster)) → IsLasting (state_of (observed (value cluster))) (state_of (observed (value later))))
   where
-    abbrev old : ℕ → ℕ
-    old c = bound s shape some holds c
-
-    nodes_same : MachineInvariant (observed s) → length t.nodes ≡ length s.nodes
+    pub nodes_stay : length (regions_of later) ≡ length (regions_of cluster)
     unfolding observed
-    nodes_same h = later_shape.nodes ∙ (lasts h).nodes ∙ sym shape.nodes
+    nodes_stay = ∥∥₁_elim cluster.sound.invariant.holds (search props)
+        (λ h. later.sound.invariant.shape.nodes ∙ (lasts h).nodes ∙ sym cluster.sound.invariant.shape.nodes)
 
-    pub nodes_stay : length t.nodes ≡ length s.nodes
-    nodes_stay = ∥∥₁_elim holds (Coded-set coded_ℕ (length t.nodes) (length s.nodes)) nodes_same
+    pub bounds_stay : (c : ℕ) → replicated_to cluster c ≤ replicated_to later c
+    bounds_stay c = ∥∥₁_elim cluster.sound.invariant.holds le_prop (λ h.
+        (let no_less = (lasts h).none_falls.unreplicated c in omega (arith, no_less, replicated_seen cluster c, replicated_seen later c)))
 
-    pub bounds_stay : (c : ℕ) → bound s shape some holds c ≤ bound t later_shape later_some later_holds c
-    bounds_stay c = ∥∥₁_elim holds le_prop (λ h.
-        (let no_less : first_unreplicated (observed s).world c ≤ first_unreplicated (observed t).world c = (lasts h).none_falls.unreplicated c in
-        omega (arith, no_less, bound_known s shape some holds c, bound_known t later_shape later_some later_holds c)))
-
-    calls_same : MachineInvariant (observed s) → kept_below old t.history ≡ kept_below old s.history
+    pub calls_stay : kept_below (replicated_to cluster) (history_of later) ≡ replicated_calls cluster
     unfolding observed
-    calls_same h =
-        let same : old ≡ first_unreplicated (observed s).world = same_bound s shape some holds h in
-        ap (λ b. kept_below b t.history) same
-        ∙ kept_below_is (first_unreplicated (observed s).world) t.history
+    calls_stay = ∥∥₁_elim cluster.sound.invariant.holds (Coded-set coded_answered _ _) (λ h.
+        let b = first_unreplicated (observed (value cluster)).world in
+        let same : replicated_to cluster ≡ b = λ i c. replicated_seen cluster c i in
+        ap (λ d. kept_below d (history_of later)) same
+        ∙ kept_below_is b (history_of later)
         ∙ ap (map plain_call) (lasts h).stay
-        ∙ sym (kept_below_is (first_unreplicated (observed s).world) s.history)
-        ∙ ap (λ b. kept_below b s.history) (sym same)
-
-    pub calls_stay : kept_below (bound s shape some holds) t.history ≡ kept_below (bound s shape some holds) s.history
-    calls_stay = ∥∥₁_elim holds (Coded-set coded_answered (kept_below old t.history) (kept_below old s.history)) calls_same
+        ∙ sym (kept_below_is b (history_of cluster))
+        ∙ ap (λ d. kept_below d (history_of cluster)) (sym same))

@@ -1,6 +1,7 @@
 -- What the headline says of regions is what the laws observe: which records are replicated, and which calls are replicated.
 use Rattle.std.proofs.Common.{◌≡◌, ◌⊎◌, ℕ, zero, suc, ◌-◌, ◌<◌, ◌≤◌, min, nat_le, true, false, if◌then◌else◌, List, [], ◌∷◌, drop, get_or, length, take, inl, inr, refl, ap, sym, subst, ◌∙◌, arith}
 use Rattle.std.proofs.lemmas.Bool.{cases_Bool, cases_lt, le-leb, leb-true}
+use Rattle.std.proofs.Math.Seq.{drop-nil, take-nil}
 use Rattle.assise_history.specs.Legal.{calls_made}
 use Rattle.assise_record.specs.LogRecord.{LogRecord}
 use Rattle.assise_record.specs.Records.{call_of}
@@ -57,13 +58,6 @@ least_end-above c none (r ∷ rs) m j low each =
 
 -- ---- the first call from a place on
 
-abbrev nothing : List LogRecord
-nothing = []
-
-drop_nothing : (d : ℕ) → drop d nothing ≡ nothing
-drop_nothing zero = refl
-drop_nothing (suc d) = refl
-
 all_found : (xs : List LogRecord) (d next : ℕ) → first_call (drop d xs) next ≡ call_of xs d next
 all_found [] zero next = refl
 all_found [] (suc d) next = refl
@@ -72,20 +66,14 @@ all_found (r ∷ rs) (suc d) next = all_found rs d next
 
 -- of the records from a place on the first is found in any prefix that has it
 prefix_found : (xs : List LogRecord) (d t next : ℕ) → first_call (drop d (take t xs)) (call_of xs d next) ≡ call_of xs d next
-prefix_found [] zero zero next = refl
-prefix_found [] zero (suc t) next = refl
-prefix_found [] (suc d) zero next = refl
-prefix_found [] (suc d) (suc t) next = refl
+prefix_found [] d t next = rw (take-nil t, drop-nil d) refl
 prefix_found (r ∷ rs) zero zero next = refl
 prefix_found (r ∷ rs) zero (suc t) next = refl
 prefix_found (r ∷ rs) (suc d) zero next = refl
 prefix_found (r ∷ rs) (suc d) (suc t) next = prefix_found rs d t next
 
 prefix_either : (xs : List LogRecord) (d t next : ℕ) → (first_call (drop d (take t xs)) next ≡ call_of xs d next) ⊎ (first_call (drop d (take t xs)) next ≡ next)
-prefix_either [] zero zero next = inr refl
-prefix_either [] zero (suc t) next = inr refl
-prefix_either [] (suc d) zero next = inr refl
-prefix_either [] (suc d) (suc t) next = inr refl
+prefix_either [] d t next = inr (rw (take-nil t, drop-nil d) refl)
 prefix_either (r ∷ rs) zero zero next = inr refl
 prefix_either (r ∷ rs) zero (suc t) next = inl refl
 prefix_either (r ∷ rs) (suc d) zero next = inr refl
@@ -226,9 +214,7 @@ module _ (s : StateValue) (shape : ShapeInvariant s) (some : 0 < length (full_no
   none_made c nobody = sym (counted c) ∙ ap (λ x. x.next) nobody
 
   least_of_nobody : (c : ℕ) → next c ≡ 0 → least_end c s.nodes (next c) ≡ received_by_all w c
-  least_of_nobody c none =
-      let high : least_end c s.nodes (next c) ≤ next c = least_end-most c s.nodes (next c) in
-      omega (arith, high, none, received-end c, few c)
+  least_of_nobody c none = grind (arith, least_end-most, received-end, few)
 
   unopened : (c : ℕ) → length s.clients < c → client_in s.clients c ≡ no_client
   unfolding client_in
@@ -263,7 +249,8 @@ module _ (s : StateValue) (shape : ShapeInvariant s) (some : 0 < length (full_no
               }
           | inr away ↦ record {
             taken = 0;
-            is = ap (λ ls. records_from (item_at no_log ls c).log place) (none_there j c away) ∙ ap (λ l. records_from l.log place) (seen_nothing no_log c) ∙ drop_nothing (place - 0) ∙ sym (drop_nothing d);
+            is = ap (λ ls. records_from (item_at no_log ls c).log place) (none_there j c away)
+                ∙ ap (λ l. records_from l.log place) (seen_nothing no_log c) ∙ drop-nil (place - 0) ∙ sym (drop-nil d);
           }
         ]
 

@@ -1,28 +1,16 @@
 -- The entries that the headline tells events by are those of the laws.
-use Rattle.std.proofs.Common.{rules, ◌≡◌, List, [], ◌∷◌, ◌++◌, append-nil, append_assoc, refl, ap, sym, ◌∙◌}
+use Rattle.std.proofs.Common.{rules, ◌≡◌, List, [], ◌∷◌, ◌++◌, append-nil, append_assoc, ap, sym, ◌∙◌}
 use Rattle.assise_history.specs.Entries.{EntryValue}
 use Rattle.assise_model_events.specs.Events.{all_entries, entries_of}
 use Rattle.assise_machine.specs.declared.answer.Answer.{Answer}
 use Rattle.assise_machine.specs.declared.event.Event.{Event}
-use Rattle.assise_machine.specs.declared.event.Event.TheVariants.{Open, Call, Fsync, Outgoing, Deliver, Digest, ReleaseReady, SetHot, Crash, Fail, Back, Refill, Join, Raise}
+use Rattle.assise_machine.specs.declared.event.Event.TheVariants.{Open}
 use Rattle.assise_machine.specs.Headline.{entry_of, history_after}
 use Rattle.assise_machine.specs.Running.{answer_seen, event_seen, told}
 
 same_entry : (h : List EntryValue) (e : Event) (a : Answer) → entry_of h e a ≡ entries_of h (event_seen e) (answer_seen a)
 same_entry h (Open n u) a = search rules
-same_entry h (Call c op) a = search rules
-same_entry h (Fsync c) a = search rules
-same_entry h (Outgoing n) a = refl
-same_entry h (Deliver f n) a = refl
-same_entry h (Digest n) a = refl
-same_entry h ReleaseReady a = refl
-same_entry h (SetHot n capacity) a = refl
-same_entry h (Crash c) a = search rules
-same_entry h (Fail n) a = search rules
-same_entry h (Back n) a = refl
-same_entry h (Refill n) a = refl
-same_entry h (Join n) a = search rules
-same_entry h (Raise n) a = refl
+same_entry h _ a = search rules
 
 pub history_told : (h : List EntryValue) (es : List Event) (bs : List Answer) → history_after h es bs ≡ h ++ all_entries h (told es bs)
 history_told h [] bs = sym (append-nil h)

@@ -1,16 +1,16 @@
 -- A node that was down begins to come back, as the laws have it.
-use Rattle.std.proofs.Common.{◌≡◌, List, false, ℕ, true, if◌then◌else◌, length, Option, Some, None, inl, inr, refl, ap, sym, subst, ◌∙◌, append-nil}
+use Rattle.std.proofs.Common.{◌≡◌, List, false, ℕ, true, if◌then◌else◌, length, Option, Some, None, inl, inr, refl, ap, sym, subst, ◌∙◌, append-nil, arith}
 use Rattle.std.specs.Option.{option_map}
 use Rattle.std.specs.Ordering.{nat_cmp}
 use Rattle.std.specs.FinSet as set
 use Rattle.std.proofs.lemmas.Bool.{cases_eq}
 use Rattle.std.proofs.lemmas.Option.{none-some, same_Some}
 use Rattle.assise_names.specs.declared.refusal.Refusal.{Refusal}
-use Rattle.assise_manager.specs.Changes.{back, back_as, is_returning, return_fault, return_fault_of, stale_of}
+use Rattle.assise_manager.specs.Changes.{back, back_as, is_returning, return_fault, stale_of}
 use Rattle.assise_manager.specs.Membership.{Membership, lowest_full, written_since}
-use Rattle.assise_manager.specs.Standings.{Standing, down, full, is_full, returning, standing_of, with_standing}
+use Rattle.assise_manager.specs.Standings.{Standing, down, is_full, returning, standing_of, with_standing}
 use Rattle.assise_model_members.specs.Returns.{BeginsReturn}
-use Rattle.assise_model_members.proofs.NodeStandings.{set_here}
+use Rattle.assise_model_members.proofs.NodeStandings.{down_is, set_here}
 use Rattle.assise_model_events.specs.Events.{Answer, began, refused}
 use Rattle.assise_model_events.specs.MemberEvents.{IsBack, Returning, count_of, stale_at}
 use Rattle.assise_model_events.specs.MemberEvents.Returning.{is_back, is_refused, lacks_memory}
@@ -43,16 +43,9 @@ still_full nodes n old now stands was is k = elim (cases_eq k n) [
 
 -- ---- a node stands down
 
-down_stands : (o : Option Standing) → return_fault_of o ≡ None → (since : ℕ) × (o ≡ Some (down since))
-down_stands (Some (down since)) fine = (since, refl)
-down_stands None fine = absurd (none-some _ (sym fine))
-down_stands (Some full) fine = absurd (none-some _ (sym fine))
-down_stands (Some (returning since donor stale)) fine = absurd (none-some _ (sym fine))
-
 -- how many inodes it may lack
 pub counted : (o : Option (set.FinSet nat_cmp)) (n : ℕ) → option_map set.len o ≡ Some n → n ≡ count_of o
-counted None n is = absurd (none-some n is)
-counted (Some stale) n is = same_Some n (set.len stale) (sym is)
+counted o n is = grind (arith, none-some, same_Some)
 
 -- node n was down, and begins to come back: m is the membership then
 pub record IsComing (s : StateValue) (n : ℕ) (m : Membership) : Type 0 where
@@ -62,10 +55,10 @@ pub record IsComing (s : StateValue) (n : ℕ) (m : Membership) : Type 0 where
 
 module _ {s : StateValue} {n : ℕ} {m : Membership} (comes : IsComing s n m) where
   abbrev since : ℕ
-  since = (down_stands (standing_of (standings s) n) comes.fine).0
+  since = (down_is (standing_of (standings s) n) comes.fine).0
 
   stands : standing_of (standings s) n ≡ Some (down since)
-  stands = (down_stands (standing_of (standings s) n) comes.fine).1
+  stands = (down_is (standing_of (standings s) n) comes.fine).1
 
   abbrev now : Standing
   now = returning since (lowest_full (standings s)) (written_since s.members since)
@@ -95,13 +88,10 @@ module _ {s : StateValue} {n : ℕ} {m : Membership} (comes : IsComing s n m) wh
     rest_is : u ≡ record t { nodes = u.nodes }
     rest_is = lost_is t n u back_shaped back_returning lost
 
-    members_are : u.members ≡ back s.members n
-    members_are = ap (λ v. v.members) rest_is ∙ comes.members
-
     node_back : BeginsReturn (world_of s) s.members n (world_of u) u.members
     node_back = record {
       fine = comes.fine;
-      members = members_are;
+      members = ap (λ v. v.members) rest_is ∙ comes.members;
       rests = rests_more (world_of s) (world_of t) (world_of u) (members_rest s m as_many as_full) (lost_rests t n u back_shaped back_returning lost);
       area_here = λ stale known i.
           lost_here t n u back_shaped back_returning lost stale (ap (λ o. stale_of (standing_of o.nodes n)) (sym (ap (λ v. v.members) rest_is)) ∙ known) i
@@ -109,15 +99,11 @@ module _ {s : StateValue} {n : ℕ} {m : Membership} (comes : IsComing s n m) wh
       area_else = λ k i other. lost_else t n u back_shaped back_returning lost k i other ∙ members_areas s m k i;
     }
 
-    same_leases : leases_of u ≡ leases_of s
-    unfolding leases_of
-    same_leases = ap leases_of rest_is
-
     is_so : IsBack (observed s) n (observed u)
-    unfolding observed
+    unfolding observed leases_of
     is_so = record {
       comes = node_back;
-      leases = same_leases;
+      leases = ap leases_of rest_is;
       adds = record { history = ap (λ v. v.history) rest_is ∙ sym (append-nil s.history); limit = ap (λ v. v.limit) rest_is; hot = lost_hot t n u back_shaped back_returning lost };
     }
 

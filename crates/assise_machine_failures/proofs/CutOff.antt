@@ -66,13 +66,10 @@ module _ (n : ℕ) (cs : List ClientValue) (kept : ℕ → ℕ) (rs : List Regio
 
   -- the next client of the node, and one of another
   pub next_cut : (last : ℕ) → last ≢ 0 → (client_in cs last).home ≡ n → with_tails_cut (cut (last - 1)) last (kept last) ≡ cut last
-  next_cut zero some here = absurd (some refl)
-  next_cut (suc m) some here =
-      rw (eq-eqb (client_in cs (suc m)).home n here) (ap (λ j. with_tails_cut (cut j) (suc m) (kept (suc m))) (less_one m))
+  next_cut last some here = grind (arith, eq-eqb, less_one)
 
   pub next_stays : (last : ℕ) → last ≢ 0 → (client_in cs last).home ≢ n → cut (last - 1) ≡ cut last
-  next_stays zero some other = absurd (some refl)
-  next_stays (suc m) some other = rw (ne_eqb (client_in cs (suc m)).home n other) (ap cut (less_one m))
+  next_stays last some other = grind (arith, ne_eqb, less_one)
 
 -- ---- and so are the clients
 
@@ -109,8 +106,7 @@ module _ (n : ℕ) (kept : ℕ → ℕ) (cs : List ClientValue) where
       (λ i. with_client (over (less_one m i)) (suc m) (failed_at (kept (suc m)) (same i)))
 
   pub next_lives : (last : ℕ) → last ≢ 0 → (client_in cs last).home ≢ n → over (last - 1) ≡ over last
-  next_lives zero some other = absurd (some refl)
-  next_lives (suc m) some other = rw (ne_eqb (client_in cs (suc m)).home n other) (ap over (less_one m))
+  next_lives last some other = grind (arith, ne_eqb, less_one)
 
   -- the home that is found of it
   pub home_found : (last : ℕ) {home : ℕ} {known : ClientValue} {now : List ClientValue} → IsNumber cs last → now ≡ over (last - 1) →

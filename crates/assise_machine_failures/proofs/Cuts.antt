@@ -2,9 +2,9 @@
 use Rattle.std.proofs.Common.{◌≡◌, ℕ, zero, suc, ◌+◌, ◌-◌, ◌<◌, ◌≤◌, true, false, nat_lt, List, [], ◌∷◌, ◌++◌, if◌then◌else◌, map, take, drop, get_or, slice_get, length, Some, None, inl, inr, refl, ap, sym, subst, ◌∙◌, arith, append-nil}
 use Rattle.std.proofs.Math.Logic.{∥∥₁_elim}
 use Rattle.std.proofs.Props.{props}
-use Rattle.std.proofs.lemmas.Bool.{cases_Bool, cases_lt, le-ltb, lt-ltb, ltb-false}
+use Rattle.std.proofs.lemmas.Bool.{cases_Bool, le-ltb, lt-ltb, ltb-false}
 use Rattle.std.proofs.lemmas.List.{map-append}
-use Rattle.std.proofs.lemmas.Option.{none-some, slice_get_within}
+use Rattle.std.proofs.lemmas.Option.{none-some, slice_get_within, slice_get_cases}
 use Rattle.assise_history.specs.declared.call.Loss.{Loss}
 use Rattle.assise_record.specs.LogRecord.{LogRecord}
 use Rattle.assise_record.specs.Records.{all_effects, call_of}
@@ -107,18 +107,12 @@ there_lost l k next r is =
 
 nothing_lost : (l : NumberedLog) (k : ℕ) → l.first ≤ k → record_at l k ≡ None → log_end l ≤ k
 nothing_lost l k first none =
-    elim (cases_lt (k - l.first) (length l.records)) [
-      | inl low ↦
-          let past : nat_lt k l.first ≡ false = le-ltb k l.first first in
-          let gone : slice_get l.records (k - l.first) ≡ None = rw past at none in
-          absurd (some_none l.records (k - l.first) low gone)
-      | inr high ↦ omega (arith, high, first)
+    let past : nat_lt k l.first ≡ false = le-ltb k l.first first in
+    let gone : slice_get l.records (k - l.first) ≡ None = rw past at none in
+    elim (slice_get_cases l.records (k - l.first)).1 [
+      | inl there ↦ absurd (none-some there.0 (sym gone ∙ there.2))
+      | inr out ↦ omega (arith, out.0, first)
     ]
-  where
-    some_none : (rs : List LogRecord) (j : ℕ) → j < length rs → slice_get rs j ≡ None → ⊥
-    some_none [] j low gone = omega (arith, low)
-    some_none (r ∷ rs) zero low gone = absurd (none-some r (sym gone))
-    some_none (r ∷ rs) (suc j) low gone = some_none rs j (omega (arith, low)) gone
 
 -- ---- a client's own log
 

@@ -10,11 +10,11 @@ use Rattle.assise_inode_table.specs.Contents.{Content}
 use Rattle.assise_inode_table.specs.Effects.{contains}
 use Rattle.assise_digest.specs.Region.{IsQuiet, RegionValue, log_at, no_log, with_inode}
 use Rattle.assise_manager.specs.Changes.{is_returning, stale_of}
-use Rattle.assise_manager.specs.Standings.{Standing, down, full, returning, standing_of}
+use Rattle.assise_manager.specs.Standings.{Standing, full, standing_of}
 use Rattle.assise_model_world.specs.NodeSteps.{Rests}
-use Rattle.assise_model_world.specs.Staying.{SameNode}
 use Rattle.assise_model_world.specs.World.{Full, World}
 use Rattle.assise_model_members.specs.Returns.{LosesCopies}
+use Rattle.assise_model_events.proofs.LeaseSteps.{clients_after, logs_after, nodes_after}
 use Rattle.assise_machine_state.specs.Changes.{after_inode}
 use Rattle.assise_machine_state.specs.NodeValues.{hot_capacities, region_in, with_region}
 use Rattle.assise_machine_state.specs.Observed.{is_full_in, stands_full, world_of}
@@ -31,47 +31,15 @@ use Rattle.assise_machine_failures.specs.Copies.{LosesStale, nodes_without, with
 -- ---- one rest after another
 
 pub rests_still : (w : World) → Rests w w
-rests_still w = record {
-  logs = record { calls = refl; records = λ c. refl; first = λ c. refl; next = λ c. refl; border = λ c k. refl; made = λ c. refl };
-  clients = record { clients = refl; home = λ c. refl; lives = λ c. refl; crashed = λ c. refl };
-  goals = λ c. refl;
-  leases = record { holds = λ c i. refl; writes = λ c i. refl };
-  nodes = record { full = refl; same = λ n here. record { area = λ i. refl; log = λ c. refl; received = λ c. refl; digested = λ c. refl } };
-}
-
-same_node : (u v w : World) (n : ℕ) → SameNode u v n → SameNode v w n → SameNode u w n
-same_node u v w n e f = record {
-  area = λ i. f.area i ∙ e.area i;
-  log = λ c. f.log c ∙ e.log c;
-  received = λ c. f.received c ∙ e.received c;
-  digested = λ c. f.digested c ∙ e.digested c;
-}
+rests_still w = assumption
 
 pub rests_more : (u v w : World) → Rests u v → Rests v w → Rests u w
 rests_more u v w e f = record {
-  logs = record {
-    calls = f.logs.calls ∙ e.logs.calls;
-    records = λ c. f.logs.records c ∙ e.logs.records c;
-    first = λ c. f.logs.first c ∙ e.logs.first c;
-    next = λ c. f.logs.next c ∙ e.logs.next c;
-    border = λ c k. f.logs.border c k ∙ e.logs.border c k;
-    made = λ c. f.logs.made c ∙ e.logs.made c;
-  };
-  clients = record {
-    clients = f.clients.clients ∙ e.clients.clients;
-    home = λ c. f.clients.home c ∙ e.clients.home c;
-    lives = λ c. f.clients.lives c ∙ e.clients.lives c;
-    crashed = λ c. f.clients.crashed c ∙ e.clients.crashed c;
-  };
+  logs = logs_after u v w e.logs f.logs;
+  clients = clients_after u v w e.clients f.clients;
   goals = λ c. f.goals c ∙ e.goals c;
-  leases = record {
-    holds = λ c i. f.leases.holds c i ∙ e.leases.holds c i;
-    writes = λ c i. f.leases.writes c i ∙ e.leases.writes c i;
-  };
-  nodes = record {
-    full = f.nodes.full ∙ e.nodes.full;
-    same = λ n here. same_node u v w n (e.nodes.same n here) (f.nodes.same n (subst (λ ns. contains ns n ≡ true) (sym e.nodes.full) here));
-  };
+  leases = grind arith;
+  nodes = nodes_after u v w e.nodes f.nodes;
 }
 
 -- ---- nothing changes but the nodes
@@ -137,8 +105,7 @@ without_else s n (i ∷ inodes) there k j other =
 
 -- one more is gone
 gone_either : (later : Bool) (now : Option Content) → now ≡ None → (if later then None else now) ≡ None
-gone_either true now none = refl
-gone_either false now none = none
+gone_either later now none = grind arith
 
 gone_here : (s : StateValue) (n : ℕ) (inodes : List ℕ) → IsNumber s.nodes n → (j : ℕ) → (world_of (without_copies s n inodes)).area n j ≡ (if contains inodes j then None else (world_of s).area n j)
 gone_here s n [] there j = refl
@@ -162,10 +129,7 @@ without_here s n inodes there j =
 -- ---- a node that comes back
 
 returning_stands : (o : Option Standing) → is_returning o ≡ true → (x : Standing) × ((o ≡ Some x) × (stands_full o ≡ false))
-returning_stands None is = absurd (true≢false (sym is))
-returning_stands (Some full) is = absurd (true≢false (sym is))
-returning_stands (Some (down since)) is = absurd (true≢false (sym is))
-returning_stands (Some (returning since donor stale)) is = (returning since donor stale, (refl, refl))
+returning_stands o is = grind arith
 
 pub returning_number : (s : StateValue) (n : ℕ) → ShapeInvariant s → is_returning (standing_of (standings s) n) ≡ true → IsNumber s.nodes n
 returning_number s n shape is = (let x = returning_stands (standing_of (standings s) n) is in node_number s n x.0 shape x.1.0)

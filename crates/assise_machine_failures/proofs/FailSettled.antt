@@ -31,10 +31,7 @@ module _ (w : World) (n : ℕ) (w' : World) (some : ∥ Fails w n w' ∥₁) (su
     lives_there = λ c here. ∥∥₁_elim some (Coded-set coded_bool (w'.lives c) _) (λ f. f.lives_there c here);
     lives_else = λ c other. ∥∥₁_elim some (Coded-set coded_bool (w'.lives c) (w.lives c)) (λ f. f.lives_else c other);
     crashed = λ c. ∥∥₁_elim some (Coded-set coded_bool (w'.crashed c) (w.crashed c)) (λ f. f.crashed c);
-    leases = record {
-      holds = λ c i. ∥∥₁_elim some (Coded-set coded_bool (w'.holds c i) (w.holds c i)) (λ f. f.leases.holds c i);
-      writes = λ c i. ∥∥₁_elim some (Coded-set coded_bool (w'.writes c i) (w.writes c i)) (λ f. f.leases.writes c i);
-    };
+    leases = ∥∥₁_elim some (hlevel props) (λ f. f.leases);
     log = λ m c full. ∥∥₁_elim some (Coded-set coded_records (w'.log m c) _) (λ f. f.log m c full);
     received = λ m c full. number (w'.received m c) _ (λ f. f.received m c full);
     digested = λ m c full. number (w'.digested m c) (w.digested m c) (λ f. f.digested m c full);

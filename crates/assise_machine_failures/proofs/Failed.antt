@@ -156,10 +156,11 @@ module _ (s : StateValue) (n : ℕ) (inodes : set.FinSet nat_cmp) (levels : TwoL
     drops = all_dropped u losing.shape lost_sound
 
     leases_end : leases_of v ≡ leases_of t
-    leases_end = same_leases t v (dropping.levels ∙ losing.levels) (dropping.cuts ∙ losing.cuts) (dropping.clients ∙ losing.clients)
+    unfolding leases_of
+    leases_end = same_leases u v dropping.levels dropping.cuts dropping.clients ∙ ap leases_of losing.same
 
     members_end : v.members ≡ failed s.members n inodes
-    members_end = dropping.members ∙ losing.members
+    members_end = dropping.members ∙ ap (λ x. x.members) losing.same
 
     fails_with : AreTouched (world_of t) inodes → FailsWithMembers w s.members n inodes (world_of t) (world_of u) v.members
     fails_with touches = record {
@@ -185,7 +186,11 @@ module _ (s : StateValue) (n : ℕ) (inodes : set.FinSet nat_cmp) (levels : TwoL
       leases = subst (LeasesFail w (leases_of s) n (world_of t)) (sym leases_end) seen;
       drops = drops;
       others = λ k i away. dropping.area k i;
-      adds = record { history = dropping.history ∙ losing.history; limit = dropping.limit ∙ losing.limit; hot = dropping.hot ∙ losing.hot ∙ failure_keeps s.nodes n s.clients (kept_at_failure w n) (length s.clients) };
+      adds = record {
+        history = dropping.history ∙ ap (λ x. x.history) losing.same;
+        limit = dropping.limit ∙ ap (λ x. x.limit) losing.same;
+        hot = dropping.hot ∙ losing.hot ∙ failure_keeps s.nodes n s.clients (kept_at_failure w n) (length s.clients);
+      };
     }
 
     happens_so : AreTouched (world_of t) inodes → Failing (observed s) n (failed_answer (losses_of w n)) (observed v)
@@ -198,8 +203,8 @@ module _ (s : StateValue) (n : ℕ) (inodes : set.FinSet nat_cmp) (levels : TwoL
       holds = ∥∥₁_map may.holds (λ h. event_keeps (observed s) (observed v) (fail_event n) (failed_answer (losses_of w n)) h (happens_so touches));
       shape = dropping.shape;
       noted =
-          still_noted t v (dropping.cuts ∙ losing.cuts) (let same = ap length (dropping.clients ∙ losing.clients) in omega (arith, same))
-          (λ c i. ap (λ l. is_revoked (lease_of (l.clients i) c)) (dropping.levels ∙ losing.levels)) cut_noted;
+          still_noted t v (dropping.cuts ∙ ap (λ x. x.cuts) losing.same) (omega (arith, ap length dropping.clients, ap (λ x. length x.clients) losing.same))
+          (λ c i. ap (λ l. is_revoked (lease_of (l.clients i) c)) (dropping.levels ∙ ap (λ x. x.levels) losing.same)) cut_noted;
     }
 
     pub is_refreshed : AreTouched (world_of t) inodes → IsRefreshed s n u

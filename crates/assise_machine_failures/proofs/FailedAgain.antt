@@ -1,15 +1,14 @@
 -- A node that was coming back and is down again, as the laws have it.
-use Rattle.std.proofs.Common.{◌≡◌, ℕ, true, List, [], ◌∷◌, ◌++◌, Option, Some, None, Result, Ok, Err, inl, inr, length, refl, ap, sym, subst, ◌∙◌, arith, true≢false}
+use Rattle.std.proofs.Common.{◌≡◌, ℕ, true, List, [], ◌∷◌, ◌++◌, Option, Some, None, Ok, Err, inl, inr, length, refl, sym, subst, ◌∙◌, arith, true≢false}
 use Rattle.std.proofs.Math.Logic.{∥∥₁_map}
 use Rattle.std.proofs.lemmas.Bool.{cases_eq}
 use Rattle.std.specs.FinSet as set
 use Rattle.assise_names.specs.declared.refusal.Refusal.{Refusal}
-use Rattle.assise_names.specs.declared.refusal.Refusal.TheVariants.{BadNode, WrongPhase}
+use Rattle.assise_names.specs.declared.refusal.Refusal.TheVariants.{WrongPhase}
 use Rattle.assise_history.specs.declared.call.Loss.{Loss}
 use Rattle.assise_history.specs.Entries.{EntryValue, fails}
 use Rattle.assise_history.proofs.ClientCounts.{durability-still}
-use Rattle.assise_manager.specs.declared.phase.Phase.{Phase}
-use Rattle.assise_manager.specs.declared.phase.Phase.TheVariants.{Full, Down, Returning}
+use Rattle.assise_manager.specs.declared.phase.Phase.TheVariants.{Down}
 use Rattle.assise_manager.specs.Changes.{failed, failed_as, failure_fault_of, is_returning}
 use Rattle.assise_manager.specs.Membership.{Membership}
 use Rattle.assise_manager.specs.Standings.{Standing, down, full, phase_of, returning, standing_of, with_standing}
@@ -30,29 +29,13 @@ use Rattle.assise_machine_state.proofs.Standings.{full_as, full_else, full_here,
 -- ---- how it stood
 
 pub bad_node : (m : Membership) (o : Option Standing) (e : Refusal) → phase_of o ≡ Err e → failure_fault_of m o ≡ Some e
-bad_node m None e is = (let same : ◌≡◌ {A = Result Phase Refusal} (Err BadNode) (Err e) = is in ap Some (same_err same))
-  where
-    same_err : {d e : Refusal} → ◌≡◌ {A = Result Phase Refusal} (Err d) (Err e) → d ≡ e
-    same_err {d} {e} is = ap (λ r. error_in d r) is
-      where
-        error_in : Refusal → Result Phase Refusal → Refusal
-        error_in none (Ok p) = none
-        error_in none (Err e) = e
-bad_node m (Some full) e is = absurd (let bad : ◌≡◌ {A = Result Phase Refusal} (Ok Full) (Err e) = is in cc)
-bad_node m (Some (down since)) e is = absurd (let bad : ◌≡◌ {A = Result Phase Refusal} (Ok Down) (Err e) = is in cc)
-bad_node m (Some (returning since donor stale)) e is = absurd (let bad : ◌≡◌ {A = Result Phase Refusal} (Ok Returning) (Err e) = is in cc)
+bad_node m o e is = grind arith
 
 pub down_fault : (m : Membership) (o : Option Standing) → phase_of o ≡ Ok Down → failure_fault_of m o ≡ Some WrongPhase
-down_fault m None is = absurd (let bad : ◌≡◌ {A = Result Phase Refusal} (Err BadNode) (Ok Down) = is in cc)
-down_fault m (Some full) is = absurd (let bad : ◌≡◌ {A = Result Phase Refusal} (Ok Full) (Ok Down) = is in cc)
-down_fault m (Some (down since)) is = refl
-down_fault m (Some (returning since donor stale)) is = absurd (let bad : ◌≡◌ {A = Result Phase Refusal} (Ok Returning) (Ok Down) = is in cc)
+down_fault m o is = grind arith
 
 pub back_fine : (m : Membership) (o : Option Standing) → is_returning o ≡ true → failure_fault_of m o ≡ None
-back_fine m None is = absurd (true≢false (sym is))
-back_fine m (Some full) is = absurd (true≢false (sym is))
-back_fine m (Some (down since)) is = absurd (true≢false (sym is))
-back_fine m (Some (returning since donor stale)) is = refl
+back_fine m o is = grind arith
 
 -- ---- the same are full
 
@@ -61,10 +44,7 @@ module _ (m : Membership) (n : ℕ) where
   left o = (failed_as m n set.empty o).nodes
 
   as_many : (o : Option Standing) → is_returning o ≡ true → length (left o) ≡ length m.nodes
-  as_many None is = absurd (true≢false (sym is))
-  as_many (Some full) is = absurd (true≢false (sym is))
-  as_many (Some (down since)) is = absurd (true≢false (sym is))
-  as_many (Some (returning since donor stale)) is = same_count m.nodes n (down since)
+  as_many o is = grind (arith, same_count)
 
   full_still : (o : Option Standing) → standing_of m.nodes n ≡ o → is_returning o ≡ true → (k : ℕ) → is_full_in (left o) k ≡ is_full_in m.nodes k
   full_still None at is k = absurd (true≢false (sym is))
@@ -111,21 +91,9 @@ module _ {s : StateValue} {n : ℕ} (was : WasReturning s n) where
   rests : Rests (world_of s) (world_of t)
   rests = subst (Rests (world_of s)) (sym same_world) (members_rest s m long same)
 
-  areas : (k i : ℕ) → (world_of t).area k i ≡ (world_of s).area k i
-  unfolding world_of
-  areas k i = refl
-
-  same_holders : leases_of t ≡ leases_of s
-  unfolding leases_of
-  same_holders = refl
-
   fails_again : IsFailedAgain (observed s) n (observed t)
-  unfolding observed
-  fails_again = record {
-    failure = record { was_returning = was.returning; members = refl; rests = rests; area = areas };
-    leases = same_holders;
-    adds = record { history = refl; limit = refl; hot = refl };
-  }
+  unfolding observed world_of leases_of
+  fails_again = assumption rests
 
   again_happens : Failing (observed s) n (failed_answer []) (observed t)
   unfolding observed

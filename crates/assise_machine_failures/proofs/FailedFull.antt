@@ -1,5 +1,5 @@
 -- A full node that failed, as the code lists and does it.
-use Rattle.std.proofs.Common.{◌≡◌, ◌≢◌, ℕ, suc, ◌+◌, ◌<◌, ◌==◌, true, List, [], ◌∷◌, Option, Some, None, inl, inr, length, map, take, slice_index_or, refl, ap, sym, subst, ◌∙◌, arith, eq-eqb}
+use Rattle.std.proofs.Common.{◌≡◌, ◌≢◌, ℕ, suc, ◌+◌, ◌<◌, true, List, [], ◌∷◌, Option, Some, None, inl, inr, length, map, take, slice_index_or, refl, ap, sym, subst, ◌∙◌, arith, eq-eqb}
 use Rattle.std.specs.Option.{option_map}
 use Rattle.std.proofs.Math.Seq.{take-suc}
 use Rattle.std.proofs.lemmas.Bool.{cases_Bool, ne_eqb}
@@ -12,7 +12,7 @@ use Rattle.assise_lease_table.specs.Leases.{Among}
 use Rattle.assise_lease_tree.specs.TwoLevels.{TwoLevels}
 use Rattle.assise_manager.specs.Changes.{donor_of, failed, failure_fault, failure_fault_of, is_returning, refilled_from, with_epoch, failed_as}
 use Rattle.assise_manager.specs.Membership.{Membership, lowest_full, written_since}
-use Rattle.assise_manager.specs.Standings.{Standing, full, full_nodes, down, returning, standing_of}
+use Rattle.assise_manager.specs.Standings.{Standing, full, full_nodes, down, standing_of}
 use Rattle.assise_model_members.proofs.NodeStandings.{mapped_at, set_else}
 use Rattle.assise_model_events.specs.Events.{Answer, failed as failed_answer, refused}
 use Rattle.assise_model_events.specs.MemberEvents.{Failing, is_refused, lacks_memory}
@@ -39,10 +39,6 @@ module _ (m : Membership) (n : ℕ) (counted : List ℕ) (stands : standing_of m
   pub no_fault : length counted ≢ 1 → failure_fault m n ≡ None
   no_fault more = ap (failure_fault_of m) stands ∙ rw (ne_eqb (length (full_nodes m.nodes)) 1 (λ one. more (ap length is ∙ one))) refl
 
-pub refused_so : (s : StateValue) (n : ℕ) (r : Refusal) → failure_fault s.members n ≡ Some r → Failing (observed s) n (refused r) (observed s)
-unfolding observed
-refused_so s n r fault = is_refused r fault refl refl
-
 pub refused_as : (s : StateValue) (n : ℕ) (r : Refusal) (a : Answer) → failure_fault s.members n ≡ Some r → a ≡ refused r →
     Failing (observed s) n a (observed s)
 unfolding observed
@@ -57,14 +53,7 @@ lacks_so s t n a fine is same = lacks_memory fine is (ap observed same)
 
 back_still : (written : ℕ → set.FinSet nat_cmp) (low n : ℕ) (o : Option Standing) → donor_of o ≡ Some n →
     is_returning (option_map (refilled_from written low n) o) ≡ true
-back_still written low n None is = absurd (let bad : ◌≡◌ {A = Option ℕ} None (Some n) = is in cc)
-back_still written low n (Some full) is = absurd (let bad : ◌≡◌ {A = Option ℕ} None (Some n) = is in cc)
-back_still written low n (Some (down since)) is = absurd (let bad : ◌≡◌ {A = Option ℕ} None (Some n) = is in cc)
-back_still written low n (Some (returning since from stale)) is =
-    elim (cases_Bool (from == n)) [
-      | inl same ↦ rw same refl
-      | inr other ↦ rw other refl
-    ]
+back_still written low n o is = grind (arith, cases_Bool)
 
 module _ (m : Membership) (n : ℕ) (inodes : set.FinSet nat_cmp) (stands : standing_of m.nodes n ≡ Some full) where
   other : (k : ℕ) → donor_of (standing_of m.nodes k) ≡ Some n → k ≢ n

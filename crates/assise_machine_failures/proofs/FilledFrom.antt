@@ -1,9 +1,9 @@
 -- The nodes that are filled from a node.
-use Rattle.std.proofs.Common.{◌≡◌, ◌↔◌, ℕ, zero, suc, ◌-◌, ◌≤◌, ◌==◌, Bool, true, false, List, [], ◌∷◌, ◌++◌, if◌then◌else◌, Option, Some, None, Result, Ok, Err, IsOk, IfOk, refl, ap, sym, ◌∙◌, arith, append-nil, true≢false}
+use Rattle.std.proofs.Common.{◌≡◌, ◌↔◌, ℕ, zero, suc, ◌-◌, ◌≤◌, ◌==◌, Bool, true, false, List, [], ◌∷◌, ◌++◌, if◌then◌else◌, Option, Some, None, Result, Ok, Err, IsOk, IfOk, refl, ap, sym, ◌∙◌, arith, append-nil}
 use Rattle.std.specs.Result.{result_eq}
 use Rattle.assise_names.specs.declared.refusal.Refusal.{Refusal}
 use Rattle.assise_manager.specs.Changes.{donor_of, filling_fault_of}
-use Rattle.assise_manager.specs.Standings.{Standing, down, full, returning, standing_of}
+use Rattle.assise_manager.specs.Standings.{Standing, standing_of}
 use Rattle.assise_machine_state.proofs.ItemSeen.{less_one}
 use Rattle.assise_machine_failures.specs.Listing.{filled_from, is_number}
 
@@ -29,10 +29,7 @@ abbrev no_donor : Refusal → Result ℕ Refusal
 no_donor e = Err e
 
 none_from : (o : Option Standing) (e : Refusal) → (IsOk (no_donor e) ↔ (filling_fault_of o ≡ None)) → donor_of o ≡ None
-none_from None e ok = refl
-none_from (Some full) e ok = refl
-none_from (Some (down since)) e ok = refl
-none_from (Some (returning since donor stale)) e ok = absurd (true≢false (sym (ok.1 refl)))
+none_from o e ok = grind arith
 
 pub filled_is : (o : Option Standing) (r : Result ℕ Refusal) (n : ℕ) (same : Refusal → Refusal → Bool) → (IsOk r ↔ (filling_fault_of o ≡ None)) → IfOk r (λ d. donor_of o ≡ Some d) → result_eq (λ d k. d == k) same r (Ok n) ≡ is_number n (donor_of o)
 filled_is o (Ok d) n same ok donor = sym (ap (is_number n) donor)

@@ -1,5 +1,5 @@
 -- The places up to which logs are kept where a node fails, as the state has them.
-use Rattle.std.proofs.Common.{◌≡◌, ◌≢◌, ℕ, zero, suc, ◌+◌, ◌<◌, ◌≤◌, ◌==◌, ◌&&◌, min, Bool, take, take-suc, true, false, not, List, [], ◌∷◌, ◌++◌, filter, length, get_or, inl, inr, refl, ap, sym, subst, ◌∙◌, arith, eqb-true, eq-eqb, append-nil}
+use Rattle.std.proofs.Common.{◌≡◌, ◌≢◌, ℕ, zero, suc, ◌+◌, ◌<◌, ◌≤◌, ◌==◌, ◌&&◌, min, take, take-suc, true, false, not, List, [], ◌∷◌, ◌++◌, filter, length, get_or, inl, inr, refl, ap, sym, subst, ◌∙◌, arith, eqb-true, eq-eqb, append-nil}
 use Rattle.std.proofs.lemmas.Bool.{cases_lt, ne_eqb}
 use Rattle.std.proofs.lemmas.List.{get_or_append_left, get_or_push, length_push}
 use Rattle.std.proofs.lemmas.List.Elements.{filter-append}
@@ -13,7 +13,7 @@ use Rattle.assise_model_world.proofs.WorldObserved.{least_of-above, least_of-bel
 use Rattle.assise_model_history.proofs.FailureList.{cut_there}
 use Rattle.assise_machine_state.specs.ClientValues.{client_in}
 use Rattle.assise_machine_state.specs.NodeValues.{log_in}
-use Rattle.assise_machine_state.specs.Observed.{full_in, is_full_in, own_node, world_of}
+use Rattle.assise_machine_state.specs.Observed.{full_in, own_node, world_of}
 use Rattle.assise_machine_state.specs.Places.{IsNumber}
 use Rattle.assise_machine_state.specs.Invariant.{ShapeInvariant}
 use Rattle.assise_machine_state.specs.StateValues.{StateValue, standings}
@@ -43,13 +43,6 @@ same_least ms ns f d same =
 same_others : (nodes : List Standing) (n k : ℕ) → contains (others n (full_nodes nodes)) k ≡ contains (others n (full_in nodes)) k
 same_others nodes n k = others_has n (full_nodes nodes) k ∙ ap (λ b. not (k == n) && b) (listed_is nodes k ∙ sym (full_is nodes k)) ∙ sym (others_has n (full_in nodes) k)
 
-other_full : (nodes : List Standing) (n k : ℕ) → contains (others n (full_in nodes)) k ≡ true → is_full_in nodes k ≡ true
-other_full nodes n k there = left (not (k == n)) (is_full_in nodes k) (sym (others_has n (full_in nodes) k ∙ ap (λ b. not (k == n) && b) (full_is nodes k)) ∙ there)
-  where
-    left : (a b : Bool) → (a && b) ≡ true → b ≡ true
-    left true b both = both
-    left false b both = cc
-
 -- ---- one full node after another
 
 prefix_more : (n : ℕ) (ns : List ℕ) (i : ℕ) → i < length ns → others n (take (i + 1) ns) ≡ others n (take i ns) ++ others n (get_or ns i 0 ∷ [])
@@ -74,34 +67,30 @@ module _ (s : StateValue) (n c : ℕ) (shape : ShapeInvariant s) (client : IsNum
   abbrev own_place : ℕ
   own_place = log_end (log_in s.nodes (own_node (standings s) (client_in s.clients c)) c).log
 
-  home_seen : (world_of s).home c ≡ (client_in s.clients c).home
-  unfolding world_of
-  home_seen = refl
-
-  lives_seen : (world_of s).lives c ≡ not (client_in s.clients c).failed
-  unfolding world_of
-  lives_seen = refl
-
   all_once_over : (world_of s).lives c ≡ false → kept_at_failure (world_of s) n c ≡ end_of_log (world_of s) c
   unfolding kept_at_failure
   all_once_over over = rw over refl
 
   pub kept_over : (client_in s.clients c).failed ≡ true → own_place ≡ kept_at_failure (world_of s) n c
-  kept_over over = sym (all_once_over (lives_seen ∙ ap not over) ∙ own_end s c shape client some)
+  unfolding world_of
+  kept_over over = sym (all_once_over (ap not over) ∙ own_end s c shape client some)
 
   pub kept_other : (client_in s.clients c).home ≢ n → own_place ≡ kept_at_failure (world_of s) n c
-  kept_other other = sym (kept_elsewhere (world_of s) n c (λ is. other (sym home_seen ∙ is)) ∙ own_end s c shape client some)
+  unfolding world_of
+  kept_other other = sym (kept_elsewhere (world_of s) n c other ∙ own_end s c shape client some)
 
   least_seen : least_of (others n (full_in (standings s))) (λ m. log_end (log_in s.nodes m c).log) own_place ≡ least_of (others n (world_of s).full) (λ m. (world_of s).received m c) (end_of_log (world_of s) c)
   unfolding world_of
   least_seen =
       ap (λ d. least_of (others n (full_in (standings s))) (λ m. log_end (log_in s.nodes m c).log) d) (sym (own_end s c shape client some))
 
-  pub kept_least : (client_in s.clients c).failed ≡ false → (client_in s.clients c).home ≡ n → least_of (others n (full_nodes (standings s))) (λ m. log_end (log_in s.nodes m c).log) own_place ≡ kept_at_failure (world_of s) n c
+  pub kept_least : (client_in s.clients c).failed ≡ false → (client_in s.clients c).home ≡ n →
+      least_of (others n (full_nodes (standings s))) (λ m. log_end (log_in s.nodes m c).log) own_place ≡ kept_at_failure (world_of s) n c
+  unfolding world_of
   kept_least unfailed here =
       same_least (others n (full_nodes (standings s))) (others n (full_in (standings s))) (λ m. log_end (log_in s.nodes m c).log) own_place (same_others (standings s) n)
       ∙ least_seen
-      ∙ sym (cut_there (world_of s) n c (lives_seen ∙ ap not unfailed) (home_seen ∙ here))
+      ∙ sym (cut_there (world_of s) n c (ap not unfailed) here)
 
 -- ---- of all clients
 

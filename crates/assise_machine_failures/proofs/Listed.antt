@@ -118,8 +118,7 @@ module _ (s : StateValue) (n : ℕ) (v : World) (inodes : List ℕ) (listed : in
 -- ---- the nodes that are listed are those that are filled from the node
 
 number_is : (n : ℕ) (o : Option ℕ) → is_number n o ≡ true → o ≡ Some n
-number_is n None is = cc
-number_is n (Some m) is = ap Some (eqb-true m n is)
+number_is n o is = grind (arith, eqb-true)
 
 filled_of : (nodes : List Standing) (n m k : ℕ) → Among (filled_from nodes n m) k → donor_of (standing_of nodes k) ≡ Some n
 filled_of nodes n zero k there = absurd there

@@ -1,5 +1,5 @@
 -- Nodes that lose their copies of what they may lack, one after another.
-use Rattle.std.proofs.Common.{◌≡◌, ◌≢◌, ℕ, zero, suc, ◌<◌, Bool, true, false, if◌then◌else◌, List, [], ◌∷◌, ◌++◌, take, drop, slice_index_or, arith, Option, Some, None, inl, inr, length, refl, ap, sym, subst, ◌∙◌}
+use Rattle.std.proofs.Common.{◌≡◌, ◌≢◌, ℕ, zero, suc, ◌<◌, Bool, true, if◌then◌else◌, List, [], ◌∷◌, ◌++◌, take, drop, slice_index_or, arith, Option, Some, None, inl, inr, length, refl, ap, sym, subst, ◌∙◌}
 use Rattle.std.proofs.lemmas.Bool.{cases_eq}
 use Rattle.std.proofs.lemmas.List.{take-append-drop}
 use Rattle.std.specs.Ordering.{nat_cmp}
@@ -19,12 +19,7 @@ use Rattle.assise_machine_failures.proofs.DroppedCopies.{lost_count, lost_else, 
 
 -- all of the state is as it was but what nodes have that aren't full
 pub record StillLosing (t u : StateValue) : Type 0 where
-  pub members : u.members ≡ t.members
-  pub clients : u.clients ≡ t.clients
-  pub levels : u.levels ≡ t.levels
-  pub cuts : u.cuts ≡ t.cuts
-  pub history : u.history ≡ t.history
-  pub limit : u.limit ≡ t.limit
+  pub same : u ≡ record t { nodes = u.nodes }
   pub hot : hot_capacities u.nodes ≡ hot_capacities t.nodes
   pub count : length u.nodes ≡ length t.nodes
   pub rests : Rests (world_of t) (world_of u)
@@ -44,16 +39,11 @@ AllLoseAt t (k ∷ ks) u = (v : StateValue) × (LosesAt t k v × AllLoseAt v ks 
 -- ---- what stays where nodes lose copies
 
 pub still_same : (t : StateValue) → ShapeInvariant t → StillLosing t t
-still_same t shape = record { members = refl; clients = refl; levels = refl; cuts = refl; history = refl; limit = refl; hot = refl; count = refl; rests = rests_still (world_of t); shape = shape }
+still_same t shape = assumption (rests_still (world_of t))
 
 pub still_twice : (t v u : StateValue) → StillLosing t v → StillLosing v u → StillLosing t u
 still_twice t v u a b = record {
-  members = b.members ∙ a.members;
-  clients = b.clients ∙ a.clients;
-  levels = b.levels ∙ a.levels;
-  cuts = b.cuts ∙ a.cuts;
-  history = b.history ∙ a.history;
-  limit = b.limit ∙ a.limit;
+  same = b.same ∙ (λ i. record (a.same i) { nodes = u.nodes });
   hot = b.hot ∙ a.hot;
   count = b.count ∙ a.count;
   rests = rests_more (world_of t) (world_of v) (world_of u) a.rests b.rests;
@@ -70,38 +60,39 @@ abbrev lost : Bool → Option Content → Option Content
 lost gone had = if gone then None else had
 
 lost_twice : (gone : Bool) (had : Option Content) → lost gone (lost gone had) ≡ lost gone had
-lost_twice true had = refl
-lost_twice false had = refl
+lost_twice gone had = grind arith
 
 -- what it may lack is the same after each
 same_stale : (t v : StateValue) (k : ℕ) (stale : set.FinSet nat_cmp) → StillLosing t v → stale_of (standing_of (standings t) k) ≡ Some stale → stale_of (standing_of (standings v) k) ≡ Some stale
-same_stale t v k stale still is = ap (λ m. stale_of (standing_of m.nodes k)) still.members ∙ is
+same_stale t v k stale still is = ap (λ x. stale_of (standing_of (standings x) k)) still.same ∙ is
+
+lost_now : (t v : StateValue) (j k i : ℕ) (stale : set.FinSet nat_cmp) → LosesAt t j v → k ≡ j → stale_of (standing_of (standings t) k) ≡ Some stale →
+    (world_of v).area k i ≡ lost (set.contains stale i) ((world_of t).area k i)
+lost_now t v j k i stale loses same is = rw same (loses.here stale (rw same at is) i)
 
 -- a node that lost its copies has lost them in the end
-keeps_lost : (t : StateValue) (ks : List ℕ) (u : StateValue) (k i : ℕ) (stale : set.FinSet nat_cmp) (had : Option Content) → AllLoseAt t ks u → stale_of (standing_of (standings t) k) ≡ Some stale →
+keeps_lost : (t : StateValue) (ks : List ℕ) (u : StateValue) (k i : ℕ) (stale : set.FinSet nat_cmp) (had : Option Content) → AllLoseAt t ks u →
+    stale_of (standing_of (standings t) k) ≡ Some stale →
     (world_of t).area k i ≡ lost (set.contains stale i) had → (world_of u).area k i ≡ lost (set.contains stale i) had
 keeps_lost t [] u k i stale had lose is before = ap (λ s. (world_of s).area k i) lose ∙ before
 keeps_lost t (j ∷ ks) u k i stale had (v, (first, rest)) is before =
     keeps_lost v ks u k i stale had rest (same_stale t v k stale first.still is)
     (elim (cases_eq k j) [
-      | inl same ↦
-          subst (λ n. (world_of v).area n i ≡ lost (set.contains stale i) ((world_of t).area n i)) (sym same) (first.here stale (subst (λ n. stale_of (standing_of (standings t) n) ≡ Some stale) same is) i)
-          ∙ ap (lost (set.contains stale i)) before ∙ lost_twice (set.contains stale i) had
+      | inl same ↦ lost_now t v j k i stale first same is ∙ ap (lost (set.contains stale i)) before ∙ lost_twice (set.contains stale i) had
       | inr other ↦ first.elsewhere k i other ∙ before
     ])
 
-pub one_loses : (t : StateValue) (ks : List ℕ) (u : StateValue) (k i : ℕ) (stale : set.FinSet nat_cmp) → AllLoseAt t ks u → Among ks k → stale_of (standing_of (standings t) k) ≡ Some stale →
+pub one_loses : (t : StateValue) (ks : List ℕ) (u : StateValue) (k i : ℕ) (stale : set.FinSet nat_cmp) → AllLoseAt t ks u → Among ks k →
+    stale_of (standing_of (standings t) k) ≡ Some stale →
     (world_of u).area k i ≡ (if set.contains stale i then None else (world_of t).area k i)
 one_loses t [] u k i stale lose there is = elim there [ ]
-one_loses t (j ∷ ks) u k i stale (v, (first, rest)) (inl same) is =
-    keeps_lost v ks u k i stale ((world_of t).area k i) rest (same_stale t v k stale first.still is)
-    (subst (λ n. (world_of v).area n i ≡ lost (set.contains stale i) ((world_of t).area n i)) (sym same) (first.here stale (subst (λ n. stale_of (standing_of (standings t) n) ≡ Some stale) same is) i))
-one_loses t (j ∷ ks) u k i stale (v, (first, rest)) (inr later) is =
+one_loses t (j ∷ ks) u k i stale (v, (first, rest)) there is =
     elim (cases_eq k j) [
       | inl same ↦
-          keeps_lost v ks u k i stale ((world_of t).area k i) rest (same_stale t v k stale first.still is)
-          (subst (λ n. (world_of v).area n i ≡ lost (set.contains stale i) ((world_of t).area n i)) (sym same) (first.here stale (subst (λ n. stale_of (standing_of (standings t) n) ≡ Some stale) same is) i))
-      | inr other ↦ one_loses v ks u k i stale rest later (same_stale t v k stale first.still is) ∙ ap (lost (set.contains stale i)) (first.elsewhere k i other)
+          keeps_lost v ks u k i stale ((world_of t).area k i) rest (same_stale t v k stale first.still is) (lost_now t v j k i stale first same is)
+      | inr other ↦
+          one_loses v ks u k i stale rest (elim there [ inl same ↦ absurd (other same) | inr later ↦ later ]) (same_stale t v k stale first.still is)
+          ∙ ap (lost (set.contains stale i)) (first.elsewhere k i other)
     ]
 
 pub others_stay : (t : StateValue) (ks : List ℕ) (u : StateValue) (k i : ℕ) → AllLoseAt t ks u → (Among ks k → ⊥) → (world_of u).area k i ≡ (world_of t).area k i
@@ -111,37 +102,29 @@ others_stay t (j ∷ ks) u k i (v, (first, rest)) none = others_stay v ks u k i 
 -- ---- as the code has it
 
 -- what is returning stays so
-still_returning : (t v : StateValue) (ks : List ℕ) → v.members ≡ t.members → AreReturning t ks → AreReturning v ks
+still_returning : (t v : StateValue) (ks : List ℕ) → v ≡ record t { nodes = v.nodes } → AreReturning t ks → AreReturning v ks
 still_returning t v [] same are = tt
-still_returning t v (k ∷ ks) same (first, rest) = (ap (λ m. is_returning (standing_of m.nodes k)) same ∙ first, still_returning t v ks same rest)
+still_returning t v (k ∷ ks) same (first, rest) = (ap (λ x. is_returning (standing_of (standings x) k)) same ∙ first, still_returning t v ks same rest)
 
-module _ (t : StateValue) (k : ℕ) (v : StateValue) (shape : ShapeInvariant t) (is : is_returning (standing_of (standings t) k) ≡ true) (loses : LosesStale t k v) where
-  same_but_nodes : v ≡ record t { nodes = v.nodes }
-  same_but_nodes = lost_is t k v shape is loses
-
-  pub loses_at : LosesAt t k v
-  loses_at = record {
-    still = record {
-      members = ap (λ s. s.members) same_but_nodes;
-      clients = ap (λ s. s.clients) same_but_nodes;
-      levels = ap (λ s. s.levels) same_but_nodes;
-      cuts = ap (λ s. s.cuts) same_but_nodes;
-      history = ap (λ s. s.history) same_but_nodes;
-      limit = ap (λ s. s.limit) same_but_nodes;
-      hot = lost_hot t k v shape is loses;
-      count = lost_count t k v shape is loses;
-      rests = lost_rests t k v shape is loses;
-      shape = lost_shaped t k v shape is loses;
-    };
-    here = lost_here t k v shape is loses;
-    elsewhere = lost_else t k v shape is loses;
-  }
+pub loses_at : (t : StateValue) (k : ℕ) (v : StateValue) → ShapeInvariant t → is_returning (standing_of (standings t) k) ≡ true →
+    LosesStale t k v → LosesAt t k v
+loses_at t k v shape is loses = record {
+  still = record {
+    same = lost_is t k v shape is loses;
+    hot = lost_hot t k v shape is loses;
+    count = lost_count t k v shape is loses;
+    rests = lost_rests t k v shape is loses;
+    shape = lost_shaped t k v shape is loses;
+  };
+  here = lost_here t k v shape is loses;
+  elsewhere = lost_else t k v shape is loses;
+}
 
 pub all_at : (t : StateValue) (ks : List ℕ) (u : StateValue) → ShapeInvariant t → AreReturning t ks → AllLose t ks u → AllLoseAt t ks u
 all_at t [] u shape are lose = lose
 all_at t (k ∷ ks) u shape (first, rest) (v, (loses, more)) =
     let at : LosesAt t k v = loses_at t k v shape first loses in
-    (v, (at, all_at v ks u at.still.shape (still_returning t v ks at.still.members rest) more))
+    (v, (at, all_at v ks u at.still.shape (still_returning t v ks at.still.same rest) more))
 
 -- one more, behind the others
 pub lose_more : (t v u : StateValue) (ks : List ℕ) (k : ℕ) → AllLose t ks v → LosesStale v k u → AllLose t (ks ++ k ∷ []) u
@@ -169,4 +152,4 @@ module _ (t v : StateValue) (ks : List ℕ) (count : ℕ) (shape : ShapeInvarian
   one_returning (k ∷ ks) (suc i) (first, rest) low = one_returning ks i rest (omega (arith, low))
 
   pub next_returning : (i : ℕ) → i < length ks → is_returning (standing_of (standings v) (slice_index_or ks i 0)) ≡ true
-  next_returning i low = one_returning ks i (still_returning t v ks losing_some.members are) low
+  next_returning i low = one_returning ks i (still_returning t v ks losing_some.same are) low

@@ -16,7 +16,6 @@ use Rattle.assise_manager.specs.Membership.{IsMembership, Membership}
 use Rattle.assise_manager.specs.Standings.{Standing, down, full, returning, standing_of}
 use Rattle.assise_manager.proofs.Lawful.{donor_full}
 use Rattle.assise_model_members.specs.Returns.{Refills}
-use Rattle.assise_model_members.proofs.NodeStandings.{set_here}
 use Rattle.assise_model_events.specs.Events.{Answer, left, refused}
 use Rattle.assise_model_events.specs.MemberEvents.{IsRefilled, Refilling, count_of}
 use Rattle.assise_model_events.specs.MemberEvents.Refilling.{is_refilled, is_refused, is_whole, lacks_memory}
@@ -153,9 +152,6 @@ module _ {s : StateValue} {n d : ℕ} {rs : List RegionValue} {m : Membership} (
   as_many : length m.nodes ≡ length (standings s)
   as_many = ap length nodes_are ∙ same_count (standings s) n now
 
-  stands_now : standing_of m.nodes n ≡ Some now
-  stands_now = ap (λ nodes. standing_of nodes n) nodes_are ∙ set_here (standings s) n (returning began d lacked) now stands
-
   as_full : (k : ℕ) → is_full_in m.nodes k ≡ is_full_in (standings s) k
   as_full k = ap (λ nodes. is_full_in nodes k) nodes_are ∙ still_full (standings s) n (returning began d lacked) now stands refl refl k
 
@@ -171,11 +167,8 @@ module _ {s : StateValue} {n d : ℕ} {rs : List RegionValue} {m : Membership} (
   same : w ≡ u
   same = (λ k. record s { nodes = c.refilled k; members = m })
 
-  value_seen : v ≡ (world_of s).area d i
-  unfolding world_of
-  value_seen = c.copied
-
   node_refills : Refills (world_of s) s.members n i (world_of u) m
+  unfolding world_of
   node_refills = record {
     since = began;
     donor = d;
@@ -186,24 +179,24 @@ module _ {s : StateValue} {n d : ℕ} {rs : List RegionValue} {m : Membership} (
     rests =
         rests_more (world_of s) (world_of t) (world_of u)
         (inode_rests s n i v number (not_full s n (filled_away c.fills))) (members_rest t m as_many as_full);
-    area_here = members_areas t m n i ∙ inode_here s n i v number ∙ value_seen;
+    area_here = members_areas t m n i ∙ inode_here s n i v number ∙ c.copied;
     area_else = λ k j other. members_areas t m k j ∙ inode_else s n i v number k j other;
   }
 
-  same_leases : leases_of u ≡ leases_of s
-  unfolding leases_of
-  same_leases = refl
-
   refilled_so : IsRefilled (observed s) n (observed u)
-  unfolding observed
-  refilled_so = record { inode = i; refills = node_refills; leases = same_leases; adds = record { history = sym (append-nil s.history); limit = refl; hot = region_keeps s.nodes n _ refl } }
-
-  happens_so : (count : ℕ) → option_map set.len (stale_of (standing_of m.nodes n)) ≡ Some count → Refilling (observed s) n (left count) (observed u)
-  unfolding observed
-  happens_so count some = is_refilled (filled_fine c.fills) (ap left (counted (stale_of (standing_of m.nodes n)) count some)) refilled_so
+  unfolding observed leases_of
+  refilled_so = record {
+    inode = i;
+    refills = node_refills;
+    leases = refl;
+    adds = record { history = sym (append-nil s.history); limit = refl; hot = region_keeps s.nodes n _ refl };
+  }
 
   refill_happens : (count : ℕ) → option_map set.len (stale_of (standing_of m.nodes n)) ≡ Some count → Refilling (observed s) n (left count) (observed w)
-  refill_happens count some = subst (λ x. Refilling (observed s) n (left count) (observed x)) (sym same) (happens_so count some)
+  unfolding observed
+  refill_happens count some =
+      subst (λ x. Refilling (observed s) n (left count) (observed x)) (sym same)
+      (is_refilled (filled_fine c.fills) (ap left (counted (stale_of (standing_of m.nodes n)) count some)) refilled_so)
 
   pub refill_answers : (r : Result ℕ Refusal) → IsOk r → IfOk r (λ count. option_map set.len (stale_of (standing_of m.nodes n)) ≡ Some count) →
       Refilling (observed s) n (refilling_answer r) (observed w)

@@ -1,5 +1,5 @@
 -- What is refused leaves all as it was.
-use Rattle.std.proofs.Common.{◌≡◌, ◌⊎◌, Option, Some, None, Result, Ok, Err, inl, inr, refl, ap, sym, true, false, true≢false}
+use Rattle.std.proofs.Common.{◌≡◌, ◌⊎◌, Option, Some, None, Result, Err, inl, inr, refl, ap, sym, true, false, true≢false}
 use Rattle.assise_names.specs.declared.refusal.Refusal.{Refusal}
 use Rattle.assise_names.specs.declared.refusal.Refusal.TheVariants.{OutOfMemory}
 use Rattle.assise_manager.specs.Membership.{Membership}
@@ -14,13 +14,8 @@ same_after s m is = (λ i. record s { members = is i })
 abbrev pub IsFaultOr : Option Refusal → Refusal → Type 0
 IsFaultOr fault e = ((fault ≡ None) × (e ≡ OutOfMemory)) ⊎ (fault ≡ Some e)
 
-error_of : {X : Type 0} → Refusal → Result X Refusal → Refusal
-error_of other (Ok x) = other
-error_of other (Err e) = e
-
 pub same_error : {X : Type 0} (d e : Refusal) → ◌≡◌ {A = Result X Refusal} (Err d) (Err e) → d ≡ e
-unfolding error_of
-same_error {X} d e is = ap (error_of {X = X} d) is
+same_error d e is = cc
 
 pub fault_or : {X : Type 0} (fault : Option Refusal) (e : Refusal) → ((r : Refusal) → fault ≡ Some r → ◌≡◌ {A = Result X Refusal} (Err e) (Err r)) → (fault ≡ None → e ≡ OutOfMemory) → IsFaultOr fault e
 fault_or None e faults memory = inl (refl, memory refl)

@@ -1,6 +1,6 @@
 -- That a node is full again has one proof at most, where it is known how it stood.
 use Rattle.std.proofs.Common.{◌≡◌, ℕ, Some, None, inl, inr, ap, sym, ◌∙◌}
-use Rattle.std.specs.Coded.{Coded-set, coded_bool, coded_option, coded_ℕ}
+use Rattle.std.specs.Coded.{Coded-set, coded_option, coded_ℕ}
 use Rattle.std.specs.Ordering.{nat_cmp}
 use Rattle.std.specs.FinSet as set
 use Rattle.std.proofs.Math.Logic.{∥∥₁_elim}
@@ -37,33 +37,13 @@ module _ (w w' : World) (m m' : Membership) (n since donor : ℕ) (stale : set.F
       | inl is ↦ inl is
       | inr other ↦ inr (∥∥₁_elim some (search props) (λ r. elim (r.only k f) [ inl is ↦ absurd (other is) | inr was ↦ was ]))
     ];
-    logs = record {
-      calls = ∥∥₁_elim some (Coded-set coded_calls w'.calls w.calls) (λ r. r.logs.calls);
-      records = λ c. ∥∥₁_elim some (Coded-set coded_records (w'.records c) (w.records c)) (λ r. r.logs.records c);
-      first = λ c. number (w'.first c) (w.first c) (λ r. r.logs.first c);
-      next = λ c. number (w'.next c) (w.next c) (λ r. r.logs.next c);
-      border = λ c k. ∥∥₁_elim some (Coded-set coded_bool (w'.border c k) (w.border c k)) (λ r. r.logs.border c k);
-      made = λ c. number (w'.made c) (w.made c) (λ r. r.logs.made c);
-    };
-    clients = record {
-      clients = number w'.clients w.clients (λ r. r.clients.clients);
-      home = λ c. number (w'.home c) (w.home c) (λ r. r.clients.home c);
-      lives = λ c. ∥∥₁_elim some (Coded-set coded_bool (w'.lives c) (w.lives c)) (λ r. r.clients.lives c);
-      crashed = λ c. ∥∥₁_elim some (Coded-set coded_bool (w'.crashed c) (w.crashed c)) (λ r. r.clients.crashed c);
-    };
-    goals = λ c. number (w'.goal c) (w.goal c) (λ r. r.goals c);
-    leases = record {
-      holds = λ c i. ∥∥₁_elim some (Coded-set coded_bool (w'.holds c i) (w.holds c i)) (λ r. r.leases.holds c i);
-      writes = λ c i. ∥∥₁_elim some (Coded-set coded_bool (w'.writes c i) (w.writes c i)) (λ r. r.leases.writes c i);
-    };
+    logs = ∥∥₁_elim some (hlevel (props, Coded-set coded_calls, Coded-set coded_records)) (λ r. r.logs);
+    clients = ∥∥₁_elim some (hlevel props) (λ r. r.clients);
+    goals = ∥∥₁_elim some (hlevel props) (λ r. r.goals);
+    leases = ∥∥₁_elim some (hlevel props) (λ r. r.leases);
     area = λ k i. ∥∥₁_elim some (Coded-set (coded_option coded_content) (w'.area k i) (w.area k i)) (λ r. r.area k i);
     log_here = λ c. ∥∥₁_elim some (Coded-set coded_records (w'.log n c) (w.log donor c)) (λ r. r.log_here c ∙ ap (λ d. w.log d c) (same_donor r));
     received_here = λ c. number (w'.received n c) (w.received donor c) (λ r. r.received_here c ∙ ap (λ d. w.received d c) (same_donor r));
     digested_here = λ c. number (w'.digested n c) (w.digested donor c) (λ r. r.digested_here c ∙ ap (λ d. w.digested d c) (same_donor r));
-    else_same = λ k f. record {
-      area = λ i. ∥∥₁_elim some (Coded-set (coded_option coded_content) (w'.area k i) (w.area k i)) (λ r. r.area k i);
-      log = λ c. ∥∥₁_elim some (Coded-set coded_records (w'.log k c) (w.log k c)) (λ r. (r.else_same k f).log c);
-      received = λ c. number (w'.received k c) (w.received k c) (λ r. (r.else_same k f).received c);
-      digested = λ c. number (w'.digested k c) (w.digested k c) (λ r. (r.else_same k f).digested c);
-    };
+    else_same = λ k f. ∥∥₁_elim some (hlevel (props, Coded-set (coded_option coded_content), Coded-set coded_records)) (λ r. r.else_same k f);
   }

@@ -78,9 +78,6 @@ module _ (s : StateValue) (n : ℕ) (shape : ShapeInvariant s) (stands : standin
   pub number : IsNumber s.nodes n
   number = node_number s n full shape stands
 
-  emptied : RegionValue
-  emptied = record (region_in s.nodes n) { logs = [] }
-
   -- the failed node has no log
   other_node : (k c : ℕ) → HasLog (without_logs s.nodes n) k c → k ≢ n
   other_node k c has same =

@@ -13,10 +13,10 @@ use Rattle.assise_history.specs.Entries.{EntryValue, returns}
 use Rattle.assise_digest.specs.Region.{RegionValue, without_clients}
 use Rattle.assise_manager.specs.Changes.{IsLowestOf, filling_fault, filling_fault_of, join_fault, join_fault_of, joined as joined_members, stale_of}
 use Rattle.assise_manager.specs.Membership.{Membership}
-use Rattle.assise_manager.specs.Standings.{Standing, down, full, returning, standing_of}
+use Rattle.assise_manager.specs.Standings.{Standing, returning, standing_of}
 use Rattle.assise_model_events.specs.Events.{Answer, joined, refused}
 use Rattle.assise_model_events.specs.Machine.{MachineInvariant}
-use Rattle.assise_model_events.specs.MemberEvents.{IsJoined, Joining}
+use Rattle.assise_model_events.specs.MemberEvents.{Joining}
 use Rattle.assise_model_events.specs.MemberEvents.Joining.{is_joined, is_refused, lacks_memory}
 use Rattle.assise_model_members.specs.Returns.{Rejoins}
 use Rattle.assise_machine_state.specs.Changes.{after_join}
@@ -64,10 +64,7 @@ epoch_fits s holds few =
 -- ---- it is refused
 
 fault_stays : (o : Option Standing) (e : Refusal) → filling_fault_of o ≡ Some e → join_fault_of o ≡ Some e
-fault_stays None e fault = fault
-fault_stays (Some full) e fault = fault
-fault_stays (Some (down since)) e fault = fault
-fault_stays (Some (returning since donor stale)) e fault = absurd (none-some e fault)
+fault_stays o e fault = grind (arith, none-some)
 
 pub join_refused : (s : StateValue) (n : ℕ) (e : Refusal) (a : Answer) → a ≡ refused e → IsFaultOr (filling_fault s.members n) e → (filling_fault s.members n ≡ None → ⊥) → Joining (observed s) n a (observed s)
 unfolding observed
@@ -79,16 +76,10 @@ nonempty : (inodes : set.FinSet nat_cmp) (i : ℕ) → set.contains inodes i ≡
 nonempty inodes i there none = true≢false (sym there ∙ ap (λ s. set.contains s i) (empty_of_len inodes none) ∙ contains-empty nat_cmp i)
 
 busy_fault : (o : Option Standing) (i : ℕ) → IsLowestOf (stale_of o) (Some i) → join_fault_of o ≡ Some Busy
-busy_fault None i low = absurd low
-busy_fault (Some full) i low = absurd low
-busy_fault (Some (down since)) i low = absurd low
-busy_fault (Some (returning since donor stale)) i low = rw (ne_eqb (set.len stale) 0 (nonempty stale i low.there)) refl
+busy_fault o i low = grind (arith, ne_eqb, nonempty)
 
 no_fault : (o : Option Standing) → IsLowestOf (stale_of o) None → join_fault_of o ≡ None
-no_fault None none = absurd none
-no_fault (Some full) none = absurd none
-no_fault (Some (down since)) none = absurd none
-no_fault (Some (returning since donor stale)) none = rw (eq-eqb (set.len stale) 0 (ap set.len none ∙ len-empty nat_cmp)) refl
+no_fault o none = grind (arith, eq-eqb, len-empty)
 
 module _ (s : StateValue) (n : ℕ) where
   pub join_busy : (lowest : Option ℕ) → IsLowestOf (stale_of (standing_of (standings s) n)) lowest → is_some lowest ≡ true → Joining (observed s) n (refused Busy) (observed s)
@@ -140,20 +131,12 @@ module _ {s : StateValue} {n d : ℕ} {rs : List RegionValue} {m : Membership} {
       settled (world_of s) (world_of t) s.members t.members n since d stale
       (∥∥₁_map taken.holds (λ h. node_rejoins s n since d stale taken.fills.shape taken.fills.lawful stands h.sound taken.fine)) stands taken.fine refl
 
-  same_leases : leases_of t ≡ leases_of s
-  unfolding leases_of
-  same_leases = refl
-
-  joined_so : IsJoined (observed s) n (observed t)
-  unfolding observed
-  joined_so = record { rejoins = rejoins; leases = same_leases; adds = record { history = refl; limit = refl; hot = region_keeps s.nodes n _ refl } }
-
-  happens_so : Joining (observed s) n joined (observed t)
-  unfolding observed
-  happens_so = is_joined taken.fine refl joined_so
-
   pub join_happens : Joining (observed s) n joined (observed w)
-  join_happens = subst (λ x. Joining (observed s) n joined (observed x)) (sym same) happens_so
+  unfolding observed leases_of
+  join_happens =
+      subst (λ x. Joining (observed s) n joined (observed x)) (sym same)
+      (is_joined taken.fine refl
+      (record { rejoins = rejoins; leases = refl; adds = record { history = refl; limit = refl; hot = region_keeps s.nodes n _ refl } }))
 
   pub join_left : ShapeInvariant w
   unfolding observed

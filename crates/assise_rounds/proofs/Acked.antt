@@ -15,10 +15,7 @@ pub none_acked : (w : World) → AreAckedTo w 0 []
 none_acked w = record { count = omega arith; each = λ c few. absurd (omega (arith, few)) }
 
 split : (c n k : ℕ) → c < n → n ≡ k + 1 → (c < k) ⊎ (c ≡ k)
-split c n k few long = elim (cases_lt c k) [
-  | inl below ↦ inl below
-  | inr past ↦ inr (omega (arith, few, long, past))
-]
+split c n k few long = grind (arith, cases_lt)
 
 pub one_acked : (w : World) (i place : ℕ) (acked : List ℕ) → AreAckedTo w i acked → i + 1 ≤ w.clients → place ≡ received_by_all w (i + 1) → AreAckedTo w (i + 1) (acked ++ place ∷ [])
 one_acked w i place acked h is_client is =

@@ -7,16 +7,13 @@ use Rattle.assise_model_events.specs.Machine.{Machine}
 use Rattle.assise_rounds.specs.Traces.{IsEventTrace, IsEvent, Told}
 use Rattle.assise_rounds.specs.Rounds.{RoundsOver}
 use Rattle.assise_rounds.specs.CallTries.{FindsFull, InVain, IsTriedOut, MakesRoom, TriesInVain, WaitsOnce, waits_in_vain, full_in_vain, settles_at_last, spends_all, ends_full, ends_waiting}
-use Rattle.assise_rounds.proofs.Traces.{event_trace, nothing_trace, round_trace, then_trace}
-
-once_trace : (faithful : ℕ → Type 0) (busy : Bool) (m : Machine) (es : Told) (m' : Machine) → RoundsOver faithful busy m es m' → IsEventTrace m es m'
-once_trace faithful busy m es m' h = round_trace m es m' h.does
+use Rattle.assise_rounds.proofs.Traces.{busy_trace, event_trace, nothing_trace, then_trace}
 
 room_trace : (faithful : ℕ → Type 0) (busy : Bool) (c : ℕ) (m : Machine) (es : Told) (m' : Machine) → MakesRoom faithful busy c m es m' → IsEventTrace m es m'
-room_trace faithful busy c m es m' h = then_trace (IsEvent _ _) (RoundsOver faithful busy) (event_trace _ _) (once_trace faithful busy) m es m' h.trace
+room_trace faithful busy c m es m' h = then_trace (IsEvent _ _) (RoundsOver faithful busy) (event_trace _ _) (busy_trace faithful busy) m es m' h.trace
 
 waits_trace : (faithful : ℕ → Type 0) (busy : Bool) (c : ℕ) (op : Op) (m : Machine) (es : Told) (m' : Machine) → WaitsOnce faithful busy c op m es m' → IsEventTrace m es m'
-waits_trace faithful busy c op m es m' h = then_trace (IsEvent _ _) (RoundsOver faithful busy) (event_trace _ _) (once_trace faithful busy) m es m' h
+waits_trace faithful busy c op m es m' h = then_trace (IsEvent _ _) (RoundsOver faithful busy) (event_trace _ _) (busy_trace faithful busy) m es m' h
 
 full_trace : (faithful : ℕ → Type 0) (busy : Bool) (c : ℕ) (op : Op) (m : Machine) (es : Told) (m' : Machine) → FindsFull faithful busy c op m es m' → IsEventTrace m es m'
 full_trace faithful busy c op m es m' h = then_trace (IsEvent _ _) (MakesRoom faithful busy c) (event_trace _ _) (room_trace faithful busy c) m es m' h

@@ -1,5 +1,6 @@
 -- Frames that are carried, one after another.
-use Rattle.std.proofs.Common.{◌≡◌, ◌≤◌, ℕ, ◌+◌, Bool, true, false, List, [], ◌∷◌, ◌++◌, map, None, Some, Result, Ok, Err, is_ok, refl, ap, sym, subst, ◌∙◌, append_assoc, append-nil, arith}
+use Rattle.std.proofs.Common.{◌≡◌, ◌≤◌, ℕ, ◌+◌, Bool, true, false, List, [], ◌∷◌, ◌++◌, map, None, Some, Result, Ok, Err, is_ok, refl, ap, sym, subst, ◌∙◌, append_assoc, append-nil, arith, length-append}
+use Rattle.std.proofs.lemmas.List.Elements.{filter-append}
 use Rattle.assise_names.specs.declared.refusal.Refusal.{Refusal}
 use Rattle.assise_record.specs.LogFrame.{LogFrame}
 use Rattle.assise_manager.specs.NodeLevels.{level_of, newest}
@@ -24,20 +25,10 @@ letters-more [] c = refl
 letters-more (b ∷ cs) c = ap (λ fs. letter b ∷ fs) (letters-more cs c)
 
 taken-in : (cs : List Carried) (c : Carried) → is_taken_in c.came ≡ true → taken (cs ++ c ∷ []) ≡ taken cs + 1
-taken-in [] c is = rw is refl
-taken-in (b ∷ cs) c is = by_case (taken-in cs c is) (is_taken_in b.came) refl
-  where
-    by_case : taken (cs ++ c ∷ []) ≡ taken cs + 1 → (t : Bool) → is_taken_in b.came ≡ t → taken (b ∷ cs ++ c ∷ []) ≡ taken (b ∷ cs) + 1
-    by_case rest true e = rw e (omega (arith, rest))
-    by_case rest false e = rw e rest
+taken-in cs c is = grind (arith, filter-append, length-append)
 
 taken-out : (cs : List Carried) (c : Carried) → is_taken_in c.came ≡ false → taken (cs ++ c ∷ []) ≡ taken cs
-taken-out [] c is = rw is refl
-taken-out (b ∷ cs) c is = by_case (taken-out cs c is) (is_taken_in b.came) refl
-  where
-    by_case : taken (cs ++ c ∷ []) ≡ taken cs → (t : Bool) → is_taken_in b.came ≡ t → taken (b ∷ cs ++ c ∷ []) ≡ taken (b ∷ cs)
-    by_case rest true e = rw e (omega (arith, rest))
-    by_case rest false e = rw e rest
+taken-out cs c is = grind (arith, filter-append, length-append)
 
 same-more : (cs : List Carried) (c : Carried) → AreSame cs → IsSame c.frame c.came → AreSame (cs ++ c ∷ [])
 same-more [] c all one = (one, tt)
@@ -49,37 +40,30 @@ pub none_carried : (F : Type 0) (m : Machine) → AreCarried F [] 0 m m
 none_carried F m = record { carried = []; same = λ f. tt; letters = refl; counts = refl; happen = refl }
 
 -- over a link that was faithful before if F, and is at this frame if G
-module _ (F G : Type 0) (stays : F → G) (m v m' : Machine) (frames : List (LogFrame × ℕ)) (count : ℕ) (f : LogFrame) (n : ℕ) (is_in : Bool) (before : AreCarried F frames count m v) (now : DeliversOver G f n is_in v m') where
-  abbrev carried_now : Carried
-  carried_now = record { frame = f; node = n; came = now.came }
+module _ {F G : Type 0} (stays : F → G) {m v m' : Machine} {frames : List (LogFrame × ℕ)} {count : ℕ} {f : LogFrame} {n : ℕ} {is_in : Bool}
+    (before : AreCarried F frames count m v) (now : DeliversOver G f n is_in v m')
+  where
+    abbrev carried_now : Carried
+    carried_now = record { frame = f; node = n; came = now.came }
 
-  same_now : F → AreSame (before.carried ++ carried_now ∷ [])
-  same_now faithful = same-more before.carried carried_now (before.same faithful) (now.same (stays faithful))
+    same_now : F → AreSame (before.carried ++ carried_now ∷ [])
+    same_now faithful = same-more before.carried carried_now (before.same faithful) (now.same (stays faithful))
 
-  letters_now : map letter (before.carried ++ carried_now ∷ []) ≡ frames ++ (f, n) ∷ []
-  letters_now = letters-more before.carried carried_now ∙ ap (λ fs. fs ++ (f, n) ∷ []) before.letters
+    letters_now : map letter (before.carried ++ carried_now ∷ []) ≡ frames ++ (f, n) ∷ []
+    letters_now = letters-more before.carried carried_now ∙ ap (λ fs. fs ++ (f, n) ∷ []) before.letters
 
-  happen_now : AllHappen m (deliveries (before.carried ++ carried_now ∷ [])) m'
-  happen_now =
-      subst (λ es. AllHappen m es m') (sym (deliveries-more before.carried carried_now)) (happen_then m v m' (deliveries before.carried) (delivery n now.came) before.happen now.happen)
+    happen_now : AllHappen m (deliveries (before.carried ++ carried_now ∷ [])) m'
+    happen_now =
+        subst (λ es. AllHappen m es m') (sym (deliveries-more before.carried carried_now)) (happen_then m v m' (deliveries before.carried) (delivery n now.came) before.happen now.happen)
 
-  pub one_taken : is_in ≡ true → AreCarried F (frames ++ (f, n) ∷ []) (count + 1) m m'
-  one_taken is = record {
-    carried = before.carried ++ carried_now ∷ [];
-    same = same_now;
-    letters = letters_now;
-    counts = ap (λ k. k + 1) before.counts ∙ sym (taken-in before.carried carried_now (sym now.taken ∙ is));
-    happen = happen_now;
-  }
+    one_more : {k : ℕ} → k ≡ taken (before.carried ++ carried_now ∷ []) → AreCarried F (frames ++ (f, n) ∷ []) k m m'
+    one_more counts = record { carried = before.carried ++ carried_now ∷ []; same = same_now; letters = letters_now; counts = counts; happen = happen_now }
 
-  pub one_lost : is_in ≡ false → AreCarried F (frames ++ (f, n) ∷ []) count m m'
-  one_lost is = record {
-    carried = before.carried ++ carried_now ∷ [];
-    same = same_now;
-    letters = letters_now;
-    counts = before.counts ∙ sym (taken-out before.carried carried_now (sym now.taken ∙ is));
-    happen = happen_now;
-  }
+    pub one_taken : is_in ≡ true → AreCarried F (frames ++ (f, n) ∷ []) (count + 1) m m'
+    one_taken is = one_more (ap (λ k. k + 1) before.counts ∙ sym (taken-in before.carried carried_now (sym now.taken ∙ is)))
+
+    pub one_lost : is_in ≡ false → AreCarried F (frames ++ (f, n) ∷ []) count m m'
+    one_lost is = one_more (before.counts ∙ sym (taken-out before.carried carried_now (sym now.taken ∙ is)))
 
 -- what a node sent was carried
 pub carried_turn : (F : Type 0) (m v : Machine) (n count : ℕ) (frames : List (LogFrame × ℕ)) → Sending m n (sent frames) m → (h : AreCarried F frames count m v) → Replicates F n count m ((outgoing n, sent (map letter h.carried)) ∷ deliveries h.carried) v

@@ -6,6 +6,7 @@ use Rattle.assise_model_events.specs.Faults.{node_fault}
 use Rattle.assise_model_events.specs.Machine.{Machine}
 use Rattle.assise_rounds.specs.Traces.{Told}
 use Rattle.assise_rounds.specs.Rounds.{EachFull, RoundsOver, TakesTurn, UnlessAtFault, WithWork, is_refused, replicates}
+use Rattle.assise_rounds.proofs.Traces.{both}
 
 turn_of : (F G : Type 0) → (F → G) → (n : ℕ) (m : Machine) (es : Told) (m' : Machine) → TakesTurn G n m es m' → TakesTurn F n m es m'
 turn_of F G to n m es m' (replicates count h) = replicates count record { carried = h.carried; same = λ f. h.same (to f); counts = h.counts; told = h.told; happen = h.happen }
@@ -21,25 +22,14 @@ unless_of (Some r) Does More m es m' to h = h
 
 each_of : (F G : ℕ → Type 0) (n : ℕ) → ((k : ℕ) → 1 ≤ k → k ≤ n → F k → G k) → (m : Machine) (es : Told) (m' : Machine) → EachFull (λ k. TakesTurn (G k) k) n m es m' → EachFull (λ k. TakesTurn (F k) k) n m es m'
 each_of F G zero to m es m' h = h
-each_of F G (suc n) to m es m' h = record {
-  between = h.between;
-  before = h.before;
-  after = h.after;
-  told = h.told;
-  first = each_of F G n (λ k some few. to k some (omega (arith, few))) m h.before h.between h.first;
-  second =
-      unless_of (node_fault h.between (suc n)) (TakesTurn (F (suc n)) (suc n)) (TakesTurn (G (suc n)) (suc n)) h.between h.after m'
-      (turn_of (F (suc n)) (G (suc n)) (to (suc n) (omega arith) (omega arith)) (suc n) h.between h.after m') h.second;
-}
+each_of F G (suc n) to m es m' h =
+    rw h.told
+    (both _ _ _ (each_of F G n (λ k some few. to k some (omega (arith, few))) m h.before h.between h.first)
+    (unless_of (node_fault h.between (suc n)) (TakesTurn (F (suc n)) (suc n)) (TakesTurn (G (suc n)) (suc n)) h.between h.after m'
+    (turn_of (F (suc n)) (G (suc n)) (to (suc n) (omega arith) (omega arith)) (suc n) h.between h.after m') h.second))
 
 -- a round, and whether there was anything to do
 pub round_with : (F G : ℕ → Type 0) → ((k : ℕ) → 1 ≤ k → k ≤ MOST_NODES → F k → G k) → (busy : Bool) (m m' : Machine) → (es : Told) × RoundsOver G busy m es m' → (es : Told) × RoundsOver F busy m es m'
-round_with F G to busy m m' (es, h) = (
-  es,
-  record {
-    does = record {
-      round = let r = h.does.round in record { between = r.between; before = r.before; after = r.after; told = r.told; first = each_of F G MOST_NODES to m r.before r.between r.first; second = r.second };
-    };
-    work = h.work;
-  },
-)
+round_with F G to busy m m' (es, h) =
+    let r = h.does.round in
+    (es, record { does = record { round = rw r.told (both _ _ _ (each_of F G MOST_NODES to m r.before r.between r.first) r.second) }; work = h.work })

@@ -9,7 +9,7 @@ use Rattle.assise_names.specs.declared.refusal.Refusal.TheVariants.{Busy}
 use Rattle.assise_names.specs.declared.reply.Reply.{Reply}
 use Rattle.assise_names.specs.declared.limits.TheConstants.{MOST_NODES}
 use Rattle.assise_record.specs.LogFrame.{LogFrame}
-use Rattle.assise_model_events.specs.Events.{Answer, digest, not_yet, outgoing, refused, release_ready, sent, try_call}
+use Rattle.assise_model_events.specs.Events.{Answer, digest, not_yet, outgoing, refused, release_ready, sent}
 use Rattle.assise_model_events.specs.Faults.{node_fault}
 use Rattle.assise_model_events.specs.Happenings.{Trying}
 use Rattle.assise_model_events.specs.Machine.{Machine}
@@ -19,6 +19,7 @@ use Rattle.assise_rounds.specs.Rounds.{AreCarried, DigestsOnce, EachFull, IfFull
 use Rattle.assise_rounds.specs.Trying.{Awaits, TriesOften, is_busy, is_settled, is_stuck, settled_answer}
 use Rattle.assise_rounds.proofs.Busy.{both_work, no_more_work, one_work, turn_work}
 use Rattle.assise_rounds.proofs.CarriedFrames.{carried_turn}
+use Rattle.assise_rounds.proofs.Traces.{both, event}
 
 -- ---- node by node
 
@@ -26,7 +27,7 @@ last_does : (Does : ℕ → Machine → Told → Machine → Type 0) (n : ℕ) (
 last_does Does zero m v m' es fs some before now = absurd (some refl)
 last_does Does (suc n) m v m' es fs some before now =
     let same : suc n - 1 ≡ n = omega arith in
-    record { between = v; before = es; after = fs; told = refl; first = subst (λ k. EachFull Does k m es v) same before; second = now }
+    both _ _ _ (subst (λ k. EachFull Does k m es v) same before) now
 
 next_does : (Does : ℕ → Machine → Told → Machine → Type 0) (n : ℕ) (m v m' : Machine) (es fs : Told) → 1 ≤ n → EachFull Does (n - 1) m es v → IfFull Does n v fs m' → EachFull Does (n + 1 - 1) m (es ++ fs) m'
 next_does Does n m v m' es fs some before now =
@@ -76,14 +77,7 @@ none_behind Does n (suc last) m v so_far some low none before =
           let (es, h) = none_behind Does n last m v so_far some (omega (arith, low, other)) none before in (
             es ++ [],
             record {
-              does = record {
-                between = v;
-                before = es;
-                after = [];
-                told = refl;
-                first = h.does;
-                second = faulty_does (node_fault v (suc last)) (Does (suc last)) v (none (suc last) (omega (arith, some, low, other)));
-              };
+              does = both _ _ _ h.does (faulty_does (node_fault v (suc last)) (Does (suc last)) v (none (suc last) (omega (arith, some, low, other))));
               work = no_more_work so_far es h.work;
             },
           )
@@ -102,29 +96,20 @@ turn_taken F m v n count size frames none whole is sends h = (
 )
 
 pub turn_refused : (F : Type 0) (m m' : Machine) (n : ℕ) (e : Refusal) → Sending m n (refused e) m' → (es : Told) × WithWork (TakesTurn F n) true m es m'
-turn_refused F m m' n e h = ((outgoing n, refused e) ∷ [], record { does = is_refused e record { told = refl; happens = h }; work = refl })
+turn_refused F m m' n e h = ((outgoing n, refused e) ∷ [], record { does = is_refused e (event h); work = refl })
 
 pub digests_once : (m m' : Machine) (n : ℕ) (a : Answer) → Digesting m n a m' → (es : Told) × WithWork (DigestsOnce n) (is_work a) m es m'
-digests_once m m' n a h = ((digest n, a) ∷ [], record { does = record { answer = a; event = record { told = refl; happens = h } }; work = one_work (digest n) a })
+digests_once m m' n a h = ((digest n, a) ∷ [], record { does = record { answer = a; event = event h }; work = one_work (digest n) a })
 
 pub releases_once : (m m' : Machine) (a : Answer) → Releasing m a m' → (es : Told) × WithWork ReleasesOnce (is_work a) m es m'
-releases_once m m' a h = ((release_ready, a) ∷ [], record { does = record { answer = a; event = record { told = refl; happens = h } }; work = one_work release_ready a })
+releases_once m m' a h = ((release_ready, a) ∷ [], record { does = record { answer = a; event = event h }; work = one_work release_ready a })
 
 pub whole_round : (F : ℕ → Type 0) (m u v m' : Machine) (sends digests releases : Bool) → (es : Told) × WithWork (EachFull (λ n. TakesTurn (F n) n) MOST_NODES) sends m es u → (fs : Told) × WithWork (EachFull DigestsOnce MOST_NODES) digests u fs v
     → (gs : Told) × WithWork ReleasesOnce releases v gs m' → (hs : Told) × RoundsOver F (sends || digests || releases) m hs m'
 whole_round F m u v m' sends digests releases (es, first) (fs, second) (gs, third) = (
   es ++ (fs ++ gs),
   record {
-    does = record {
-      round = record {
-        between = u;
-        before = es;
-        after = fs ++ gs;
-        told = refl;
-        first = first.does;
-        second = record { between = v; before = fs; after = gs; told = refl; first = second.does; second = third.does };
-      };
-    };
+    does = record { round = both _ _ _ first.does (both _ _ _ second.does third.does) };
     work = or_assoc sends digests releases ∙ both_work sends (digests || releases) es (fs ++ gs) first.work (both_work digests releases fs gs second.work third.work);
   },
 )
@@ -133,70 +118,17 @@ whole_round F m u v m' sends digests releases (es, first) (fs, second) (gs, thir
 
 pub next_try : (F : ℕ → Type 0) (c : ℕ) (op : Op) (k j : ℕ) (a : Answer) (busy : Bool) (m u v m' : Machine) → j ≡ suc k → a ≡ not_yet → busy ≡ true
     → (es : Told) × Awaits F c op k m es u → Trying u c op a v → (fs : Told) × RoundsOver F busy v fs m' → (gs : Told) × Awaits F c op j m gs m'
-next_try F c op k j a busy m u v m' is awaited some (es, before) h (fs, round) = rw is (
-  es ++ ((try_call c op, not_yet) ∷ fs),
-  record {
-    between = u;
-    before = es;
-    after = (try_call c op, not_yet) ∷ fs;
-    told = refl;
-    first = before;
-    second = record {
-      between = v;
-      before = (try_call c op, not_yet) ∷ [];
-      after = fs;
-      told = refl;
-      first = record { told = refl; happens = subst (λ x. Trying u c op x v) awaited h };
-      second = subst (λ b. RoundsOver F b v fs m') some round;
-    };
-  },
-)
+next_try F c op k j a busy m u v m' is awaited some before h round = rw is (_, both _ _ _ before.1 (both _ _ _ (event (rw awaited at h)) (rw some at round.1)))
 
 pub settled : (F : ℕ → Type 0) (turns c : ℕ) (op : Op) (r : Result Reply Refusal) (a : Answer) (k : ℕ) (m v m' : Machine) → k ≤ turns - 1 → a ≡ settled_answer r
     → (es : Told) × Awaits F c op k m es v → Trying v c op a m' → (gs : Told) × TriesOften F turns c op r m gs m'
-settled F turns c op r a k m v m' few settles (es, before) h = (
-  es ++ ((try_call c op, settled_answer r) ∷ []),
-  is_settled k few record {
-    between = v;
-    before = es;
-    after = (try_call c op, settled_answer r) ∷ [];
-    told = refl;
-    first = before;
-    second = record { told = refl; happens = subst (λ x. Trying v c op x m') settles h };
-  },
-)
+settled F turns c op r a k m v m' few settles before h = (_, is_settled k few (both _ _ _ before.1 (event (rw settles at h))))
 
 pub busy : (F : ℕ → Type 0) (turns c : ℕ) (op : Op) (a : Answer) (k : ℕ) (m v m' : Machine) → k ≡ turns - 1 → a ≡ not_yet
     → (es : Told) × Awaits F c op k m es v → Trying v c op a m' → (gs : Told) × TriesOften F turns c op (Err Busy) m gs m'
-busy F turns c op a k m v m' is awaited (es, before) h = (
-  es ++ ((try_call c op, not_yet) ∷ []),
-  is_busy refl record {
-    between = v;
-    before = es;
-    after = (try_call c op, not_yet) ∷ [];
-    told = refl;
-    first = subst (λ j. Awaits F c op j m es v) is before;
-    second = record { told = refl; happens = subst (λ x. Trying v c op x m') awaited h };
-  },
-)
+busy F turns c op a k m v m' is awaited before h = (_, is_busy refl (both _ _ _ (rw is at before.1) (event (rw awaited at h))))
 
 pub stuck : (F : ℕ → Type 0) (turns c : ℕ) (op : Op) (a : Answer) (some : Bool) (k : ℕ) (m u v m' : Machine) → k < turns - 1 → a ≡ not_yet → some ≡ false
     → (es : Told) × Awaits F c op k m es u → Trying u c op a v → (fs : Told) × RoundsOver F some v fs m' → (gs : Told) × TriesOften F turns c op (Err Busy) m gs m'
-stuck F turns c op a some k m u v m' few awaited none (es, before) h (fs, round) = (
-  es ++ ((try_call c op, not_yet) ∷ fs),
-  is_stuck k few refl record {
-    between = u;
-    before = es;
-    after = (try_call c op, not_yet) ∷ fs;
-    told = refl;
-    first = before;
-    second = record {
-      between = v;
-      before = (try_call c op, not_yet) ∷ [];
-      after = fs;
-      told = refl;
-      first = record { told = refl; happens = subst (λ x. Trying u c op x v) awaited h };
-      second = subst (λ b. RoundsOver F b v fs m') none round;
-    };
-  },
-)
+stuck F turns c op a some k m u v m' few awaited none before h round =
+    (_, is_stuck k few refl (both _ _ _ before.1 (both _ _ _ (event (rw awaited at h)) (rw none at round.1))))

@@ -8,7 +8,7 @@ use Rattle.assise_history.specs.Legal.{IsLegal}
 use Rattle.assise_model_world.specs.World.{first_unreplicated}
 use Rattle.assise_model_events.specs.Events.{Answer, ClusterEvent, all_entries, entries_of, not_yet, try_call}
 use Rattle.assise_model_events.specs.Faults.{node_fault}
-use Rattle.assise_model_events.specs.Happenings.{AllHappen}
+use Rattle.assise_model_events.specs.Happenings.{AllHappen, Happens}
 use Rattle.assise_model_events.specs.Machine.{MachineInvariant, Machine}
 use Rattle.assise_machine.specs.Running.{happens}
 use Rattle.assise_machine.proofs.EventLists.{all_last, served_keeps, served_told}
@@ -49,6 +49,14 @@ trace_unreplicated m m' ((e, a) ∷ es) c h (v, ((stock, step), rest)) =
 
 -- ---- of which it is made
 
+pub event : {e : ClusterEvent} {a : Answer} {m m' : Machine} → Happens m e a m' → IsEvent e a m ((e, a) ∷ []) m'
+event h = record { told = refl; happens = h }
+
+-- these events, and then those
+pub both : {First Second : Machine → Told → Machine → Type 0} {m m' : Machine} (v : Machine) (es fs : Told) → First m es v → Second v fs m' →
+    Then First Second m (es ++ fs) m'
+both v es fs first second = record { between = v; before = es; after = fs; told = refl; first = first; second = second }
+
 pub nothing_trace : (m : Machine) (es : Told) (m' : Machine) → Nothing m es m' → IsEventTrace m es m'
 nothing_trace m es m' h = subst (λ x. IsEventTrace m x m') (sym h.told) h.stays
 
@@ -86,7 +94,7 @@ round_trace {faithful} m es m' h =
     (λ v fs w r. event_trace _ r.answer v fs w r.event))
     m es m' h.round
 
-busy_trace : (faithful : ℕ → Type 0) (busy : Bool) (m : Machine) (es : Told) (m' : Machine) → RoundsOver faithful busy m es m' → IsEventTrace m es m'
+pub busy_trace : (faithful : ℕ → Type 0) (busy : Bool) (m : Machine) (es : Told) (m' : Machine) → RoundsOver faithful busy m es m' → IsEventTrace m es m'
 busy_trace faithful busy m es m' h = round_trace m es m' h.does
 
 awaits_trace : (faithful : ℕ → Type 0) (c : ℕ) (op : Op) (k : ℕ) (m : Machine) (es : Told) (m' : Machine) → Awaits faithful c op k m es m' → IsEventTrace m es m'

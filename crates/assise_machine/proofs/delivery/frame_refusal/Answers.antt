@@ -1,38 +1,32 @@
-use Rattle.std.proofs.Common.{◌∙◌, sym, subst}
-use Rattle.assise_machine_state.specs.NodeValues.{HasLog}
+use Rattle.std.proofs.Common.{◌∙◌, refl, sym}
+use Rattle.assise_machine_state.specs.Observed.{world_of}
 use Rattle.assise_machine_state.specs.Whole.{value_of}
-use Rattle.assise_machine.proofs.DeliveryHappens.{begun, has, is_next, not_timely, received_as}
-use Rattle.assise_machine.proofs.DeliveryFaults.{fine_client}
+use Rattle.assise_machine.proofs.DeliveryHappens.{Comes, begun, client, comes, has, is_next, not_timely}
+use Rattle.assise_machine.proofs.delivery.frame_refusal.Given as given
 use Rattle.assise_machine.proofs.delivery.frame_refusal.Goals as goal
+use Rattle.assise_machine.proofs.delivery.frame_refusal.Goals.{After-end-received}
 
 pub log-requires : goal.log-requires
+unfolding world_of
 log-requires g c =
-    let s = value_of c.args.sound.now.state in
-    let there = has s c.args.frame.now c.args.node c.args.sound.now.invariant.shape c.args.sound.now.invariant.holds c.args.sound.now.state.members.lawful.some_full (sym c.delivery_refusal.ensures ∙ c.in_default.is) in
-    record { there = subst (HasLog s.nodes c.args.node) (sym c.client-client.ensures.client) there }
+    let may = comes c.args.sound.now c.args.frame.now c.args.node _ _ _ (sym c.delivery_refusal.ensures ∙ c.in_default.is) refl refl refl in
+    record { there = rw c.client-client.ensures.client (has may) }
+
+came : (g : given.Over) (c : After-end-received g) → Comes (value_of c.args.sound.now.state) c.args.frame.now c.args.node c.end-received.result
+came g c =
+    comes c.args.sound.now c.args.frame.now c.args.node c.end-received.result c.client-client.result c.log.result.now
+    (sym c.delivery_refusal.ensures ∙ c.in_default.is) c.end-received.ensures.end c.log.ensures.log c.client-client.ensures.client
 
 pub is_next-requires-clause-client : goal.is_next-requires-clause-client
-is_next-requires-clause-client g c = fine_client (value_of c.args.sound.now.state) c.args.frame.now c.args.node (sym c.delivery_refusal.ensures ∙ c.in_default.is)
+is_next-requires-clause-client g c = client (came g (goal.at.is_next-requires-clause-client g c).After-end-received)
 
 pub is_next-requires-clause-begun : goal.is_next-requires-clause-begun
-is_next-requires-clause-begun g c =
-    let fine = sym c.delivery_refusal.ensures ∙ c.in_default.is in
-    let is = received_as (value_of c.args.sound.now.state) c.args.frame.now c.args.node c.args.sound.now.invariant.shape c.args.sound.now.invariant.holds c.args.sound.now.state.members.lawful.some_full fine
-    c.log.result.now c.client-client.result c.end-received.result c.end-received.ensures.end c.log.ensures.log c.client-client.ensures.client in
-    begun (value_of c.args.sound.now.state) c.args.frame.now c.args.node c.args.sound.now.invariant.shape c.args.sound.now.invariant.holds c.args.sound.now.state.members.lawful.some_full fine c.end-received.result is
+is_next-requires-clause-begun g c = begun (came g (goal.at.is_next-requires-clause-begun g c).After-end-received)
 
 pub returns-then-is_next-clause-timely : goal.returns-then-is_next-clause-timely
 returns-then-is_next-clause-timely g c =
-    let fine = sym c.delivery_refusal.ensures ∙ c.in_default.is in
-    let is = received_as (value_of c.args.sound.now.state) c.args.frame.now c.args.node c.args.sound.now.invariant.shape c.args.sound.now.invariant.holds c.args.sound.now.state.members.lawful.some_full fine
-    c.log.result.now c.client-client.result c.end-received.result c.end-received.ensures.end c.log.ensures.log c.client-client.ensures.client in
-    is_next (value_of c.args.sound.now.state) c.args.frame.now c.args.node c.args.sound.now.invariant.shape c.args.sound.now.invariant.holds c.args.sound.now.state.members.lawful.some_full fine c.end-received.result is
-    (c.is_next.ensures.timely c.if-is_next.true)
+    is_next (came g (goal.at.returns-then-is_next-clause-timely g c).After-end-received) (c.is_next.ensures.timely c.if-is_next.true)
 
 pub returns-else-is_next-clause-taken : goal.returns-else-is_next-clause-taken
-returns-else-is_next-clause-taken g c fine_now timely =
-    let fine = sym c.delivery_refusal.ensures ∙ c.in_default.is in
-    let is = received_as (value_of c.args.sound.now.state) c.args.frame.now c.args.node c.args.sound.now.invariant.shape c.args.sound.now.invariant.holds c.args.sound.now.state.members.lawful.some_full fine
-    c.log.result.now c.client-client.result c.end-received.result c.end-received.ensures.end c.log.ensures.log c.client-client.ensures.client in
-    absurd (not_timely (value_of c.args.sound.now.state) c.args.frame.now c.args.node c.args.sound.now.invariant.shape c.args.sound.now.invariant.holds c.args.sound.now.state.members.lawful.some_full fine c.end-received.result is
-    (c.is_next.ensures.stale c.if-is_next.false) timely)
+returns-else-is_next-clause-taken g c fine timely =
+    absurd (not_timely (came g (goal.at.returns-else-is_next-clause-taken g c).After-end-received) (c.is_next.ensures.stale c.if-is_next.false) timely)

@@ -1,7 +1,6 @@
 use Rattle.std.proofs.Common.{◌≡◌, ◌≤◌, ◌++◌, ◌∙◌, ℕ, Contains, length, subst, sym, take, arith}
 use Rattle.std.proofs.lemmas.List.{take_all}
 use Rattle.assise_machine_state.specs.Observed.{observed}
-use Rattle.assise_machine_state.specs.Whole.{value_of}
 use Rattle.assise_machine.specs.Clusters.{machine, revokers}
 use Rattle.assise_machine.specs.Headline.{history_of}
 use Rattle.assise_machine.specs.Running.{all_opened, answer_seen, event_seen, last_first, stocked, told}
@@ -36,7 +35,7 @@ loop-event-preserved g c =
       applied =
           applied_on k j m v u es bs ds i e a before.count c.loop-event-test.true c.event-item.is pushed.items before.stock
           g.C.Revokes.answers (stocked c.args.cluster.now c.args.stock.now.items) (stocked c.loop-event.cluster c.loop-event.stock.items) (stocked c.apply_event-answer.new.cluster c.apply_event-answer.new.stock.items)
-          before.applied (record { served = step.served; left = step.stock; prefix = step.prefix; gets = step.gets; others = step.others; cuts = step.cuts });
+          before.applied (assumption step);
       stock = step.stock ∙ left_on k j m v u es bs ds i e a before.count c.loop-event-test.true c.event-item.is pushed.items before.stock;
       prefix = prefix_on c.args.stock.now.items c.loop-event.stock.items c.apply_event-answer.new.stock.items before.prefix step.prefix;
       count = count_on k j m v u es bs ds i e a before.count c.loop-event-test.true c.event-item.is pushed.items before.stock;
@@ -62,26 +61,20 @@ returns-clause-grows g c =
 
 pub returns-clause-never_falls : goal.returns-clause-never_falls
 returns-clause-never_falls g c =
-    let old = c.args.cluster.now.sound in
-    let new = c.loop-event.cluster.sound in
     let es = told (take c.loop-event.event-index c.args.events.now) c.loop-event.answers.items in
-    λ d. bounds_stay (value_of old.state) (value_of new.state) old.invariant.shape new.invariant.shape old.state.members.lawful.some_full new.state.members.lawful.some_full old.invariant.holds new.invariant.holds
-    (λ h. all_last (length c.args.stock.now.items) (machine c.args.cluster.now) (machine c.loop-event.cluster) es h c.loop-event.invariant.served) d
+    bounds_stay c.args.cluster.now c.loop-event.cluster
+    (λ h. all_last (length c.args.stock.now.items) (machine c.args.cluster.now) (machine c.loop-event.cluster) es h c.loop-event.invariant.served)
 
 pub returns-clause-lasting : goal.returns-clause-lasting
 returns-clause-lasting g c =
-    let old = c.args.cluster.now.sound in
-    let new = c.loop-event.cluster.sound in
     let es = told (take c.loop-event.event-index c.args.events.now) c.loop-event.answers.items in
-    calls_stay (value_of old.state) (value_of new.state) old.invariant.shape new.invariant.shape old.state.members.lawful.some_full new.state.members.lawful.some_full old.invariant.holds new.invariant.holds
+    calls_stay c.args.cluster.now c.loop-event.cluster
     (λ h. all_last (length c.args.stock.now.items) (machine c.args.cluster.now) (machine c.loop-event.cluster) es h c.loop-event.invariant.served)
 
 pub returns-clause-nodes : goal.returns-clause-nodes
 returns-clause-nodes g c =
-    let old = c.args.cluster.now.sound in
-    let new = c.loop-event.cluster.sound in
     let es = told (take c.loop-event.event-index c.args.events.now) c.loop-event.answers.items in
-    nodes_stay (value_of old.state) (value_of new.state) old.invariant.shape new.invariant.shape old.state.members.lawful.some_full new.state.members.lawful.some_full old.invariant.holds new.invariant.holds
+    nodes_stay c.args.cluster.now c.loop-event.cluster
     (λ h. all_last (length c.args.stock.now.items) (machine c.args.cluster.now) (machine c.loop-event.cluster) es h c.loop-event.invariant.served)
 
 pub returns-clause-gets : goal.returns-clause-gets

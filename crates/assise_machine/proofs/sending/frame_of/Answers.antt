@@ -1,22 +1,28 @@
-use Rattle.std.proofs.Common.{◌≡◌, ◌∙◌, min, ap, rules, sym}
+use Rattle.std.proofs.Common.{◌≡◌, ◌∙◌, rules, sym}
 use Rattle.std.specs.Option.{option_to_list}
-use Rattle.assise_private_log.specs.NumberedLog.{end}
-use Rattle.assise_chain.specs.Messages.{message_of, sent}
-use Rattle.assise_manager.specs.NodeLevels.{sends_marks}
+use Rattle.assise_chain.specs.Chains.{behind, chain}
+use Rattle.assise_manager.specs.Standings.{full_nodes}
 use Rattle.assise_model_events.specs.NodeEvents.{for_node}
-use Rattle.assise_machine_state.specs.NodeValues.{log_in}
 use Rattle.assise_machine_state.specs.ClientValues.{client_in}
+use Rattle.assise_machine_state.specs.StateValues.{standings}
 use Rattle.assise_machine_state.specs.Whole.{value_of}
 use Rattle.assise_machine_state.proofs.Fullness.{has_log}
-use Rattle.assise_machine.proofs.Frames.{never, next_as, next_log, none_sent, nothing_sent, some_sent}
+use Rattle.assise_machine_failures.proofs.RefusedFailures.{never}
+use Rattle.assise_machine.proofs.Frames.{next_log, none_sent, nothing_sent, some_sent}
+use Rattle.assise_machine.proofs.sending.frame_of.Given as given
 use Rattle.assise_machine.proofs.sending.frame_of.Goals as goal
+use Rattle.assise_machine.proofs.sending.frame_of.Goals.{After-successor}
+
+-- the node behind this one
+next_now : (g : given.Over) (c : After-successor g) → let s = value_of c.args.sound.now.state in
+    c.successor.result ≡ behind c.args.node (chain (full_nodes (standings s)) (client_in s.clients c.args.client).home)
+next_now g c = rw (c.successor.ensures, c.full_nodes.ensures, c.home.ensures, c.get-known.ensures)
 
 pub returns-in_default-clause-frame : goal.returns-in_default-clause-frame
 returns-in_default-clause-frame g c =
-    let s = value_of c.args.sound.now.state in
-    let is = next_as s c.args.node c.args.client c.args.sound.now.invariant.shape c.args.sound.now.invariant.holds c.requires.client c.successor.result c.full_nodes.result.now c.home.result c.get-known.result.now
-    c.successor.ensures c.full_nodes.ensures c.home.ensures c.get-known.ensures in
-    none_sent s c.args.node c.args.client c.args.sound.now.invariant.shape c.args.sound.now.invariant.holds c.requires.client (sym c.in_default.is ∙ is)
+    let x = c.args.sound.now.invariant in
+    let is = next_now g (goal.at.returns-in_default-clause-frame g c).After-successor in
+    none_sent (value_of c.args.sound.now.state) c.args.node c.args.client x.shape x.holds c.requires.client (sym c.in_default.is ∙ is)
 
 pub log-log-requires : goal.log-log-requires
 log-log-requires g c =
@@ -24,37 +30,47 @@ log-log-requires g c =
 
 pub log-requires : goal.log-requires
 log-requires g c =
+    let x = c.args.sound.now.invariant in
+    let is = next_now g (goal.at.log-requires g c).After-successor in
     let s = value_of c.args.sound.now.state in
-    let is = next_as s c.args.node c.args.client c.args.sound.now.invariant.shape c.args.sound.now.invariant.holds c.requires.client c.successor.result c.full_nodes.result.now c.home.result c.get-known.result.now
-    c.successor.ensures c.full_nodes.ensures c.home.ensures c.get-known.ensures in
-    let x = c.args.sound.now in
-    record { there = next_log s c.args.node c.args.client x.invariant.shape x.invariant.holds c.requires.client c.in-Some.next (sym is ∙ c.in-Some.is) }
+    record { there = next_log s c.args.node c.args.client x.shape x.holds c.requires.client c.in-Some.next (sym is ∙ c.in-Some.is) }
 
 pub returns-clause-frame : goal.returns-clause-frame
 returns-clause-frame g c =
-    let s = value_of c.args.sound.now.state in
-    let is = next_as s c.args.node c.args.client c.args.sound.now.invariant.shape c.args.sound.now.invariant.holds c.requires.client c.successor.result c.full_nodes.result.now c.home.result c.get-known.result.now
-    c.successor.ensures c.full_nodes.ensures c.home.ensures c.get-known.ensures in
+    let x = c.args.sound.now.invariant in
     let mapped : option_to_list c.map.result ≡ for_node c.in-Some.next c.in_ok-frame.frame = search rules in
-    let log : c.log-log.result.now ≡ (log_in s.nodes c.args.node c.args.client).log = c.log-log.ensures.log in
-    let from : c.end-from.result ≡ end (log_in s.nodes c.in-Some.next c.args.client).log =
-    c.end-from.ensures.end ∙ ap end c.log.ensures.log in
-    let to : c.min-to.result ≡ min (client_in s.clients c.args.client).goal (end (log_in s.nodes c.args.node c.args.client).log) =
-    c.min-to.ensures ∙ (λ i. min ((c.goal.ensures ∙ ap (λ x. x.goal) c.get-known.ensures) i) ((c.end.ensures.end ∙ ap end log) i)) in
+    let is = next_now g (goal.at.returns-clause-frame g c).After-successor in
+    let there =
+    some_sent (value_of c.args.sound.now.state) c.args.node c.args.client x.shape x.holds c.requires.client c.requires.full
+    c.in-Some.next (sym is ∙ c.in-Some.is) in
     mapped
-    ∙ ap (for_node c.in-Some.next) (c.in_ok-frame.ensures.exact ∙ (λ i. message_of (log i) ((c.sends_marks-marked.ensures ∙ ap sends_marks c.level.ensures) i) (c.epoch.ensures.epoch i) c.args.client (from i) (to i)))
-    ∙ sym (some_sent s c.args.node c.args.client c.args.sound.now.invariant.shape c.args.sound.now.invariant.holds c.requires.client c.requires.full c.in-Some.next (sym is ∙ c.in-Some.is))
+    ∙ rw (
+      c.in_ok-frame.ensures.exact,
+      c.sends_marks-marked.ensures,
+      c.level.ensures,
+      c.epoch.ensures.epoch,
+      c.min-to.ensures,
+      c.goal.ensures,
+      c.get-known.ensures,
+      c.end.ensures.end,
+      c.end-from.ensures.end,
+      c.log.ensures.log,
+      c.log-log.ensures.log,
+    ) (sym there)
 
 pub returns-in_err-frame-clause-nothing_asked : goal.returns-in_err-frame-clause-nothing_asked
 returns-in_err-frame-clause-nothing_asked g c = λ none.
     let s = value_of c.args.sound.now.state in
-    let is = next_as s c.args.node c.args.client c.args.sound.now.invariant.shape c.args.sound.now.invariant.holds c.requires.client c.successor.result c.full_nodes.result.now c.home.result c.get-known.result.now
-    c.successor.ensures c.full_nodes.ensures c.home.ensures c.get-known.ensures in
-    let log : c.log-log.result.now ≡ (log_in s.nodes c.args.node c.args.client).log = c.log-log.ensures.log in
-    let from : c.end-from.result ≡ end (log_in s.nodes c.in-Some.next c.args.client).log =
-    c.end-from.ensures.end ∙ ap end c.log.ensures.log in
-    let to : c.min-to.result ≡ min (client_in s.clients c.args.client).goal (end (log_in s.nodes c.args.node c.args.client).log) =
-    c.min-to.ensures ∙ (λ i. min ((c.goal.ensures ∙ ap (λ x. x.goal) c.get-known.ensures) i) ((c.end.ensures.end ∙ ap end log) i)) in
-    let there = some_sent s c.args.node c.args.client c.args.sound.now.invariant.shape c.args.sound.now.invariant.holds c.requires.client c.requires.full c.in-Some.next (sym is ∙ c.in-Some.is) in
+    let x = c.args.sound.now.invariant in
+    let is = next_now g (goal.at.returns-in_err-frame-clause-nothing_asked g c).After-successor in
+    let there = some_sent s c.args.node c.args.client x.shape x.holds c.requires.client c.requires.full c.in-Some.next (sym is ∙ c.in-Some.is) in
     let unsent = nothing_sent c.in-Some.next _ s.members.epoch c.args.client _ _ _ (sym there ∙ none) in
-    absurd (never c.in_err-frame.ensures.nothing_asked ((λ i. sent (log i) (from i) (to i)) ∙ unsent))
+    absurd (never c.in_err-frame.ensures.nothing_asked (rw (
+      c.min-to.ensures,
+      c.goal.ensures,
+      c.get-known.ensures,
+      c.end.ensures.end,
+      c.end-from.ensures.end,
+      c.log.ensures.log,
+      c.log-log.ensures.log,
+    ) unsent))

@@ -5,7 +5,8 @@ use Rattle.assise_model_events.specs.Events.{refused, sent}
 use Rattle.assise_model_events.specs.NodeEvents.{frames_to, is_refused, is_sent, lacks_memory}
 use Rattle.assise_machine_state.specs.Whole.{machine_of, value_of}
 use Rattle.assise_machine.specs.Answers.{sending_answer}
-use Rattle.assise_machine.proofs.Frames.{all_clients, few_clients, fine_node, is_one, never, some_frames, with_frame, without_frame}
+use Rattle.assise_machine_failures.proofs.RefusedFailures.{never}
+use Rattle.assise_machine.proofs.Frames.{all_clients, few_clients, fine_node, is_one, some_frames, with_frame, without_frame}
 use Rattle.assise_machine.proofs.sending.outgoing.Goals as goal
 use Rattle.assise_machine.proofs.sending.outgoing.Goals.{else-loop-client-test, then-loop-client-test+in_ok-frame+else-client-client-end, in-Some-2+in_ok-push, in_default-2}
 
@@ -24,50 +25,43 @@ overflow_step-client g c = omega (arith, c.loop-client-test.true, c.len-client-e
 pub loop-client-preserved : goal.loop-client-preserved
 loop-client-preserved g c =
     let m = machine_of c.args.sound.now.state in
-    let back : c.loop-client.client ≡ c.loop-client.client + 1 - 1 = omega arith in
-    let first = c.loop-client.invariant.frames in
-    let frames : c.match-branch-2.frames.items ≡ frames_to m c.args.node c.loop-client.client =
+    let n = c.args.node in
+    let k = c.loop-client.client in
+    let some = c.loop-client.auto.client in
+    let before = c.loop-client.invariant.frames in
+    let found = c.in_ok-frame.ensures.frame in
+    let back : k + 1 - 1 ≡ k = omega arith in
+    let frames : c.match-branch-2.frames.items ≡ frames_to m n k =
     elim c.match-branch-2.branch [
-      | in-Some-2+in_ok-push w ↦
-          with_frame m c.args.node c.loop-client.client c.loop-client.frames.items c.match-branch-2.frames.items c.in_ok-frame.field-0 c.loop-client.auto.client first c.in_ok-frame.ensures.frame
-          w.in-Some-2.frame w.in-Some-2.is (ap (λ v. v.items) w.frames-is ∙ w.in_ok-push.ensures.items)
-      | in_default-2 w ↦
-          without_frame m c.args.node c.loop-client.client c.loop-client.frames.items c.match-branch-2.frames.items c.in_ok-frame.field-0 c.loop-client.auto.client first c.in_ok-frame.ensures.frame
-          w.in_default-2.is (ap (λ v. v.items) w.frames-is)
-    ]
-    in
-    record { frames = frames ∙ ap (frames_to m c.args.node) back; last = omega (arith, c.loop-client-test.true, c.len-client-end.ensures) }
+      | in-Some-2+in_ok-push w ↦ with_frame m n k _ some before found w.in-Some-2.is (ap (λ v. v.items) w.frames-is ∙ w.in_ok-push.ensures.items)
+      | in_default-2 w ↦ without_frame m n k _ some before found w.in_default-2.is (ap (λ v. v.items) w.frames-is)
+    ] in
+    record { frames = rw back frames; last = omega (arith, c.loop-client-test.true, c.len-client-end.ensures) }
 
 pub returns : goal.returns
 returns g c =
     let s = value_of c.args.sound.now.state in
     let m = machine_of c.args.sound.now.state in
-    let fine = sym c.node_refusal.ensures ∙ c.in_default.is in
+    let n = c.args.node in
+    let k = c.loop-client.client in
+    let some = c.loop-client.auto.client in
+    let before = c.loop-client.invariant.frames in
+    let all : c.loop-client-test.frames.items ≡ frames_to m n m.world.clients =
     elim c.loop-client-test.branch [
       | else-loop-client-test w ↦
-          let last : c.loop-client.client - 1 ≡ length s.clients = omega (arith, w.loop-client-test.false, c.loop-client.auto.client, c.loop-client.invariant.last, c.len-client-end.ensures) in
-          let all : c.loop-client-test.frames.items ≡ frames_to m c.args.node m.world.clients =
-          ap (λ v. v.items) w.frames-is ∙ c.loop-client.invariant.frames ∙ ap (frames_to m c.args.node) (last ∙ sym (all_clients s))
-          in
-          is_sent fine (ap sent all) refl
+          let last : k - 1 ≡ length s.clients = omega (arith, w.loop-client-test.false, some, c.loop-client.invariant.last, c.len-client-end.ensures) in
+          ap (λ v. v.items) w.frames-is ∙ before ∙ ap (frames_to m n) (last ∙ sym (all_clients s))
       | then-loop-client-test+in_ok-frame+else-client-client-end w ↦
-          let first = c.loop-client.invariant.frames in
-          let frames : w.match-branch-2.frames.items ≡ frames_to m c.args.node c.loop-client.client =
+          let found = w.in_ok-frame.ensures.frame in
+          let frames : w.match-branch-2.frames.items ≡ frames_to m n k =
           elim w.match-branch-2.branch [
-            | in-Some-2+in_ok-push v ↦
-                with_frame m c.args.node c.loop-client.client c.loop-client.frames.items w.match-branch-2.frames.items w.in_ok-frame.field-0 c.loop-client.auto.client first w.in_ok-frame.ensures.frame
-                v.in-Some-2.frame v.in-Some-2.is (ap (λ u. u.items) v.frames-is ∙ v.in_ok-push.ensures.items)
-            | in_default-2 v ↦
-                without_frame m c.args.node c.loop-client.client c.loop-client.frames.items w.match-branch-2.frames.items w.in_ok-frame.field-0 c.loop-client.auto.client first w.in_ok-frame.ensures.frame
-                v.in_default-2.is (ap (λ u. u.items) v.frames-is)
-          ]
-          in
-          let last : c.loop-client.client ≡ length s.clients = omega (arith, w.loop-client-test.true, c.len-client-end.ensures) in
-          let all : c.loop-client-test.frames.items ≡ frames_to m c.args.node m.world.clients =
-          ap (λ v. v.items) w.frames-is ∙ frames ∙ ap (frames_to m c.args.node) (last ∙ sym (all_clients s))
-          in
-          is_sent fine (ap sent all) refl
-    ]
+            | in-Some-2+in_ok-push v ↦ with_frame m n k _ some before found v.in-Some-2.is (ap (λ u. u.items) v.frames-is ∙ v.in_ok-push.ensures.items)
+            | in_default-2 v ↦ without_frame m n k _ some before found v.in_default-2.is (ap (λ u. u.items) v.frames-is)
+          ] in
+          let last : k ≡ length s.clients = omega (arith, w.loop-client-test.true, c.len-client-end.ensures) in
+          ap (λ v. v.items) w.frames-is ∙ frames ∙ ap (frames_to m n) (last ∙ sym (all_clients s))
+    ] in
+    is_sent (sym c.node_refusal.ensures ∙ c.in_default.is) (ap sent all) refl
 
 -- there is something to send, for which there is no memory
 

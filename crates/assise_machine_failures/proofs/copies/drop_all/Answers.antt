@@ -1,14 +1,11 @@
-use Rattle.std.proofs.Common.{◌≡◌, ℕ, List, [], ◌∷◌, length, arith, ap, refl, subst, sym, ◌∙◌}
+use Rattle.std.proofs.Common.{ap, subst, sym, ◌∙◌}
 use Rattle.std.specs.VecDeque.Iter.{deque_iter_rest}
+use Rattle.std.proofs.lemmas.List.{nil_from_length}
 use Rattle.assise_machine_state.specs.NodeValues.{region_in}
 use Rattle.assise_machine_state.specs.Places.{IsNumber}
 use Rattle.assise_machine_failures.specs.Copies.{nodes_without}
 use Rattle.assise_machine_failures.proofs.DroppedCopies.{logless_quiet, one_logless, one_number}
 use Rattle.assise_machine_failures.proofs.copies.drop_all.Goals as goal
-
-none_left : (xs : List ℕ) → length xs ≡ 0 → xs ≡ []
-none_left [] none = refl
-none_left (x ∷ xs) none = absurd (omega (arith, none))
 
 pub loop-inode-init : goal.loop-inode-init
 loop-inode-init c = record {
@@ -32,5 +29,5 @@ loop-inode-preserved c = record {
 
 pub returns : goal.returns
 returns c =
-    ap (nodes_without c.loop-inode.nodes c.args.node) (sym (none_left (deque_iter_rest c.loop-inode.inode-iterator) c.in-None.ensures.steps.0))
+    ap (nodes_without c.loop-inode.nodes c.args.node) (sym (nil_from_length (deque_iter_rest c.loop-inode.inode-iterator) c.in-None.ensures.steps.0))
     ∙ c.loop-inode.invariant.left

@@ -1,10 +1,10 @@
-use Rattle.std.proofs.Common.{Ok, ap, sym, ◌∙◌}
+use Rattle.std.proofs.Common.{Ok, ap, sym, ◌∙◌, refl}
 use Rattle.std.proofs.lemmas.Result.{err_from_is_err_and}
 use Rattle.assise_model_events.specs.Events.{refused}
 use Rattle.assise_machine_state.specs.Whole.{value_of}
 use Rattle.assise_machine_failures.specs.Answers.{failing_answer}
 use Rattle.assise_machine_failures.proofs.FailedAgain.{bad_node, down_fault}
-use Rattle.assise_machine_failures.proofs.FailedFull.{refused_as, refused_so}
+use Rattle.assise_machine_failures.proofs.FailedFull.{refused_as}
 use Rattle.assise_machine_failures.proofs.fail.fail.Goals as goal
 
 pub returns-in_err-phase-clause-happens : goal.returns-in_err-phase-clause-happens
@@ -16,4 +16,4 @@ returns-in_err-phase-clause-happens g c =
 pub returns-in-Down-clause-happens : goal.returns-in-Down-clause-happens
 returns-in-Down-clause-happens g c =
     let s = value_of c.args.sound.now.state in
-    refused_so s c.args.node _ (down_fault s.members _ (sym c.phase.ensures ∙ c.in_ok-phase.was ∙ ap Ok c.in-Down.is))
+    refused_as s c.args.node _ _ (down_fault s.members _ (sym c.phase.ensures ∙ c.in_ok-phase.was ∙ ap Ok c.in-Down.is)) refl

@@ -6,7 +6,7 @@ use Rattle.assise_machine_state.specs.Whole.{value_of}
 use Rattle.assise_machine_failures.specs.Answers.{failing_answer}
 use Rattle.assise_machine_failures.proofs.Failed.{IsRefreshed}
 use Rattle.assise_machine_failures.proofs.FailedFull.{AreCopiesDropped, ArePrefixesDropped, IsTakenDown, given_now, happens_now, refreshed_now}
-use Rattle.assise_machine_failures.proofs.FailedFull.{lacks_so, last_fault, no_fault, refused_so, returning_now, shaped_now}
+use Rattle.assise_machine_failures.proofs.FailedFull.{lacks_so, last_fault, no_fault, refused_as, returning_now, shaped_now}
 use Rattle.assise_machine_failures.proofs.TakenDown.{few_clients, sound_so}
 use Rattle.assise_machine_failures.proofs.fail.fail_full.Given as given
 use Rattle.assise_machine_failures.proofs.fail.fail_full.Goals as goal
@@ -58,7 +58,7 @@ prefixes_dropped g c = record {
 pub returns-then-full_nodes-eq1-clause-happens : goal.returns-then-full_nodes-eq1-clause-happens
 returns-then-full_nodes-eq1-clause-happens g c =
     let s = value_of c.args.sound.now.state in
-    refused_so s c.args.node _ (last_fault s.members c.args.node c.full_nodes.result.now c.requires.full c.full_nodes.ensures c.if-full_nodes-eq1.true)
+    refused_as s c.args.node _ _ (last_fault s.members c.args.node c.full_nodes.result.now c.requires.full c.full_nodes.ensures c.if-full_nodes-eq1.true) refl
 
 pub list-requires-clause-few : goal.list-requires-clause-few
 list-requires-clause-few g c = few_clients (value_of c.args.sound.now.state) c.args.sound.now.invariant.holds

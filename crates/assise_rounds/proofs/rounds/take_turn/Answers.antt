@@ -1,4 +1,4 @@
-use Rattle.std.proofs.Common.{◌≡◌, true}
+use Rattle.std.proofs.Common.{◌≡◌}
 use Rattle.assise_link.specs.Kinds.{perfect}
 use Rattle.assise_machine.specs.Clusters.{machine}
 use Rattle.assise_rounds.proofs.RoundSteps.{turn_refused, turn_taken}
