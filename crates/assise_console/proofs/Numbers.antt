@@ -16,7 +16,7 @@ use Rattle.assise_model_events.specs.Faults.{client_fault, fault_if, is_client, 
 use Rattle.assise_model_events.specs.Happenings.{Trying}
 use Rattle.assise_model_events.specs.Machine.{Machine}
 use Rattle.assise_model_events.specs.MemberEvents.{Failing, Joining, Raising, Refilling, Returning, is_refused as member_refused}
-use Rattle.assise_model_events.specs.NodeEvents.{Digesting, Sending, SettingHot, is_refused as node_refused}
+use Rattle.assise_model_events.specs.NodeEvents.{Digesting, SettingHot, is_refused as node_refused}
 use Rattle.assise_manager.specs.Changes.{failure_fault_of, filling_fault_of, join_fault_of, raise_fault_of, return_fault_of}
 use Rattle.assise_manager.specs.NodeLevels.{level_of}
 use Rattle.assise_manager.specs.Standings.{Standing, standing_of}

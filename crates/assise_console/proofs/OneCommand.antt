@@ -18,7 +18,7 @@ use Rattle.assise_model_events.specs.Machine.{Machine}
 use Rattle.assise_model_events.specs.NodeEvents.{Digesting, Releasing, Sending, SettingHot, is_refused as node_refused}
 use Rattle.assise_machine.specs.Running.{IsServed, happens, stock_after}
 use Rattle.assise_console.specs.declared.response.Response.{Response}
-use Rattle.assise_console.specs.declared.response.Response.TheVariants.{Quiet, Carried, Refused, Tree as Shown}
+use Rattle.assise_console.specs.declared.response.Response.TheVariants.{Carried, Refused, Tree as Shown}
 use Rattle.assise_rounds.specs.Traces.{Told}
 use Rattle.assise_link.specs.Kinds.{Kind}
 use Rattle.assise_rounds.specs.NodeLinks.{FaithfulAt}
@@ -27,7 +27,7 @@ use Rattle.assise_rounds.specs.Rounds.{Replicates}
 use Rattle.assise_rounds.specs.Trying.{TriesOften, is_settled}
 use Rattle.assise_console.specs.OneEvent.{IsOne, IsOneAt, Tells, TellsAt}
 use Rattle.assise_console.specs.State.{ConsoleState, stock_of, with_machine, with_stock}
-use Rattle.assise_console.specs.Steps.{Calls, CallsOften, CarriesFrames, Changes, OpensClient, Returns, ReturnsWhole, SetsHot, Shows, call_answer, is_carried, is_made, is_out, is_refused, is_shown, lacks_memory, return_answer}
+use Rattle.assise_console.specs.Steps.{Calls, CallsOften, CarriesFrames, Changes, OpensClient, Returns, ReturnsWhole, SetsHot, Shows, call_answer, is_carried, is_made, is_refused, is_shown, lacks_memory, return_answer}
 use Rattle.assise_console.proofs.Numbers.{comes_nowhere, crashes_nobody, digests_nowhere, fails_nowhere, fills_nowhere, joins_nowhere, no_node, opens_nowhere, raises_nowhere, sets_nowhere, tries_nobody}
 
 -- ---- links

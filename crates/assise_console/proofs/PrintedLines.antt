@@ -3,9 +3,6 @@ use Rattle.std.proofs.Common.{ℕ, List, [], ◌∷◌, ◌++◌, Option, Some, 
 use Rattle.std.specs.Io.KnownBytes.{Appends, Keeps}
 use Rattle.assise_fault_script.specs.declared.parse.NumberedCommand.{NumberedCommand}
 use Rattle.assise_console.specs.declared.response.Response.{Response}
-use Rattle.assise_console.specs.declared.fault.EngineFault.{EngineFault}
-use Rattle.assise_console.specs.declared.fault.EngineFault.TheVariants.{Read, Script, Memory, Write, NeedsSerial, NoThread}
-use Rattle.assise_console.specs.Engines.{FaultFrom, FaultOf, IsInput, IsReadFault}
 use Rattle.assise_rounds.specs.Traces.{Told}
 use Rattle.assise_console.specs.Lines.{Prints, line_text}
 use Rattle.assise_console.specs.State.{ConsoleState}

@@ -1,8 +1,7 @@
 -- One byte more of hexadecimal digits.
-use Rattle.std.proofs.Common.{◌≡◌, ℕ, ◌<◌, List, [], ◌∷◌, ◌++◌, length, Result, Ok, Err, refl, ap, sym, ◌∙◌, arith, append_assoc, ◌-◌, ◌≤◌, take, drop, slice_index}
+use Rattle.std.proofs.Common.{◌≡◌, ℕ, List, [], ◌∷◌, ◌++◌, length, Result, Ok, Err, refl, ap, sym, ◌∙◌, arith, append_assoc, ◌-◌, ◌≤◌, take, drop, slice_index}
 use Rattle.std.proofs.lemmas.List.{append-nil, take_all}
 use Rattle.assise_fault_script.specs.declared.fault.ScriptFault.{ScriptFault}
-use Rattle.assise_fault_script.specs.declared.fault.ScriptFault.TheVariants.{BadData}
 use Rattle.assise_fault_script.specs.Data.{byte_of_hex, hex_bytes}
 use Rattle.assise_fault_script.specs.Fault.{◌>>=◌}
 

@@ -1,10 +1,9 @@
 -- A word of data by its first letter.
-use Rattle.std.proofs.Common.{◌≡◌, ◌≢◌, ℕ, ◌==◌, true, false, is_some, List, [], ◌∷◌, Ok, Err, Option, Some, None, Bor, MatchOption, refl, ap, ◌∙◌, inl, inr, arith}
+use Rattle.std.proofs.Common.{◌≡◌, ◌≢◌, ℕ, ◌==◌, true, false, is_some, List, [], ◌∷◌, Ok, Err, Option, Some, None, Bor, MatchOption, refl, ap, inl, inr, arith}
 use Rattle.std.proofs.lemmas.Bool.{cases_Bool}
 use Rattle.std.proofs.lemmas.Bool.Decides.{nat_tests}
 use Rattle.assise_fault_script.specs.declared.fault.ScriptFault.TheVariants.{BadData}
-use Rattle.assise_fault_script.specs.Data.{data_of, hex_bytes, zeros}
-use Rattle.assise_fault_script.specs.Number.{number_of}
+use Rattle.assise_fault_script.specs.Data.{data_of}
 
 -- the word begins with this letter, or it doesn't
 abbrev pub Begins : ℕ → List ℕ → Option (Bor (List ℕ)) → Type 0

@@ -9,7 +9,7 @@ use Rattle.assise_fault_script.specs.declared.fault.ScriptFault.{ScriptFault}
 use Rattle.assise_fault_script.specs.declared.fault.ScriptFault.TheVariants.{Memory}
 use Rattle.assise_fault_script.specs.declared.parse.NumberedCommand.{NumberedCommand}
 use Rattle.assise_fault_script.specs.Line.{line_says}
-use Rattle.assise_fault_script.specs.Script.{Progress, ◌>>>◌, at_line, numbered_command, commands_from, with_line, next, start, commands_of, IsLineReached, IsCommandAt}
+use Rattle.assise_fault_script.specs.Script.{Progress, ◌>>>◌, at_line, numbered_command, commands_from, with_line, next, commands_of, IsLineReached, IsCommandAt}
 use Rattle.assise_fault_script.specs.Words.{lines_of}
 
 abbrev Commands : Type 0

@@ -1,6 +1,5 @@
 -- Where a walk passed the root, the call notes its first visit.
-use Rattle.std.proofs.Common.{◌≡◌, ◌≤◌, ℕ, true, cond, ◌==◌, List, [], ◌∷◌, length, subst, sym, arith}
-use Rattle.std.proofs.lemmas.Bool.{ne_eqb}
+use Rattle.std.proofs.Common.{◌≡◌, ℕ, true, List, [], ◌∷◌}
 use Rattle.assise_names.specs.declared.mode.Mode.TheVariants.{Read}
 use Rattle.assise_inode_table.specs.Calls.{walk}
 use Rattle.assise_inode_table.specs.Contents.{Content, Values}

@@ -1,7 +1,7 @@
 -- What all full nodes have, and what others have seen.
 use Rattle.std.proofs.Common.{◌≡◌, ◌≢◌, ℕ, List, [], ◌∷◌, if◌then◌else◌, ◌-◌, ◌<◌, ◌≤◌, inl, inr, true, false, refl, ap, sym, ◌∙◌, subst, ◌==◌, arith, drop, filter}
 use Rattle.std.proofs.lemmas.List.{take_all}
-use Rattle.std.proofs.lemmas.Bool.{both_ways, false_from_ne_true, cases_lt, cases_eq, lt-ltb, eq-eqb, ne_eqb}
+use Rattle.std.proofs.lemmas.Bool.{both_ways, cases_Bool, false_from_ne_true, cases_lt, cases_eq, lt-ltb, eq-eqb, ne_eqb}
 use Rattle.assise_record.specs.Records.{all_effects}
 use Rattle.assise_inode_table.specs.Effects.{contains, touched}
 use Rattle.assise_inode_table.specs.Traces.{NumberedCall, Each, below}
@@ -44,11 +44,10 @@ own_below b w c (x ∷ xs) e h =
           let in_it : below b x ≡ true = lt-ltb x.number (b x.client) (subst (λ d. x.number < b d) (sym own) (omega (arith, low, e))) in
           rw (in_it, eq-eqb x.client c own) (ap (λ l. x ∷ l) rest)
       | inr other ↦
-          rw (ne_eqb x.client c other)
-          (elim (below b x) as (λ t. filter (λ y. y.client == c) (if t then x ∷ filter (below b) xs else filter (below b) xs) ≡ filter (λ y. y.client == c) xs) [
-            | true ↦ rw (ne_eqb x.client c other) rest
-            | false ↦ rest
-          ])
+          elim (cases_Bool (below b x)) [
+            | inl is ↦ rw (is, ne_eqb x.client c other) rest
+            | inr out ↦ rw (out, ne_eqb x.client c other) rest
+          ]
     ]
 
 pub end_replicated : (w : World) (c : ℕ) → WorldInvariant w → received_by_all w c ≡ end_of_log w c → filter (λ x. x.client == c) (calls_replicated w) ≡ filter (λ x. x.client == c) w.calls

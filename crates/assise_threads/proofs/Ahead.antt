@@ -1,7 +1,7 @@
 -- The calls in front of commands, and the first line that only a run on one thread serves.
 use Rattle.std.proofs.Common.{◌≡◌, ◌≤◌, ℕ, suc, List, [], ◌∷◌, length, take, get_or, refl, sym, ap, subst, arith}
 use Rattle.assise_fault_script.specs.declared.command.Command.{Command}
-use Rattle.assise_fault_script.specs.declared.command.Command.TheVariants.{Cluster, Manual, Open, Call, Carry, Link, Hot, Digest, Release, Crash, Fail, Back, Refill, Join, Raise, Tree, History, Check}
+use Rattle.assise_fault_script.specs.declared.command.Command.TheVariants.{Call}
 use Rattle.assise_fault_script.specs.declared.parse.NumberedCommand.{NumberedCommand}
 use Rattle.assise_threads.specs.CallsAhead.{calls_ahead, counts_call}
 use Rattle.assise_threads.specs.Stretches.{AreCalls, IsClientCall}

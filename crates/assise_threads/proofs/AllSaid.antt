@@ -1,5 +1,5 @@
 -- What all commands so far were answered goes on with a stretch of calls, or with one command, and is a run in the end.
-use Rattle.std.proofs.Common.{◌≡◌, ◌∙◌, ℕ, List, [], ◌∷◌, ◌++◌, length, Option, None, Some, refl, sym, ap, ap₂, subst, append-nil, append_assoc}
+use Rattle.std.proofs.Common.{◌≡◌, ◌∙◌, ℕ, List, [], ◌∷◌, ◌++◌, Option, None, Some, refl, sym, ap, ap₂, subst, append-nil, append_assoc}
 use Rattle.std.proofs.lemmas.List.{nil_from_length}
 use Rattle.std.proofs.lemmas.Grind.{flat_map-append}
 use Rattle.std.specs.Io.KnownBytes.{Appends}
@@ -7,7 +7,7 @@ use Rattle.assise_history.specs.Entries.{EntryValue}
 use Rattle.assise_names.specs.declared.durability.Durability.{Durability}
 use Rattle.assise_keeper.specs.Clients.{calls_by, openings_of}
 use Rattle.assise_fault_script.specs.declared.command.Command.{Command}
-use Rattle.assise_fault_script.specs.declared.command.Command.TheVariants.{Cluster, Manual, Open, Call, Carry, Link, Hot, Digest, Release, Crash, Fail, Back, Refill, Join, Raise, Tree, History, Check}
+use Rattle.assise_fault_script.specs.declared.command.Command.TheVariants.{Open}
 use Rattle.assise_console.specs.declared.response.Response.{Response}
 use Rattle.assise_fault_script.specs.declared.parse.NumberedCommand.{NumberedCommand}
 use Rattle.assise_console.specs.Lines.{line_text}
@@ -16,7 +16,7 @@ use Rattle.assise_model_events.specs.Machine.{Machine}
 use Rattle.assise_threads.specs.Begun.{machine_begun}
 use Rattle.assise_threads.specs.Hearing.{HasHeard, sight_of}
 use Rattle.assise_threads.specs.OneHistory.{AreMet, CoversSight, HasToldCalls, IsHeard}
-use Rattle.assise_threads.specs.Openings.{Sights, opened_by, opening_in, openings_said, with_opened}
+use Rattle.assise_threads.specs.Openings.{Sights, opened_by, opening_in, openings_said}
 use Rattle.assise_threads.specs.Runs.{IsThreadRun}
 use Rattle.assise_threads.specs.Said.{Said, said_line, said_lines}
 use Rattle.assise_threads.specs.Spoken.{AreAllSaid, IsOneSaid, IsStretchSaid}

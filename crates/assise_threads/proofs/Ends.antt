@@ -1,5 +1,5 @@
 -- What the ends of clients say of a stretch of calls.
-use Rattle.std.proofs.Common.{◌≡◌, ◌≢◌, ◌∙◌, ℕ, suc, refl, ap, true, false, ◌==◌, if◌then◌else◌, List, [], ◌∷◌, map, length, Option, None, Some, Result, IfSome, sym, subst, ◌⊎◌, inl, inr}
+use Rattle.std.proofs.Common.{◌≡◌, ◌≢◌, ◌∙◌, ℕ, ap, true, false, ◌==◌, if◌then◌else◌, List, [], ◌∷◌, map, length, Option, None, Some, Result, IfSome, sym, subst, ◌⊎◌, inl, inr}
 use Rattle.std.specs.List.{AllByRecursion, AllZip}
 use Rattle.std.proofs.lemmas.Bool.{cond_both, eqb-true}
 use Rattle.std.proofs.lemmas.Bool.Decides.{eqb_tells}

@@ -1,5 +1,5 @@
 -- What a client hears of a stretch of calls, or of one other line, goes on from front to front of the history.
-use Rattle.std.proofs.Common.{◌≡◌, ◌≢◌, ◌∙◌, ℕ, ◌+◌, ◌<◌, ◌≤◌, Bool, true, false, List, [], ◌∷◌, ◌++◌, length, Option, None, Some, Result, Ok, Err, refl, sym, ap, subst, arith, append-nil, length-append, ◌==◌, if◌then◌else◌, ◌⊎◌, inl, inr}
+use Rattle.std.proofs.Common.{◌≡◌, ◌≢◌, ◌∙◌, ℕ, ◌+◌, ◌<◌, ◌≤◌, Bool, true, false, List, [], ◌∷◌, ◌++◌, Option, None, Some, Result, Err, refl, sym, ap, subst, arith, ◌==◌, if◌then◌else◌, ◌⊎◌, inl, inr}
 use Rattle.std.specs.List.{AllByRecursion}
 use Rattle.std.specs.Prelude.{IfSome}
 use Rattle.std.proofs.Math.Bridge.{le_prop}
@@ -11,13 +11,13 @@ use Rattle.assise_names.specs.declared.durability.Durability.{Durability}
 use Rattle.assise_names.specs.declared.refusal.Refusal.{Refusal}
 use Rattle.assise_names.specs.declared.refusal.Refusal.TheVariants.{BadClient}
 use Rattle.assise_names.specs.declared.reply.Reply.{Reply}
-use Rattle.assise_history.specs.Entries.{EntryValue, opens, calls, crashes, fails, returns}
+use Rattle.assise_history.specs.Entries.{EntryValue, opens, calls}
 use Rattle.assise_history.specs.Legal.{IsLegal}
 use Rattle.assise_history.proofs.ClientCounts.{opens_once}
 use Rattle.assise_keeper.specs.Clients.{Extends, openings}
 use Rattle.assise_keeper.proofs.PassAdds.{opened-in, openings-append}
 use Rattle.assise_fault_script.specs.declared.command.Command.{Command}
-use Rattle.assise_fault_script.specs.declared.command.Command.TheVariants.{Cluster, Manual, Open, Call, Carry, Link, Hot, Digest, Release, Crash, Fail, Back, Refill, Join, Raise, Tree, History, Check}
+use Rattle.assise_fault_script.specs.declared.command.Command.TheVariants.{Call}
 use Rattle.assise_console.specs.declared.response.Response.{Response}
 use Rattle.assise_libfs.specs.Lives.{EndsWithOpening}
 use Rattle.assise_workers.specs.Told.{AreCallsMade}

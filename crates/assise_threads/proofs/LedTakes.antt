@@ -11,7 +11,7 @@ use Rattle.assise_libfs.specs.InTurns.{IsPassTurn}
 use Rattle.assise_model_events.specs.Happenings.{Happens}
 use Rattle.assise_threads.specs.Takes.{Happened, InOneTake}
 use Rattle.assise_fault_script.specs.declared.command.Command.{Command}
-use Rattle.assise_fault_script.specs.declared.command.Command.TheVariants.{Cluster, Manual, Open, Call, Carry, Link, Hot, Digest as DigestOf, Release as ReleaseAll, Crash as CrashOf, Fail as FailOf, Back, Refill as RefillOf, Join as JoinOf, Raise as RaiseOf, Tree as TreeOf, History, Check as CheckAll}
+use Rattle.assise_fault_script.specs.declared.command.Command.TheVariants.{Cluster}
 use Rattle.assise_fault_script.specs.declared.parse.NumberedCommand.{NumberedCommand}
 use Rattle.assise_keeper.proofs.LedStates.{led_from}
 use Rattle.assise_keeper.specs.Rule.{IsLed}

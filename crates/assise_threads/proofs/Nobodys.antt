@@ -1,24 +1,15 @@
 -- What the main thread does in one take opens no client and answers no call.
 use Rattle.std.proofs.Common.{◌≡◌, ◌∙◌, ℕ, List, [], ◌∷◌, ◌++◌, refl, sym, ap, ap₂, subst, append-nil, drop, length, Option, None}
 use Rattle.std.proofs.Math.Logic.{∥∥₁_map}
-use Rattle.assise_history.specs.Entries.{EntryValue, opens, calls, crashes, fails, returns}
+use Rattle.assise_history.specs.Entries.{EntryValue, opens, calls}
 use Rattle.assise_history.specs.Legal.{IsLegal}
 use Rattle.assise_keeper.specs.declared.view.Opens.{Opens}
 use Rattle.assise_keeper.specs.declared.view.Opens.TheVariants.{Never}
 use Rattle.assise_keeper.specs.Clients.{Extends, MayAddAll, MayGive, added, client_after, openings_of}
 use Rattle.assise_keeper.proofs.PassAdds.{all-openings-append, drop-prefix, no_openings}
-use Rattle.assise_model_events.specs.Events.{Answer, back, crash, digest, fail, join, raise, refill, release_ready}
-use Rattle.assise_model_events.specs.ClientEvents.{Crashing, is_crashed, is_refused as not_crashed, lacks_memory as crash_lacks}
-use Rattle.assise_model_events.specs.Machine.{Machine}
-use Rattle.assise_model_events.specs.MemberEvents.{Failing, Returning, Refilling, Joining, Raising, is_back, is_failed, is_failed_again, is_joined, is_raised, is_refilled, is_refused, is_whole, lacks_memory}
-use Rattle.assise_model_events.specs.NodeEvents.{Digesting, Releasing, SettingHot, is_digested, is_refused as not_digested, is_released, is_set, lacks_memory as digest_lacks}
 use Rattle.assise_machine.specs.Clusters.{machine}
 use Rattle.assise_machine.specs.declared.cluster.ClusterOf.{ClusterOf}
 use Rattle.assise_workers.proofs.Lists.{extends-on}
-use Rattle.assise_console.specs.declared.response.Response.{Response}
-use Rattle.assise_rounds.specs.Traces.{Told}
-use Rattle.assise_console.specs.OneEvent.{IsOne, IsOneAt}
-use Rattle.assise_console.specs.Steps.{SetsHot, is_made, is_out}
 use Rattle.assise_threads.specs.Openings.{OpensNone}
 use Rattle.assise_threads.specs.Takes.{AddsNobodys, AreNobodys}
 

@@ -1,13 +1,11 @@
 -- What the main thread sees goes on from line to line.
-use Rattle.std.proofs.Common.{◌≡◌, ◌∙◌, ℕ, List, [], ◌∷◌, ◌++◌, ap, sym, append_assoc, append-nil}
+use Rattle.std.proofs.Common.{◌≡◌, ◌∙◌, ℕ, List, [], ◌∷◌, ap, sym, append-nil}
 use Rattle.std.specs.List.{AllByRecursion}
 use Rattle.assise_names.specs.declared.durability.Durability.{Durability}
-use Rattle.assise_names.specs.declared.refusal.Refusal.{Refusal}
-use Rattle.assise_history.specs.Entries.{EntryValue, opens}
+use Rattle.assise_history.specs.Entries.{EntryValue}
 use Rattle.assise_keeper.specs.Clients.{Extends}
-use Rattle.assise_keeper.proofs.PassAdds.{extends-same}
 use Rattle.assise_fault_script.specs.declared.command.Command.{Command}
-use Rattle.assise_fault_script.specs.declared.command.Command.TheVariants.{Cluster, Manual, Open, Call, Carry, Link, Hot, Digest, Release, Crash, Fail, Back, Refill, Join, Raise, Tree, History, Check}
+use Rattle.assise_fault_script.specs.declared.command.Command.TheVariants.{Cluster, Manual, Open, Call, Carry, Link, Back, History}
 use Rattle.assise_console.specs.declared.response.Response.{Response}
 use Rattle.assise_model_events.specs.Machine.{Machine}
 use Rattle.assise_workers.proofs.Lists.{extends-on}

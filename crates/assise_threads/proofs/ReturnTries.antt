@@ -1,5 +1,5 @@
 -- How often a node that comes back was filled and tried to join.
-use Rattle.std.proofs.Common.{◌≡◌, ◌≤◌, ◌<◌, ℕ, zero, suc, ◌+◌, List, refl, sym, subst, arith}
+use Rattle.std.proofs.Common.{◌≡◌, ℕ, zero, suc, ◌+◌, sym, subst, arith}
 use Rattle.assise_names.specs.declared.refusal.Refusal.TheVariants.{Busy}
 use Rattle.assise_keeper.specs.Clients.{Extends}
 use Rattle.assise_console.specs.OneEvent.{IsOneAt}
@@ -9,7 +9,7 @@ use Rattle.assise_keeper.proofs.PassAdds.{extends-same}
 use Rattle.assise_model_events.specs.Events.{back, join, refill}
 use Rattle.assise_model_events.specs.Machine.{Machine}
 use Rattle.assise_workers.proofs.Lists.{extends-on}
-use Rattle.assise_threads.specs.Answered.{IsReturnBegun, HasFilled, HasTried, IsNoRefusal, IsFilledOnce}
+use Rattle.assise_threads.specs.Answered.{HasFilled, HasTried, IsNoRefusal}
 use Rattle.assise_threads.specs.Takes.{InOneTake}
 
 -- once more

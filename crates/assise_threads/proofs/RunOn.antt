@@ -1,23 +1,17 @@
 -- A run goes on with what is said next, and is whole in the end.
-use Rattle.std.proofs.Common.{◌≡◌, ◌∙◌, ℕ, ◌+◌, ◌<◌, ◌≤◌, arith, Bool, length, true, false, List, [], ◌∷◌, ◌++◌, take, drop, Option, None, Some, refl, sym, ap, subst, take-add, slice_get, Result, Ok, Err, OnOk}
-use Rattle.std.proofs.lemmas.List.{length-map, map-append}
-use Rattle.std.specs.Io.KnownBytes.{Appends, Keeps}
+use Rattle.std.proofs.Common.{◌≡◌, ℕ, ◌+◌, true, List, [], ◌∷◌, ◌++◌, take, drop, Option, None, refl, sym, subst, take-add, slice_get}
 use Rattle.assise_history.specs.Entries.{EntryValue}
 use Rattle.assise_history.specs.Legal.{IsLegal}
 use Rattle.assise_history.proofs.Legality.{legal-nil}
 use Rattle.assise_keeper.proofs.PassAdds.{extends-same}
 use Rattle.assise_machine.specs.Following.{worked_to_itself}
-use Rattle.assise_libfs.specs.Clients.{client_of, seen_by}
 use Rattle.assise_fault_script.specs.declared.command.Command.{Command}
 use Rattle.assise_fault_script.specs.declared.command.Command.TheVariants.{Cluster, Manual, Open, Call, Carry, Link, Hot, Digest, Release, Crash, Fail, Back, Refill, Join, Raise, Tree, History, Check}
 use Rattle.assise_fault_script.specs.declared.parse.NumberedCommand.{NumberedCommand}
 use Rattle.assise_console.specs.declared.response.Response.{Response}
-use Rattle.assise_console.specs.declared.response.Response.TheVariants.{Quiet, Client, Replied, Waits, Refused, Carried, Digested, Released, Linked, HotSet, Crashed, Failed, Began, Left, Returned, Raised, Tree as Shown, History as Whole, Checked}
+use Rattle.assise_console.specs.declared.response.Response.TheVariants.{Quiet, Client, Replied, Refused, Carried, Tree as Shown, History as Whole, Checked}
 use Rattle.assise_names.specs.declared.refusal.Refusal.TheVariants.{BadNode, Busy, OutOfMemory}
 use Rattle.assise_model_events.specs.Machine.{Machine}
-use Rattle.assise_console.specs.declared.fault.EngineFault.{EngineFault}
-use Rattle.assise_console.specs.declared.fault.EngineFault.TheVariants.{Read, Script, Memory, Write, NeedsSerial, NoThread}
-use Rattle.assise_console.specs.Engines.{IsReadFault}
 use Rattle.assise_console.specs.Lines.{line_text}
 use Rattle.assise_rounds.specs.Traces.{Told}
 use Rattle.assise_console.specs.Steps.{IsVerdict, SetsHot, Shows, is_verdict, is_made, is_out, is_shown, lacks_memory, lacks_room, is_refused as not_shown}
@@ -26,8 +20,7 @@ use Rattle.assise_threads.specs.Answered.{AnswersCommand, joins, stops_filling, 
 use Rattle.assise_threads.specs.Begun.{machine_begun}
 use Rattle.assise_threads.specs.CallsAhead.{AreSaidNext, is_one, is_stretch}
 use Rattle.assise_threads.specs.Hearing.{sights}
-use Rattle.assise_threads.specs.Runs.{EndsRun, IsRunSaid, ThreadFault}
-use Rattle.assise_threads.specs.Said.{said_lines}
+use Rattle.assise_threads.specs.Runs.{IsRunSaid}
 use Rattle.assise_threads.specs.OneHistory.{AreMet}
 use Rattle.assise_threads.specs.Openings.{Sights}
 use Rattle.assise_threads.specs.Spoken.{AreAllSaid}

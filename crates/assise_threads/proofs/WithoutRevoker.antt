@@ -2,7 +2,7 @@
 use Rattle.std.proofs.Common.{◌≡◌, ◌∙◌, true, Option, None, Some, refl, sym, ap, subst}
 use Rattle.std.specs.Prelude.{IsOk, is_ok, Result, Ok, Err}
 use Rattle.assise_names.specs.declared.refusal.Refusal.{Refusal}
-use Rattle.assise_names.specs.declared.refusal.Refusal.TheVariants.{OutOfMemory, Busy, NodeDown, ClientGone, InodesSpent, TooLarge, LastNode, BadNode, BadClient, WrongPhase, StaleMessage, LogFull}
+use Rattle.assise_names.specs.declared.refusal.Refusal.TheVariants.{NodeDown, BadClient, WrongPhase}
 use Rattle.assise_threads.specs.Lacking.{without_revoker}
 
 -- the fault is what the region is refused with

@@ -11,7 +11,7 @@ use Rattle.assise_libfs.specs.InTurns.{InOneTurn}
 use Rattle.assise_machine.specs.Answers.{delivery_answer}
 use Rattle.assise_model_events.specs.Events.{Answer, ClusterEvent, deliver, received}
 use Rattle.assise_record.specs.LogFrame.{LogFrame}
-use Rattle.assise_rounds.specs.Rounds.{AreSame, Carried, IsSame, deliveries, delivery, is_taken_in, letter, taken}
+use Rattle.assise_rounds.specs.Rounds.{AreSame, Carried, IsSame, deliveries, delivery, letter, taken}
 use Rattle.assise_workers.specs.Acting.{HasCarried, HasDone, IsRead}
 use Rattle.assise_workers.specs.Letters.{AreReadBy, letter_of, letters_seen}
 use Rattle.assise_workers.specs.Taking.{taken_for}

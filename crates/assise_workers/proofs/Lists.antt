@@ -8,7 +8,6 @@ use Rattle.assise_names.specs.declared.reply.Reply.{Reply}
 use Rattle.assise_history.specs.Entries.{EntryValue, calls}
 use Rattle.assise_history.specs.Legal.{calls_made}
 use Rattle.assise_keeper.specs.Clients.{calls_by, Extends}
-use Rattle.assise_keeper.proofs.PassAdds.{extends-same}
 use Rattle.assise_libfs.specs.Calling.{MayRefuse, SeesCall, told_call}
 use Rattle.assise_libfs.proofs.Tries.{one-extends, others-extends}
 use Rattle.assise_workers.specs.Told.{AreCallsMade, IsCallMade, SeesAll, told_all}

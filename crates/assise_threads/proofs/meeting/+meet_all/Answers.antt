@@ -1,4 +1,4 @@
-use Rattle.std.proofs.Common.{◌≡◌, sym, ap, subst}
+use Rattle.std.proofs.Common.{sym, subst}
 use Rattle.assise_keeper.specs.Passes.{last, seen}
 use Rattle.assise_keeper.specs.Rule.{IsLed}
 use Rattle.assise_threads.specs.Hearing.{sights}

@@ -1,4 +1,4 @@
-use Rattle.std.proofs.Common.{◌≡◌, subst, sym}
+use Rattle.std.proofs.Common.{subst, sym}
 use Rattle.assise_threads.specs.AtKeeper.{AreAt, HaveTurns}
 use Rattle.assise_threads.proofs.crew.Crew.run_calls.Goals as goal
 

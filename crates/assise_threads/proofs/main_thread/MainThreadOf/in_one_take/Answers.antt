@@ -6,7 +6,7 @@ use Rattle.assise_machine.specs.Clusters.{machine}
 use Rattle.assise_machine.specs.Following.{IsLedTo, IsWorkedTo}
 use Rattle.assise_threads.specs.LastSeen.{machine_seen}
 use Rattle.assise_threads.specs.Openings.{OpensNone}
-use Rattle.assise_threads.specs.Threads.{DoesTake, main_seen}
+use Rattle.assise_threads.specs.Threads.{DoesTake}
 use Rattle.assise_threads.proofs.LedTakes.{between, cluster_leads, not_never, seen_works, take_leads}
 use Rattle.assise_threads.proofs.Nobodys.{given_extends, given_opens_none, is_legal, may_give, stays_nobody}
 use Rattle.assise_threads.proofs.main_thread.MainThreadOf.in_one_take.Goals as goal

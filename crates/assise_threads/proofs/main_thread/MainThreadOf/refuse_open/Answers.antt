@@ -5,7 +5,6 @@ use Rattle.assise_machine.specs.Clusters.{machine}
 use Rattle.assise_machine.specs.Following.{IsWorkedTo}
 use Rattle.assise_threads.specs.LastSeen.{machine_seen}
 use Rattle.assise_threads.specs.Openings.{OpensNone}
-use Rattle.assise_threads.specs.Threads.{main_seen}
 use Rattle.assise_threads.proofs.LedTakes.{between, leads_itself, not_never, seen_works}
 use Rattle.assise_threads.proofs.Nobodys.{is_legal, may_give_same, same_opens_none, stays_nobody_same}
 use Rattle.assise_threads.proofs.main_thread.MainThreadOf.refuse_open.Goals as goal
