@@ -1,13 +1,7 @@
 -- Inodes that are put in place of what their numbers had, one after the other.
-use Rattle.std.proofs.Common.{◌≡◌, ◌≤◌, ◌<◌, ◌+◌, ◌-◌, ℕ, inl, inr, Bool, true, false, cond, Some, None, refl, sym, ap, ◌∙◌, eqb, nat_eq, is_some, arith}
-use Rattle.std.proofs.lemmas.Bool.{cases_lt, eqb-true}
-use Rattle.std.specs.Cmp.{nat_cmp_total}
-use Rattle.std.specs.Option.{option_or}
+use Rattle.assise_area.proofs.Common.{◌≡◌, ◌≤◌, ◌<◌, ◌+◌, ◌-◌, ℕ, inl, inr, Bool, true, false, cond, Some, None, refl, sym, ap, ◌∙◌, eqb, nat_eq, is_some}
+use Rattle.assise_area.proofs.Common.{arith, cases_lt, eqb-true, nat_cmp_total, option_or, nat_cmp, Content, InodeMap, alike, Entries, value_in}
 use Rattle.std.specs.FinMap as map
-use Rattle.std.specs.Ordering.{nat_cmp}
-use Rattle.assise_inode_table.specs.Contents.{Content, InodeMap}
-use Rattle.assise_inode_table.proofs.MapView.{alike}
-use Rattle.assise_area.specs.Parts.{Entries, value_in}
 use Rattle.assise_area.proofs.Seen.{some≢none, turned}
 
 -- where one is there, there are some
@@ -35,9 +29,11 @@ module _ (all rest : InodeMap) (k : ℕ) (v : Content) (there : map.get all k �
       → (q : ℕ) → option_or (map.get rest q) (value_in hot' cold' q) ≡ option_or (map.get all q) (value_in hot cold q)
   put_next hot cold hot' cold' values q =
       ap (option_or (map.get rest q)) (values q ∙ ap (λ b. cond b (Some v) (value_in hot cold q)) (turned k q))
-      ∙ ap (λ o. option_or o (cond (eqb q k) (Some v) (value_in hot cold q))) (ap (λ m. map.get m q) others ∙ map.get-remove nat_cmp_total all k q ∙ ap (λ b. cond b None (map.get all q)) (alike q k))
+      ∙ ap (λ o. option_or o (cond (eqb q k) (Some v) (value_in hot cold q)))
+      (ap (λ m. map.get m q) others ∙ map.get-remove nat_cmp_total all k q ∙ ap (λ b. cond b None (map.get all q)) (alike q k))
       ∙ go (eqb q k) refl
     where
-      go : (b : Bool) → eqb q k ≡ b → option_or (cond b None (map.get all q)) (cond b (Some v) (value_in hot cold q)) ≡ option_or (map.get all q) (value_in hot cold q)
+      go : (b : Bool) → eqb q k ≡ b → option_or (cond b None (map.get all q)) (cond b (Some v) (value_in hot cold q)) ≡ option_or (map.get all q)
+          (value_in hot cold q)
       go true h = sym (ap (λ o. option_or o (value_in hot cold q)) (ap (map.get all) (eqb-true q k h) ∙ there))
       go false h = refl

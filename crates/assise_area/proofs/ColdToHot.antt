@@ -1,13 +1,9 @@
 -- A cold inode that becomes the first of the hot ones, and the last of them that becomes cold.
-use Rattle.std.proofs.Common.{◌≡◌, ◌≤◌, ◌<◌, ◌-◌, ℕ, zero, suc, Bool, true, false, cond, [], ◌∷◌, ◌++◌, length, take, Option, Some, None, IsSome, refl, sym, ap, subst, ◌∙◌, eqb, nat_eq, is_some, arith, option_to_list, option_map}
-use Rattle.std.proofs.lemmas.Bool.{cond_both, eqb-true, eq-eqb, false_from_ne_true}
-use Rattle.std.specs.Option.{option_or, option_map_or}
-use Rattle.std.specs.List.{AllByRecursion, IsDistinct, slice_get}
-use Rattle.std.specs.Map.{lookup_entry, keys_of, remove_entry}
-use Rattle.lru.specs.LruCache.{LruCache, IsValid}
-use Rattle.assise_inode_table.specs.Contents.{Content}
-use Rattle.assise_inode_table.proofs.LiveSlots.{lookup-append, or_none}
-use Rattle.assise_area.specs.Parts.{Entries, AreDisjoint, HoldSame, IsPushed, IsWarmed, value_in, hot_at, cold_at}
+use Rattle.assise_area.proofs.Common.{◌≡◌, ◌≤◌, ◌<◌, ◌-◌, ℕ, zero, suc, Bool, true, false, cond, [], ◌∷◌, ◌++◌, length, take, Option, Some, None, IsSome, refl}
+use Rattle.assise_area.proofs.Common.{sym, ap, subst, ◌∙◌, eqb, nat_eq, is_some, arith, option_to_list, option_map, cond_both, eqb-true, eq-eqb}
+use Rattle.assise_area.proofs.Common.{false_from_ne_true, option_or, option_map_or, AllByRecursion, IsDistinct, slice_get, lookup_entry, keys_of, remove_entry}
+use Rattle.assise_area.proofs.Common.{LruCache, IsValid, Content, lookup-append, or_none, Entries, AreDisjoint, HoldSame, IsPushed, IsWarmed, value_in, hot_at}
+use Rattle.assise_area.proofs.Common.{cold_at}
 use Rattle.assise_area.proofs.Seen.{turned, some≢none}
 use Rattle.assise_area.proofs.HotUse.{found}
 use Rattle.assise_area.proofs.WrittenValues.{disjoint_at}
@@ -37,12 +33,14 @@ prefix_lacks : (n : ℕ) (es : Entries) (e : ℕ × Content) → IsDistinct nat_
 unfolding IsDistinct
 prefix_lacks zero es e d is = refl
 prefix_lacks (suc n) [] e d is = refl
-prefix_lacks (suc n) (x ∷ es) e d is = ap (λ b. cond b (Some x.1) (hot_at (take n es) e.0)) (turned e.0 x.0 ∙ other_key x.0 n es e d.0 is) ∙ prefix_lacks n es e d.1 is
+prefix_lacks (suc n) (x ∷ es) e d is =
+    ap (λ b. cond b (Some x.1) (hot_at (take n es) e.0)) (turned e.0 x.0 ∙ other_key x.0 n es e d.0 is) ∙ prefix_lacks n es e d.1 is
 
 -- ---- what a look-up finds
 
 -- with the last one, of as many as may be
-hot_split : (hot : Entries) (cap : ℕ) (q : ℕ) → length hot ≤ cap → 0 < cap → hot_at hot q ≡ option_or (hot_at (take (cap - 1) hot) q) (hot_at (option_to_list (slice_get hot (cap - 1))) q)
+hot_split : (hot : Entries) (cap : ℕ) (q : ℕ) → length hot ≤ cap → 0 < cap → hot_at hot q ≡ option_or (hot_at (take (cap - 1) hot) q)
+    (hot_at (option_to_list (slice_get hot (cap - 1))) q)
 hot_split hot cap q within some = let room : length hot ≤ suc (cap - 1) = omega (arith, within, some) in
     ap (λ es. hot_at es q) (sym (split (cap - 1) hot room)) ∙ hot-append (take (cap - 1) hot) (option_to_list (slice_get hot (cap - 1))) q
 
@@ -60,12 +58,14 @@ keys_take zero es = refl
 keys_take (suc n) [] = refl
 keys_take (suc n) (e ∷ es) = ap (λ ks. e.0 ∷ ks) (keys_take n es)
 
-keys_pushed : (hot hot' : LruCache ℕ Content) (cold : Entries) (i : ℕ) → IsPushed i hot hot' cold → keys_of hot'.entries ≡ i ∷ take (hot.cap - 1) (keys_of hot.entries)
+keys_pushed : (hot hot' : LruCache ℕ Content) (cold : Entries) (i : ℕ) → IsPushed i hot hot' cold →
+    keys_of hot'.entries ≡ i ∷ take (hot.cap - 1) (keys_of hot.entries)
 keys_pushed hot hot' cold i p = ap keys_of p.entries ∙ ap (λ ks. i ∷ ks) (sym (keys_take (hot.cap - 1) hot.entries))
 
 -- ---- a cold inode gets hot where there is room
 
-module _ (i : ℕ) (hot hot' : LruCache ℕ Content) (cold cold' : Entries) (valid : IsValid nat_eq hot) (disjoint : AreDisjoint hot.entries cold) (absent : hot_at hot.entries i ≡ None)
+module _ (i : ℕ) (hot hot' : LruCache ℕ Content) (cold cold' : Entries) (valid : IsValid nat_eq hot) (disjoint : AreDisjoint hot.entries cold)
+    (absent : hot_at hot.entries i ≡ None)
     (room : slice_get hot.entries (hot.cap - 1) ≡ None) (pushed : IsPushed i hot hot' cold)
     (taken : (q : ℕ) → cold_at cold' q ≡ cond (nat_eq i q) None (cold_at cold q)) where
   room_prefix : (q : ℕ) → hot_at hot.entries q ≡ hot_at (take (hot.cap - 1) hot.entries) q
@@ -80,9 +80,11 @@ module _ (i : ℕ) (hot hot' : LruCache ℕ Content) (cold cold' : Entries) (val
   room_cold q = taken q ∙ ap (λ b. cond b None (cold_at cold q)) (turned i q)
 
   room_same : HoldSame hot.entries cold hot'.entries cold'
-  room_same q = ap (λ o. option_or o (cold_at cold' q)) (room_hot q) ∙ ap (option_or (cond (eqb q i) (Some pushed.content) (hot_at hot.entries q))) (room_cold q) ∙ go (eqb q i) refl
+  room_same q = ap (λ o. option_or o (cold_at cold' q)) (room_hot q) ∙ ap (option_or (cond (eqb q i) (Some pushed.content) (hot_at hot.entries q)))
+      (room_cold q) ∙ go (eqb q i) refl
     where
-      go : (b : Bool) → eqb q i ≡ b → option_or (cond b (Some pushed.content) (hot_at hot.entries q)) (cond b None (cold_at cold q)) ≡ value_in hot.entries cold q
+      go : (b : Bool) → eqb q i ≡ b → option_or (cond b (Some pushed.content) (hot_at hot.entries q)) (cond b None (cold_at cold q)) ≡ value_in hot.entries cold
+          q
       go true e = sym (ap (value_in hot.entries cold) (eqb-true q i e) ∙ ap (λ o. option_or o (cold_at cold i)) absent ∙ pushed.there)
       go false e = refl
 
@@ -101,7 +103,8 @@ module _ (i : ℕ) (hot hot' : LruCache ℕ Content) (cold cold' : Entries) (val
 
 module _ (hot : LruCache ℕ Content) (e : ℕ × Content) (valid : IsValid nat_eq hot) (is_last : slice_get hot.entries (hot.cap - 1) ≡ Some e) where
   at_prefix : (q : ℕ) → hot_at hot.entries q ≡ option_or (hot_at (take (hot.cap - 1) hot.entries) q) (cond (eqb q e.0) (Some e.1) None)
-  at_prefix q = hot_split hot.entries hot.cap q valid.1 valid.2 ∙ ap (λ o. option_or (hot_at (take (hot.cap - 1) hot.entries) q) (hot_at (option_to_list o) q)) is_last
+  at_prefix q = hot_split hot.entries hot.cap q valid.1 valid.2 ∙ ap (λ o. option_or (hot_at (take (hot.cap - 1) hot.entries) q) (hot_at (option_to_list o) q))
+      is_last
 
   lacks : hot_at (take (hot.cap - 1) hot.entries) e.0 ≡ None
   lacks = prefix_lacks (hot.cap - 1) hot.entries e valid.0 is_last
@@ -113,7 +116,8 @@ module _ (hot : LruCache ℕ Content) (e : ℕ × Content) (valid : IsValid nat_
   not_last i absent = false_from_ne_true (eqb e.0 i) (λ h. some≢none e.1 (sym last_is_hot ∙ ap (hot_at hot.entries) (eqb-true e.0 i h) ∙ absent))
 
 -- the place that was made for it is there
-pub place_there : (hot : LruCache ℕ Content) (cold c1 c2 : Entries) (i last : ℕ) (e : ℕ × Content) (w : Content) → IsValid nat_eq hot → hot_at hot.entries i ≡ None
+pub place_there : (hot : LruCache ℕ Content) (cold c1 c2 : Entries) (i last : ℕ) (e : ℕ × Content) (w : Content) → IsValid nat_eq hot →
+    hot_at hot.entries i ≡ None
     → slice_get hot.entries (hot.cap - 1) ≡ Some e → last ≡ e.0
     → ((q : ℕ) → cold_at c1 q ≡ cond (nat_eq last q) (Some w) (cold_at cold q)) → ((q : ℕ) → cold_at c2 q ≡ cond (nat_eq i q) None (cold_at c1 q))
     → IsSome (cold_at c2 e.0)
@@ -150,7 +154,8 @@ undone hot cold c1 c2 c3 last e w valid disjoint is_last key first same third q 
 
 -- ---- a cold inode gets hot in place of the last one, for which a place was made
 
-module _ (i last : ℕ) (e : ℕ × Content) (w : Content) (hot hot' : LruCache ℕ Content) (cold c1 c2 c3 : Entries) (valid : IsValid nat_eq hot) (disjoint : AreDisjoint hot.entries cold) (absent : hot_at hot.entries i ≡ None)
+module _ (i last : ℕ) (e : ℕ × Content) (w : Content) (hot hot' : LruCache ℕ Content) (cold c1 c2 c3 : Entries) (valid : IsValid nat_eq hot)
+    (disjoint : AreDisjoint hot.entries cold) (absent : hot_at hot.entries i ≡ None)
     (is_last : slice_get hot.entries (hot.cap - 1) ≡ Some e) (key : last ≡ e.0) (pushed : IsPushed i hot hot' c1)
     (first : (q : ℕ) → cold_at c1 q ≡ cond (nat_eq last q) (Some w) (cold_at cold q))
     (second : (q : ℕ) → cold_at c2 q ≡ cond (nat_eq i q) None (cold_at c1 q))
@@ -180,10 +185,12 @@ module _ (i last : ℕ) (e : ℕ × Content) (w : Content) (hot hot' : LruCache 
   trade_same : HoldSame hot.entries cold hot'.entries c3
   trade_same q = ap (λ o. option_or o (cold_at c3 q)) (new_hot q) ∙ go (eqb q i) refl
     where
-      go : (b : Bool) → eqb q i ≡ b → option_or (cond b (Some pushed.content) (hot_at (take (hot.cap - 1) hot.entries) q)) (cold_at c3 q) ≡ value_in hot.entries cold q
+      go : (b : Bool) → eqb q i ≡ b → option_or (cond b (Some pushed.content) (hot_at (take (hot.cap - 1) hot.entries) q)) (cold_at c3 q)
+          ≡ value_in hot.entries cold q
       go true h = sym (ap (value_in hot.entries cold) (eqb-true q i h) ∙ ap (λ o. option_or o (cold_at cold i)) absent ∙ was_there)
       go false h =
-          ap (option_or (hot_at (take (hot.cap - 1) hot.entries) q)) (not_used q h) ∙ moved (hot_at (take (hot.cap - 1) hot.entries) q) (cold_at cold q) (eqb q e.0) e.1
+          ap (option_or (hot_at (take (hot.cap - 1) hot.entries) q)) (not_used q h) ∙ moved (hot_at (take (hot.cap - 1) hot.entries) q) (cold_at cold q)
+          (eqb q e.0) e.1
           ∙ ap (λ o. option_or o (cold_at cold q)) (sym (at_prefix hot e valid is_last q))
 
   trade_disjoint : AreDisjoint hot'.entries c3
@@ -200,9 +207,11 @@ module _ (i last : ℕ) (e : ℕ × Content) (w : Content) (hot hot' : LruCache 
   warmed_in_place = record { keys = keys_pushed hot hot' c1 i pushed; cap = pushed.cap; same = trade_same; disjoint = trade_disjoint }
 
 -- a new first entry, of a number that isn't hot
-pub put_new : (hot : Entries) (i cap : ℕ) (v : Content) → hot_at hot i ≡ None → option_map_or (λ d. (d.0, v) ∷ remove_entry (nat_eq i) hot) (lookup_entry (nat_eq i) hot) ((i, v) ∷ take (cap - 1) hot) ≡ (i, v) ∷ take (cap - 1) hot
+pub put_new : (hot : Entries) (i cap : ℕ) (v : Content) → hot_at hot i ≡ None → option_map_or (λ d. (d.0, v) ∷ remove_entry (nat_eq i) hot)
+    (lookup_entry (nat_eq i) hot) ((i, v) ∷ take (cap - 1) hot) ≡ (i, v) ∷ take (cap - 1) hot
 put_new hot i cap v none = go (lookup_entry (nat_eq i) hot) refl
   where
-    go : (o : Option (ℕ × Content)) → lookup_entry (nat_eq i) hot ≡ o → option_map_or (λ d. (d.0, v) ∷ remove_entry (nat_eq i) hot) o ((i, v) ∷ take (cap - 1) hot) ≡ (i, v) ∷ take (cap - 1) hot
+    go : (o : Option (ℕ × Content)) → lookup_entry (nat_eq i) hot ≡ o → option_map_or (λ d. (d.0, v) ∷ remove_entry (nat_eq i) hot) o
+        ((i, v) ∷ take (cap - 1) hot) ≡ (i, v) ∷ take (cap - 1) hot
     go None h = refl
     go (Some f) h = absurd (some≢none f.1 (sym (found i hot f h).1 ∙ none))

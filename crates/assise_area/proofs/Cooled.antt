@@ -1,16 +1,10 @@
 -- Hot inodes that become cold, in places that were made for them.
-use Rattle.std.proofs.Common.{◌≡◌, ◌≤◌, ◌<◌, ◌+◌, ◌-◌, ℕ, zero, suc, Bool, true, false, cond, List, [], ◌∷◌, ◌||◌, length, take, drop, Option, Some, None, IsSome, refl, sym, ap, ◌∙◌, eqb, nat_eq, is_some, arith, get_or}
-use Rattle.std.proofs.lemmas.Bool.{cond_both, eqb-true, eq-eqb, or_parts, or_from}
-use Rattle.std.proofs.lemmas.List.{length-take-le, take-append-drop, take_more}
+use Rattle.assise_area.proofs.Common.{◌≡◌, ◌≤◌, ◌<◌, ◌+◌, ◌-◌, ℕ, zero, suc, Bool, true, false, cond, List, [], ◌∷◌, ◌||◌, length, take, drop, Option, Some}
+use Rattle.assise_area.proofs.Common.{None, IsSome, refl, sym, ap, ◌∙◌, eqb, nat_eq, is_some, arith, get_or, cond_both, eqb-true, eq-eqb, or_parts, or_from}
+use Rattle.assise_area.proofs.Common.{length-take-le, take-append-drop, take_more, option_or, AllByRecursion, IsDistinct, list_any, slice_get, keys_of}
+use Rattle.assise_area.proofs.Common.{LruCache, lru_cache, Content, or_cond, AreaValue, with_capacity, Entries, AreDisjoint, AreWritten, HoldSame, IsCooled}
+use Rattle.assise_area.proofs.Common.{both_parts, value_in, hot_at, cold_at, area_seen}
 use Rattle.std.proofs.lemmas.List.Folds.{list_any-append}
-use Rattle.std.specs.Option.{option_or}
-use Rattle.std.specs.List.{AllByRecursion, IsDistinct, list_any, slice_get}
-use Rattle.std.specs.Map.{keys_of}
-use Rattle.lru.specs.LruCache.{LruCache, lru_cache}
-use Rattle.assise_inode_table.specs.Contents.{Content}
-use Rattle.assise_inode_table.proofs.LiveSlots.{or_cond}
-use Rattle.assise_area.specs.Hot.{AreaValue, with_capacity}
-use Rattle.assise_area.specs.Parts.{Entries, AreDisjoint, AreWritten, HoldSame, IsCooled, both_parts, value_in, hot_at, cold_at, area_seen}
 use Rattle.assise_area.proofs.Seen.{some_or, turned, some≢none, from_some, same_joined, is_some-lookup}
 use Rattle.assise_area.proofs.WrittenValues.{disjoint_at}
 use Rattle.assise_area.proofs.ColdToHot.{hot-append, keys_take}
@@ -53,13 +47,15 @@ module _ (k : ℕ) (es : Entries) (q : ℕ) where
   hot_beyond v is = ap is_some (hot_parts ∙ ap (option_or (hot_at (take k es) q)) is) ∙ some_or (hot_at (take k es) q) (Some v) refl
 
   -- a number behind the first ones isn't cold
-  pub beyond_absent : (cold : Entries) (numbers : List ℕ) → AreDisjoint es cold → numbers ≡ keys_of (drop k es) → list_any (nat_eq q) numbers ≡ true → cold_at cold q ≡ None
+  pub beyond_absent : (cold : Entries) (numbers : List ℕ) → AreDisjoint es cold → numbers ≡ keys_of (drop k es) → list_any (nat_eq q) numbers ≡ true →
+      cold_at cold q ≡ None
   beyond_absent cold numbers disjoint are among =
       let there : IsSome (hot_at (drop k es) q) = is_some-lookup q (drop k es) ∙ ap (list_any (nat_eq q)) (sym are) ∙ among in
       from_some (hot_at (drop k es) q) there (λ v is. from_some (hot_at es q) (hot_beyond v is) (disjoint_at es cold disjoint q))
 
   -- it has a place
-  pub beyond_placed : (cold c1 : Entries) (numbers : List ℕ) (w : Content) → numbers ≡ keys_of (drop k es) → AreWritten numbers (Some w) cold c1 → IsSome (hot_at (drop k es) q) → IsSome (cold_at c1 q)
+  pub beyond_placed : (cold c1 : Entries) (numbers : List ℕ) (w : Content) → numbers ≡ keys_of (drop k es) → AreWritten numbers (Some w) cold c1 →
+      IsSome (hot_at (drop k es) q) → IsSome (cold_at c1 q)
   beyond_placed cold c1 numbers w are written there =
       let among : list_any (nat_eq q) numbers ≡ true = ap (list_any (nat_eq q)) are ∙ sym (is_some-lookup q (drop k es)) ∙ there in
       ap is_some (written q ∙ ap (λ b. cond b (Some w) (cold_at cold q)) among)
@@ -103,7 +99,8 @@ length_shorter n hot is = length-take-le (n - 1) hot (omega (arith, is))
 
 module _ (n : ℕ) (old hot : Entries) (e : ℕ × Content) (some : 0 < n) (prefix : hot ≡ take n old) (is_last : slice_get hot (n - 1) ≡ Some e) where
   last_of_all : slice_get old (n - 1) ≡ Some e
-  last_of_all = let next : n ≡ suc (n - 1) = omega (arith, some) in sym (at_prefix (n - 1) old) ∙ ap (λ k. slice_get (take k old) (n - 1)) (sym next) ∙ ap (λ l. slice_get l (n - 1)) (sym prefix) ∙ is_last
+  last_of_all = let next : n ≡ suc (n - 1) = omega (arith, some) in
+      sym (at_prefix (n - 1) old) ∙ ap (λ k. slice_get (take k old) (n - 1)) (sym next) ∙ ap (λ l. slice_get l (n - 1)) (sym prefix) ∙ is_last
 
   behind_last : drop (n - 1) old ≡ e ∷ drop n old
   behind_last = let next : n ≡ suc (n - 1) = omega (arith, some) in next_last (n - 1) old e last_of_all ∙ ap (λ k. e ∷ drop k old) (sym next)
@@ -117,7 +114,8 @@ module _ (n : ℕ) (old hot : Entries) (e : ℕ × Content) (some : 0 < n) (pref
 
   -- it is written there
   pub last_moved : (cold c1 c2 : Entries) → ((q : ℕ) → cold_at c1 q ≡ option_or (hot_at (drop n old) q) (cold_at cold q))
-      → ((q : ℕ) → cold_at c2 q ≡ cond (nat_eq e.0 q) (Some e.1) (cold_at c1 q)) → (q : ℕ) → cold_at c2 q ≡ option_or (hot_at (drop (n - 1) old) q) (cold_at cold q)
+      → ((q : ℕ) → cold_at c2 q ≡ cond (nat_eq e.0 q) (Some e.1) (cold_at c1 q)) → (q : ℕ) → cold_at c2 q ≡ option_or (hot_at (drop (n - 1) old) q)
+      (cold_at cold q)
   last_moved cold c1 c2 moved step q =
       step q ∙ ap (cond (eqb e.0 q) (Some e.1)) (moved q) ∙ ap (λ b. cond b (Some e.1) (option_or (hot_at (drop n old) q) (cold_at cold q))) (turned e.0 q)
       ∙ sym (or_cond (eqb q e.0) e.1 (hot_at (drop n old) q) (cold_at cold q)) ∙ ap (λ l. option_or (hot_at l q) (cold_at cold q)) (sym behind_last)
@@ -146,11 +144,14 @@ or_or : {X : Type 0} (a b c : Option X) → option_or a (option_or b c) ≡ opti
 or_or None b c = refl
 or_or (Some x) b c = refl
 
-module _ (k : ℕ) (hot hot' : LruCache ℕ Content) (cold c1 c2 : Entries) (numbers : List ℕ) (w : Content) (distinct : IsDistinct nat_eq (keys_of hot.entries)) (disjoint : AreDisjoint hot.entries cold)
+module _ (k : ℕ) (hot hot' : LruCache ℕ Content) (cold c1 c2 : Entries) (numbers : List ℕ) (w : Content) (distinct : IsDistinct nat_eq (keys_of hot.entries))
+    (disjoint : AreDisjoint hot.entries cold)
     (are : numbers ≡ keys_of (drop k hot.entries)) (written : AreWritten numbers (Some w) cold c1) (left : hot' ≡ lru_cache (take k hot.entries) hot.cap)
     (moved : (q : ℕ) → cold_at c2 q ≡ option_or (hot_at (drop k hot.entries) q) (cold_at c1 q)) where
   moved_over : (q : ℕ) → cold_at c2 q ≡ option_or (hot_at (drop k hot.entries) q) (cold_at cold q)
-  moved_over q = moved q ∙ ap (option_or (hot_at (drop k hot.entries) q)) (written q ∙ ap (λ b. cond b (Some w) (cold_at cold q)) (ap (list_any (nat_eq q)) are ∙ sym (is_some-lookup q (drop k hot.entries)))) ∙ go (hot_at (drop k hot.entries) q)
+  moved_over q = moved q ∙ ap (option_or (hot_at (drop k hot.entries) q))
+      (written q ∙ ap (λ b. cond b (Some w) (cold_at cold q)) (ap (list_any (nat_eq q)) are ∙ sym (is_some-lookup q (drop k hot.entries))))
+      ∙ go (hot_at (drop k hot.entries) q)
     where
       go : (o : Option Content) → option_or o (cond (is_some o) (Some w) (cold_at cold q)) ≡ option_or o (cold_at cold q)
       go None = refl
@@ -159,7 +160,8 @@ module _ (k : ℕ) (hot hot' : LruCache ℕ Content) (cold c1 c2 : Entries) (num
   cooled_same : HoldSame hot.entries cold hot'.entries c2
   cooled_same q =
       ap (λ h. value_in h.entries c2 q) left ∙ ap (option_or (hot_at (take k hot.entries) q)) (moved_over q)
-      ∙ or_or (hot_at (take k hot.entries) q) (hot_at (drop k hot.entries) q) (cold_at cold q) ∙ ap (λ o. option_or o (cold_at cold q)) (sym (hot_parts k hot.entries q))
+      ∙ or_or (hot_at (take k hot.entries) q) (hot_at (drop k hot.entries) q) (cold_at cold q)
+      ∙ ap (λ o. option_or o (cold_at cold q)) (sym (hot_parts k hot.entries q))
 
   cooled_disjoint : AreDisjoint hot'.entries c2
   unfolding AreDisjoint

@@ -1,3 +1,4 @@
+mod Common
 pub mod Seen
 pub mod WrittenValues
 pub mod HotUse

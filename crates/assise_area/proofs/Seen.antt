@@ -1,20 +1,11 @@
 -- What two parts are as one map.
-use Rattle.std.proofs.Common.{◌≡◌, ℕ, Bool, true, false, cond, [], ◌∷◌, ◌++◌, Option, Some, None, IsSome, Result, Ok, Err, OnOk, OnErr, refl, sym, ap, ◌∙◌, eqb, ◌||◌, is_some, true≢false}
-use Rattle.std.specs.Option.{option_or}
-use Rattle.std.specs.Ordering.{nat_cmp}
-use Rattle.std.specs.Cmp.{nat_cmp_total, nat_eq_equiv}
-use Rattle.std.specs.List.{list_any}
-use Rattle.std.specs.Map.{keys_of}
+use Rattle.assise_area.proofs.Common.{◌≡◌, ℕ, Bool, true, false, cond, [], ◌∷◌, ◌++◌, Option, Some, None, IsSome, Result, Ok, Err, OnOk, OnErr, refl, sym, ap}
+use Rattle.assise_area.proofs.Common.{◌∙◌, eqb, ◌||◌, is_some, true≢false, option_or, nat_cmp, nat_cmp_total, nat_eq_equiv, list_any, keys_of, LruCache}
+use Rattle.assise_area.proofs.Common.{Content, with_value, alike, or_cond, AreaValue, is_hot, Entries, HoldSame, both_parts, value_in, hot_at, cold_at}
+use Rattle.assise_area.proofs.Common.{area_seen}
 use Rattle.std.proofs.lemmas.Map.Lookups.{exact_unsigned}
 use Rattle.std.specs.FinMap as map
-use Rattle.lru.specs.LruCache.{LruCache}
-use Rattle.assise_inode_table.specs.Contents.{Content}
-use Rattle.assise_inode_table.specs.Effects.{with_value}
 use Rattle.assise_inode_table.proofs.EffectValues.{get-with_value}
-use Rattle.assise_inode_table.proofs.MapView.{alike}
-use Rattle.assise_inode_table.proofs.LiveSlots.{or_cond}
-use Rattle.assise_area.specs.Hot.{AreaValue, is_hot}
-use Rattle.assise_area.specs.Parts.{Entries, HoldSame, both_parts, value_in, hot_at, cold_at, area_seen}
 
 -- ---- numbers
 
@@ -63,10 +54,12 @@ pub value_of : (a : AreaValue) (hot : LruCache ℕ Content) (cold : Entries) (q 
 value_of a hot cold q view = ap (λ b. map.get b.inodes q) (sym view) ∙ get-joined hot.entries cold q
 
 -- a number that isn't hot has what the cold part has
-pub value_of_cold : (a : AreaValue) (hot : LruCache ℕ Content) (cold : Entries) (q : ℕ) → area_seen hot cold ≡ a → hot_at hot.entries q ≡ None → map.get a.inodes q ≡ cold_at cold q
+pub value_of_cold : (a : AreaValue) (hot : LruCache ℕ Content) (cold : Entries) (q : ℕ) → area_seen hot cold ≡ a → hot_at hot.entries q ≡ None →
+    map.get a.inodes q ≡ cold_at cold q
 value_of_cold a hot cold q view none = value_of a hot cold q view ∙ ap (λ o. option_or o (cold_at cold q)) none
 
-pub value_of_hot : (a : AreaValue) (hot : LruCache ℕ Content) (cold : Entries) (q : ℕ) (v : Content) → area_seen hot cold ≡ a → hot_at hot.entries q ≡ Some v → map.get a.inodes q ≡ Some v
+pub value_of_hot : (a : AreaValue) (hot : LruCache ℕ Content) (cold : Entries) (q : ℕ) (v : Content) → area_seen hot cold ≡ a → hot_at hot.entries q ≡ Some v →
+    map.get a.inodes q ≡ Some v
 value_of_hot a hot cold q v view is = value_of a hot cold q view ∙ ap (λ o. option_or o (cold_at cold q)) is
 
 -- the number of what is hot is among the keys
@@ -74,7 +67,8 @@ pub is_some-lookup : (i : ℕ) (es : Entries) → is_some (hot_at es i) ≡ list
 is_some-lookup i [] = refl
 is_some-lookup i (e ∷ es) = go (eqb i e.0) (is_some-lookup i es)
   where
-    go : (b : Bool) → is_some (hot_at es i) ≡ list_any (λ j. eqb i j) (keys_of es) → is_some (cond b (Some e.1) (hot_at es i)) ≡ (b || list_any (λ j. eqb i j) (keys_of es))
+    go : (b : Bool) → is_some (hot_at es i) ≡ list_any (λ j. eqb i j) (keys_of es) → is_some (cond b (Some e.1) (hot_at es i))
+        ≡ (b || list_any (λ j. eqb i j) (keys_of es))
     go true ih = refl
     go false ih = ih
 

@@ -1,24 +1,16 @@
 -- A value that is written or taken out.
-use Rattle.std.proofs.Common.{◌≡◌, ◌≤◌, ℕ, Bool, true, false, cond, [], ◌∷◌, Option, Some, None, IsSome, refl, sym, ap, subst, ◌∙◌, eqb, nat_eq}
-use Rattle.std.proofs.lemmas.Bool.{cond_both, eqb-true}
-use Rattle.std.proofs.lemmas.Map.{lookup-set_value, lookup-remove_entry, keys-set_value}
-use Rattle.std.specs.Option.{option_or}
-use Rattle.std.specs.Cmp.{nat_eq_equiv}
-use Rattle.std.specs.List.{IsDistinct}
-use Rattle.std.specs.Map.{keys_of, set_value, remove_entry}
+use Rattle.assise_area.proofs.Common.{◌≡◌, ◌≤◌, ℕ, Bool, true, false, cond, [], ◌∷◌, Option, Some, None, IsSome, refl, sym, ap, subst, ◌∙◌, eqb, nat_eq}
+use Rattle.assise_area.proofs.Common.{cond_both, eqb-true, lookup-set_value, lookup-remove_entry, keys-set_value, option_or, nat_eq_equiv, IsDistinct, keys_of}
+use Rattle.assise_area.proofs.Common.{set_value, remove_entry, LruCache, lru_cache, Content, with_value, or_cond, AreaValue, with_inodes, without_number}
+use Rattle.assise_area.proofs.Common.{removed, Entries, AreDisjoint, AreaInvariant, value_in, hot_at, cold_at, area_seen}
 use Rattle.std.specs.FinMap as map
-use Rattle.lru.specs.LruCache.{LruCache, lru_cache}
-use Rattle.assise_inode_table.specs.Contents.{Content}
-use Rattle.assise_inode_table.specs.Effects.{with_value}
-use Rattle.assise_inode_table.proofs.LiveSlots.{or_cond}
-use Rattle.assise_area.specs.Hot.{AreaValue, with_inodes, without_number, removed}
-use Rattle.assise_area.specs.Parts.{Entries, AreDisjoint, AreaInvariant, value_in, hot_at, cold_at, area_seen}
 use Rattle.assise_area.proofs.Seen.{some≢none, from_some, with_value-joined}
 
 pub one_class : (k x y : ℕ) → nat_eq k x ≡ true → nat_eq k y ≡ nat_eq x y
 one_class k x y e = ap (λ j. nat_eq j y) (eqb-true k x e)
 
-pub hot-set : (hot : Entries) (k : ℕ) (w : Content) (q : ℕ) → IsSome (hot_at hot k) → hot_at (set_value (nat_eq k) hot w) q ≡ cond (eqb k q) (Some w) (hot_at hot q)
+pub hot-set : (hot : Entries) (k : ℕ) (w : Content) (q : ℕ) → IsSome (hot_at hot k) → hot_at (set_value (nat_eq k) hot w) q ≡ cond (eqb k q) (Some w)
+    (hot_at hot q)
 hot-set hot k w q there = lookup-set_value nat_eq_equiv (nat_eq k) (one_class k) q w hot there
 
 pub hot-removed : (hot : Entries) (k q : ℕ) → IsDistinct nat_eq (keys_of hot) → hot_at (remove_entry (nat_eq k) hot) q ≡ cond (eqb k q) None (hot_at hot q)
@@ -31,7 +23,8 @@ unfolding AreDisjoint
 disjoint_at hot cold disjoint = disjoint
 
 -- a hot inode gets another value
-pub set_hot : (hot cold : Entries) (k : ℕ) (w : Content) → IsSome (hot_at hot k) → (q : ℕ) → value_in (set_value (nat_eq k) hot w) cold q ≡ cond (eqb k q) (Some w) (value_in hot cold q)
+pub set_hot : (hot cold : Entries) (k : ℕ) (w : Content) → IsSome (hot_at hot k) → (q : ℕ) → value_in (set_value (nat_eq k) hot w) cold q
+    ≡ cond (eqb k q) (Some w) (value_in hot cold q)
 set_hot hot cold k w there q = ap (λ o. option_or o (cold_at cold q)) (hot-set hot k w q there) ∙ or_cond (eqb k q) w (hot_at hot q) (cold_at cold q)
 
 -- a number that isn't hot gets another value, or none
@@ -87,7 +80,8 @@ pub keys-removed : (k : ℕ) (es : Entries) → keys_of (remove_entry (nat_eq k)
 keys-removed k [] = refl
 keys-removed k (e ∷ es) = go (eqb k e.0) (keys-removed k es)
   where
-    go : (b : Bool) → keys_of (remove_entry (nat_eq k) es) ≡ without_number (keys_of es) k → keys_of (cond b es (e ∷ remove_entry (nat_eq k) es)) ≡ cond b (keys_of es) (e.0 ∷ without_number (keys_of es) k)
+    go : (b : Bool) → keys_of (remove_entry (nat_eq k) es) ≡ without_number (keys_of es) k → keys_of (cond b es (e ∷ remove_entry (nat_eq k) es))
+        ≡ cond b (keys_of es) (e.0 ∷ without_number (keys_of es) k)
     go true ih = refl
     go false ih = ap (λ l. e.0 ∷ l) ih
 
@@ -95,7 +89,8 @@ pub removed_none : (k : ℕ) (es : Entries) → hot_at es k ≡ None → remove_
 removed_none k [] none = refl
 removed_none k (e ∷ es) none = go (eqb k e.0) (λ h. removed_none k es h) none
   where
-    go : (b : Bool) → (hot_at es k ≡ None → remove_entry (nat_eq k) es ≡ es) → cond b (Some e.1) (hot_at es k) ≡ None → cond b es (e ∷ remove_entry (nat_eq k) es) ≡ e ∷ es
+    go : (b : Bool) → (hot_at es k ≡ None → remove_entry (nat_eq k) es ≡ es) → cond b (Some e.1) (hot_at es k) ≡ None →
+        cond b es (e ∷ remove_entry (nat_eq k) es) ≡ e ∷ es
     go true ih h = absurd (some≢none e.1 h)
     go false ih h = ap (λ l. e ∷ l) (ih h)
 
@@ -103,26 +98,31 @@ removed_none k (e ∷ es) none = go (eqb k e.0) (λ h. removed_none k es h) none
 
 -- one inode has another value, or none, and the same numbers are hot
 pub seen_written : (a : AreaValue) (hot hot' : LruCache ℕ Content) (cold cold' : Entries) (k : ℕ) (w : Option Content) → area_seen hot cold ≡ a
-    → keys_of hot'.entries ≡ keys_of hot.entries → hot'.cap ≡ hot.cap → ((q : ℕ) → value_in hot'.entries cold' q ≡ cond (eqb k q) w (value_in hot.entries cold q))
+    → keys_of hot'.entries ≡ keys_of hot.entries → hot'.cap ≡ hot.cap →
+    ((q : ℕ) → value_in hot'.entries cold' q ≡ cond (eqb k q) w (value_in hot.entries cold q))
     → area_seen hot' cold' ≡ with_inodes a (with_value a.inodes k w)
 seen_written a hot hot' cold cold' k w view keys cap values =
     let inodes = with_value-joined hot.entries cold hot'.entries cold' k w values in
-    let there : area_seen hot' cold' ≡ with_inodes (area_seen hot cold) (with_value (area_seen hot cold).inodes k w) = λ i. record { inodes = inodes i; hot = keys i; capacity = cap i } in
+    let there : area_seen hot' cold' ≡ with_inodes (area_seen hot cold) (with_value (area_seen hot cold).inodes k w) =
+    λ i. record { inodes = inodes i; hot = keys i; capacity = cap i } in
     there ∙ ap (λ b. with_inodes b (with_value b.inodes k w)) view
 
 -- a hot inode has another value
 pub seen_set : (a : AreaValue) (hot : LruCache ℕ Content) (cold : Entries) (k : ℕ) (w : Content) → area_seen hot cold ≡ a → IsSome (hot_at hot.entries k)
     → area_seen (lru_cache (set_value (nat_eq k) hot.entries w) hot.cap) cold ≡ with_inodes a (map.insert a.inodes k w)
 seen_set a hot cold k w view there =
-    seen_written a hot (lru_cache (set_value (nat_eq k) hot.entries w) hot.cap) cold cold k (Some w) view (keys-set_value (nat_eq k) hot.entries w) refl (set_hot hot.entries cold k w there)
+    seen_written a hot (lru_cache (set_value (nat_eq k) hot.entries w) hot.cap) cold cold k (Some w) view (keys-set_value (nat_eq k) hot.entries w) refl
+    (set_hot hot.entries cold k w there)
 
 -- a number that isn't hot has another value, or none
-pub seen_cold : (a : AreaValue) (hot : LruCache ℕ Content) (cold cold' : Entries) (k : ℕ) (w : Option Content) → area_seen hot cold ≡ a → hot_at hot.entries k ≡ None
+pub seen_cold : (a : AreaValue) (hot : LruCache ℕ Content) (cold cold' : Entries) (k : ℕ) (w : Option Content) → area_seen hot cold ≡ a →
+    hot_at hot.entries k ≡ None
     → ((q : ℕ) → cold_at cold' q ≡ cond (nat_eq k q) w (cold_at cold q)) → area_seen hot cold' ≡ with_inodes a (with_value a.inodes k w)
 seen_cold a hot cold cold' k w view none updates = seen_written a hot hot cold cold' k w view refl refl (write_cold hot.entries cold cold' k w none updates)
 
 -- an inode is taken out
-seen_out : (a : AreaValue) (hot hot' : LruCache ℕ Content) (cold cold' : Entries) (k : ℕ) → area_seen hot cold ≡ a → hot' ≡ lru_cache (remove_entry (nat_eq k) hot.entries) hot.cap
+seen_out : (a : AreaValue) (hot hot' : LruCache ℕ Content) (cold cold' : Entries) (k : ℕ) → area_seen hot cold ≡ a →
+    hot' ≡ lru_cache (remove_entry (nat_eq k) hot.entries) hot.cap
     → ((q : ℕ) → value_in hot'.entries cold' q ≡ cond (eqb k q) None (value_in hot.entries cold q)) → area_seen hot' cold' ≡ removed a k
 seen_out a hot hot' cold cold' k view left values =
     let inodes = with_value-joined hot.entries cold hot'.entries cold' k None values in
@@ -131,16 +131,19 @@ seen_out a hot hot' cold cold' k view left values =
     let there : area_seen hot' cold' ≡ removed (area_seen hot cold) k = λ i. record { inodes = inodes i; hot = keys i; capacity = cap i } in
     there ∙ ap (λ b. removed b k) view
 
-pub seen_out_of_hot : (a : AreaValue) (hot hot' : LruCache ℕ Content) (cold : Entries) (k : ℕ) → area_seen hot cold ≡ a → hot' ≡ lru_cache (remove_entry (nat_eq k) hot.entries) hot.cap
+pub seen_out_of_hot : (a : AreaValue) (hot hot' : LruCache ℕ Content) (cold : Entries) (k : ℕ) → area_seen hot cold ≡ a →
+    hot' ≡ lru_cache (remove_entry (nat_eq k) hot.entries) hot.cap
     → IsDistinct nat_eq (keys_of hot.entries) → AreDisjoint hot.entries cold → IsSome (hot_at hot.entries k) → area_seen hot' cold ≡ removed a k
 seen_out_of_hot a hot hot' cold k view left d disjoint there =
     seen_out a hot hot' cold cold k view left (λ q. ap (λ h. value_in h.entries cold q) left ∙ remove_hot hot.entries cold k d disjoint there q)
 
-pub seen_out_of_cold : (a : AreaValue) (hot hot' : LruCache ℕ Content) (cold cold' : Entries) (k : ℕ) → area_seen hot cold ≡ a → hot' ≡ lru_cache (remove_entry (nat_eq k) hot.entries) hot.cap
+pub seen_out_of_cold : (a : AreaValue) (hot hot' : LruCache ℕ Content) (cold cold' : Entries) (k : ℕ) → area_seen hot cold ≡ a →
+    hot' ≡ lru_cache (remove_entry (nat_eq k) hot.entries) hot.cap
     → hot_at hot.entries k ≡ None → ((q : ℕ) → cold_at cold' q ≡ cond (nat_eq k q) None (cold_at cold q)) → area_seen hot' cold' ≡ removed a k
 seen_out_of_cold a hot hot' cold cold' k view left none updates =
     seen_out a hot hot' cold cold' k view left (λ q.
-    ap (λ h. value_in h.entries cold' q) left ∙ ap (λ es. value_in es cold' q) (removed_none k hot.entries none) ∙ write_cold hot.entries cold cold' k None none updates q)
+    ap (λ h. value_in h.entries cold' q) left ∙ ap (λ es. value_in es cold' q) (removed_none k hot.entries none)
+    ∙ write_cold hot.entries cold cold' k None none updates q)
 
 -- ---- what holds of parts
 
@@ -151,7 +154,8 @@ disjoint_empty cold q v is = absurd (some≢none v (sym is))
 pub sound_new : (hot : LruCache ℕ Content) (cold : Entries) (n : ℕ) → hot ≡ lru_cache [] n → n ≤ 4096 → AreaInvariant hot cold
 sound_new hot cold n is most = subst (λ h. AreaInvariant h cold) (sym is) (record { disjoint = disjoint_empty cold; most = most })
 
-pub sound_set : (hot : LruCache ℕ Content) (cold : Entries) (k : ℕ) (w : Content) → IsSome (hot_at hot.entries k) → AreaInvariant hot cold → AreaInvariant (lru_cache (set_value (nat_eq k) hot.entries w) hot.cap) cold
+pub sound_set : (hot : LruCache ℕ Content) (cold : Entries) (k : ℕ) (w : Content) → IsSome (hot_at hot.entries k) → AreaInvariant hot cold →
+    AreaInvariant (lru_cache (set_value (nat_eq k) hot.entries w) hot.cap) cold
 sound_set hot cold k w there s = record { disjoint = disjoint_set hot.entries cold k w there s.disjoint; most = s.most }
 
 pub sound_cold : (hot : LruCache ℕ Content) (cold cold' : Entries) (k : ℕ) (w : Option Content) → hot_at hot.entries k ≡ None
@@ -160,7 +164,8 @@ sound_cold hot cold cold' k w none updates s = record { disjoint = disjoint_writ
 
 pub sound_out_of_hot : (hot hot' : LruCache ℕ Content) (cold : Entries) (k : ℕ) → hot' ≡ lru_cache (remove_entry (nat_eq k) hot.entries) hot.cap
     → IsDistinct nat_eq (keys_of hot.entries) → AreaInvariant hot cold → AreaInvariant hot' cold
-sound_out_of_hot hot hot' cold k left d s = subst (λ h. AreaInvariant h cold) (sym left) (record { disjoint = disjoint_remove hot.entries cold k d s.disjoint; most = s.most })
+sound_out_of_hot hot hot' cold k left d s =
+    subst (λ h. AreaInvariant h cold) (sym left) (record { disjoint = disjoint_remove hot.entries cold k d s.disjoint; most = s.most })
 
 pub sound_out_of_cold : (hot hot' : LruCache ℕ Content) (cold cold' : Entries) (k : ℕ) → hot' ≡ lru_cache (remove_entry (nat_eq k) hot.entries) hot.cap
     → hot_at hot.entries k ≡ None → ((q : ℕ) → cold_at cold' q ≡ cond (nat_eq k q) None (cold_at cold q)) → AreaInvariant hot cold → AreaInvariant hot' cold'

@@ -1,8 +1,6 @@
 -- Who stands behind whom in a chain whose nodes differ.
-use Rattle.std.proofs.Common.{◌≡◌, ℕ, ◌<◌, ◌==◌, Bool, true, false, if◌then◌else◌, List, [], ◌∷◌, ◌++◌, Some, None, ap, sym, refl, subst, arith, inl, inr, filter, nat_lt, nat_le}
-use Rattle.std.proofs.lemmas.Bool.{ne_eqb}
-use Rattle.assise_chain.specs.Chains.{IsAscending, behind, chain, first_of_all}
-use Rattle.assise_chain.specs.Lists.{AllDiffer, IsOneOf}
+use Rattle.assise_chain.proofs.Common.{◌≡◌, ℕ, ◌<◌, ◌==◌, Bool, true, false, if◌then◌else◌, List, [], ◌∷◌, ◌++◌, Some, None, ap, sym, refl, subst, arith, inl}
+use Rattle.assise_chain.proofs.Common.{inr, filter, nat_lt, nat_le, ne_eqb, IsAscending, behind, chain, first_of_all, AllDiffer, IsOneOf}
 use Rattle.assise_chain.proofs.Rows.{above_all, in_right}
 
 -- whoever isn't there has nobody behind
@@ -21,7 +19,8 @@ first_is_one : (ns : List ℕ) (n : ℕ) → first_of_all ns ≡ Some n → IsOn
 first_is_one [] n e = cc
 first_is_one (m ∷ ns) n e = let same : m ≡ n = cc in inl same
 
-behind_other_if : (b : Bool) (m n : ℕ) (ns : List ℕ) → (m == n) ≡ b → (IsOneOf ns m → ⊥) → (behind n ns ≡ Some n → ⊥) → (if b then first_of_all ns else behind n ns) ≡ Some n → ⊥
+behind_other_if : (b : Bool) (m n : ℕ) (ns : List ℕ) → (m == n) ≡ b → (IsOneOf ns m → ⊥) → (behind n ns ≡ Some n → ⊥) →
+    (if b then first_of_all ns else behind n ns) ≡ Some n → ⊥
 behind_other_if true m n ns e new rest is = let same : m ≡ n = search arith in new (subst (IsOneOf ns) (sym same) (first_is_one ns n is))
 behind_other_if false m n ns e new rest is = rest is
 

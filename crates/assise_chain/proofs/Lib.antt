@@ -1,3 +1,4 @@
+mod Common
 mod Parts
 mod Rows
 mod StepsKeepPrefixes

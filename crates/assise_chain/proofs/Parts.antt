@@ -1,16 +1,9 @@
 -- Records that agree, number by number, with a log: each of them that the log hasn't let go is the log's record of its number.
-use Rattle.std.proofs.Common.{◌≡◌, ℕ, zero, suc, ◌+◌, ◌-◌, ◌<◌, ◌≤◌, Some, None, List, [], ◌∷◌, length, take, drop, ap, sym, ◌∙◌, refl, arith, inl, inr}
-use Rattle.std.specs.List.{slice_get}
-use Rattle.std.proofs.lemmas.List.{length-take}
+use Rattle.assise_chain.proofs.Common.{◌≡◌, ℕ, zero, suc, ◌+◌, ◌-◌, ◌<◌, ◌≤◌, Some, None, List, [], ◌∷◌, length, take, drop, ap, sym, ◌∙◌, refl, arith, inl}
+use Rattle.assise_chain.proofs.Common.{inr, slice_get, length-take, cases_lt, LogRecord, LogFrame, NumberedLog, end, records_from, with_record, without_prefix}
+use Rattle.assise_chain.proofs.Common.{accepted, records_past, count_sent, first_sent, sent, IsPrefixOf}
 use Rattle.std.proofs.lemmas.Option.{slice_get_within}
-use Rattle.std.proofs.lemmas.Bool.{cases_lt}
 use Rattle.circular_buffer.proofs.Places.{slice_get-append_left, slice_get-append_right, slice_get-drop, slice_get-take}
-use Rattle.assise_record.specs.LogRecord.{LogRecord}
-use Rattle.assise_record.specs.LogFrame.{LogFrame}
-use Rattle.assise_private_log.specs.NumberedLog.{NumberedLog, end, records_from, with_record, without_prefix}
-use Rattle.assise_chain.specs.Acceptance.{accepted, records_past}
-use Rattle.assise_chain.specs.Messages.{count_sent, first_sent, sent}
-use Rattle.assise_chain.specs.Passing.{IsPrefixOf}
 
 -- ---- places
 
@@ -60,7 +53,8 @@ part_prefix l whole first part = record {
 }
 
 -- with one record more in the log
-pub part_longer : (first : ℕ) (rs : List LogRecord) (whole : NumberedLog) (added : LogRecord) → IsPart first rs whole → IsPart first rs (with_record whole added)
+pub part_longer : (first : ℕ) (rs : List LogRecord) (whole : NumberedLog) (added : LogRecord) → IsPart first rs whole →
+    IsPart first rs (with_record whole added)
 part_longer first rs whole added part = record {
   agrees = λ k r is from.
       let there = part.agrees k r is from in
@@ -68,7 +62,8 @@ part_longer first rs whole added part = record {
 }
 
 -- without the log's first records
-pub part_shorter : (first to : ℕ) (rs : List LogRecord) (whole : NumberedLog) → whole.first ≤ to → IsPart first rs whole → IsPart first rs (without_prefix whole to)
+pub part_shorter : (first to : ℕ) (rs : List LogRecord) (whole : NumberedLog) → whole.first ≤ to → IsPart first rs whole →
+    IsPart first rs (without_prefix whole to)
 part_shorter first to rs whole reached part = record {
   agrees = λ k r is from.
       let place : first + k - whole.first ≡ (to - whole.first) + (first + k - to) = omega arith in
@@ -103,7 +98,8 @@ part_accepted l f whole no_gap had came = record {
     | inl old ↦ had.agrees k r (sym (slice_get-append_left l.records (records_past l f) k old) ∙ is) from
     | inr past ↦
         let j : k ≡ length l.records + (k - length l.records) = omega arith in
-        let one = of_drop (end l - f.first) f.records (k - length l.records) r (sym (slice_get-append_right l.records (records_past l f) k (k - length l.records) j) ∙ is) in
+        let one = of_drop (end l - f.first) f.records (k - length l.records) r
+        (sym (slice_get-append_right l.records (records_past l f) k (k - length l.records) j) ∙ is) in
         let number : f.first + ((end l - f.first) + (k - length l.records)) ≡ l.first + k = omega arith in
         let there = came.agrees ((end l - f.first) + (k - length l.records)) r one (omega arith) in
         ap (λ n. slice_get whole.records (n - whole.first)) (sym number) ∙ there

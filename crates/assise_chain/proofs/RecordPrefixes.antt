@@ -1,13 +1,10 @@
 -- Prefixes of records: what is sent, and what was read of an iterator.
-use Rattle.std.proofs.Common.{◌≡◌, ℕ, zero, suc, ◌+◌, ◌-◌, ◌<◌, ◌≤◌, min, max, Bool, false, cond, List, [], ◌∷◌, ◌++◌, get_or, length, take, None, Some, ap, sym, ◌∙◌, refl, arith, true, inl, inr}
-use Rattle.std.proofs.lemmas.Bool.{both_ways, cases_lt}
-use Rattle.std.proofs.lemmas.List.{length-drop, length-take, length-take-le}
-use Rattle.assise_record.specs.LogRecord.{LogRecord}
-use Rattle.assise_record.specs.LogFrame.{LogFrame}
+use Rattle.assise_chain.proofs.Common.{◌≡◌, ℕ, zero, suc, ◌+◌, ◌-◌, ◌<◌, ◌≤◌, min, max, Bool, false, cond, List, [], ◌∷◌, ◌++◌, get_or, length, take, None}
+use Rattle.assise_chain.proofs.Common.{Some, ap, sym, ◌∙◌, refl, arith, true, inl, inr, both_ways, cases_lt, length-drop, length-take, length-take-le}
+use Rattle.assise_chain.proofs.Common.{LogRecord, LogFrame, IsNumberedLog, NumberedLog, end, is_border, records_from, count_sent, first_sent, frame_of}
+use Rattle.assise_chain.proofs.Common.{last_marks, log_records_between, sent}
 use Rattle.assise_private_log.specs.Borders.{IsWholeCount, whole_count}
-use Rattle.assise_private_log.specs.NumberedLog.{IsNumberedLog, NumberedLog, end, is_border, records_from}
 use Rattle.assise_private_log.proofs.Borders.{is_whole, some_whole}
-use Rattle.assise_chain.specs.Messages.{count_sent, first_sent, frame_of, last_marks, log_records_between, sent}
 
 -- the first item of a prefix
 pub taken_first : {X : Type 0} (n m : ℕ) (xs ys : List X) (x : X) → m + 1 ≡ n → xs ≡ x ∷ ys → take n xs ≡ x ∷ take m ys
@@ -54,7 +51,8 @@ sent_first l from to first most count is =
 pub sent_length : (l : NumberedLog) (from to first most count : ℕ) → IsCounted l from to first most count → length (sent l from to) ≡ count
 sent_length l from to first most count is =
     let within : count ≤ length (log_records_between l from to) = omega (arith, length_between l from to, counted_within l from to first most count is) in
-    ap (λ n. length (take n (log_records_between l from to))) (counted l from to first most count is) ∙ length-take-le count (log_records_between l from to) within
+    ap (λ n. length (take n (log_records_between l from to))) (counted l from to first most count is) ∙ length-take-le count (log_records_between l from to)
+    within
 
 -- as many are sent as are counted
 length_sent : (l : NumberedLog) (from to : ℕ) → length (sent l from to) ≡ count_sent l from to
@@ -90,21 +88,25 @@ some_sent l from to law low high is =
     omega arith
 
 -- there is a frame of some records
-pub plain_some : (epoch client first : ℕ) (rs : List LogRecord) (last : List Bool) → 0 < length rs → Some (record { version = 1; epoch = epoch; client = client; first = first; records = rs; last = [] }) ≡ frame_of false epoch client first rs last
+pub plain_some : (epoch client first : ℕ) (rs : List LogRecord) (last : List Bool) → 0 < length rs →
+    Some (record { version = 1; epoch = epoch; client = client; first = first; records = rs; last = [] }) ≡ frame_of false epoch client first rs last
 plain_some epoch client first [] last some = absurd (omega arith)
 plain_some epoch client first (r ∷ rs) last some = refl
 
-pub marked_some : (epoch client first : ℕ) (rs : List LogRecord) (last : List Bool) → 0 < length rs → Some (record { version = 2; epoch = epoch; client = client; first = first; records = rs; last = last }) ≡ frame_of true epoch client first rs last
+pub marked_some : (epoch client first : ℕ) (rs : List LogRecord) (last : List Bool) → 0 < length rs →
+    Some (record { version = 2; epoch = epoch; client = client; first = first; records = rs; last = last }) ≡ frame_of true epoch client first rs last
 marked_some epoch client first [] last some = absurd (omega arith)
 marked_some epoch client first (r ∷ rs) last some = refl
 
 -- and there is none of none
-pub frame_of_none : (marked : Bool) (epoch client first : ℕ) (rs : List LogRecord) (last : List Bool) → length rs ≡ 0 → None ≡ frame_of marked epoch client first rs last
+pub frame_of_none : (marked : Bool) (epoch client first : ℕ) (rs : List LogRecord) (last : List Bool) → length rs ≡ 0 →
+    None ≡ frame_of marked epoch client first rs last
 frame_of_none marked epoch client first [] last none = refl
 frame_of_none marked epoch client first (r ∷ rs) last none = absurd (omega arith)
 
 -- what a frame that is sent has
-pub parts_of_frame : (marked : Bool) (epoch client first : ℕ) (rs : List LogRecord) (last : List Bool) (f : LogFrame) → frame_of marked epoch client first rs last ≡ Some f → (f.epoch ≡ epoch) × (f.first ≡ first) × (f.records ≡ rs)
+pub parts_of_frame : (marked : Bool) (epoch client first : ℕ) (rs : List LogRecord) (last : List Bool) (f : LogFrame) →
+    frame_of marked epoch client first rs last ≡ Some f → (f.epoch ≡ epoch) × (f.first ≡ first) × (f.records ≡ rs)
 parts_of_frame marked epoch client first [] last f is = cc
 parts_of_frame marked epoch client first (r ∷ rs) last f is =
     let same : record { version = cond marked 2 1; epoch = epoch; client = client; first = first; records = r ∷ rs; last = cond marked last [] } ≡ f = cc in (
@@ -118,10 +120,12 @@ parts_of_frame marked epoch client first (r ∷ rs) last f is =
 -- one more
 pub marks_more : (l : NumberedLog) (first count : ℕ) → last_marks l first (suc count) ≡ last_marks l first count ++ is_border l (first + suc count) ∷ []
 marks_more l first zero = ap (λ k. is_border l k ∷ []) (omega arith)
-marks_more l first (suc count) = ap (λ ms. is_border l (suc first) ∷ ms) (marks_more l (suc first) count ∙ ap (λ k. last_marks l (suc first) count ++ is_border l k ∷ []) (omega arith))
+marks_more l first (suc count) =
+    ap (λ ms. is_border l (suc first) ∷ ms) (marks_more l (suc first) count ∙ ap (λ k. last_marks l (suc first) count ++ is_border l k ∷ []) (omega arith))
 
 -- what was read of them, and the next
-pub marks_next : (l : NumberedLog) (first count : ℕ) (read : List Bool) (next : Bool) → read ≡ last_marks l first count → next ≡ is_border l (first + count + 1) → read ++ next ∷ [] ≡ last_marks l first (count + 1)
+pub marks_next : (l : NumberedLog) (first count : ℕ) (read : List Bool) (next : Bool) → read ≡ last_marks l first count →
+    next ≡ is_border l (first + count + 1) → read ++ next ∷ [] ≡ last_marks l first (count + 1)
 marks_next l first count read next is last =
     let one : count + 1 ≡ suc count = omega arith in
     ap (λ ms. ms ++ next ∷ []) is
@@ -138,6 +142,8 @@ mark_behind : (l : NumberedLog) (first count : ℕ) → get_or (last_marks l fir
 mark_behind l first zero = ap (is_border l) (omega arith)
 mark_behind l first (suc count) = mark_behind l (suc first) count ∙ ap (is_border l) (omega arith)
 
-pub marks_last : (l : NumberedLog) (first count long : ℕ) → long ≡ count → 0 < count → get_or (last_marks l first count) (long - 1) true ≡ is_border l (first + count)
+pub marks_last : (l : NumberedLog) (first count long : ℕ) → long ≡ count → 0 < count → get_or (last_marks l first count) (long - 1) true
+    ≡ is_border l (first + count)
 marks_last l first zero long is some = absurd (omega arith)
-marks_last l first (suc count) long is some = let one : long - 1 ≡ count = omega arith in ap (λ k. get_or (last_marks l first (suc count)) k true) one ∙ mark_behind l first count
+marks_last l first (suc count) long is some =
+    let one : long - 1 ≡ count = omega arith in ap (λ k. get_or (last_marks l first (suc count)) k true) one ∙ mark_behind l first count

@@ -1,9 +1,6 @@
 -- What stands in a list that is filtered or put behind another, and that no item stands in it twice.
-use Rattle.std.proofs.Common.{◌≡◌, ℕ, ◌<◌, Bool, true, false, cond, List, [], ◌∷◌, ◌++◌, ap, sym, ◌∙◌, refl, arith, inl, inr, ◌⊎◌, filter, nat_lt, nat_le}
-use Rattle.std.specs.List.{AllByRecursion}
-use Rattle.std.proofs.lemmas.Bool.{cases_lt}
-use Rattle.assise_chain.specs.Chains.{IsAscending, chain}
-use Rattle.assise_chain.specs.Lists.{AllDiffer, IsOneOf}
+use Rattle.assise_chain.proofs.Common.{◌≡◌, ℕ, ◌<◌, Bool, true, false, cond, List, [], ◌∷◌, ◌++◌, ap, sym, ◌∙◌, refl, arith, inl, inr, ◌⊎◌, filter, nat_lt}
+use Rattle.assise_chain.proofs.Common.{nat_le, AllByRecursion, cases_lt, IsAscending, chain, AllDiffer, IsOneOf}
 
 module _ {X : Type 0} where
   in_left : (xs ys : List X) (x : X) → IsOneOf xs x → IsOneOf (xs ++ ys) x

@@ -1,14 +1,9 @@
 -- What each step leaves true of all logs and of what was sent, and what lists of steps do.
-use Rattle.std.proofs.Common.{◌≡◌, ◌≢◌, ℕ, Bool, List, length, [], ◌∷◌, ap, sym, ◌∙◌, subst, inl, inr}
+use Rattle.assise_chain.proofs.Common.{◌≡◌, ◌≢◌, ℕ, Bool, List, length, [], ◌∷◌, ap, sym, ◌∙◌, subst, inl, inr, LogRecord, LogFrame, NumberedLog, end}
+use Rattle.assise_chain.proofs.Common.{with_record, without_prefix, IsTimely, accepted, IsOneOf, first_sent, frame_of, last_marks, message_of, sent, AllSteps}
+use Rattle.assise_chain.proofs.Common.{AllLetGo, AllReach, LogBecomes, StepDoes, ChainIsBegun, IsPrefixOf, Nodes, NoLogChanges, ChainStep, with_message}
 use mathlib.Core.Logic.{dite}
 use native.Mathlib.Decide.{ℕ_discrete}
-use Rattle.assise_record.specs.LogRecord.{LogRecord}
-use Rattle.assise_record.specs.LogFrame.{LogFrame}
-use Rattle.assise_private_log.specs.NumberedLog.{NumberedLog, end, with_record, without_prefix}
-use Rattle.assise_chain.specs.Acceptance.{IsTimely, accepted}
-use Rattle.assise_chain.specs.Lists.{IsOneOf}
-use Rattle.assise_chain.specs.Messages.{first_sent, frame_of, last_marks, message_of, sent}
-use Rattle.assise_chain.specs.Passing.{AllSteps, AllLetGo, AllReach, LogBecomes, StepDoes, ChainIsBegun, IsPrefixOf, Nodes, NoLogChanges, ChainStep, with_message}
 use Rattle.assise_chain.specs.Passing.ChainStep.{append, send, deliver, let_go}
 use Rattle.assise_chain.proofs.Parts.{IsPart, prefix_part, part_accepted, part_behind, part_prefix, part_longer, part_sent, part_shorter, whole_part}
 
@@ -38,7 +33,8 @@ module _ (full : List ℕ) (head epoch : ℕ) where
   }
 
   -- the head takes a record in
-  append_agree : (old new : Nodes) (r : LogRecord) → AllAgree old → LogBecomes old.logs new.logs head (with_record (old.logs head) r) → new.sent ≡ old.sent → AllAgree new
+  append_agree : (old new : Nodes) (r : LogRecord) → AllAgree old → LogBecomes old.logs new.logs head (with_record (old.logs head) r) → new.sent ≡ old.sent →
+      AllAgree new
   append_agree old new r agree becomes is_sent =
       let to_new : (first : ℕ) (rs : List LogRecord) → IsPart first rs (old.logs head) → IsPart first rs (new.logs head)
       = λ first rs p. subst (λ (w : NumberedLog). IsPart first rs w) (sym becomes.here) (part_longer first rs (old.logs head) r p) in
@@ -46,7 +42,8 @@ module _ (full : List ℕ) (head epoch : ℕ) where
         head_full = agree.head_full;
         first = λ node is. dite (ℕ_discrete node head)
             (λ (same : node ≡ head). ap (λ n. (new.logs n).first) same)
-            (λ other. ap (λ (l : NumberedLog). l.first) (becomes.elsewhere node other) ∙ agree.first node is ∙ ap (λ (l : NumberedLog). l.first) (sym becomes.here));
+            (λ other. ap (λ (l : NumberedLog). l.first) (becomes.elsewhere node other) ∙ agree.first node is
+            ∙ ap (λ (l : NumberedLog). l.first) (sym becomes.here));
         logs = λ node is. dite (ℕ_discrete node head)
             (λ (same : node ≡ head). subst (λ n. IsPart (new.logs n).first (new.logs n).records (new.logs head)) (sym same) (whole_part (new.logs head)))
             (λ other. subst (λ (l : NumberedLog). IsPart l.first l.records (new.logs head)) (sym (becomes.elsewhere node other))
@@ -55,7 +52,8 @@ module _ (full : List ℕ) (head epoch : ℕ) where
       }
 
   -- a message is among what was sent
-  message_agrees : (whole : NumberedLog) (marked : Bool) (e client first : ℕ) (rs : List LogRecord) (last : List Bool) (before : List LogFrame) (f : LogFrame) → IsPart first rs whole
+  message_agrees : (whole : NumberedLog) (marked : Bool) (e client first : ℕ) (rs : List LogRecord) (last : List Bool) (before : List LogFrame) (f : LogFrame) →
+      IsPart first rs whole
       → (IsOneOf before f → f.epoch ≡ epoch → IsPart f.first f.records whole)
       → IsOneOf (with_message (frame_of marked e client first rs last) before) f → f.epoch ≡ epoch → IsPart f.first f.records whole
   message_agrees whole marked e client first [] last before f part rest a this = rest a this
@@ -71,12 +69,14 @@ module _ (full : List ℕ) (head epoch : ℕ) where
         head_full = agree.head_full;
         first = agree.first;
         logs = agree.logs;
-        frames = λ f a this. message_agrees (old.logs head) marked epoch client (first_sent (old.logs node) from) (sent (old.logs node) from to) (last_marks (old.logs node) (first_sent (old.logs node) from) (length (sent (old.logs node) from to))) old.sent f part (agree.frames f) a this;
+        frames = λ f a this. message_agrees (old.logs head) marked epoch client (first_sent (old.logs node) from) (sent (old.logs node) from to)
+            (last_marks (old.logs node) (first_sent (old.logs node) from) (length (sent (old.logs node) from to))) old.sent f part (agree.frames f) a this;
       } in
       same_agree between new middle same is_sent
 
   -- a frame is taken in
-  deliver_agree : (old new : Nodes) (node : ℕ) (f : LogFrame) → AllAgree old → IsOneOf old.sent f → IsOneOf full node → node ≢ head → IsTimely (end (old.logs node)) f epoch
+  deliver_agree : (old new : Nodes) (node : ℕ) (f : LogFrame) → AllAgree old → IsOneOf old.sent f → IsOneOf full node → node ≢ head →
+      IsTimely (end (old.logs node)) f epoch
       → LogBecomes old.logs new.logs node (accepted (old.logs node) f) → new.sent ≡ old.sent → AllAgree new
   deliver_agree old new node f agree a is other timely becomes is_sent =
       let at_head : new.logs head ≡ old.logs head = becomes.elsewhere head (λ (same : head ≡ node). other (sym same)) in
@@ -86,11 +86,13 @@ module _ (full : List ℕ) (head epoch : ℕ) where
       record {
         head_full = agree.head_full;
         first = λ n is_n. dite (ℕ_discrete n node)
-            (λ (same : n ≡ node). ap (λ m. (new.logs m).first) same ∙ ap (λ (l : NumberedLog). l.first) becomes.here ∙ agree.first node is ∙ ap (λ (l : NumberedLog). l.first) (sym at_head))
+            (λ (same : n ≡ node). ap (λ m. (new.logs m).first) same ∙ ap (λ (l : NumberedLog). l.first) becomes.here ∙ agree.first node is
+            ∙ ap (λ (l : NumberedLog). l.first) (sym at_head))
             (λ away. ap (λ (l : NumberedLog). l.first) (becomes.elsewhere n away) ∙ agree.first n is_n ∙ ap (λ (l : NumberedLog). l.first) (sym at_head));
         logs = λ n is_n. dite (ℕ_discrete n node)
             (λ (same : n ≡ node). subst (λ (l : NumberedLog). IsPart l.first l.records (new.logs head)) (sym (ap new.logs same ∙ becomes.here))
-            (to_new here.first here.records (part_accepted (old.logs node) f (old.logs head) timely.no_gap (agree.logs node is) (agree.frames f a timely.this_epoch))))
+            (to_new here.first here.records
+            (part_accepted (old.logs node) f (old.logs head) timely.no_gap (agree.logs node is) (agree.frames f a timely.this_epoch))))
             (λ away. subst (λ (l : NumberedLog). IsPart l.first l.records (new.logs head)) (sym (becomes.elsewhere n away))
             (to_new (old.logs n).first (old.logs n).records (agree.logs n is_n)));
         frames = λ g b this. to_new g.first g.records (agree.frames g (subst (λ fs. IsOneOf fs g) is_sent b) this);
@@ -100,7 +102,8 @@ module _ (full : List ℕ) (head epoch : ℕ) where
   let_go_agree : (old new : Nodes) (to : ℕ) → AllAgree old → AllReach full old.logs to → AllLetGo full old.logs new.logs to → new.sent ≡ old.sent → AllAgree new
   let_go_agree old new to agree reach shorter is_sent =
       let to_new : (first : ℕ) (rs : List LogRecord) → IsPart first rs (old.logs head) → IsPart first rs (new.logs head)
-      = λ first rs p. subst (λ (w : NumberedLog). IsPart first rs w) (sym (shorter head agree.head_full)) (part_shorter first to rs (old.logs head) (reach head agree.head_full).0 p) in
+      = λ first rs p. subst (λ (w : NumberedLog). IsPart first rs w) (sym (shorter head agree.head_full))
+      (part_shorter first to rs (old.logs head) (reach head agree.head_full).0 p) in
       record {
         head_full = agree.head_full;
         first = λ node is. ap (λ (l : NumberedLog). l.first) (shorter node is) ∙ ap (λ (l : NumberedLog). l.first) (sym (shorter head agree.head_full));
@@ -124,7 +127,8 @@ module _ (full : List ℕ) (head epoch : ℕ) where
       ] in
       all_agree client steps d.0 new next d.2
 
-  pub all_prefixes : (client : ℕ) (steps : List ChainStep) (old new : Nodes) → ChainIsBegun full head epoch old → AllSteps full head epoch client old steps new → (node : ℕ) → IsOneOf full node → IsPrefixOf (new.logs node) (new.logs head)
+  pub all_prefixes : (client : ℕ) (steps : List ChainStep) (old new : Nodes) → ChainIsBegun full head epoch old →
+      AllSteps full head epoch client old steps new → (node : ℕ) → IsOneOf full node → IsPrefixOf (new.logs node) (new.logs head)
   all_prefixes client steps old new begun d node is =
       let agree = all_agree client steps old new (begun_agree old begun) d in
       part_prefix (new.logs node) (new.logs head) (agree.first node is) (agree.logs node is)

@@ -1,23 +1,13 @@
 -- What a command makes happen, and what a whole run does, is a trace of events.
-use Rattle.std.proofs.Common.{◌≡◌, ℕ, ◌<◌, Bool, true, false, List, [], ◌∷◌, ◌++◌, refl, ap, sym, subst, ◌∙◌}
-use Rattle.assise_names.specs.declared.call.Op.{Op}
-use Rattle.assise_names.specs.declared.refusal.Refusal.TheVariants.{OutOfMemory}
-use Rattle.assise_history.specs.Legal.{IsLegal}
+use Rattle.assise_console.proofs.Common.{◌≡◌, ℕ, ◌<◌, Bool, true, false, List, [], ◌∷◌, ◌++◌, refl, ap, sym, subst, ◌∙◌, Op, OutOfMemory, IsLegal, LinkKind}
+use Rattle.assise_console.proofs.Common.{NumberedCommand, ClusterEvent, all_entries, back, crash, fail, join, raise, refill, set_hot, try_call, Machine}
+use Rattle.assise_console.proofs.Common.{Response, Checked, Refused, IsEventTrace, Told, IsOne, IsOneAt, Prints, ConsoleState, Stocks, begun_console, Kind}
+use Rattle.assise_console.proofs.Common.{Calls, CarriesFrames, IsVerdict, Returns, Serves, SetsHot, SetsLink, is_carried, is_verdict, is_linked, is_made}
+use Rattle.assise_console.proofs.Common.{is_nowhere, is_out, is_refused, lacks_room}
 use Rattle.assise_fault_script.specs.declared.command.Command as commands
-use Rattle.assise_fault_script.specs.declared.command.Command.TheVariants.{Cluster, Manual, Open, Call, Carry, Link, Hot, Digest, Release, Crash, Fail, Back, Refill, Join, Raise, Tree, History, Check}
-use Rattle.assise_fault_script.specs.declared.command.LinkKind.{LinkKind}
-use Rattle.assise_fault_script.specs.declared.parse.NumberedCommand.{NumberedCommand}
-use Rattle.assise_model_events.specs.Events.{ClusterEvent, all_entries, back, crash, fail, join, raise, refill, set_hot, try_call}
-use Rattle.assise_model_events.specs.Machine.{Machine}
+use Rattle.assise_fault_script.specs.declared.command.Command.TheVariants.{Cluster, Manual, Open, Call, Carry, Link, Hot, Digest, Release, Crash, Fail, Back}
+use Rattle.assise_fault_script.specs.declared.command.Command.TheVariants.{Refill, Join, Raise, Tree, History, Check}
 use Rattle.assise_model_events.proofs.StartKeeps.{begun_holds}
-use Rattle.assise_console.specs.declared.response.Response.{Response}
-use Rattle.assise_console.specs.declared.response.Response.TheVariants.{Checked, Refused}
-use Rattle.assise_rounds.specs.Traces.{IsEventTrace, Told}
-use Rattle.assise_console.specs.OneEvent.{IsOne, IsOneAt}
-use Rattle.assise_console.specs.Lines.{Prints}
-use Rattle.assise_console.specs.State.{ConsoleState, Stocks, begun_console}
-use Rattle.assise_link.specs.Kinds.{Kind}
-use Rattle.assise_console.specs.Steps.{Calls, CarriesFrames, IsVerdict, Returns, Serves, SetsHot, SetsLink, is_carried, is_verdict, is_linked, is_made, is_nowhere, is_out, is_refused, lacks_room}
 use Rattle.assise_rounds.proofs.ReturnTrace.{return_trace}
 use Rattle.assise_rounds.proofs.Traces.{trace_legal, trace_of, trace_then, trace_told, event_trace, tries_trace}
 
@@ -29,7 +19,8 @@ one_trace e a m es m' h = event_trace e h.answer m es m' h.event
 told_trace : (what : ℕ → ClusterEvent) (n : ℕ) (a : Response) (m : Machine) (es : Told) (m' : Machine) → IsOneAt what n a m es m' → IsEventTrace m es m'
 told_trace what n a m es m' h = event_trace (what n) h.answer m es m' h.event
 
-calls_trace : (manual : Bool) (links : List Kind) (turns c : ℕ) (op : Op) (a : Response) (m : Machine) (es : Told) (m' : Machine) → Calls manual links turns c op a m es m' → IsEventTrace m es m'
+calls_trace : (manual : Bool) (links : List Kind) (turns c : ℕ) (op : Op) (a : Response) (m : Machine) (es : Told) (m' : Machine) →
+    Calls manual links turns c op a m es m' → IsEventTrace m es m'
 calls_trace true links turns c op a m es m' h = one_trace (try_call c op) a m es m' h
 calls_trace false links turns c op a m es m' h = tries_trace turns c op h.result m es m' h.tries
 
@@ -78,12 +69,15 @@ pub run_trace : (s t : ConsoleState) (cs : List NumberedCommand) (es : Told) (te
 run_trace s t [] es text h = quiet_trace s.machine t.machine es h.0 (ap (λ x. x.machine) h.1.1)
 run_trace s t (c ∷ cs) es text h =
     subst (λ x. IsEventTrace s.machine x t.machine) (sym h.told)
-    (trace_then s.machine h.next.machine t.machine h.now h.later (command_trace s h.next c.command h.now h.answer h.serves) (run_trace h.next t cs h.later h.rest h.others))
+    (trace_then s.machine h.next.machine t.machine h.now h.later (command_trace s h.next c.command h.now h.answer h.serves)
+    (run_trace h.next t cs h.later h.rest h.others))
 
-pub run_told : (s t : ConsoleState) (cs : List NumberedCommand) (es : Told) (text : List ℕ) → Prints s cs es text t → t.machine.history ≡ s.machine.history ++ all_entries s.machine.history es
+pub run_told : (s t : ConsoleState) (cs : List NumberedCommand) (es : Told) (text : List ℕ) → Prints s cs es text t →
+    t.machine.history ≡ s.machine.history ++ all_entries s.machine.history es
 run_told s t cs es text h = trace_told s.machine t.machine es (run_trace s t cs es text h)
 
-pub run_legal : (nodes log hot turns : ℕ) (stock : Stocks) (t : ConsoleState) (es : Told) → 0 < nodes → IsEventTrace (begun_console nodes log hot stock turns).machine es t.machine → IsLegal t.machine.history
+pub run_legal : (nodes log hot turns : ℕ) (stock : Stocks) (t : ConsoleState) (es : Told) → 0 < nodes →
+    IsEventTrace (begun_console nodes log hot stock turns).machine es t.machine → IsLegal t.machine.history
 run_legal nodes log hot turns stock t es some h = trace_legal _ t.machine es (begun_holds nodes log hot some) h
 
 -- a check of a legal history doesn't say that it is another

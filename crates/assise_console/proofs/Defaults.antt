@@ -1,23 +1,14 @@
 -- What a parse finds of an argument with a parser, and of one that takes one value and has a default.
-use Rattle.std.proofs.Common.{◌≡◌, ◌∙◌, ◌<◌, ◌≤◌, ap, subst, sym, refl, inl, inr, arith, zero, suc, ℕ, Bool, true, false, List, [], ◌∷◌, length, Option, Some, None, is_some, true≢false}
-use Rattle.std.specs.Prelude.{find, option_map, slice_get}
-use Rattle.std.specs.List.{All, slice_index_or}
-use Rattle.std.specs.Str.{bytes_eq}
+use Rattle.assise_console.proofs.Common.{◌≡◌, ◌∙◌, ◌<◌, ◌≤◌, ap, subst, sym, refl, inl, inr, arith, zero, suc, ℕ, Bool, true, false, List, [], ◌∷◌, length}
+use Rattle.assise_console.proofs.Common.{Option, Some, None, is_some, true≢false, find, option_map, slice_get, All, slice_index_or, bytes_eq, bytes_eq-Decides}
+use Rattle.assise_console.proofs.Common.{default_present, entry_by_id, same_rules_by_id, IsAuto, IsParsedFrom, IsPlain, SameRules, Entry, EntryPasses}
+use Rattle.assise_console.proofs.Common.{WantsDefault, args_of, groups_of, least_values, parser_of, parser_of_value, found_of, matched_of, one_text, Accepts}
+use Rattle.assise_console.proofs.Common.{read_as, reading_of, Text, Arg, Command, ArgMatches}
 use Rattle.std.specs.Borrow.{Bor}
-use Rattle.std.proofs.lemmas.Slice.Eq.{bytes_eq-Decides}
-use Rattle.clap.proofs.CallerLemmas.{default_present, entry_by_id, same_rules_by_id}
-use Rattle.clap.specs.Built.{IsAuto, IsParsedFrom, IsPlain, SameRules}
-use Rattle.clap.specs.Facts.{Entry, EntryPasses, WantsDefault, args_of, groups_of, least_values, parser_of, parser_of_value}
-use Rattle.clap.specs.Matches.{found_of, matched_of, one_text}
-use Rattle.clap.specs.Values.{Accepts, read_as, reading_of}
-use Rattle.clap.specs.Walk.{Text}
 use Rattle.clap.specs.declared.builder.action.ArgAction.TheVariants.{Count, Set}
-use Rattle.clap.specs.declared.builder.arg.Arg.{Arg}
-use Rattle.clap.specs.declared.builder.command.Command.{Command}
 use Rattle.clap.specs.declared.builder.command.Command.TheViews.{out-Command}
 use Rattle.clap.specs.declared.builder.value_parser.Reading.{Reading}
 use Rattle.clap.specs.declared.builder.value_parser.ValueParser.{ValueParser}
-use Rattle.clap.specs.declared.parser.matches.ArgMatches.{ArgMatches}
 use Rattle.clap.specs.declared.parser.matches.Found.{Found}
 use Rattle.clap.specs.declared.parser.matches.MatchedArg.{MatchedArg}
 
@@ -28,7 +19,8 @@ has_matched [] id i lt has = absurd (omega arith)
 has_matched (x ∷ xs) id i lt has = go (bytes_eq x.0.now id) refl i lt has (λ j low there. has_matched xs id j low there)
   where
     go : (b : Bool) → bytes_eq x.0.now id ≡ b → (i : ℕ) → i < length (x ∷ xs) → ((d : Entry) → bytes_eq (slice_index_or (x ∷ xs) i d).0.now id ≡ true)
-        → ((j : ℕ) → j < length xs → ((d : Entry) → bytes_eq (slice_index_or xs j d).0.now id ≡ true) → is_some (option_map (λ e. e.1) (find (λ e. bytes_eq e.0.now id) xs)) ≡ true)
+        → ((j : ℕ) → j < length xs → ((d : Entry) → bytes_eq (slice_index_or xs j d).0.now id ≡ true) →
+        is_some (option_map (λ e. e.1) (find (λ e. bytes_eq e.0.now id) xs)) ≡ true)
         → is_some (option_map (λ e. e.1) (find (λ e. bytes_eq e.0.now id) (x ∷ xs))) ≡ true
     go true e i lt has rest = rw e refl
     go false e zero lt has rest = absurd (true≢false (sym (has x) ∙ e))
@@ -48,7 +40,8 @@ record IsEntryOf (a : Arg) (q : ValueParser) (x : MatchedArg) : Type 0 where
   filled : 0 < length x.vals.items
   read : IsReadBy a q x
 
-module _ (c : Command) (a : Arg) (e : Entry) (no_groups : groups_of c ≡ []) (named : a.id.now ≡ [] → ⊥) (same : HasRules c a) (key : e.0.now ≡ a.id.now) (pass : EntryPasses c e) where
+module _ (c : Command) (a : Arg) (e : Entry) (no_groups : groups_of c ≡ []) (named : a.id.now ≡ [] → ⊥) (same : HasRules c a) (key : e.0.now ≡ a.id.now)
+    (pass : EntryPasses c e) where
   no_group : e.1.is_group ≡ true → ⊥
   no_group group = elim (pass.3 group) [
     | inl empty ↦ named (sym key ∙ empty)
@@ -129,7 +122,11 @@ default_read old m p plain globals k d lt wants set delim least only named own q
     let got = entry_by_id (EntryPasses p.built) (found_of m).entries.items a.id.now x parsed.values found in
     let key : got.0.0.now ≡ a.id.now = (bytes_eq-Decides got.0.0.now a.id.now).0 got.2 in
     subst (IsEntryOf a q) got.1
-    (record { filled = filled p.built a got.0 no_groups named same key got.3 set delim least; read = read_by p.built a got.0 no_groups named same key got.3 q parser }))
+    (record {
+      filled = filled p.built a got.0 no_groups named same key got.3 set delim least;
+      read = read_by p.built a got.0 no_groups named same key got.3 q
+          parser;
+    }))
   where
     read : (a : Arg) → is_some (matched_of (found_of m) a.id.now) ≡ true
         → ((x : MatchedArg) → matched_of (found_of m) a.id.now ≡ Some x → IsEntryOf a q x)
@@ -146,7 +143,8 @@ default_read old m p plain globals k d lt wants set delim least only named own q
             let first = first_read (Accepts a.ignore_case q) (reading_of q) x.vals.items is.filled is.read.passed in
             (first.0, one_text_at (found_of m) a.id.now x (reading_of q) (read_as (reading_of q) first.0) e is.read.reading first.1, first.2)
 
-some_read : (P : Text → Type 0) (how : Reading) (vals : List (Bor Text)) → All (λ v. P v.now) vals → (t : Text) → option_map (λ s. read_as how s.now) (slice_get vals 0) ≡ Some t
+some_read : (P : Text → Type 0) (how : Reading) (vals : List (Bor Text)) → All (λ v. P v.now) vals → (t : Text) →
+    option_map (λ s. read_as how s.now) (slice_get vals 0) ≡ Some t
     → (u : Text) × (t ≡ read_as how u) × P u
 some_read P how [] all t is = cc
 some_read P how (v ∷ vals) all t is =

@@ -1,19 +1,9 @@
 -- Links of nodes that are there.
-use Rattle.std.proofs.Common.{◌≡◌, ◌≤◌, ◌<◌, ℕ, zero, suc, ◌-◌, List, [], ◌∷◌, Some, length, map, replicate, slice_index_or, slice_set, inl, inr, refl, ap, sym, subst, ◌∙◌, arith}
-use Rattle.std.proofs.lemmas.Bool.{cases_lt}
-use Rattle.assise_names.specs.declared.refusal.Refusal.TheVariants.{BadNode}
-use Rattle.assise_names.specs.declared.limits.TheConstants.{MOST_NODES}
-use Rattle.assise_fault_script.specs.declared.command.LinkKind.{LinkKind}
-use Rattle.assise_link.specs.TestLinks.{kind_of_link}
+use Rattle.assise_console.proofs.Common.{◌≡◌, ◌≤◌, ◌<◌, ℕ, zero, suc, ◌-◌, List, [], ◌∷◌, Some, length, map, replicate, slice_set, inl, inr, refl, ap, sym}
+use Rattle.assise_console.proofs.Common.{subst, ◌∙◌, arith, cases_lt, BadNode, MOST_NODES, LinkKind, kind_of_link, node_fault, Machine, machine, ClusterOf}
+use Rattle.assise_console.proofs.Common.{few_nodes, ConsoleState, Linked, Refused, SetsLink, is_linked, is_nowhere, link_kind}
+use Rattle.std.proofs.Common.{slice_index_or}
 use Rattle.assise_link.specs.declared.test_link.TestLink.{TestLink}
-use Rattle.assise_model_events.specs.Faults.{node_fault}
-use Rattle.assise_model_events.specs.Machine.{Machine}
-use Rattle.assise_machine.specs.Clusters.{machine}
-use Rattle.assise_machine.specs.declared.cluster.ClusterOf.{ClusterOf}
-use Rattle.assise_machine.proofs.Few.{few_nodes}
-use Rattle.assise_console.specs.State.{ConsoleState}
-use Rattle.assise_console.specs.declared.response.Response.TheVariants.{Linked, Refused}
-use Rattle.assise_console.specs.Steps.{SetsLink, is_linked, is_nowhere, link_kind}
 use Rattle.assise_console.proofs.Numbers.{no_node}
 use Rattle.assise_console.proofs.OneCommand.{with_links}
 
@@ -36,7 +26,8 @@ map_set f [] k x = refl
 map_set f (y ∷ xs) zero x = refl
 map_set f (y ∷ xs) (suc k) x = ap (λ ys. f y ∷ ys) (map_set f xs k x)
 
-pub sets_link : (s : ConsoleState) (n k : ℕ) (kind : LinkKind) (links : List TestLink) (l : TestLink) → k ≡ n → (node_fault s.machine k ≡ Some BadNode → ⊥) → s.links ≡ map kind_of_link links → kind_of_link l ≡ link_kind kind
+pub sets_link : (s : ConsoleState) (n k : ℕ) (kind : LinkKind) (links : List TestLink) (l : TestLink) → k ≡ n → (node_fault s.machine k ≡ Some BadNode → ⊥) →
+    s.links ≡ map kind_of_link links → kind_of_link l ≡ link_kind kind
     → SetsLink s n kind (Linked k) (with_links s s.machine (map kind_of_link (slice_set links (k - 1) l)))
 sets_link s n k kind links l same there seen is =
     let now : map kind_of_link (slice_set links (k - 1) l) ≡ slice_set s.links (k - 1) (link_kind kind) =
@@ -48,7 +39,8 @@ pub links_nowhere : (s : ConsoleState) (n : ℕ) (kind : LinkKind) → length s.
 links_nowhere s n kind far = is_nowhere (no_node s.machine n far) refl refl
 
 -- items that are all alike in something
-pub all_alike : {X Y : Type 0} (f : X → Y) (y : Y) (xs : List X) → ((k : ℕ) (e : X) → k < length xs → f (slice_index_or xs k e) ≡ y) → map f xs ≡ replicate (length xs) y
+pub all_alike : {X Y : Type 0} (f : X → Y) (y : Y) (xs : List X) → ((k : ℕ) (e : X) → k < length xs → f (slice_index_or xs k e) ≡ y) →
+    map f xs ≡ replicate (length xs) y
 all_alike f y [] h = refl
 all_alike f y (x ∷ xs) h =
     let first : f x ≡ y = h 0 x (omega arith) in

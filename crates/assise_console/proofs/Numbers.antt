@@ -1,22 +1,14 @@
 -- Numbers that name no node and no client: what is asked of them is refused.
-use Rattle.std.proofs.Common.{◌≡◌, ◌≤◌, ◌<◌, ℕ, zero, suc, false, List, [], ◌∷◌, length, Some, None, nat_le, slice_get, refl, ap, arith, inl, inr}
-use Rattle.std.proofs.lemmas.Bool.{cases_Bool, leb-true}
+use Rattle.assise_console.proofs.Common.{◌≡◌, ◌≤◌, ◌<◌, ℕ, zero, suc, false, List, [], ◌∷◌, length, Some, None, nat_le, refl, ap, arith, inl, inr, cases_Bool}
+use Rattle.assise_console.proofs.Common.{leb-true, Op, BadClient, BadNode, NodeDown, WrongPhase, World, Durability, MOST_CLIENTS, durability_of, refused}
+use Rattle.assise_console.proofs.Common.{client_fault, fault_if, is_client, node_fault, open_fault, or_else, unless_full, Trying, Machine, Digesting}
+use Rattle.assise_console.proofs.Common.{SettingHot, node_refused}
+use Rattle.std.proofs.Common.{slice_get}
 use Rattle.std.proofs.Math.Bool.{and-false}
-use Rattle.assise_names.specs.declared.call.Op.{Op}
 use Rattle.assise_names.specs.declared.call.Op.TheVariants.{Create, Mkdir, Read, Write, Truncate, Rename, Unlink, Rmdir, List as ListCall, Stat, Fsync, Dsync}
-use Rattle.assise_names.specs.declared.refusal.Refusal.TheVariants.{BadClient, BadNode, NodeDown, WrongPhase}
-use Rattle.assise_model_world.specs.World.{World}
-use Rattle.assise_names.specs.declared.durability.Durability.{Durability}
-use Rattle.assise_names.specs.declared.limits.TheConstants.{MOST_CLIENTS}
-use Rattle.assise_history.specs.Legal.{durability_of}
 use Rattle.assise_model_events.proofs.SyncKeeps.{dsync_refused, fsync_refused}
 use Rattle.assise_model_events.specs.ClientEvents.{Crashing, Opening, is_refused}
-use Rattle.assise_model_events.specs.Events.{refused}
-use Rattle.assise_model_events.specs.Faults.{client_fault, fault_if, is_client, node_fault, open_fault, or_else, unless_full}
-use Rattle.assise_model_events.specs.Happenings.{Trying}
-use Rattle.assise_model_events.specs.Machine.{Machine}
 use Rattle.assise_model_events.specs.MemberEvents.{Failing, Joining, Raising, Refilling, Returning, is_refused as member_refused}
-use Rattle.assise_model_events.specs.NodeEvents.{Digesting, SettingHot, is_refused as node_refused}
 use Rattle.assise_manager.specs.Changes.{failure_fault_of, filling_fault_of, join_fault_of, raise_fault_of, return_fault_of}
 use Rattle.assise_manager.specs.NodeLevels.{level_of}
 use Rattle.assise_manager.specs.Standings.{Standing, standing_of}

@@ -1,34 +1,20 @@
 -- What commands make happen: one event, or some, which their answers tell.
-use Rattle.std.specs.Prelude.{⊤}
-use Rattle.std.proofs.Common.{◌≡◌, ◌<◌, ◌≤◌, ℕ, Bool, true, false, List, [], ◌∷◌, Option, Some, None, Result, Ok, Err, length, refl, ap, sym, subst, ◌∙◌, arith}
-use Rattle.assise_names.specs.declared.call.Op.{Op}
-use Rattle.assise_names.specs.declared.refusal.Refusal.{Refusal}
-use Rattle.assise_names.specs.declared.refusal.Refusal.TheVariants.{BadClient, BadNode, OutOfMemory}
+use Rattle.assise_console.proofs.Common.{⊤, ◌≡◌, ◌<◌, ◌≤◌, ℕ, Bool, true, false, List, [], ◌∷◌, Option, Some, None, Result, Ok, Err, length, refl, ap, sym}
+use Rattle.assise_console.proofs.Common.{subst, ◌∙◌, arith, Op, Refusal, BadClient, BadNode, OutOfMemory, alone_at, Durability, node_fault, RevokerKind, Least}
+use Rattle.assise_console.proofs.Common.{Whole, Eights, Answer, ClusterEvent, back, crash, digest, fail, join, open_client, raise, refill, refused}
+use Rattle.assise_console.proofs.Common.{release_ready, set_hot, try_call, Happens, Machine, Digesting, Releasing, Sending, SettingHot, node_refused, IsServed}
+use Rattle.assise_console.proofs.Common.{happens, stock_after, Response, Carried, Refused, Shown, Told, Kind, IsOne, IsOneAt, Tells, TellsAt, ConsoleState}
+use Rattle.assise_console.proofs.Common.{stock_of, with_machine, with_stock, Calls, CallsOften, CarriesFrames, Changes, OpensClient, Returns, ReturnsWhole}
+use Rattle.assise_console.proofs.Common.{SetsHot, Shows, call_answer, is_carried, is_made, is_refused, is_shown, lacks_memory, return_answer}
 use Rattle.assise_names.specs.declared.reply.Reply.{Reply}
 use Rattle.assise_seq_tree.specs.Tree.{Tree as PlainTree}
 use Rattle.assise_inode_table.specs.Spelled.{Spells}
-use Rattle.assise_model_world.specs.World.{alone_at}
-use Rattle.assise_names.specs.declared.durability.Durability.{Durability}
-use Rattle.assise_model_events.specs.Faults.{node_fault}
-use Rattle.assise_fault_script.specs.declared.command.RevokerKind.{RevokerKind}
-use Rattle.assise_fault_script.specs.declared.command.RevokerKind.TheVariants.{Least, Whole, Eights}
-use Rattle.assise_model_events.specs.Events.{Answer, ClusterEvent, back, crash, digest, fail, join, open_client, raise, refill, refused, release_ready, set_hot, try_call}
-use Rattle.assise_model_events.specs.Happenings.{Happens}
-use Rattle.assise_model_events.specs.Machine.{Machine}
-use Rattle.assise_model_events.specs.NodeEvents.{Digesting, Releasing, Sending, SettingHot, is_refused as node_refused}
-use Rattle.assise_machine.specs.Running.{IsServed, happens, stock_after}
-use Rattle.assise_console.specs.declared.response.Response.{Response}
-use Rattle.assise_console.specs.declared.response.Response.TheVariants.{Carried, Refused, Tree as Shown}
-use Rattle.assise_rounds.specs.Traces.{Told}
-use Rattle.assise_link.specs.Kinds.{Kind}
 use Rattle.assise_rounds.specs.NodeLinks.{FaithfulAt}
 use Rattle.assise_rounds.specs.Returning.{ComesBack, is_refused as comes_not}
 use Rattle.assise_rounds.specs.Rounds.{Replicates}
 use Rattle.assise_rounds.specs.Trying.{TriesOften, is_settled}
-use Rattle.assise_console.specs.OneEvent.{IsOne, IsOneAt, Tells, TellsAt}
-use Rattle.assise_console.specs.State.{ConsoleState, stock_of, with_machine, with_stock}
-use Rattle.assise_console.specs.Steps.{Calls, CallsOften, CarriesFrames, Changes, OpensClient, Returns, ReturnsWhole, SetsHot, Shows, call_answer, is_carried, is_made, is_refused, is_shown, lacks_memory, return_answer}
-use Rattle.assise_console.proofs.Numbers.{comes_nowhere, crashes_nobody, digests_nowhere, fails_nowhere, fills_nowhere, joins_nowhere, no_node, opens_nowhere, raises_nowhere, sets_nowhere, tries_nobody}
+use Rattle.assise_console.proofs.Numbers.{comes_nowhere, crashes_nobody, digests_nowhere, fails_nowhere, fills_nowhere, joins_nowhere, no_node, opens_nowhere}
+use Rattle.assise_console.proofs.Numbers.{raises_nowhere, sets_nowhere, tries_nobody}
 
 -- ---- links
 
@@ -36,13 +22,17 @@ use Rattle.assise_console.proofs.Numbers.{comes_nowhere, crashes_nobody, digests
 abbrev pub with_links : ConsoleState → Machine → List Kind → ConsoleState
 with_links s m links = record { machine = m; stock = s.stock; turns = s.turns; manual = s.manual; links = links }
 
-changes_links : (Does : Machine → Told → Machine → Type 0) (s : ConsoleState) (m' : Machine) (links : List Kind) → links ≡ s.links → (es : Told) × Does s.machine es m' → (es : Told) × Changes Does s es (with_links s m' links)
+changes_links : (Does : Machine → Told → Machine → Type 0) (s : ConsoleState) (m' : Machine) (links : List Kind) → links ≡ s.links →
+    (es : Told) × Does s.machine es m' → (es : Told) × Changes Does s es (with_links s m' links)
 changes_links Does s m' links same (es, h) = (es, record { events = h; stays = ap (with_links s m') same })
 
 -- ---- an open
 
-pub opens_by : (s : ConsoleState) (n k : ℕ) (kind : RevokerKind) (u : Durability) (a : Response) (e : Answer) (m' : Machine) (left : ℕ) → k ≡ n → Tells a e → IsServed (stock_of kind s.stock) s.machine (open_client k u) e m'
-    → left ≡ stock_after (stock_of kind s.stock) e → (es : Told) × OpensClient s n kind u es a (record { machine = m'; stock = with_stock kind left s.stock; turns = s.turns; manual = s.manual; links = s.links })
+pub opens_by : (s : ConsoleState) (n k : ℕ) (kind : RevokerKind) (u : Durability) (a : Response) (e : Answer) (m' : Machine) (left : ℕ) → k ≡ n → Tells a e →
+    IsServed (stock_of kind s.stock) s.machine (open_client k u) e m'
+    → left ≡ stock_after (stock_of kind s.stock) e →
+    (es : Told) × OpensClient s n kind u es a
+    (record { machine = m'; stock = with_stock kind left s.stock; turns = s.turns; manual = s.manual; links = s.links })
 opens_by s n k kind u a e m' left same tells served stock = (
   _,
   record {
@@ -62,7 +52,8 @@ same_stock s Least = refl
 same_stock s Whole = refl
 same_stock s Eights = refl
 
-pub opens_none : (s : ConsoleState) (n : ℕ) (kind : RevokerKind) (u : Durability) → length s.machine.members.nodes < n → (es : Told) × OpensClient s n kind u es (Refused BadNode) s
+pub opens_none : (s : ConsoleState) (n : ℕ) (kind : RevokerKind) (u : Durability) → length s.machine.members.nodes < n →
+    (es : Told) × OpensClient s n kind u es (Refused BadNode) s
 opens_none s n kind u far = (
   _,
   record {
@@ -79,9 +70,11 @@ opens_none s n kind u far = (
 
 -- ---- a call
 
-pub calls_once : (s : ConsoleState) (n k : ℕ) (op : Op) (a : Response) (e : Answer) (m' : Machine) → k ≡ n → s.manual ≡ true → Tells a e → Happens s.machine (try_call k op) e m' → (es : Told) × Changes (Calls s.manual s.links s.turns n op a) s es (with_machine s m')
+pub calls_once : (s : ConsoleState) (n k : ℕ) (op : Op) (a : Response) (e : Answer) (m' : Machine) → k ≡ n → s.manual ≡ true → Tells a e →
+    Happens s.machine (try_call k op) e m' → (es : Told) × Changes (Calls s.manual s.links s.turns n op a) s es (with_machine s m')
 calls_once s n k op a e m' same manual tells h =
-    let once : IsOne (try_call k op) a s.machine ((try_call k op, e) ∷ []) m' = record { answer = e; tells = tells; event = record { told = refl; happens = h } } in (
+    let once : IsOne (try_call k op) a s.machine ((try_call k op, e) ∷ []) m' =
+    record { answer = e; tells = tells; event = record { told = refl; happens = h } } in (
       (try_call k op, e) ∷ [],
       record {
         events = rw manual (subst (λ j. IsOne (try_call j op) a s.machine ((try_call k op, e) ∷ []) m') same once);
@@ -89,13 +82,16 @@ calls_once s n k op a e m' same manual tells h =
       },
     )
 
-pub calls_often : (s : ConsoleState) (n k : ℕ) (op : Op) (a : Response) (r : Result Reply Refusal) (m' : Machine) (links : List Kind) → k ≡ n → s.manual ≡ false → a ≡ call_answer r → links ≡ s.links → (es : Told) × TriesOften (FaithfulAt s.links) s.turns k op r s.machine es m'
+pub calls_often : (s : ConsoleState) (n k : ℕ) (op : Op) (a : Response) (r : Result Reply Refusal) (m' : Machine) (links : List Kind) → k ≡ n →
+    s.manual ≡ false → a ≡ call_answer r → links ≡ s.links → (es : Told) × TriesOften (FaithfulAt s.links) s.turns k op r s.machine es m'
     → (es : Told) × Changes (Calls s.manual s.links s.turns n op a) s es (with_links s m' links)
 calls_often s n k op a r m' links same manual tells stay (es, h) =
-    let often : CallsOften s.links s.turns n op a s.machine es m' = record { result = r; answer = tells; tries = subst (λ j. TriesOften (FaithfulAt s.links) s.turns j op r s.machine es m') same h } in
+    let often : CallsOften s.links s.turns n op a s.machine es m' =
+    record { result = r; answer = tells; tries = subst (λ j. TriesOften (FaithfulAt s.links) s.turns j op r s.machine es m') same h } in
     changes_links (Calls s.manual s.links s.turns n op a) s m' links stay (es, rw manual often)
 
-pub calls_none : (s : ConsoleState) (n : ℕ) (op : Op) → s.machine.world.clients < n → (es : Told) × Changes (Calls s.manual s.links s.turns n op (Refused BadClient)) s es s
+pub calls_none : (s : ConsoleState) (n : ℕ) (op : Op) → s.machine.world.clients < n →
+    (es : Told) × Changes (Calls s.manual s.links s.turns n op (Refused BadClient)) s es s
 calls_none s n op far = either s.manual refl
   where
     nobody : Happens s.machine (try_call n op) (refused BadClient) s.machine
@@ -125,28 +121,38 @@ calls_none s n op far = either s.manual refl
 -- ---- a replicate turn, and a digest
 
 -- what is done over a faithful link is done over one of which less is known
-replicates_less : (F G : Type 0) → (F → G) → (n count : ℕ) (m : Machine) (es : Told) (m' : Machine) → Replicates G n count m es m' → Replicates F n count m es m'
+replicates_less : (F G : Type 0) → (F → G) → (n count : ℕ) (m : Machine) (es : Told) (m' : Machine) → Replicates G n count m es m' →
+    Replicates F n count m es m'
 replicates_less F G to n count m es m' h = record { carried = h.carried; same = λ f. h.same (to f); counts = h.counts; told = h.told; happen = h.happen }
 
-pub carries_some : (s : ConsoleState) (n k count : ℕ) (m' : Machine) (G : Type 0) (links : List Kind) → k ≡ n → (FaithfulAt s.links k → G) → links ≡ s.links → (es : Told) × Replicates G k count s.machine es m'
+pub carries_some : (s : ConsoleState) (n k count : ℕ) (m' : Machine) (G : Type 0) (links : List Kind) → k ≡ n → (FaithfulAt s.links k → G) → links ≡ s.links →
+    (es : Told) × Replicates G k count s.machine es m'
     → (es : Told) × Changes (CarriesFrames (FaithfulAt s.links n) n (Carried count)) s es (with_links s m' links)
 carries_some s n k count m' G links same to stay (es, h) =
-    let here : CarriesFrames (FaithfulAt s.links k) k (Carried count) s.machine es m' = is_carried count refl (replicates_less (FaithfulAt s.links k) G to k count s.machine es m' h) in
-    changes_links (CarriesFrames (FaithfulAt s.links n) n (Carried count)) s m' links stay (es, subst (λ j. CarriesFrames (FaithfulAt s.links j) j (Carried count) s.machine es m') same here)
+    let here : CarriesFrames (FaithfulAt s.links k) k (Carried count) s.machine es m' =
+    is_carried count refl (replicates_less (FaithfulAt s.links k) G to k count s.machine es m' h) in
+    changes_links (CarriesFrames (FaithfulAt s.links n) n (Carried count)) s m' links stay
+    (es, subst (λ j. CarriesFrames (FaithfulAt s.links j) j (Carried count) s.machine es m') same here)
 
-pub carries_refused : (s : ConsoleState) (n k : ℕ) (r : Refusal) (m' : Machine) (links : List Kind) → k ≡ n → links ≡ s.links → Sending s.machine k (refused r) m'
+pub carries_refused : (s : ConsoleState) (n k : ℕ) (r : Refusal) (m' : Machine) (links : List Kind) → k ≡ n → links ≡ s.links →
+    Sending s.machine k (refused r) m'
     → (es : Told) × Changes (CarriesFrames (FaithfulAt s.links n) n (Refused r)) s es (with_links s m' links)
 carries_refused s n k r m' links same stay h =
-    changes_links (CarriesFrames (FaithfulAt s.links n) n (Refused r)) s m' links stay (_, is_refused r refl record { told = refl; happens = subst (λ j. Sending s.machine j (refused r) m') same h })
+    changes_links (CarriesFrames (FaithfulAt s.links n) n (Refused r)) s m' links stay
+    (_, is_refused r refl record { told = refl; happens = subst (λ j. Sending s.machine j (refused r) m') same h })
 
-pub carries_nowhere : (s : ConsoleState) (n : ℕ) → node_fault s.machine n ≡ Some BadNode → (es : Told) × Changes (CarriesFrames (FaithfulAt s.links n) n (Refused BadNode)) s es s
+pub carries_nowhere : (s : ConsoleState) (n : ℕ) → node_fault s.machine n ≡ Some BadNode →
+    (es : Told) × Changes (CarriesFrames (FaithfulAt s.links n) n (Refused BadNode)) s es s
 carries_nowhere s n none = (_, record { events = is_refused BadNode refl record { told = refl; happens = node_refused BadNode none refl refl }; stays = refl })
 
-pub carries_none : (s : ConsoleState) (n : ℕ) → length s.machine.members.nodes < n → (es : Told) × Changes (CarriesFrames (FaithfulAt s.links n) n (Refused BadNode)) s es s
+pub carries_none : (s : ConsoleState) (n : ℕ) → length s.machine.members.nodes < n →
+    (es : Told) × Changes (CarriesFrames (FaithfulAt s.links n) n (Refused BadNode)) s es s
 carries_none s n far = carries_nowhere s n (no_node s.machine n far)
 
-pub digests_by : (m : Machine) (n k : ℕ) (a : Response) (e : Answer) (m' : Machine) → k ≡ n → Tells a e → Digesting m k e m' → (es : Told) × IsOne (digest n) a m es m'
-digests_by m n k a e m' same tells h = (_, record { answer = e; tells = tells; event = record { told = refl; happens = subst (λ j. Digesting m j e m') same h } })
+pub digests_by : (m : Machine) (n k : ℕ) (a : Response) (e : Answer) (m' : Machine) → k ≡ n → Tells a e → Digesting m k e m' →
+    (es : Told) × IsOne (digest n) a m es m'
+digests_by m n k a e m' same tells h =
+    (_, record { answer = e; tells = tells; event = record { told = refl; happens = subst (λ j. Digesting m j e m') same h } })
 
 pub digests_none : (m : Machine) (n : ℕ) → length m.members.nodes < n → (es : Told) × IsOne (digest n) (Refused BadNode) m es m
 digests_none m n far = (_, record { answer = refused BadNode; tells = refl; event = record { told = refl; happens = digests_nowhere m n far } })
@@ -158,9 +164,11 @@ releases_by m a e m' tells h = (_, record { answer = e; tells = tells; event = r
 
 -- ---- crashes, failures and returns
 
-pub does_at : (what : ℕ → ClusterEvent) (m : Machine) (n k : ℕ) (a : Response) (e : Answer) (m' : Machine) → k ≡ n → TellsAt k a e → Happens m (what k) e m' → (es : Told) × IsOneAt what n a m es m'
+pub does_at : (what : ℕ → ClusterEvent) (m : Machine) (n k : ℕ) (a : Response) (e : Answer) (m' : Machine) → k ≡ n → TellsAt k a e → Happens m (what k) e m' →
+    (es : Told) × IsOneAt what n a m es m'
 does_at what m n k a e m' same tells h =
-    let there : IsOneAt what k a m ((what k, e) ∷ []) m' = record { answer = e; tells = tells; event = record { told = refl; happens = h } } in ((what k, e) ∷ [], subst (λ j. IsOneAt what j a m ((what k, e) ∷ []) m') same there)
+    let there : IsOneAt what k a m ((what k, e) ∷ []) m' = record { answer = e; tells = tells; event = record { told = refl; happens = h } } in
+    ((what k, e) ∷ [], subst (λ j. IsOneAt what j a m ((what k, e) ∷ []) m') same there)
 
 refuses_at : (what : ℕ → ClusterEvent) (m : Machine) (n : ℕ) (r : Refusal) → Happens m (what n) (refused r) m → (es : Told) × IsOneAt what n (Refused r) m es m
 refuses_at what m n r h = does_at what m n n (Refused r) (refused r) m refl refl h
@@ -185,30 +193,40 @@ raises_none m n far = refuses_at raise m n BadNode (raises_nowhere m n far)
 
 -- ---- how many inodes may be hot
 
-hot_made : (n capacity : ℕ) (a : Response) (m m' : Machine) → 1 ≤ capacity → capacity ≤ 4096 → (es : Told) × IsOneAt (λ j. set_hot j capacity) n a m es m' → (es : Told) × SetsHot n capacity a m es m'
+hot_made : (n capacity : ℕ) (a : Response) (m m' : Machine) → 1 ≤ capacity → capacity ≤ 4096 → (es : Told) × IsOneAt (λ j. set_hot j capacity) n a m es m' →
+    (es : Told) × SetsHot n capacity a m es m'
 hot_made n capacity a m m' least most (es, h) = (es, is_made least most h)
 
-pub sets_hot : (m : Machine) (n k capacity : ℕ) (a : Response) (e : Answer) (m' : Machine) → k ≡ n → 1 ≤ capacity → capacity ≤ 4096 → TellsAt k a e → SettingHot m k capacity e m' → (es : Told) × SetsHot n capacity a m es m'
+pub sets_hot : (m : Machine) (n k capacity : ℕ) (a : Response) (e : Answer) (m' : Machine) → k ≡ n → 1 ≤ capacity → capacity ≤ 4096 → TellsAt k a e →
+    SettingHot m k capacity e m' → (es : Told) × SetsHot n capacity a m es m'
 sets_hot m n k capacity a e m' same least most tells h = hot_made n capacity a m m' least most (does_at (λ j. set_hot j capacity) m n k a e m' same tells h)
 
-pub hot_nowhere : (m : Machine) (n capacity : ℕ) → 1 ≤ capacity → capacity ≤ 4096 → length m.members.nodes < n → (es : Told) × SetsHot n capacity (Refused BadNode) m es m
-hot_nowhere m n capacity least most far = hot_made n capacity (Refused BadNode) m m least most (refuses_at (λ j. set_hot j capacity) m n BadNode (sets_nowhere m n capacity far))
+pub hot_nowhere : (m : Machine) (n capacity : ℕ) → 1 ≤ capacity → capacity ≤ 4096 → length m.members.nodes < n →
+    (es : Told) × SetsHot n capacity (Refused BadNode) m es m
+hot_nowhere m n capacity least most far =
+    hot_made n capacity (Refused BadNode) m m least most (refuses_at (λ j. set_hot j capacity) m n BadNode (sets_nowhere m n capacity far))
 
 -- ---- the same of a console, whose cluster alone changes
 
-pub changes : (What : Machine → Told → Machine → Type 0) (s : ConsoleState) (m' : Machine) → (es : Told) × What s.machine es m' → (es : Told) × Changes What s es (with_machine s m')
+pub changes : (What : Machine → Told → Machine → Type 0) (s : ConsoleState) (m' : Machine) → (es : Told) × What s.machine es m' →
+    (es : Told) × Changes What s es (with_machine s m')
 changes What s m' (es, h) = (es, record { events = h; stays = refl })
 
-pub begins_return : (s : ConsoleState) (n : ℕ) (a : Response) (m' : Machine) → s.manual ≡ true → (es : Told) × IsOneAt back n a s.machine es m' → (es : Told) × Changes (Returns s.manual n a) s es (with_machine s m')
+pub begins_return : (s : ConsoleState) (n : ℕ) (a : Response) (m' : Machine) → s.manual ≡ true → (es : Told) × IsOneAt back n a s.machine es m' →
+    (es : Told) × Changes (Returns s.manual n a) s es (with_machine s m')
 begins_return s n a m' manual (es, h) = (es, record { events = rw manual h; stays = refl })
 
-pub returns_whole : (s : ConsoleState) (n k : ℕ) (a : Response) (r : Result ⊤ Refusal) (m' : Machine) → k ≡ n → s.manual ≡ false → a ≡ return_answer k r → (es : Told) × ComesBack k r s.machine es m' → (es : Told) × Changes (Returns s.manual n a) s es (with_machine s m')
+pub returns_whole : (s : ConsoleState) (n k : ℕ) (a : Response) (r : Result ⊤ Refusal) (m' : Machine) → k ≡ n → s.manual ≡ false → a ≡ return_answer k r →
+    (es : Told) × ComesBack k r s.machine es m' → (es : Told) × Changes (Returns s.manual n a) s es (with_machine s m')
 returns_whole s n k a r m' same manual tells (es, h) =
-    let whole : ReturnsWhole k a s.machine es m' = record { result = r; answer = tells; comes = h } in (es, record { events = rw manual (subst (λ j. ReturnsWhole j a s.machine es m') same whole); stays = refl })
+    let whole : ReturnsWhole k a s.machine es m' = record { result = r; answer = tells; comes = h } in
+    (es, record { events = rw manual (subst (λ j. ReturnsWhole j a s.machine es m') same whole); stays = refl })
 
-pub returns_none : (s : ConsoleState) (n : ℕ) → s.manual ≡ false → length s.machine.members.nodes < n → (es : Told) × Changes (Returns s.manual n (Refused BadNode)) s es s
+pub returns_none : (s : ConsoleState) (n : ℕ) → s.manual ≡ false → length s.machine.members.nodes < n →
+    (es : Told) × Changes (Returns s.manual n (Refused BadNode)) s es s
 returns_none s n manual far =
-    let nowhere = comes_nowhere s.machine n far in returns_whole s n n (Refused BadNode) (Err BadNode) s.machine refl manual refl ((back n, refused BadNode) ∷ [], comes_not BadNode refl record { told = refl; happens = nowhere })
+    let nowhere = comes_nowhere s.machine n far in returns_whole s n n (Refused BadNode) (Err BadNode) s.machine refl manual refl
+    ((back n, refused BadNode) ∷ [], comes_not BadNode refl record { told = refl; happens = nowhere })
 
 -- ---- a tree
 
@@ -222,7 +240,8 @@ refusal_in r (Err x) = x
 same_refusal : (r e : Refusal) (res : Result PlainTree Refusal) → res ≡ Err r → res ≡ Err e → r ≡ e
 same_refusal r e res is other = ap (refusal_in r) (sym is ∙ other)
 
-pub shows_refusal : (m : Machine) (n k : ℕ) (r : Refusal) (res : Result PlainTree Refusal) → k ≡ n → res ≡ Err r → ((e : Refusal) → node_fault m k ≡ Some e → res ≡ Err e) → (node_fault m k ≡ None → r ≡ OutOfMemory) → Shows n (Refused r) m
+pub shows_refusal : (m : Machine) (n k : ℕ) (r : Refusal) (res : Result PlainTree Refusal) → k ≡ n → res ≡ Err r →
+    ((e : Refusal) → node_fault m k ≡ Some e → res ≡ Err e) → (node_fault m k ≡ None → r ≡ OutOfMemory) → Shows n (Refused r) m
 shows_refusal m n k r res same is faulty memory = rw (sym same) (by_case (node_fault m k) refl)
   where
     by_case : (fault : Option Refusal) → node_fault m k ≡ fault → Shows k (Refused r) m

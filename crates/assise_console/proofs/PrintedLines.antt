@@ -1,12 +1,6 @@
 -- One line more of what is printed.
-use Rattle.std.proofs.Common.{ℕ, List, [], ◌∷◌, ◌++◌, Option, Some, None, Result, Ok, Err, OnOk, refl, ap, sym, subst, ◌∙◌, append_assoc, append-nil}
-use Rattle.std.specs.Io.KnownBytes.{Appends, Keeps}
-use Rattle.assise_fault_script.specs.declared.parse.NumberedCommand.{NumberedCommand}
-use Rattle.assise_console.specs.declared.response.Response.{Response}
-use Rattle.assise_rounds.specs.Traces.{Told}
-use Rattle.assise_console.specs.Lines.{Prints, line_text}
-use Rattle.assise_console.specs.State.{ConsoleState}
-use Rattle.assise_console.specs.Steps.{Serves}
+use Rattle.assise_console.proofs.Common.{ℕ, List, [], ◌∷◌, ◌++◌, Option, Some, None, Result, Ok, Err, OnOk, refl, ap, sym, subst, ◌∙◌, append_assoc, append-nil}
+use Rattle.assise_console.proofs.Common.{Appends, Keeps, NumberedCommand, Response, Told, Prints, line_text, ConsoleState, Serves}
 
 pub appends-none : (u : Option (List ℕ)) → Appends u u []
 appends-none None = tt
@@ -24,7 +18,8 @@ appends-keeps (Some xs) None w a x y = absurd x
 appends-keeps (Some xs) (Some ys) None a x y = y
 appends-keeps (Some xs) (Some ys) (Some zs) a x y = y ∙ x
 
-pub prints-push : (s : ConsoleState) (ls : List NumberedCommand) (es : Told) (text : List ℕ) (t : ConsoleState) (l : NumberedCommand) (fs : Told) (a : Response) (u : ConsoleState) → Prints s ls es text t → Serves t l.command fs a u → Prints s (ls ++ l ∷ []) (es ++ fs) (text ++ line_text l.line u.machine.history a) u
+pub prints-push : (s : ConsoleState) (ls : List NumberedCommand) (es : Told) (text : List ℕ) (t : ConsoleState) (l : NumberedCommand) (fs : Told) (a : Response)
+    (u : ConsoleState) → Prints s ls es text t → Serves t l.command fs a u → Prints s (ls ++ l ∷ []) (es ++ fs) (text ++ line_text l.line u.machine.history a) u
 prints-push s [] es text t l fs a u p q = record {
   answer = a;
   next = u;
@@ -44,7 +39,8 @@ prints-push s (k ∷ ls) es text t l fs a u p q = record {
   rest = p.rest ++ line_text l.line u.machine.history a;
   serves = p.serves;
   told = ap (λ xs. xs ++ fs) p.told ∙ append_assoc p.now p.later fs;
-  line = ap (λ xs. xs ++ line_text l.line u.machine.history a) p.line ∙ append_assoc (line_text k.line p.next.machine.history p.answer) p.rest (line_text l.line u.machine.history a);
+  line = ap (λ xs. xs ++ line_text l.line u.machine.history a) p.line ∙ append_assoc (line_text k.line p.next.machine.history p.answer) p.rest
+      (line_text l.line u.machine.history a);
   others = prints-push p.next ls p.later p.rest t l fs a u p.others q;
 }
 

@@ -1,12 +1,9 @@
 -- A run of a script's commands, from its cluster on.
-use Rattle.std.proofs.Common.{◌≡◌, ◌<◌, ℕ, List, [], ◌∷◌, ◌++◌, Option, length, get_or, ltb, true, false, ap, subst, ◌∙◌, arith}
+use Rattle.assise_console.proofs.Common.{◌≡◌, ◌<◌, ℕ, List, [], ◌∷◌, ◌++◌, Option, length, get_or, ltb, true, false, ap, subst, ◌∙◌, arith, NumberedCommand}
+use Rattle.assise_console.proofs.Common.{all_entries, IsEventTrace, ConsoleState, Stocks, begun_console}
 use Rattle.assise_fault_script.specs.Script.{ClusterFirst, IsCluster}
 use Rattle.assise_fault_script.specs.declared.command.Command.{Command}
-use Rattle.assise_fault_script.specs.declared.parse.NumberedCommand.{NumberedCommand}
-use Rattle.assise_model_events.specs.Events.{all_entries}
-use Rattle.assise_rounds.specs.Traces.{IsEventTrace}
 use Rattle.assise_console.specs.Engines.{ClusterIsBegun, Ran, RunsScript, RunsFrom}
-use Rattle.assise_console.specs.State.{ConsoleState, Stocks, begun_console}
 use Rattle.assise_console.proofs.CommandTraces.{run_trace, run_legal, run_told}
 
 some_nodes : (c : Command) (stock : Stocks) (turns : ℕ) (s : ConsoleState) (b : ClusterIsBegun c stock turns s) → IsCluster c → 0 < b.nodes
@@ -42,6 +39,8 @@ module _ (stock : Stocks) (turns : ℕ) (first : NumberedCommand) (others : List
     }
 
 pub ran_all : (stock : Stocks) (turns : ℕ) (commands : List NumberedCommand) (first : NumberedCommand) (s : ConsoleState) (old new : Option (List ℕ))
-    → true ≡ ltb 0 (length commands) → first ≡ get_or commands 0 first → ClusterFirst commands → ClusterIsBegun first.command stock turns s → RunsFrom s commands old new → Ran stock turns commands old new
+    → true ≡ ltb 0 (length commands) → first ≡ get_or commands 0 first → ClusterFirst commands → ClusterIsBegun first.command stock turns s →
+    RunsFrom s commands old new → Ran stock turns commands old new
 ran_all stock turns [] first s old new some is cluster b r = absurd (let bad : true ≡ false = some in cc)
-ran_all stock turns (k ∷ others) first s old new some is cluster b r = runs_all stock turns k others s old new cluster.0 (subst (λ x. ClusterIsBegun x.command stock turns s) is b) r
+ran_all stock turns (k ∷ others) first s old new some is cluster b r =
+    runs_all stock turns k others s old new cluster.0 (subst (λ x. ClusterIsBegun x.command stock turns s) is b) r

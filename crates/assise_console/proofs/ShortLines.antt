@@ -1,7 +1,6 @@
 -- What is written to a text that is empty is the text.
-use Rattle.std.proofs.Common.{◌≡◌, ◌∙◌, List, ℕ, [], ◌∷◌, ◌++◌, Result, Ok, Err, OnOk, IsOk, ap, sym, append-nil, append_assoc}
-use Rattle.std.specs.Fmt.{WritesInCalls}
-use Rattle.std.specs.List.{FoldsTo, concat}
+use Rattle.assise_console.proofs.Common.{◌≡◌, ◌∙◌, List, ℕ, [], ◌∷◌, ◌++◌, Result, Ok, Err, OnOk, IsOk, ap, sym, append-nil, append_assoc, WritesInCalls}
+use Rattle.assise_console.proofs.Common.{FoldsTo, concat}
 use Rattle.arrayvec.specs.ArrayString.{ArrayString}
 
 pub on_ok : {T E : Type 0} {P : Type 0} (r : Result T E) → IsOk r → OnOk r P → P

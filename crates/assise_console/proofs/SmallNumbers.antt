@@ -1,8 +1,5 @@
 -- A number that takes more than 32 bits names no node and no client: there are few.
-use Rattle.std.proofs.Common.{◌^◌, ◌≤◌, ◌<◌, ℕ, length, arith}
-use Rattle.assise_machine.specs.Clusters.{machine}
-use Rattle.assise_machine.specs.declared.cluster.ClusterOf.{ClusterOf}
-use Rattle.assise_machine.proofs.Few.{few_clients, few_nodes}
+use Rattle.assise_console.proofs.Common.{◌^◌, ◌≤◌, ◌<◌, ℕ, length, arith, machine, ClusterOf, few_clients, few_nodes}
 
 pub no_node_so_large : {C : Type 0} (cluster : ClusterOf C) {n : ℕ} → 2 ^ 32 ≤ n → length (machine cluster).members.nodes < n
 no_node_so_large cluster large = (let few = few_nodes cluster in omega (arith, few, large))

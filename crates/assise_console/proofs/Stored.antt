@@ -1,16 +1,11 @@
 -- What an open leaves of a stock, and what it stores.
-use Rattle.std.proofs.Common.{◌≡◌, ℕ, List, ◌++◌, Option, Result, Ok, Err, OnErr, refl, ap, sym, subst}
+use Rattle.assise_console.proofs.Common.{◌≡◌, ℕ, List, ◌++◌, Option, Result, Ok, Err, OnErr, refl, ap, sym, subst, Refusal, digested, not_yet, opened, refused}
+use Rattle.assise_console.proofs.Common.{released, replied, opened_answer, Response, Quiet, Client, Replied, Waits, Refused, Carried, Digested, Released}
+use Rattle.assise_console.proofs.Common.{Linked, HotSet, Crashed, Failed, Began, Left, Returned, Raised, Tree, History, Checked, Tells, RevokerKind, Least}
+use Rattle.assise_console.proofs.Common.{Whole, Eights}
 use Rattle.std.specs.Option.{option_to_list}
-use Rattle.assise_names.specs.declared.refusal.Refusal.{Refusal}
-use Rattle.assise_model_events.specs.Events.{digested, not_yet, opened, refused, released, replied}
-use Rattle.assise_machine.specs.Running.{opened_answer}
-use Rattle.assise_console.specs.declared.response.Response.{Response}
-use Rattle.assise_console.specs.declared.response.Response.TheVariants.{Quiet, Client, Replied, Waits, Refused, Carried, Digested, Released, Linked, HotSet, Crashed, Failed, Began, Left, Returned, Raised, Tree, History, Checked}
 use Rattle.assise_console.specs.declared.stock.Stock.{Stock}
 use Rattle.assise_console.specs.Stored.{revokers_left}
-use Rattle.assise_console.specs.OneEvent.{Tells}
-use Rattle.assise_fault_script.specs.declared.command.RevokerKind.{RevokerKind}
-use Rattle.assise_fault_script.specs.declared.command.RevokerKind.TheVariants.{Least, Whole, Eights}
 use Rattle.std.specs.Global.{Vec}
 
 same_client : (c d : ℕ) → opened d ≡ opened c → d ≡ c
@@ -54,17 +49,20 @@ module _ {C : Type 0} (a : Response) (r : Result ℕ Refusal) (old new : List C)
 
 -- ---- the other kinds
 
-pub other_kinds_least : {C : Type 0} (s : Stock C) (v : Vec C) (k : RevokerKind) → (k ≡ Least → ⊥) → revokers_left k (record s { least = v }) ≡ revokers_left k s
+pub other_kinds_least : {C : Type 0} (s : Stock C) (v : Vec C) (k : RevokerKind) → (k ≡ Least → ⊥) → revokers_left k (record s { least = v })
+    ≡ revokers_left k s
 other_kinds_least s v Least other = absurd (other refl)
 other_kinds_least s v Whole other = refl
 other_kinds_least s v Eights other = refl
 
-pub other_kinds_whole : {C : Type 0} (s : Stock C) (v : Vec C) (k : RevokerKind) → (k ≡ Whole → ⊥) → revokers_left k (record s { whole = v }) ≡ revokers_left k s
+pub other_kinds_whole : {C : Type 0} (s : Stock C) (v : Vec C) (k : RevokerKind) → (k ≡ Whole → ⊥) → revokers_left k (record s { whole = v })
+    ≡ revokers_left k s
 other_kinds_whole s v Least other = refl
 other_kinds_whole s v Whole other = absurd (other refl)
 other_kinds_whole s v Eights other = refl
 
-pub other_kinds_eights : {C : Type 0} (s : Stock C) (v : Vec C) (k : RevokerKind) → (k ≡ Eights → ⊥) → revokers_left k (record s { eights = v }) ≡ revokers_left k s
+pub other_kinds_eights : {C : Type 0} (s : Stock C) (v : Vec C) (k : RevokerKind) → (k ≡ Eights → ⊥) → revokers_left k (record s { eights = v })
+    ≡ revokers_left k s
 other_kinds_eights s v Least other = refl
 other_kinds_eights s v Whole other = refl
 other_kinds_eights s v Eights other = absurd (other refl)

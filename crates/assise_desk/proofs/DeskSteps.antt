@@ -1,51 +1,51 @@
 -- What the request of a desk does to its cluster.
-use Rattle.std.proofs.Common.{◌≡◌, ◌≤◌, arith, inl, inr, ℕ, ℤ, List, Option, Some, Result, refl, sym, ap, subst, ◌∙◌}
+use Rattle.assise_desk.proofs.Common.{◌≡◌, ◌≤◌, arith, inl, inr, ℕ, ℤ, List, Option, Some, Result, refl, sym, ap, subst, ◌∙◌, Kind, BadNode, Refused, Refusal}
+use Rattle.assise_desk.proofs.Common.{Machine, Told, cluster_seen, kinds_seen, links_seen, Files, ClusterCall, Open, Crash, Fail, Back, SetHot, Raise, SetLink}
+use Rattle.assise_desk.proofs.Common.{Redo, DeskFault, DeskRequest, AnswersAlone, AnswersRequest, DoesAt, IsOutOfRange, IsServedAt, ServesHot, ServesLink}
+use Rattle.assise_desk.proofs.Common.{ServesOpen, ShowsLosses, TellsRedo, answers_alone, done_told, has_no_cluster, is_no_request, number_told, opens_as, owned}
+use Rattle.assise_desk.proofs.Common.{request_calls, request_frees, request_makes, request_manages, request_pages, request_prints, request_queries}
+use Rattle.assise_desk.proofs.Common.{result_shown, links_no_node, sets_hot, sets_link, request_renews, request_shows_listed}
 use Rattle.std.specs.Global.{Box, Vec}
 use Rattle.std.specs.Prelude.{◌+◌, ◌-◌, ◌↔◌, [], IsOk, IsOkUnless, IsSome, OnErr, OnOk, Ok, Err, slice_set, ⊤}
-use Rattle.assise_link.specs.Kinds.{Kind}
 use Rattle.assise_lease_table.specs.Tables.{Enrols}
 use Rattle.assise_manager.specs.Standings.{standing_of}
-use Rattle.assise_names.specs.declared.refusal.Refusal.TheVariants.{BadNode}
-use Rattle.assise_desk.specs.declared.desk_fault.DeskFault.TheVariants.{Refused}
-use Rattle.assise_names.specs.declared.refusal.Refusal.{Refusal}
 use Rattle.assise_machine_calls.specs.Answers.{crashing_answer}
 use Rattle.assise_names.specs.declared.durability.Durability.{Durability}
 use Rattle.assise_names.specs.declared.limits.TheConstants.{MOST_NODES}
 use Rattle.assise_model_events.specs.ClientEvents.{Crashing, Opening}
 use Rattle.assise_model_events.specs.MemberEvents.{Failing, Raising}
 use Rattle.assise_model_events.specs.NodeEvents.{SettingHot}
-use Rattle.assise_model_events.specs.Machine.{Machine}
 use Rattle.assise_machine_failures.specs.Answers.{failing_answer}
 use Rattle.assise_machine.specs.Answers.{raising_answer, setting_answer}
 use Rattle.assise_machine.specs.Running.{opened_answer}
-use Rattle.assise_rounds.specs.Traces.{Told}
 use Rattle.assise_rounds.specs.Returning.{ComesBack}
-use Rattle.assise_files.specs.FilesSeen.{cluster_seen, kinds_seen, links_seen}
 use Rattle.assise_files.specs.declared.cut_kind.CutKind.{CutKind}
-use Rattle.assise_files.specs.declared.files.Files.{Files}
 use Rattle.assise_desk.specs.declared.caller_desk.CallerDesk.{CallerDesk}
-use Rattle.assise_desk.specs.declared.desk_call.ClusterCall.{ClusterCall}
-use Rattle.assise_desk.specs.declared.desk_call.ClusterCall.TheVariants.{Open, Crash, Fail, Back, SetHot, Raise, SetLink, Redo}
 use Rattle.assise_desk.specs.declared.desk_call.DeskCall.{DeskCall}
-use Rattle.assise_desk.specs.declared.desk_fault.DeskFault.{DeskFault}
-use Rattle.assise_desk.specs.declared.desk_request.DeskRequest.{DeskRequest}
 use Rattle.assise_desk.specs.CallNumbers.{desk_call_number}
 use Rattle.assise_desk.specs.NamedKinds.{durability_named, kind_named, link_named}
-use Rattle.assise_desk.specs.DeskAnswers.{AnswersAlone, AnswersRequest, DoesAt, IsOutOfRange, IsServedAt, ServesHot, ServesLink, ServesOpen, ShowsLosses, TellsRedo, answers_alone, done_told, has_no_cluster, is_no_request, number_told, opens_as, owned, request_calls, request_frees, request_makes, request_manages, request_pages, request_prints, request_queries, result_shown, links_no_node, sets_hot, sets_link, request_renews, request_shows_listed}
 
 -- ---- one event
 
-pub opened_as : (r : DeskRequest) (result : Result ℕ DeskFault) (kind : CutKind) (durability : Durability) (told : Result ℕ Refusal) (files left : Files) → kind_named r.kind ≡ Some kind →
-    durability_named r.second ≡ Some durability → result ≡ number_told told → Opening (cluster_seen files) r.node durability (opened_answer told) (cluster_seen left) →
+pub opened_as : (r : DeskRequest) (result : Result ℕ DeskFault) (kind : CutKind) (durability : Durability) (told : Result ℕ Refusal) (files left : Files) →
+    kind_named r.kind ≡ Some kind →
+    durability_named r.second ≡ Some durability → result ≡ number_told told → Opening (cluster_seen files) r.node durability (opened_answer told)
+    (cluster_seen left) →
     OnOk told (Enrols (kinds_seen files) (kinds_seen left) ((cluster_seen files).world.clients + 1) kind) → (es : Told) × ServesOpen r result files es left
-opened_as r result kind durability told files left is_kind is_durability result_is h stored =
-    (_, opens_as kind durability is_kind is_durability record { opened = told; result_is = result_is; event = record { told = refl; happens = h }; stored = stored })
+opened_as r result kind durability told files left is_kind is_durability result_is h stored = (
+  _,
+  opens_as kind durability is_kind is_durability record
+      { opened = told; result_is = result_is; event = record { told = refl; happens = h }; stored = stored },
+)
 
-pub hot_set : (r : DeskRequest) (result : Result ℕ DeskFault) (told : Result ⊤ Refusal) (m m' : Machine) → 1 ≤ r.first → r.first ≤ 4096 → result ≡ done_told told →
+pub hot_set : (r : DeskRequest) (result : Result ℕ DeskFault) (told : Result ⊤ Refusal) (m m' : Machine) → 1 ≤ r.first → r.first ≤ 4096 →
+    result ≡ done_told told →
     SettingHot m r.node r.first (setting_answer told) m' → (es : Told) × ServesHot r result m es m'
-hot_set r result told m m' least most result_is h = (_, sets_hot least most record { told = told; result_is = result_is; event = record { told = refl; happens = h } })
+hot_set r result told m m' least most result_is h =
+    (_, sets_hot least most record { told = told; result_is = result_is; event = record { told = refl; happens = h } })
 
-pub opening_told : (call : ClusterCall) (r : DeskRequest) (result : Result ℕ DeskFault) (before out : List ℕ) (files left : Files) → call ≡ Open → (es : Told) × ServesOpen r result files es left →
+pub opening_told : (call : ClusterCall) (r : DeskRequest) (result : Result ℕ DeskFault) (before out : List ℕ) (files left : Files) → call ≡ Open →
+    (es : Told) × ServesOpen r result files es left →
     (es : Told) × DoesAt call r result before out files es left
 opening_told call r result before out files left is h = rw is h
 
@@ -53,27 +53,37 @@ pub hot_told : (call : ClusterCall) (r : DeskRequest) (result : Result ℕ DeskF
     (es : Told) × ServesHot r result (cluster_seen files) es (cluster_seen left) → (es : Told) × DoesAt call r result before out files es left
 hot_told call r result before out files left is h = rw is h
 
-pub raising_told : (call : ClusterCall) (r : DeskRequest) (result : Result ℕ DeskFault) (before out : List ℕ) (told : Result ⊤ Refusal) (files left : Files) → call ≡ Raise → result ≡ done_told told →
+pub raising_told : (call : ClusterCall) (r : DeskRequest) (result : Result ℕ DeskFault) (before out : List ℕ) (told : Result ⊤ Refusal) (files left : Files) →
+    call ≡ Raise → result ≡ done_told told →
     Raising (cluster_seen files) r.node (raising_answer told) (cluster_seen left) → (es : Told) × DoesAt call r result before out files es left
-raising_told call r result before out told files left is result_is h = rw is (_, record { told = told; result_is = result_is; event = record { told = refl; happens = h } })
+raising_told call r result before out told files left is result_is h =
+    rw is (_, record { told = told; result_is = result_is; event = record { told = refl; happens = h } })
 
-pub crashing_told : (call : ClusterCall) (r : DeskRequest) (result : Result ℕ DeskFault) (before out : List ℕ) (told : Result ⊤ Refusal) (files left : Files) → call ≡ Crash → result ≡ done_told told →
+pub crashing_told : (call : ClusterCall) (r : DeskRequest) (result : Result ℕ DeskFault) (before out : List ℕ) (told : Result ⊤ Refusal) (files left : Files) →
+    call ≡ Crash → result ≡ done_told told →
     Crashing (cluster_seen files) r.client (crashing_answer told) (cluster_seen left) → (es : Told) × DoesAt call r result before out files es left
-crashing_told call r result before out told files left is result_is h = rw is (_, record { told = told; result_is = result_is; event = record { told = refl; happens = h } })
+crashing_told call r result before out told files left is result_is h =
+    rw is (_, record { told = told; result_is = result_is; event = record { told = refl; happens = h } })
 
-pub failing_told : (call : ClusterCall) (r : DeskRequest) (result : Result ℕ DeskFault) (before out : List ℕ) (told : Result (Vec (ℕ × ℕ)) Refusal) (files left : Files) → call ≡ Fail →
-    ShowsLosses told result before out → Failing (cluster_seen files) r.node (failing_answer told) (cluster_seen left) → (es : Told) × DoesAt call r result before out files es left
-failing_told call r result before out told files left is shown h = rw is (_, record { failed = told; shown = shown; event = record { told = refl; happens = h } })
+pub failing_told : (call : ClusterCall) (r : DeskRequest) (result : Result ℕ DeskFault) (before out : List ℕ) (told : Result (Vec (ℕ × ℕ)) Refusal)
+    (files left : Files) → call ≡ Fail →
+    ShowsLosses told result before out → Failing (cluster_seen files) r.node (failing_answer told) (cluster_seen left) →
+    (es : Told) × DoesAt call r result before out files es left
+failing_told call r result before out told files left is shown h =
+    rw is (_, record { failed = told; shown = shown; event = record { told = refl; happens = h } })
 
-pub return_told : (call : ClusterCall) (r : DeskRequest) (result : Result ℕ DeskFault) (before out : List ℕ) (told : Result ⊤ Refusal) (files left : Files) → call ≡ Back → result ≡ done_told told →
+pub return_told : (call : ClusterCall) (r : DeskRequest) (result : Result ℕ DeskFault) (before out : List ℕ) (told : Result ⊤ Refusal) (files left : Files) →
+    call ≡ Back → result ≡ done_told told →
     (es : Told) × ComesBack r.node told (cluster_seen files) es (cluster_seen left) → (es : Told) × DoesAt call r result before out files es left
 return_told call r result before out told files left is result_is (es, h) = rw is (es, record { returned = told; result_is = result_is; comes_back = h })
 
-pub redo_told : (call : ClusterCall) (r : DeskRequest) (result : Result ℕ DeskFault) (before out : List ℕ) (files left : Files) → call ≡ Redo → (es : Told) × TellsRedo r result before out files es left →
+pub redo_told : (call : ClusterCall) (r : DeskRequest) (result : Result ℕ DeskFault) (before out : List ℕ) (files left : Files) → call ≡ Redo →
+    (es : Told) × TellsRedo r result before out files es left →
     (es : Told) × DoesAt call r result before out files es left
 redo_told call r result before out files left is h = rw is h
 
-pub link_told : (call : ClusterCall) (r : DeskRequest) (result : Result ℕ DeskFault) (before out : List ℕ) (files left : Files) → call ≡ SetLink → ServesLink r result files left →
+pub link_told : (call : ClusterCall) (r : DeskRequest) (result : Result ℕ DeskFault) (before out : List ℕ) (files left : Files) → call ≡ SetLink →
+    ServesLink r result files left →
     cluster_seen left ≡ cluster_seen files → (es : Told) × DoesAt call r result before out files es left
 link_told call r result before out files left is h same = rw is ([], record { serves = h; nothing = record { told = refl; stays = same } })
 
@@ -115,16 +125,19 @@ alone_shown d d' result n (has_no_cluster call number needs none still text resu
 pub answered_shown : (d d' : CallerDesk) (result : Result ℕ DeskFault) (n : ℤ) → AnswersRequest d result d' → AnswersRequest d result record d' { result = n }
 answered_shown d d' result n (answers_alone h leaves) = answers_alone (alone_shown d d' result n h) leaves
 answered_shown d d' result n (request_renews files left number served h links leaves) =
-    request_renews files left number record { from = served.from; leaves = served.leaves; turns = served.turns; text = served.text } h links record { bytes = leaves.bytes; stays = leaves.stays }
+    request_renews files left number record { from = served.from; leaves = served.leaves; turns = served.turns; text = served.text } h links record
+    { bytes = leaves.bytes; stays = leaves.stays }
 answered_shown d d' result n (request_manages call files left number served h bytes links stands) =
     request_manages call files left number record { from = served.from; leaves = served.leaves; turns = served.turns; text = served.text } h bytes links stands
 answered_shown d d' result n (request_queries query files number from leaves tells stays text) =
     request_queries query files number from leaves tells record { bytes = stays.bytes; stays = stays.stays } text
 answered_shown d d' result n (request_calls call files left number served h) =
     request_calls call files left number record { from = served.from; leaves = served.leaves; turns = served.turns; text = served.text } h
-answered_shown d d' result n (request_prints text number same keeps stays) = request_prints text number same keeps record { bytes = stays.bytes; stays = stays.stays }
+answered_shown d d' result n (request_prints text number same keeps stays) =
+    request_prints text number same keeps record { bytes = stays.bytes; stays = stays.stays }
 answered_shown d d' result n (request_shows_listed files number from leaves shows text) = request_shows_listed files number from leaves shows text
 answered_shown d d' result n (request_pages number same text shows stands) = request_pages number same text shows stands
 
-pub served_at : (d d' : CallerDesk) (result : Result ℕ DeskFault) (n : ℤ) → n ≡ result_shown result → AnswersRequest d result d' → d'.request ≡ d.request → IsServedAt d record d' { result = n }
+pub served_at : (d d' : CallerDesk) (result : Result ℕ DeskFault) (n : ℤ) → n ≡ result_shown result → AnswersRequest d result d' → d'.request ≡ d.request →
+    IsServedAt d record d' { result = n }
 served_at d d' result n shown answered same = record { result = result; shown = shown; answered = answered_shown d d' result n answered; request = same }

@@ -1,22 +1,13 @@
 -- What a request does to the cluster that it finds is a trace of events.
-use Rattle.std.proofs.Common.{ℕ, List, Result}
+use Rattle.assise_desk.proofs.Common.{ℕ, List, Result, Machine, Kind, IsEventTrace, Told, cluster_seen, links_seen, Files, ClientCall, ClusterCall, Open, Crash}
+use Rattle.assise_desk.proofs.Common.{Fail, Back, Round, SetHot, Raise, SetLink, Redo, DeskFault, DeskRequest, CallsAt, DoesAt, ServesHot, ServesOpen}
+use Rattle.assise_desk.proofs.Common.{asks_for_none, is_called, names_no_durability, names_no_kind, opens_as, sets_hot, sets_nothing}
 use Rattle.assise_names.specs.declared.reply.Reply.{Reply}
-use Rattle.assise_model_events.specs.Machine.{Machine}
-use Rattle.assise_link.specs.Kinds.{Kind}
 use Rattle.assise_rounds.specs.NodeLinks.{FaithfulAt}
-use Rattle.assise_rounds.specs.Traces.{IsEventTrace, Told}
 use Rattle.assise_rounds.proofs.ReturnTrace.{return_trace}
 use Rattle.assise_rounds.proofs.Traces.{event_trace, nothing_trace, round_trace}
-use Rattle.assise_files.specs.FilesSeen.{cluster_seen, links_seen}
-use Rattle.assise_files.specs.declared.files.Files.{Files}
 use Rattle.assise_rounds.proofs.CallTrace.{call_trace}
 use Rattle.assise_files.proofs.TriesTrace.{redo_trace}
-use Rattle.assise_desk.specs.declared.desk_call.ClientCall.{ClientCall}
-use Rattle.assise_desk.specs.declared.desk_call.ClusterCall.{ClusterCall}
-use Rattle.assise_desk.specs.declared.desk_call.ClusterCall.TheVariants.{Open, Crash, Fail, Back, Round, SetHot, Raise, SetLink, Redo}
-use Rattle.assise_desk.specs.declared.desk_fault.DeskFault.{DeskFault}
-use Rattle.assise_desk.specs.declared.desk_request.DeskRequest.{DeskRequest}
-use Rattle.assise_desk.specs.DeskAnswers.{CallsAt, DoesAt, ServesHot, ServesOpen, asks_for_none, is_called, names_no_durability, names_no_kind, opens_as, sets_hot, sets_nothing}
 
 opening_trace : (r : DeskRequest) (result : Result ℕ DeskFault) (files : Files) (es : Told) (left : Files) → ServesOpen r result files es left →
     IsEventTrace (cluster_seen files) es (cluster_seen left)
@@ -38,9 +29,12 @@ cluster_trace Round r result before out files es left h = round_trace (cluster_s
 cluster_trace SetHot r result before out files es left h = hot_trace r result (cluster_seen files) es (cluster_seen left) h
 cluster_trace Raise r result before out files es left h = event_trace _ _ (cluster_seen files) es (cluster_seen left) h.event
 cluster_trace SetLink r result before out files es left h = nothing_trace (cluster_seen files) es (cluster_seen left) h.nothing
-cluster_trace Redo r result before out files es left h = redo_trace (FaithfulAt (links_seen files)) _ r.first r.client _ h.redone (cluster_seen files) es (cluster_seen left) h.made
+cluster_trace Redo r result before out files es left h =
+    redo_trace (FaithfulAt (links_seen files)) _ r.first r.client _ h.redone (cluster_seen files) es (cluster_seen left) h.made
 
-pub client_trace : (links : List Kind) (turns : ℕ) (call : ClientCall) (r : DeskRequest) (bytes : List ℕ) (result : Result Reply DeskFault) (m : Machine) (es : Told) (m' : Machine) →
+pub client_trace : (links : List Kind) (turns : ℕ) (call : ClientCall) (r : DeskRequest) (bytes : List ℕ) (result : Result Reply DeskFault) (m : Machine)
+    (es : Told) (m' : Machine) →
     CallsAt links turns call r bytes result m es m' → IsEventTrace m es m'
-client_trace links turns call r bytes result m es m' (is_called op answer asked tried result_is) = call_trace (FaithfulAt links) turns r.client op answer m es m' tried
+client_trace links turns call r bytes result m es m' (is_called op answer asked tried result_is) =
+    call_trace (FaithfulAt links) turns r.client op answer m es m' tried
 client_trace links turns call r bytes result m es m' (asks_for_none fault none result_is nothing) = nothing_trace m es m' nothing

@@ -1,3 +1,4 @@
+mod Common
 mod DeskTraces
 mod DeskSteps
 mod PathFaults

@@ -1,5 +1,5 @@
 -- Bytes that are put behind others.
-use Rattle.std.proofs.Common.{◌≡◌, ℕ, List, ◌++◌, Option, None, Some, IfSome, MatchOption, take, ap, ◌∙◌, append_assoc}
+use Rattle.assise_desk.proofs.Common.{◌≡◌, ℕ, List, ◌++◌, Option, None, Some, IfSome, MatchOption, take, ap, ◌∙◌, append_assoc}
 
 -- what was put is a prefix and one piece, and then another piece is put
 pub two_pieces : (r : Option ℕ) (P : Type 0) (out prefix before first second f s : List ℕ) → f ≡ first → s ≡ second → prefix ≡ before ++ f →

@@ -1,16 +1,12 @@
 -- Records of one client are digested, and what is read stays.
-use Rattle.std.proofs.Common.{◌≡◌, ◌≢◌, ◌≤◌, ◌<◌, ◌+◌, ◌-◌, ◌||◌, ◌⊎◌, Option, ℕ, zero, suc, Bool, true, false, List, [], ◌∷◌, ◌++◌, length, take, drop, slice_index_or, slice_set, refl, sym, ap, subst, ◌∙◌, inl, inr, drop-drop, take-add, arith}
-use Rattle.std.proofs.lemmas.Bool.{cases_eq, or_parts, or_right as or_true_right}
-use Rattle.std.proofs.lemmas.List.{get_or-set_same, get_or-set_other, length-set, set-get_or, take-append-drop}
+use Rattle.assise_digest.proofs.Common.{◌≡◌, ◌≢◌, ◌≤◌, ◌<◌, ◌+◌, ◌-◌, ◌||◌, ◌⊎◌, Option, ℕ, zero, suc, Bool, true, false, List, [], ◌∷◌, ◌++◌, length, take}
+use Rattle.assise_digest.proofs.Common.{drop, slice_index_or, slice_set, refl, sym, ap, subst, ◌∙◌, inl, inr, drop-drop, take-add, arith, cases_eq, or_parts}
+use Rattle.assise_digest.proofs.Common.{or_true_right, get_or-set_same, get_or-set_other, length-set, set-get_or, LogRecord, all_effects, all_effects-append}
+use Rattle.assise_digest.proofs.Common.{Content, all_applied, contains, touched, value_after, append_applied, get-all_applied, untouched, value_after-append}
+use Rattle.assise_digest.proofs.Common.{contains-both, AreNotBelow, HasClient, IsBegun, ReceivedLog, RegionValue, TouchDisjoint, ahead, ahead_below, all_ahead}
+use Rattle.assise_digest.proofs.Common.{alone, digested_by, digested_further, log_at, log_of, no_log, read_by}
+use Rattle.std.proofs.lemmas.List.{take-append-drop}
 use Rattle.std.specs.FinMap as map
-use Rattle.assise_record.specs.LogRecord.{LogRecord}
-use Rattle.assise_record.specs.Records.{all_effects}
-use Rattle.assise_record.proofs.Records.{all_effects-append}
-use Rattle.assise_inode_table.specs.Contents.{Content}
-use Rattle.assise_inode_table.specs.Effects.{all_applied, contains, touched, value_after}
-use Rattle.assise_inode_table.proofs.EffectLists.{append_applied, get-all_applied}
-use Rattle.assise_inode_table.proofs.EffectValues.{untouched, value_after-append, contains-both}
-use Rattle.assise_digest.specs.Region.{AreNotBelow, HasClient, IsBegun, ReceivedLog, RegionValue, TouchDisjoint, ahead, ahead_below, all_ahead, alone, digested_by, digested_further, log_at, log_of, no_log, read_by}
 use Rattle.assise_digest.proofs.ReceivedLogs.{count_ahead}
 
 -- ---- records of one log
@@ -22,7 +18,8 @@ ahead_further l n b = ap (λ k. drop k l.log.records) further ∙ sym (drop-drop
     further = omega (arith, b.from_first)
 
 -- what is replicated, in two parts
-pub ahead_below_parts : (l : ReceivedLog) (n a : ℕ) → IsBegun l → l.digested + n ≤ a → ahead_below l a ≡ take n (ahead l) ++ ahead_below (digested_further l n) a
+pub ahead_below_parts : (l : ReceivedLog) (n a : ℕ) → IsBegun l → l.digested + n ≤ a → ahead_below l a ≡ take n (ahead l) ++ ahead_below (digested_further l n)
+    a
 ahead_below_parts l n a b h =
     ap (λ k. take k (ahead l)) two ∙ take-add n (a - (l.digested + n)) (ahead l)
     ∙ ap (λ rs. take n (ahead l) ++ take (a - (l.digested + n)) rs) (sym (ahead_further l n b))
@@ -31,12 +28,15 @@ ahead_below_parts l n a b h =
     two = omega (arith, h)
 
 -- which inodes records touch, in two parts
-touched_parts : (n : ℕ) (rs : List LogRecord) (i : ℕ) → contains (touched (all_effects rs)) i ≡ (contains (touched (all_effects (take n rs))) i || contains (touched (all_effects (drop n rs))) i)
+touched_parts : (n : ℕ) (rs : List LogRecord) (i : ℕ) → contains (touched (all_effects rs)) i
+    ≡ (contains (touched (all_effects (take n rs))) i || contains (touched (all_effects (drop n rs))) i)
 touched_parts n rs i =
-    ap (λ xs. contains (touched (all_effects xs)) i) (sym (take-append-drop n rs)) ∙ ap (λ es. contains (touched es) i) (all_effects-append (take n rs) (drop n rs))
+    ap (λ xs. contains (touched (all_effects xs)) i) (sym (take-append-drop n rs))
+    ∙ ap (λ es. contains (touched es) i) (all_effects-append (take n rs) (drop n rs))
     ∙ contains-both (all_effects (take n rs)) (all_effects (drop n rs)) i
 
-pub quiet_prefix : (n : ℕ) (rs : List LogRecord) (i : ℕ) → contains (touched (all_effects rs)) i ≡ false → contains (touched (all_effects (take n rs))) i ≡ false
+pub quiet_prefix : (n : ℕ) (rs : List LogRecord) (i : ℕ) → contains (touched (all_effects rs)) i ≡ false → contains (touched (all_effects (take n rs))) i
+    ≡ false
 quiet_prefix n rs i h = (or_parts (contains (touched (all_effects (take n rs))) i) _ (sym (touched_parts n rs i) ∙ h)).0
 
 quiet_rest : (n : ℕ) (rs : List LogRecord) (i : ℕ) → contains (touched (all_effects rs)) i ≡ false → contains (touched (all_effects (drop n rs))) i ≡ false
@@ -103,22 +103,28 @@ disjoint_digested r c n has b disjoint j k other i among = quiet (cases_eq k (c 
     beside : (q : ℕ) → q ≢ c - 1 → log_at (digested_by r c n) q ≡ log_at r q
     beside q differs = get_or-set_other r.logs (c - 1) q (digested_further (log_of r c) n) no_log differs
 
-    some : (j ≡ c - 1) ⊎ (j ≢ c - 1) → contains (touched (all_effects (ahead (log_at (digested_by r c n) j)))) i ≡ true → contains (touched (all_effects (ahead (log_at r j)))) i ≡ true
+    some : (j ≡ c - 1) ⊎ (j ≢ c - 1) → contains (touched (all_effects (ahead (log_at (digested_by r c n) j)))) i ≡ true →
+        contains (touched (all_effects (ahead (log_at r j)))) i ≡ true
     some (inl same) h =
         ap (λ q. contains (touched (all_effects (ahead (log_at r q)))) i) same
-        ∙ some_of_rest n (ahead (log_of r c)) i (sym (ap (λ l. contains (touched (all_effects (ahead l))) i) (at_it j same) ∙ ap (λ rs. contains (touched (all_effects rs)) i) (ahead_further (log_of r c) n b)) ∙ h)
+        ∙ some_of_rest n (ahead (log_of r c)) i
+        (sym (ap (λ l. contains (touched (all_effects (ahead l))) i) (at_it j same) ∙ ap (λ rs. contains (touched (all_effects rs)) i)
+        (ahead_further (log_of r c) n b)) ∙ h)
     some (inr else) h = sym (ap (λ l. contains (touched (all_effects (ahead l))) i) (beside j else)) ∙ h
 
-    quiet : (k ≡ c - 1) ⊎ (k ≢ c - 1) → contains (touched (all_effects (ahead (log_at r k)))) i ≡ false → contains (touched (all_effects (ahead (log_at (digested_by r c n) k)))) i ≡ false
+    quiet : (k ≡ c - 1) ⊎ (k ≢ c - 1) → contains (touched (all_effects (ahead (log_at r k)))) i ≡ false →
+        contains (touched (all_effects (ahead (log_at (digested_by r c n) k)))) i ≡ false
     quiet (inl same) h =
-        ap (λ l. contains (touched (all_effects (ahead l))) i) (at_it k same) ∙ ap (λ rs. contains (touched (all_effects rs)) i) (ahead_further (log_of r c) n b)
+        ap (λ l. contains (touched (all_effects (ahead l))) i) (at_it k same) ∙ ap (λ rs. contains (touched (all_effects rs)) i)
+        (ahead_further (log_of r c) n b)
         ∙ quiet_rest n (ahead (log_of r c)) i (sym (ap (λ q. contains (touched (all_effects (ahead (log_at r q)))) i) same) ∙ h)
     quiet (inr else) h = ap (λ l. contains (touched (all_effects (ahead l))) i) (beside k else) ∙ h
 
 -- ---- what the region alone gives stays
 
 -- the records that were digested don't touch the inode
-same_without : (l : ReceivedLog) (n i : ℕ) → IsBegun l → contains (touched (all_effects (take n (ahead l)))) i ≡ false → (ls : List ReceivedLog) (k : ℕ) (numbers : List ℕ) (v : Option Content)
+same_without : (l : ReceivedLog) (n i : ℕ) → IsBegun l → contains (touched (all_effects (take n (ahead l)))) i ≡ false →
+    (ls : List ReceivedLog) (k : ℕ) (numbers : List ℕ) (v : Option Content)
     → k < length ls → slice_index_or ls k no_log ≡ l → l.digested + n ≤ slice_index_or numbers k 0
     → value_after i v (all_ahead (slice_set ls k (digested_further l n)) numbers) ≡ value_after i v (all_ahead ls numbers)
 same_without l n i b quiet [] k numbers v h is low = absurd (omega (arith, h))
@@ -131,7 +137,8 @@ same_without l n i b quiet (x ∷ ls) zero (a ∷ numbers) v h is low =
     first =
         ap (λ w. value_after i w (all_effects (ahead_below (digested_further l n) a))) (sym (untouched i v (all_effects (take n (ahead l))) quiet))
         ∙ sym (value_after-append i v (all_effects (take n (ahead l))) (all_effects (ahead_below (digested_further l n) a)))
-        ∙ ap (value_after i v) (sym (all_effects-append (take n (ahead l)) (ahead_below (digested_further l n) a)) ∙ ap all_effects (sym (ahead_below_parts l n a b low)))
+        ∙ ap (value_after i v) (sym (all_effects-append (take n (ahead l)) (ahead_below (digested_further l n) a))
+        ∙ ap all_effects (sym (ahead_below_parts l n a b low)))
         ∙ ap (λ y. value_after i v (all_effects (ahead_below y a))) (sym is)
 same_without l n i b quiet (x ∷ ls) (suc k) [] v h is low = refl
 same_without l n i b quiet (x ∷ ls) (suc k) (a ∷ numbers) v h is low =
@@ -143,7 +150,8 @@ same_without l n i b quiet (x ∷ ls) (suc k) (a ∷ numbers) v h is low =
 same_moved : (l : ReceivedLog) (n i : ℕ) → IsBegun l → (ls : List ReceivedLog) (k : ℕ) (numbers : List ℕ) (v : Option Content)
     → k < length ls → slice_index_or ls k no_log ≡ l → l.digested + n ≤ slice_index_or numbers k 0
     → ((j : ℕ) → j < k → contains (touched (all_effects (ahead (slice_index_or ls j no_log)))) i ≡ false)
-    → value_after i (value_after i v (all_effects (take n (ahead l)))) (all_ahead (slice_set ls k (digested_further l n)) numbers) ≡ value_after i v (all_ahead ls numbers)
+    → value_after i (value_after i v (all_effects (take n (ahead l)))) (all_ahead (slice_set ls k (digested_further l n)) numbers)
+    ≡ value_after i v (all_ahead ls numbers)
 same_moved l n i b [] k numbers v h is low before = absurd (omega (arith, h))
 same_moved l n i b (x ∷ ls) zero [] v h is low before = ap (λ q. value_after i v (all_effects (take q (ahead l)))) none
   where
@@ -153,10 +161,12 @@ same_moved l n i b (x ∷ ls) zero (a ∷ numbers) v h is low before =
     value_after-append i (value_after i v (all_effects (take n (ahead l)))) (all_effects (ahead_below (digested_further l n) a)) (all_ahead ls numbers)
     ∙ ap (λ w. value_after i w (all_ahead ls numbers)) first ∙ sym (value_after-append i v (all_effects (ahead_below x a)) (all_ahead ls numbers))
   where
-    first : value_after i (value_after i v (all_effects (take n (ahead l)))) (all_effects (ahead_below (digested_further l n) a)) ≡ value_after i v (all_effects (ahead_below x a))
+    first : value_after i (value_after i v (all_effects (take n (ahead l)))) (all_effects (ahead_below (digested_further l n) a))
+        ≡ value_after i v (all_effects (ahead_below x a))
     first =
         sym (value_after-append i v (all_effects (take n (ahead l))) (all_effects (ahead_below (digested_further l n) a)))
-        ∙ ap (value_after i v) (sym (all_effects-append (take n (ahead l)) (ahead_below (digested_further l n) a)) ∙ ap all_effects (sym (ahead_below_parts l n a b low)))
+        ∙ ap (value_after i v) (sym (all_effects-append (take n (ahead l)) (ahead_below (digested_further l n) a))
+        ∙ ap all_effects (sym (ahead_below_parts l n a b low)))
         ∙ ap (λ y. value_after i v (all_effects (ahead_below y a))) (sym is)
 same_moved l n i b (x ∷ ls) (suc k) [] v h is low before = ap (λ q. value_after i v (all_effects (take q (ahead l)))) none
   where
@@ -172,7 +182,8 @@ same_moved l n i b (x ∷ ls) (suc k) (a ∷ numbers) v h is low before =
     theirs : contains (touched (all_effects (ahead_below x a))) i ≡ false
     theirs = quiet_prefix (a - x.digested) (ahead x) i (before 0 (omega arith))
 
-pub alone_kept : (r : RegionValue) (c n : ℕ) → HasClient r c → IsBegun (log_of r c) → TouchDisjoint r → (numbers : List ℕ) → AreNotBelow (digested_by r c n).logs numbers
+pub alone_kept : (r : RegionValue) (c n : ℕ) → HasClient r c → IsBegun (log_of r c) → TouchDisjoint r → (numbers : List ℕ) →
+    AreNotBelow (digested_by r c n).logs numbers
     → (i : ℕ) → alone (digested_by r c n) numbers i ≡ alone r numbers i
 alone_kept r c n has b disjoint numbers reached i =
     ap (λ v. value_after i v (all_ahead (digested_by r c n).logs numbers)) (get-all_applied r.inodes (all_effects (take n (ahead (log_of r c)))) i)
@@ -187,7 +198,8 @@ alone_kept r c n has b disjoint numbers reached i =
         (reached (c - 1) (subst (λ k. c - 1 < k) (sym (length-set r.logs (c - 1) (digested_further (log_of r c) n))) within))
 
     go : (b' : Bool) → contains (touched (all_effects (take n (ahead (log_of r c))))) i ≡ b'
-        → value_after i (value_after i (map.get r.inodes i) (all_effects (take n (ahead (log_of r c))))) (all_ahead (digested_by r c n).logs numbers) ≡ alone r numbers i
+        → value_after i (value_after i (map.get r.inodes i) (all_effects (take n (ahead (log_of r c))))) (all_ahead (digested_by r c n).logs numbers)
+        ≡ alone r numbers i
     go true e =
         same_moved (log_of r c) n i b r.logs (c - 1) numbers (map.get r.inodes i) within refl low
         (λ j below. disjoint (c - 1) j (λ same. absurd (omega (arith, same, below))) i (some_of_prefix n (ahead (log_of r c)) i e))
@@ -203,7 +215,8 @@ begun_further l n b h =
     record { from_first = omega (arith, b.from_first); to_end = omega (arith, h, all) }
 
 -- a region of which some records were digested gives alone what it gave
-pub given_alone : (r s : RegionValue) (c n : ℕ) → s ≡ digested_by r c n → HasClient r c → IsBegun (log_of r c) → TouchDisjoint r → (numbers : List ℕ) → AreNotBelow s.logs numbers → (i : ℕ) → alone s numbers i ≡ alone r numbers i
+pub given_alone : (r s : RegionValue) (c n : ℕ) → s ≡ digested_by r c n → HasClient r c → IsBegun (log_of r c) → TouchDisjoint r → (numbers : List ℕ) →
+    AreNotBelow s.logs numbers → (i : ℕ) → alone s numbers i ≡ alone r numbers i
 given_alone r s c n is has b disjoint numbers reached i =
     ap (λ t. alone t numbers i) is ∙ alone_kept r c n has b disjoint numbers (subst (λ t. AreNotBelow t.logs numbers) is reached) i
 

@@ -1,13 +1,11 @@
 -- A directory grows by its last entry: the names ascend, so a new first entry stands before the others.
-use Rattle.std.proofs.Common.{◌≡◌, ◌≤◌, ◌<◌, ℕ, List, [], ◌∷◌, ◌++◌, length, is_some, cond, Less, nat_cmp, refl, sym, ap, subst, ◌∙◌, length-append, arith}
-use Rattle.std.specs.List.{AllByRecursion}
+use Rattle.assise_digest.proofs.Common.{◌≡◌, ◌≤◌, ◌<◌, ℕ, List, [], ◌∷◌, ◌++◌, length, is_some, cond, Less, refl, sym, ap, subst, ◌∙◌, length-append, arith}
+use Rattle.assise_digest.proofs.Common.{AllByRecursion, match_ordering, Tree, dir, Entries, no_entries, entry, insert, replace, put, names_of, IsBelow}
+use Rattle.assise_digest.proofs.Common.{find_below, subtrees_of}
+use Rattle.std.proofs.Common.{nat_cmp}
 use Rattle.std.specs.List.Sorted.{IsStrictlySortedBy}
-use Rattle.std.specs.Ordering.{match_ordering}
 use Rattle.std.specs.Cmp.Lexicographic.{slice_cmp}
 use Rattle.std.proofs.lemmas.Map.Keys.{sorted_head, sorted_tail}
-use Rattle.assise_seq_tree.specs.Tree.{Tree, dir, Entries, no_entries, entry, insert, replace, put, names_of, IsBelow}
-use Rattle.assise_seq_tree.proofs.Sets.{find_below}
-use Rattle.assise_digest.specs.Postorder.{subtrees_of}
 use Rattle.assise_digest.proofs.Forests.{degree-subtrees_of}
 
 sorted_rest : (before names : List (List ℕ)) → IsStrictlySortedBy (slice_cmp nat_cmp) (before ++ names) → IsStrictlySortedBy (slice_cmp nat_cmp) names
@@ -20,19 +18,24 @@ below_names name (entry other t es) h = (h.0, below_names name es h.1)
 
 insert_first : (name : List ℕ) (x : Tree) (es : Entries) → IsBelow name es → insert name x es ≡ entry name x es
 insert_first name x no_entries below = refl
-insert_first name x (entry other t es) below = ap (λ o. match_ordering o (entry name x (entry other t es)) (entry other x es) (entry other t (insert name x es))) below.0
+insert_first name x (entry other t es) below =
+    ap (λ o. match_ordering o (entry name x (entry other t es)) (entry other x es) (entry other t (insert name x es))) below.0
 
 put_first : (name : List ℕ) (x : Tree) (es : Entries) → IsBelow name es → put (dir es) (name ∷ []) x ≡ dir (entry name x es)
 unfolding put
 put_first name x es below =
     ap (λ found. dir (cond (is_some found) (replace name x es) (insert name x es))) (find_below name es below) ∙ ap dir (insert_first name x es below)
 
-pub grows : (names before : List (List ℕ)) (name : List ℕ) (es : Entries) (x : Tree) → IsStrictlySortedBy (slice_cmp nat_cmp) names → before ++ name ∷ names_of es ≡ names
+pub grows : (names before : List (List ℕ)) (name : List ℕ) (es : Entries) (x : Tree) → IsStrictlySortedBy (slice_cmp nat_cmp) names →
+    before ++ name ∷ names_of es ≡ names
     → put (dir es) (name ∷ []) x ≡ dir (entry name x es)
 grows names before name es x s e =
-    put_first name x es (below_names name es (sorted_head (slice_cmp nat_cmp) name (names_of es) (sorted_rest before (name ∷ names_of es) (subst (IsStrictlySortedBy (slice_cmp nat_cmp)) (sym e) s))))
+    put_first name x es (below_names name es
+    (sorted_head (slice_cmp nat_cmp) name (names_of es)
+    (sorted_rest before (name ∷ names_of es) (subst (IsStrictlySortedBy (slice_cmp nat_cmp)) (sym e) s))))
 
 -- a name that is left has a tree
-pub some_left : (es : Entries) (names rest : List (List ℕ)) (old trees : List Tree) → rest ++ names_of es ≡ names → trees ++ subtrees_of es ≡ old → length names ≤ length old → 0 < length rest → 0 < length trees
+pub some_left : (es : Entries) (names rest : List (List ℕ)) (old trees : List Tree) → rest ++ names_of es ≡ names → trees ++ subtrees_of es ≡ old →
+    length names ≤ length old → 0 < length rest → 0 < length trees
 some_left es names rest old trees a b fits some =
     omega (arith, ap length a, ap length b, length-append rest (names_of es), length-append trees (subtrees_of es), degree-subtrees_of es)

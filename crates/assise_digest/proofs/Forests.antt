@@ -1,11 +1,8 @@
 -- Trees one after another, and their places in postorder: the list of the places tells the trees.
-use Rattle.std.proofs.Common.{◌≡◌, ◌≤◌, suc, List, [], ◌∷◌, ◌++◌, length, reverse, refl, sym, ap, ◌∙◌, ◌⊎◌, inl, inr, append_assoc, append-nil, length-append, arith}
-use Rattle.std.proofs.lemmas.List.{reverse-reverse, reverse-append, same_from_push}
-use Rattle.std.specs.List.{flat_map}
+use Rattle.assise_digest.proofs.Common.{◌≡◌, ◌≤◌, suc, List, [], ◌∷◌, ◌++◌, length, reverse, refl, sym, ap, ◌∙◌, ◌⊎◌, inl, inr, append_assoc, append-nil}
+use Rattle.assise_digest.proofs.Common.{length-append, arith, reverse-reverse, reverse-append, same_from_push, flat_map, Tree, file, dir, Entries, no_entries}
+use Rattle.assise_digest.proofs.Common.{entry, names_of, Shape, folder, shape_of_tree, postorder, postorder_of, subtrees, subtrees_of, degree}
 use Rattle.std.proofs.lemmas.Grind.{flat_map-append}
-use Rattle.assise_seq_tree.specs.Tree.{Tree, file, dir, Entries, no_entries, entry, names_of}
-use Rattle.assise_inode_table.specs.Reach.{Shape, folder, shape_of_tree}
-use Rattle.assise_digest.specs.Postorder.{postorder, postorder_of, subtrees, subtrees_of, degree}
 
 -- ---- lists by their last element
 pub record Ends {X : Type 0} (xs : List X) : Type 0 where
@@ -51,7 +48,8 @@ postorder_ends (dir es) = ap (λ ss. ss ++ folder (names_of es) ∷ []) (sym (fo
 pub forest_ends : (ts : List Tree) (t : Tree) → forest (ts ++ t ∷ []) ≡ forest (ts ++ subtrees t) ++ shape_of_tree t ∷ []
 forest_ends ts t =
     flat_map-append postorder ts (t ∷ []) ∙ ap (λ ss. forest ts ++ ss) (append-nil (postorder t) ∙ postorder_ends t)
-    ∙ sym (append_assoc (forest ts) (forest (subtrees t)) (shape_of_tree t ∷ [])) ∙ ap (λ ss. ss ++ shape_of_tree t ∷ []) (sym (flat_map-append postorder ts (subtrees t)))
+    ∙ sym (append_assoc (forest ts) (forest (subtrees t)) (shape_of_tree t ∷ []))
+    ∙ ap (λ ss. ss ++ shape_of_tree t ∷ []) (sym (flat_map-append postorder ts (subtrees t)))
 
 pub degree-subtrees_of : (es : Entries) → length (names_of es) ≡ length (subtrees_of es)
 degree-subtrees_of no_entries = refl
@@ -127,5 +125,6 @@ enough [] s ts us e =
     let same = same_forest (x.prefix ++ subtrees x.last) ts x.rest in
     omega (arith, ap degree x.shape, degree-shape x.last, ap length same, length-append x.prefix (subtrees x.last))
 enough (p ∷ places) s ts us e =
-    let x = cut us (forest ts ++ s ∷ reverse places) p (sym e ∙ ap (λ ps. forest ts ++ s ∷ ps) (reverse_first p places) ∙ sym (append_assoc (forest ts) (s ∷ reverse places) (p ∷ []))) in
+    let x = cut us (forest ts ++ s ∷ reverse places) p
+    (sym e ∙ ap (λ ps. forest ts ++ s ∷ ps) (reverse_first p places) ∙ sym (append_assoc (forest ts) (s ∷ reverse places) (p ∷ []))) in
     enough places s ts (x.prefix ++ subtrees x.last) (sym x.rest)

@@ -1,28 +1,18 @@
 -- Inodes with what records make of them.
-use Rattle.std.proofs.Common.{◌≡◌, ◌≤◌, ◌+◌, ◌-◌, ◌||◌, ◌==◌, ℕ, zero, suc, min, length, take, drop, drop-drop, take-add, append_assoc, append-nil, true≢false, arith, Bool, true, false, cond, if◌then◌else◌, List, [], ◌∷◌, ◌++◌, Option, Some, None, refl, sym, ap, subst, ◌∙◌, is_some}
-use Rattle.std.proofs.lemmas.Bool.{eqb-true, or_right, le-ltb}
-use Rattle.std.proofs.lemmas.List.{take_min}
-use Rattle.std.proofs.lemmas.Option.{same_Some}
-use Rattle.std.specs.List.{slice_get}
-use Rattle.std.specs.Ordering.{nat_cmp}
+use Rattle.assise_digest.proofs.Common.{◌≡◌, ◌≤◌, ◌+◌, ◌-◌, ◌||◌, ◌==◌, ℕ, zero, suc, min, length, take, drop, drop-drop, take-add, append_assoc, append-nil}
+use Rattle.assise_digest.proofs.Common.{true≢false, arith, Bool, true, false, cond, if◌then◌else◌, List, [], ◌∷◌, ◌++◌, Option, Some, None, refl, sym, ap}
+use Rattle.assise_digest.proofs.Common.{subst, ◌∙◌, is_some, eqb-true, or_right, le-ltb, take_min, same_Some, slice_get, nat_cmp, Effect, LogRecord}
+use Rattle.assise_digest.proofs.Common.{CanBeMadeWhole, record_at, AreWhole, IsBegun, ReceivedLog, ahead, Content, InodeMap, all_applied, contains, touched}
+use Rattle.assise_digest.proofs.Common.{value_after, get-all_applied, same_inodes, get-with_value, same_number, untouched, value_after-append, contains-both}
+use Rattle.assise_digest.proofs.Common.{KeepsNoMore, Lays, all_held, overlaid, overlaid_with, pending_seen, Pending}
 use Rattle.std.specs.FinMap as map
-use Rattle.assise_record.specs.declared.effect.Effect.{Effect}
-use Rattle.assise_record.specs.LogRecord.{LogRecord}
-use Rattle.assise_inode_table.specs.Whole.{CanBeMadeWhole}
-use Rattle.assise_private_log.specs.NumberedLog.{record_at}
-use Rattle.assise_digest.specs.Region.{AreWhole, IsBegun, ReceivedLog, ahead}
 use Rattle.assise_digest.proofs.ReceivedLogs.{drop_item}
-use Rattle.assise_inode_table.specs.Contents.{Content, InodeMap}
-use Rattle.assise_inode_table.specs.Effects.{all_applied, contains, touched, value_after}
-use Rattle.assise_inode_table.proofs.EffectLists.{get-all_applied, same_inodes}
-use Rattle.assise_inode_table.proofs.EffectValues.{get-with_value, same_number, untouched, value_after-append, contains-both}
-use Rattle.assise_digest.specs.Pending.{KeepsNoMore, Lays, all_held, overlaid, overlaid_with, pending_seen}
-use Rattle.assise_digest.specs.declared.pending.Pending.{Pending}
 use Rattle.assise_digest.proofs.KeptInodes.{all_held_point, kept_at, point}
 
 -- ---- one map of both
 
-get-overlaid_with : (m kept : InodeMap) (es : List (ℕ × ℕ)) (i : ℕ) → map.get (overlaid_with m kept es) i ≡ (if is_some (map.find nat_cmp i es) then map.get kept i else map.get m i)
+get-overlaid_with : (m kept : InodeMap) (es : List (ℕ × ℕ)) (i : ℕ) → map.get (overlaid_with m kept es) i
+    ≡ (if is_some (map.find nat_cmp i es) then map.get kept i else map.get m i)
 get-overlaid_with m kept [] i = refl
 get-overlaid_with m kept (e ∷ es) i =
     get-with_value (overlaid_with m kept es) e.0 (map.get kept e.0) i
@@ -37,15 +27,18 @@ get-overlaid_with m kept (e ∷ es) i =
     go false other = refl
 
 pub get-overlaid : (m : InodeMap) (p : Pending) (i : ℕ) → map.get (overlaid m p) i ≡ pending_seen p i (map.get m i)
-get-overlaid m p i = get-overlaid_with m p.inodes (map.entries p.last) i ∙ ap (λ o. if is_some o then map.get p.inodes i else map.get m i) (sym (map.get-entries p.last i))
+get-overlaid m p i = get-overlaid_with m p.inodes (map.entries p.last) i ∙ ap (λ o. if is_some o then map.get p.inodes i else map.get m i)
+    (sym (map.get-entries p.last i))
 
 -- what is kept gives the map that the effects make
 pub laid_over : (m : InodeMap) (p : Pending) (es : List Effect) → Lays p m es → overlaid m p ≡ all_applied m es
 laid_over m p es l = same_inodes _ _ (λ i.
-    get-overlaid m p i ∙ ap (λ b. if b then map.get p.inodes i else map.get m i) (l.kept i) ∙ ap (λ v. if contains (touched es) i then v else map.get m i) (l.values i)
+    get-overlaid m p i ∙ ap (λ b. if b then map.get p.inodes i else map.get m i) (l.kept i) ∙ ap (λ v. if contains (touched es) i then v else map.get m i)
+    (l.values i)
     ∙ go i (contains (touched es) i) refl ∙ sym (get-all_applied m es i))
   where
-    go : (i : ℕ) (b : Bool) → contains (touched es) i ≡ b → (if b then (if b then value_after i (map.get m i) es else None) else map.get m i) ≡ value_after i (map.get m i) es
+    go : (i : ℕ) (b : Bool) → contains (touched es) i ≡ b → (if b then (if b then value_after i (map.get m i) es else None) else map.get m i)
+        ≡ value_after i (map.get m i) es
     go i true e = refl
     go i false e = sym (untouched i (map.get m i) es e)
 
@@ -60,7 +53,8 @@ lays_nothing p m inodes last = record {
 pub lays_no_more : (p : Pending) (m : InodeMap) (es : List Effect) → Lays p m es → KeepsNoMore p
 lays_no_more p m es l i none = l.values i ∙ ap (λ b. if b then value_after i (map.get m i) es else None) (sym (l.kept i) ∙ ap is_some none)
 
-pub lays_more : (p q : Pending) (m : InodeMap) (n : ℕ) (es fs : List Effect) → Lays p m es → q.inodes ≡ all_applied (all_held p m n fs).inodes fs → q.last ≡ (all_held p m n fs).last → Lays q m (es ++ fs)
+pub lays_more : (p q : Pending) (m : InodeMap) (n : ℕ) (es fs : List Effect) → Lays p m es → q.inodes ≡ all_applied (all_held p m n fs).inodes fs →
+    q.last ≡ (all_held p m n fs).last → Lays q m (es ++ fs)
 lays_more p q m n es fs l inodes last = record { kept = kept; values = values }
   where
     held : (i : ℕ) → point (all_held p m n fs) i ≡ (if contains (touched fs) i then kept_at m n i (point p i) else point p i)
@@ -78,7 +72,8 @@ lays_more p q m n es fs l inodes last = record { kept = kept; values = values }
         ∙ ap (λ b. b || contains (touched fs) i) (l.kept i) ∙ sym (contains-both es fs i)
 
     -- what stood there before the new effects
-    stood : (i : ℕ) (o : Option ℕ) → is_some o ≡ contains (touched es) i → (kept_at m n i (o, if contains (touched es) i then value_after i (map.get m i) es else None)).1 ≡ value_after i (map.get m i) es
+    stood : (i : ℕ) (o : Option ℕ) → is_some o ≡ contains (touched es) i →
+        (kept_at m n i (o, if contains (touched es) i then value_after i (map.get m i) es else None)).1 ≡ value_after i (map.get m i) es
     stood i None e = sym (untouched i (map.get m i) es (sym e))
     stood i (Some k) e = ap (λ b. if b then value_after i (map.get m i) es else None) (sym e)
 
@@ -90,7 +85,8 @@ lays_more p q m n es fs l inodes last = record { kept = kept; values = values }
         ∙ ap (λ b. if b then value_after i (map.get m i) (es ++ fs) else None) (sym (contains-both es fs i))
       where
         go : (b : Bool) → contains (touched fs) i ≡ b → (a : Bool) → contains (touched es) i ≡ a
-            → value_after i (if b then kept_at m n i (map.get p.last i, if contains (touched es) i then value_after i (map.get m i) es else None) else (map.get p.last i, if contains (touched es) i then value_after i (map.get m i) es else None)).1 fs
+            → value_after i (if b then kept_at m n i (map.get p.last i, if contains (touched es) i then value_after i (map.get m i) es else None) else
+            (map.get p.last i, if contains (touched es) i then value_after i (map.get m i) es else None)).1 fs
             ≡ (if (contains (touched es) i || b) then value_after i (map.get m i) (es ++ fs) else None)
         go true e a f =
             ap (λ v. value_after i v fs) (stood i (map.get p.last i) (l.kept i)) ∙ sym (value_after-append i (map.get m i) es fs)
@@ -103,7 +99,8 @@ lays_more p q m n es fs l inodes last = record { kept = kept; values = values }
             untouched i _ fs e ∙ ap (λ c. if c then value_after i (map.get m i) es else None) f
             ∙ ap (λ c. if (c || false) then value_after i (map.get m i) (es ++ fs) else None) (sym f)
 
-pub laid_no_more : (p q : Pending) (m : InodeMap) (n : ℕ) (fs : List Effect) → KeepsNoMore p → q.inodes ≡ all_applied (all_held p m n fs).inodes fs → q.last ≡ (all_held p m n fs).last → KeepsNoMore q
+pub laid_no_more : (p q : Pending) (m : InodeMap) (n : ℕ) (fs : List Effect) → KeepsNoMore p → q.inodes ≡ all_applied (all_held p m n fs).inodes fs →
+    q.last ≡ (all_held p m n fs).last → KeepsNoMore q
 laid_no_more p q m n fs no_more inodes last i none =
     ap (λ x. map.get x i) inodes ∙ get-all_applied (all_held p m n fs).inodes fs i ∙ go (contains (touched fs) i) refl (all_held_point m n p fs i)
   where
@@ -114,7 +111,8 @@ laid_no_more p q m n fs no_more inodes last i none =
     some None e = true≢false (sym (ap is_some e))
     some (Some k) e = true≢false (sym (ap is_some e))
 
-    go : (b : Bool) → contains (touched fs) i ≡ b → point (all_held p m n fs) i ≡ (if b then kept_at m n i (point p i) else point p i) → value_after i (map.get (all_held p m n fs).inodes i) fs ≡ None
+    go : (b : Bool) → contains (touched fs) i ≡ b → point (all_held p m n fs) i ≡ (if b then kept_at m n i (point p i) else point p i) →
+        value_after i (map.get (all_held p m n fs).inodes i) fs ≡ None
     go true e h = absurd (some (map.get p.last i) (sym gone ∙ ap (λ x. x.0) h))
     go false e h = untouched i (map.get (all_held p m n fs).inodes i) fs e ∙ ap (λ x. x.1) h ∙ no_more i (sym (ap (λ x. x.0) h) ∙ gone)
 
@@ -125,7 +123,8 @@ whole_at [] k r w e = absurd (true≢false (ap is_some e))
 whole_at (s ∷ rs) zero r w e = subst (λ x. CanBeMadeWhole x.effects) (same_Some s r (sym e)) w.0
 whole_at (s ∷ rs) (suc k) r w e = whole_at rs k r w.1 e
 
-pub record_here : (l : ReceivedLog) (number : ℕ) (r : LogRecord) → IsBegun l → l.digested ≤ number → Some r ≡ record_at l.log number → Some r ≡ slice_get l.log.records (number - l.log.first)
+pub record_here : (l : ReceivedLog) (number : ℕ) (r : LogRecord) → IsBegun l → l.digested ≤ number → Some r ≡ record_at l.log number →
+    Some r ≡ slice_get l.log.records (number - l.log.first)
 record_here l number r b h is =
     is ∙ ap (λ x. if x then None else slice_get l.log.records (number - l.log.first)) (le-ltb number l.log.first (omega (arith, b.from_first, h)))
 

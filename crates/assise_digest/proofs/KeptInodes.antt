@@ -1,19 +1,10 @@
 -- What is kept of inodes beside the area, inode by inode.
-use Rattle.std.proofs.Common.{◌≡◌, ◌≢◌, ◌⊎◌, ◌||◌, ◌==◌, ◌+◌, ◌<◌, ℕ, zero, suc, length, drop, slice_index_or, arith, Bool, true, false, cond, if◌then◌else◌, List, [], ◌∷◌, Option, Some, None, IsSome, refl, sym, ap, subst, ◌∙◌, inl, inr, is_some, true≢false}
-use Rattle.std.proofs.lemmas.Bool.{cond_both, eq-eqb, ne_eqb, cases_eq, or_right}
-use Rattle.std.proofs.lemmas.List.{at_drop_more}
-use Rattle.std.specs.Cmp.{nat_cmp_total}
-use Rattle.std.specs.Ordering.{nat_cmp}
-use Rattle.std.specs.Option.{option_map_or}
+use Rattle.assise_digest.proofs.Common.{◌≡◌, ◌≢◌, ◌⊎◌, ◌||◌, ◌==◌, ◌+◌, ◌<◌, ℕ, zero, suc, length, drop, slice_index_or, arith, Bool, true, false, cond}
+use Rattle.assise_digest.proofs.Common.{if◌then◌else◌, List, [], ◌∷◌, Option, Some, None, IsSome, refl, sym, ap, subst, ◌∙◌, inl, inr, is_some, true≢false}
+use Rattle.assise_digest.proofs.Common.{cond_both, eq-eqb, ne_eqb, cases_eq, or_right, at_drop_more, nat_cmp_total, nat_cmp, option_map_or, Effect, touched_by}
+use Rattle.assise_digest.proofs.Common.{Content, InodeMap, contains, touched, with_value, get-with_value, same_number, remove-absent, HasAllNumbers, IsNew}
+use Rattle.assise_digest.proofs.Common.{KeepsNoMore, all_held, forgotten, held, loaded_in_turn, is_last, let_go, last_noted, Pending}
 use Rattle.std.specs.FinMap as map
-use Rattle.assise_record.specs.declared.effect.Effect.{Effect}
-use Rattle.assise_record.specs.Touched.{touched_by}
-use Rattle.assise_inode_table.specs.Contents.{Content, InodeMap}
-use Rattle.assise_inode_table.specs.Effects.{contains, touched, with_value}
-use Rattle.assise_inode_table.proofs.EffectValues.{get-with_value, same_number}
-use Rattle.assise_inode_table.proofs.MapView.{remove-absent}
-use Rattle.assise_digest.specs.Pending.{HasAllNumbers, IsNew, KeepsNoMore, all_held, forgotten, held, loaded_in_turn, is_last, let_go, last_noted}
-use Rattle.assise_digest.specs.declared.pending.Pending.{Pending}
 
 -- ---- finite maps of numbers
 
@@ -41,7 +32,8 @@ module _ (step : Pending → ℕ → Pending) (f : ℕ → Option ℕ × Option 
   points p [] q = refl
   points p (i ∷ is) q = points (step p i) is q ∙ ap (λ x. if contains is q then f q x else x) (stepped p i q) ∙ go (i == q) (contains is q)
     where
-      go : (a b : Bool) → (if b then f q (if a then f q (point p q) else point p q) else (if a then f q (point p q) else point p q)) ≡ (if (a || b) then f q (point p q) else point p q)
+      go : (a b : Bool) → (if b then f q (if a then f q (point p q) else point p q) else (if a then f q (point p q) else point p q))
+          ≡ (if (a || b) then f q (point p q) else point p q)
       go true true = once q (point p q)
       go true false = refl
       go false true = refl
@@ -82,7 +74,8 @@ held_point m n p i q =
     at_same : (q : ℕ) → i ≡ q → point (held p m n i) q ≡ kept_at m n q (point p q)
     at_same q same = subst (λ r. point (held p m n i) r ≡ kept_at m n r (point p r)) same (at_itself (is_some (map.get p.last i)))
 
-pub all_held_point : (m : InodeMap) (n : ℕ) (p : Pending) (es : List Effect) (q : ℕ) → point (all_held p m n es) q ≡ (if contains (touched es) q then kept_at m n q (point p q) else point p q)
+pub all_held_point : (m : InodeMap) (n : ℕ) (p : Pending) (es : List Effect) (q : ℕ) → point (all_held p m n es) q
+    ≡ (if contains (touched es) q then kept_at m n q (point p q) else point p q)
 all_held_point m n p es q = points (λ r i. held r m n i) (kept_at m n) (held_point m n) (kept_once m n) p (touched es) q
 
 -- ---- an inode goes that no other record touches
@@ -124,7 +117,8 @@ let_go_point n p i q =
     at_same : (q : ℕ) → i ≡ q → point (let_go p n i) q ≡ left_at n (point p q)
     at_same q same = subst (λ r. point (let_go p n i) r ≡ left_at n (point p r)) same (at_itself (is_last p n i))
 
-pub forgotten_point : (n : ℕ) (p : Pending) (es : List Effect) (q : ℕ) → point (forgotten p n es) q ≡ (if contains (touched es) q then left_at n (point p q) else point p q)
+pub forgotten_point : (n : ℕ) (p : Pending) (es : List Effect) (q : ℕ) → point (forgotten p n es) q
+    ≡ (if contains (touched es) q then left_at n (point p q) else point p q)
 forgotten_point n p es q = points (λ r i. let_go r n i) (λ q. left_at n) (let_go_point n) (left_once n) p (touched es) q
 
 -- ---- what was kept is let go again
@@ -136,7 +130,8 @@ nothing_forgotten p n es new = same_pending _ _ (λ q. forgotten_point n p es q
     (λ _. ap (λ b. if b then (None, None) else point p q) (new q)) (λ _. refl))
 
 -- an inode that is kept for an effect goes with the others
-pub forgotten_again : (p : Pending) (m : InodeMap) (n i : ℕ) (es : List Effect) → KeepsNoMore p → contains (touched es) i ≡ true → forgotten (held p m n i) n es ≡ forgotten p n es
+pub forgotten_again : (p : Pending) (m : InodeMap) (n i : ℕ) (es : List Effect) → KeepsNoMore p → contains (touched es) i ≡ true → forgotten (held p m n i) n es
+    ≡ forgotten p n es
 forgotten_again p m n i es no_more among =
     same_pending _ _ (λ q.
     forgotten_point n (held p m n i) es q ∙ ap (λ x. if contains (touched es) q then left_at n x else x) (held_point m n p i q)
@@ -147,7 +142,8 @@ forgotten_again p m n i es no_more among =
     both q (Some k) e = refl
 
     go : (q : ℕ) (a b : Bool) → (i == q) ≡ a → contains (touched es) q ≡ b
-        → (if b then left_at n (if a then kept_at m n q (point p q) else point p q) else (if a then kept_at m n q (point p q) else point p q)) ≡ (if b then left_at n (point p q) else point p q)
+        → (if b then left_at n (if a then kept_at m n q (point p q) else point p q) else (if a then kept_at m n q (point p q) else point p q))
+        ≡ (if b then left_at n (point p q) else point p q)
     go q true true e f = both q (map.get p.last q) refl
     go q false true e f = refl
     go q false false e f = refl
@@ -171,9 +167,11 @@ held_no_more p m n i no_more q none = go (i == q) (ap (λ x. x.0) (held_point m 
 
 -- ---- numbers
 
-pub get-noted : (l : map.FinMap nat_cmp ℕ) (n : ℕ) (es : List Effect) (q : ℕ) → map.get (last_noted l n es) q ≡ (if contains (touched es) q then Some n else map.get l q)
+pub get-noted : (l : map.FinMap nat_cmp ℕ) (n : ℕ) (es : List Effect) (q : ℕ) → map.get (last_noted l n es) q
+    ≡ (if contains (touched es) q then Some n else map.get l q)
 get-noted l n [] q = refl
-get-noted l n (e ∷ es) q = get-noted (map.insert l (touched_by e) n) n es q ∙ ap (λ o. if contains (touched es) q then Some n else o) (get-set l (touched_by e) n q) ∙ go (touched_by e == q) (contains (touched es) q)
+get-noted l n (e ∷ es) q = get-noted (map.insert l (touched_by e) n) n es q ∙ ap (λ o. if contains (touched es) q then Some n else o)
+    (get-set l (touched_by e) n q) ∙ go (touched_by e == q) (contains (touched es) q)
   where
     go : (a b : Bool) → (if b then Some n else (if a then Some n else map.get l q)) ≡ (if (a || b) then Some n else map.get l q)
     go true true = refl
@@ -183,7 +181,8 @@ get-noted l n (e ∷ es) q = get-noted (map.insert l (touched_by e) n) n es q �
 
 pub all_held_has : (p : Pending) (m : InodeMap) (n : ℕ) (es : List Effect) → HasAllNumbers (all_held p m n es).last es
 all_held_has p m n es q among =
-    subst IsSome (sym (ap (λ x. x.0) (all_held_point m n p es q ∙ ap (λ b. if b then kept_at m n q (point p q) else point p q) among))) (some (map.get p.last q))
+    subst IsSome (sym (ap (λ x. x.0) (all_held_point m n p es q ∙ ap (λ b. if b then kept_at m n q (point p q) else point p q) among)))
+    (some (map.get p.last q))
   where
     some : (o : Option ℕ) → IsSome (kept_at m n q (o, map.get p.inodes q)).0
     some None = refl
@@ -195,7 +194,8 @@ set_has l i n es has q among = subst IsSome (sym (get-set l i n q)) (cond_both (
 -- ---- an effect of a list
 
 -- it is among those that are left
-pub left_after : {X Y : Type 0} (F : List X → Y) (es : List X) (k : ℕ) (e : X) → k < length es → e ≡ slice_index_or es k e → F (e ∷ drop (k + 1) es) ≡ F (drop k es)
+pub left_after : {X Y : Type 0} (F : List X → Y) (es : List X) (k : ℕ) (e : X) → k < length es → e ≡ slice_index_or es k e →
+    F (e ∷ drop (k + 1) es) ≡ F (drop k es)
 left_after F es k e h is = ap (λ x. F (x ∷ drop (k + 1) es)) is ∙ sym (at_drop_more F es k e h)
 
 -- the inode that it touches is touched by the list

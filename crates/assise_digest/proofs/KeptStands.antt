@@ -1,25 +1,16 @@
 -- What is kept beside the area stands for the records that aren't digested.
-use Rattle.std.proofs.Common.{◌≡◌, ◌≤◌, ◌<◌, ◌+◌, ◌||◌, ◌==◌, ℕ, suc, Bool, true, false, if◌then◌else◌, List, [], ◌∷◌, ◌++◌, length, Option, Some, None, refl, sym, ap, ◌∙◌, is_some, true≢false, arith}
-use Rattle.std.proofs.lemmas.Bool.{eq-eqb, ne_eqb}
-use Rattle.std.proofs.lemmas.Option.{same_Some}
-use Rattle.std.specs.Option.{option_or, option_map_or}
+use Rattle.assise_digest.proofs.Common.{◌≡◌, ◌≤◌, ◌<◌, ◌+◌, ◌||◌, ◌==◌, ℕ, suc, Bool, true, false, if◌then◌else◌, List, [], ◌∷◌, ◌++◌, length, Option, Some}
+use Rattle.assise_digest.proofs.Common.{None, refl, sym, ap, ◌∙◌, is_some, true≢false, arith, eq-eqb, ne_eqb, same_Some, option_or, option_map_or, Effect}
+use Rattle.assise_digest.proofs.Common.{LogRecord, all_effects, all_effects-append, Content, InodeMap, all_applied, contains, touched, value_after}
+use Rattle.assise_digest.proofs.Common.{contains-both, untouched, value_after-append, get-all_applied, last_touch, IsNew, StandsFor, all_held, forgotten}
+use Rattle.assise_digest.proofs.Common.{pending_seen, taken_in, Pending}
 use Rattle.std.specs.FinMap as map
-use Rattle.assise_record.specs.declared.effect.Effect.{Effect}
-use Rattle.assise_record.specs.LogRecord.{LogRecord}
-use Rattle.assise_record.specs.Records.{all_effects}
-use Rattle.assise_record.proofs.Records.{all_effects-append}
-use Rattle.assise_inode_table.specs.Contents.{Content, InodeMap}
-use Rattle.assise_inode_table.specs.Effects.{all_applied, contains, touched, value_after}
-use Rattle.assise_inode_table.proofs.EffectValues.{contains-both, untouched, value_after-append}
-use Rattle.assise_inode_table.proofs.EffectLists.{get-all_applied}
-use Rattle.assise_digest.specs.Ahead.{last_touch}
-use Rattle.assise_digest.specs.Pending.{IsNew, StandsFor, all_held, forgotten, pending_seen, taken_in}
-use Rattle.assise_digest.specs.declared.pending.Pending.{Pending}
 use Rattle.assise_digest.proofs.KeptInodes.{all_held_point, forgotten_point, get-noted, kept_at, left_at, point}
 
 -- ---- effects of records
 
-pub value_after_one_more : (i : ℕ) (old : Option Content) (rs : List LogRecord) (r : LogRecord) → value_after i old (all_effects (rs ++ r ∷ [])) ≡ value_after i (value_after i old (all_effects rs)) r.effects
+pub value_after_one_more : (i : ℕ) (old : Option Content) (rs : List LogRecord) (r : LogRecord) → value_after i old (all_effects (rs ++ r ∷ []))
+    ≡ value_after i (value_after i old (all_effects rs)) r.effects
 value_after_one_more i old rs r =
     ap (value_after i old) (all_effects-append rs (r ∷ [])) ∙ value_after-append i old (all_effects rs) (r.effects ++ [])
     ∙ value_after-append i (value_after i old (all_effects rs)) r.effects []
@@ -52,7 +43,8 @@ within n (r ∷ rs) i k e = go (within (n + 1) rs i) (last_touch (n + 1) rs i) r
         let same = same_Some n k e in (omega (arith, same), omega (arith, same))
     go ih None is false e = absurd (true≢false (sym (ap is_some e)))
 
-pub last_touch-append : (n : ℕ) (rs : List LogRecord) (r : LogRecord) (i : ℕ) → last_touch n (rs ++ r ∷ []) i ≡ (if contains (touched r.effects) i then Some (n + length rs) else last_touch n rs i)
+pub last_touch-append : (n : ℕ) (rs : List LogRecord) (r : LogRecord) (i : ℕ) → last_touch n (rs ++ r ∷ []) i
+    ≡ (if contains (touched r.effects) i then Some (n + length rs) else last_touch n rs i)
 last_touch-append n [] r i = go (contains (touched r.effects) i)
   where
     go : (b : Bool) → option_or None (if b then Some n else None) ≡ (if b then Some (n + 0) else None)
@@ -97,18 +89,22 @@ next_is_new p m n rs s i = ap (λ o. option_map_or (λ k. k == (n + length rs)) 
     go (Some k) is = ne_eqb k (n + length rs) (λ e. absurd (omega (arith, e, (within n rs i k is).1)))
 
 -- one reads what the records make
-pub seen_after : (p : Pending) (m : InodeMap) (n : ℕ) (rs : List LogRecord) → StandsFor p m n rs → (i : ℕ) → pending_seen p i (map.get m i) ≡ value_after i (map.get m i) (all_effects rs)
+pub seen_after : (p : Pending) (m : InodeMap) (n : ℕ) (rs : List LogRecord) → StandsFor p m n rs → (i : ℕ) → pending_seen p i (map.get m i)
+    ≡ value_after i (map.get m i) (all_effects rs)
 seen_after p m n rs s i =
     ap (λ o. if is_some o then map.get p.inodes i else map.get m i) (s.last i) ∙ ap (λ v. if is_some (last_touch n rs i) then v else map.get m i) (s.values i)
     ∙ go (last_touch n rs i) refl
   where
-    go : (o : Option ℕ) → last_touch n rs i ≡ o → (if is_some o then (if is_some o then value_after i (map.get m i) (all_effects rs) else None) else map.get m i) ≡ value_after i (map.get m i) (all_effects rs)
+    go : (o : Option ℕ) → last_touch n rs i ≡ o →
+        (if is_some o then (if is_some o then value_after i (map.get m i) (all_effects rs) else None) else map.get m i) ≡ value_after i (map.get m i)
+        (all_effects rs)
     go None is = sym (quiet m n rs i is)
     go (Some k) is = refl
 
 -- ---- one more record
 
-pub stands_for_one_more : (p : Pending) (m : InodeMap) (n k : ℕ) (rs : List LogRecord) (r : LogRecord) → StandsFor p m n rs → k ≡ n + length rs → StandsFor (taken_in p m k r.effects) m n (rs ++ r ∷ [])
+pub stands_for_one_more : (p : Pending) (m : InodeMap) (n k : ℕ) (rs : List LogRecord) (r : LogRecord) → StandsFor p m n rs → k ≡ n + length rs →
+    StandsFor (taken_in p m k r.effects) m n (rs ++ r ∷ [])
 stands_for_one_more p m n k rs r s is =
     from_points (taken_in p m k r.effects) m n (rs ++ r ∷ []) (λ i.
     at_one i (contains (touched r.effects) i) refl ∙ ap (standing_at m n (rs ++ r ∷ []) i) (sym (last_touch-append n rs r i)))
@@ -119,7 +115,8 @@ stands_for_one_more p m n k rs r s is =
     value : (i : ℕ) → map.get (taken_in p m k es).inodes i ≡ value_after i (map.get (all_held p m k es).inodes i) es
     value i = get-all_applied (all_held p m k es).inodes es i
 
-    held_value : (i : ℕ) (b : Bool) → contains (touched es) i ≡ b → map.get (all_held p m k es).inodes i ≡ (if b then kept_at m k i (point p i) else point p i).1
+    held_value : (i : ℕ) (b : Bool) → contains (touched es) i ≡ b → map.get (all_held p m k es).inodes i
+        ≡ (if b then kept_at m k i (point p i) else point p i).1
     held_value i b e = ap (λ x. x.1) (all_held_point m k p es i) ∙ ap (λ c. (if c then kept_at m k i (point p i) else point p i).1) e
 
     held_last : (i : ℕ) (b : Bool) → contains (touched es) i ≡ b → map.get (all_held p m k es).last i ≡ (if b then kept_at m k i (point p i) else point p i).0
@@ -130,11 +127,14 @@ stands_for_one_more p m n k rs r s is =
     before i None e = sym (quiet m n rs i e)
     before i (Some j) e = refl
 
-    at_one : (i : ℕ) (b : Bool) → contains (touched es) i ≡ b → point (taken_in p m k es) i ≡ standing_at m n (rs ++ r ∷ []) i (if b then Some (n + length rs) else last_touch n rs i)
+    at_one : (i : ℕ) (b : Bool) → contains (touched es) i ≡ b → point (taken_in p m k es) i ≡ standing_at m n (rs ++ r ∷ []) i
+        (if b then Some (n + length rs) else last_touch n rs i)
     at_one i true e =
-        ap (λ o. (o, map.get (taken_in p m k es).inodes i)) (get-noted (all_held p m k es).last k es i ∙ ap (λ c. if c then Some k else map.get (all_held p m k es).last i) e ∙ ap Some is)
+        ap (λ o. (o, map.get (taken_in p m k es).inodes i))
+        (get-noted (all_held p m k es).last k es i ∙ ap (λ c. if c then Some k else map.get (all_held p m k es).last i) e ∙ ap Some is)
         ∙ ap (λ v. (Some (n + length rs), v))
-        (value i ∙ ap (λ v. value_after i v es) (held_value i true e ∙ ap (λ x. (kept_at m k i x).1) (point_of p m n rs s i) ∙ before i (last_touch n rs i) refl)
+        (value i ∙ ap (λ v. value_after i v es) (held_value i true e ∙ ap (λ x. (kept_at m k i x).1) (point_of p m n rs s i)
+        ∙ before i (last_touch n rs i) refl)
         ∙ sym (value_after_one_more i (map.get m i) rs r))
     at_one i false e =
         ap (λ o. (o, map.get (taken_in p m k es).inodes i))
@@ -147,7 +147,8 @@ stands_for_one_more p m n k rs r s is =
 -- ---- a record is digested
 
 -- the first of the records goes into the map
-pub stands_for_the_rest : (p : Pending) (m : InodeMap) (n : ℕ) (r : LogRecord) (rs : List LogRecord) → StandsFor p m n (r ∷ rs) → StandsFor (forgotten p n r.effects) (all_applied m r.effects) (n + 1) rs
+pub stands_for_the_rest : (p : Pending) (m : InodeMap) (n : ℕ) (r : LogRecord) (rs : List LogRecord) → StandsFor p m n (r ∷ rs) →
+    StandsFor (forgotten p n r.effects) (all_applied m r.effects) (n + 1) rs
 stands_for_the_rest p m n r rs s =
     from_points (forgotten p n r.effects) (all_applied m r.effects) (n + 1) rs (λ i.
     forgotten_point n p r.effects i
@@ -158,7 +159,8 @@ stands_for_the_rest p m n r rs s =
     value i = value_after-append i (map.get m i) r.effects (all_effects rs) ∙ ap (λ v. value_after i v (all_effects rs)) (sym (get-all_applied m r.effects i))
 
     at_one : (i : ℕ) (o : Option ℕ) → last_touch (n + 1) rs i ≡ o → (b : Bool)
-        → (if b then left_at n (standing_at m n (r ∷ rs) i (option_or o (if b then Some n else None))) else standing_at m n (r ∷ rs) i (option_or o (if b then Some n else None)))
+        → (if b then left_at n (standing_at m n (r ∷ rs) i (option_or o (if b then Some n else None))) else standing_at m n (r ∷ rs) i
+        (option_or o (if b then Some n else None)))
         ≡ standing_at (all_applied m r.effects) (n + 1) rs i o
     at_one i (Some k) is true =
         ap (λ c. if c then (None, None) else standing_at m n (r ∷ rs) i (Some k)) (ne_eqb k n (λ e. absurd (omega (arith, e, (within (n + 1) rs i k is).0))))
@@ -172,6 +174,7 @@ pub stands_beside : (p : Pending) (m w : InodeMap) (n : ℕ) (rs : List LogRecor
     → ((i : ℕ) → contains (touched (all_effects rs)) i ≡ true → map.get w i ≡ map.get m i) → StandsFor p w n rs
 stands_beside p m w n rs s same = record { last = s.last; values = λ i. s.values i ∙ go i (last_touch n rs i) refl }
   where
-    go : (i : ℕ) (o : Option ℕ) → last_touch n rs i ≡ o → (if is_some o then value_after i (map.get m i) (all_effects rs) else None) ≡ (if is_some o then value_after i (map.get w i) (all_effects rs) else None)
+    go : (i : ℕ) (o : Option ℕ) → last_touch n rs i ≡ o → (if is_some o then value_after i (map.get m i) (all_effects rs) else None)
+        ≡ (if is_some o then value_after i (map.get w i) (all_effects rs) else None)
     go i None is = refl
     go i (Some k) is = ap (λ v. value_after i v (all_effects rs)) (sym (same i (sym (is_touched n rs i) ∙ ap is_some is)))

@@ -1,3 +1,4 @@
+mod Common
 pub mod KeptInodes
 pub mod KeptStands
 pub mod MovedInodes

@@ -1,20 +1,13 @@
 -- What is listed of a tree so far, and what is pending.
-use Rattle.std.proofs.Common.{◌≡◌, ℕ, ◌≤◌, List, [], ◌∷◌, ◌++◌, length, reverse, Option, Some, None, IsSome, is_some, Ok, refl, sym, ap, subst, ◌∙◌, append_assoc, append-nil, length-append, arith}
-use Rattle.std.specs.Prelude.{ok_or}
-use Rattle.std.specs.List.{cons_option}
+use Rattle.assise_digest.proofs.Common.{◌≡◌, ℕ, ◌≤◌, List, [], ◌∷◌, ◌++◌, length, reverse, Option, Some, None, IsSome, is_some, Ok, refl, sym, ap, subst, ◌∙◌}
+use Rattle.assise_digest.proofs.Common.{append_assoc, append-nil, length-append, arith, ok_or, cons_option, reverse-append, length-reverse, Tree, file, dir}
+use Rattle.assise_digest.proofs.Common.{Entries, no_entries, entry, find, names_of, AreOrdered, find_first, found_later, Content, regular, directory, Links}
+use Rattle.assise_digest.proofs.Common.{Values, Shape, link_of, shape_of, shape_of_tree, SpellsFrom, postorder, subtrees, subtrees_of, linked, targets}
 use Rattle.std.specs.FinMap as map
-use Rattle.std.proofs.lemmas.List.{reverse-append, length-reverse}
 use Rattle.assise_names.specs.declared.reply.TreeError.TheVariants.{NoEnt}
-use Rattle.assise_seq_tree.specs.Tree.{Tree, file, dir, Entries, no_entries, entry, find, names_of, AreOrdered}
-use Rattle.assise_seq_tree.proofs.Sets.{find_first, found_later}
-use Rattle.assise_inode_table.specs.Contents.{Content, regular, directory, Links, Values}
-use Rattle.assise_inode_table.specs.Reach.{Shape, link_of, shape_of, shape_of_tree}
-use Rattle.assise_inode_table.specs.Spelled.{SpellsFrom}
 use Rattle.assise_inode_table.proofs.ReachedSpelling.{Child, child, shape_here, reached_is_there}
 use Rattle.assise_inode_table.proofs.DirectoryNames.{same_found}
 use Rattle.assise_inode_table.proofs.SpellingUnique.{spelled_is_ordered}
-use Rattle.assise_digest.specs.Postorder.{postorder, subtrees, subtrees_of}
-use Rattle.assise_digest.specs.Targets.{linked, targets}
 use Rattle.assise_digest.proofs.Forests.{forest, forest_ends}
 
 -- ---- inodes, each with the tree that it spells
@@ -51,7 +44,8 @@ some_too : {A B : Type 0} (o : Option A) (p : Option B) (x : A) → o ≡ Some x
 some_too o None x is same = let no = sym (ap is_some is) ∙ same in cc
 some_too o (Some y) x is same = (y, refl)
 
-module _ (v : Values) (i : ℕ) (es : Entries) (links : Links) (spelled : SpellsFrom v i (dir es)) (holds : v i ≡ Some (directory links)) (names : names_of es ≡ map.keys links) where
+module _ (v : Values) (i : ℕ) (es : Entries) (links : Links) (spelled : SpellsFrom v i (dir es)) (holds : v i ≡ Some (directory links))
+    (names : names_of es ≡ map.keys links) where
   -- an entry links to an inode that spells its tree
   entry_spells : (name : List ℕ) (t : Tree) → find name es ≡ Some t → (k : ℕ) × (map.get links name ≡ Some k) × SpellsFrom v k t
   entry_spells name t there =
@@ -61,20 +55,23 @@ module _ (v : Values) (i : ℕ) (es : Entries) (links : Links) (spelled : Spells
       let one : c.subtree ≡ t = cc (c.found, there, entries) in
       (got.0, got.1, subst (SpellsFrom v got.0) one c.spells)
 
-  entries_spell : (fs : Entries) → AreOrdered fs → ((q : List ℕ) (t : Tree) → find q fs ≡ Some t → find q es ≡ Some t) → SpellEach v (linked links (names_of fs)) (subtrees_of fs)
+  entries_spell : (fs : Entries) → AreOrdered fs → ((q : List ℕ) (t : Tree) → find q fs ≡ Some t → find q es ≡ Some t) →
+      SpellEach v (linked links (names_of fs)) (subtrees_of fs)
   entries_spell no_entries s within = tt
   entries_spell (entry name t fs) s within =
       let here = entry_spells name t (within name t (find_first name t fs)) in
       let rest = entries_spell fs s.2 (λ q u there. within q u (found_later q name t u fs s.0 there)) in
       subst (λ o. SpellEach v (cons_option o (linked links (names_of fs))) (t ∷ subtrees_of fs)) (sym here.1) (here.2, rest)
 
-links_spell : (v : Values) (i : ℕ) (t : Tree) (content : Content) → SpellsFrom v i t → v i ≡ Some content → shape_of (Some content) ≡ Ok (shape_of_tree t) → SpellEach v (targets content) (subtrees t)
+links_spell : (v : Values) (i : ℕ) (t : Tree) (content : Content) → SpellsFrom v i t → v i ≡ Some content → shape_of (Some content) ≡ Ok (shape_of_tree t) →
+    SpellEach v (targets content) (subtrees t)
 links_spell v i (file bytes) (regular others) s holds shapes = tt
 links_spell v i (file bytes) (directory links) s holds shapes = cc
 links_spell v i (dir es) (regular others) s holds shapes = cc
 links_spell v i (dir es) (directory links) s holds shapes =
     let names : names_of es ≡ map.keys links = cc in
-    subst (λ names. SpellEach v (linked links names) (subtrees_of es)) names (entries_spell v i es links s holds names es (spelled_is_ordered v i (dir es) s) (λ q t there. there))
+    subst (λ names. SpellEach v (linked links names) (subtrees_of es)) names
+    (entries_spell v i es links s holds names es (spelled_is_ordered v i (dir es) s) (λ q t there. there))
 
 -- ---- the list
 -- the trees that are pending have the first places in postorder, and the others are listed, the last first
@@ -96,7 +93,8 @@ module _ (v : Values) (t : Tree) (rest : List ℕ) (i : ℕ) (places : List Shap
   pub next_is_there : IsSome (v i)
   next_is_there = reached_is_there v i at_end.last [] i at_end.spelled refl
 
-  pub listed_next : (content : Content) (s : Shape) → v i ≡ Some content → shape_of (Some content) ≡ Ok s → IsListed v t (rest ++ targets content) (places ++ s ∷ [])
+  pub listed_next : (content : Content) (s : Shape) → v i ≡ Some content → shape_of (Some content) ≡ Ok s →
+      IsListed v t (rest ++ targets content) (places ++ s ∷ [])
   listed_next content s holds is =
       let e = at_end in
       let shapes : shape_of (Some content) ≡ Ok (shape_of_tree e.last) = sym (ap shape_of holds) ∙ shape_here v i e.last e.spelled in
@@ -113,7 +111,8 @@ module _ (v : Values) (t : Tree) (rest : List ℕ) (i : ℕ) (places : List Shap
 pub not_more : (v : Values) (t : Tree) (pending : List ℕ) (places : List Shape) → IsListed v t pending places → length places ≤ length (postorder t)
 not_more v t pending places l = omega (arith, ap length l.whole, length-append (forest l.trees) (reverse places), length-reverse places)
 
-pub all_listed : (v : Values) (t : Tree) (pending : List ℕ) (places : List Shape) → IsListed v t pending places → length pending ≡ 0 → reverse places ≡ postorder t
+pub all_listed : (v : Values) (t : Tree) (pending : List ℕ) (places : List Shape) → IsListed v t pending places → length pending ≡ 0 →
+    reverse places ≡ postorder t
 all_listed v t [] places l none = go l.trees l.spelled l.whole
   where
     go : (ts : List Tree) → SpellEach v [] ts → forest ts ++ reverse places ≡ postorder t → reverse places ≡ postorder t

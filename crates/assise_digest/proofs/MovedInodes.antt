@@ -1,21 +1,12 @@
 -- What is kept of records moves into the area.
-use Rattle.std.proofs.Common.{◌≡◌, ◌&&◌, ◌||◌, ◌+◌, ◌-◌, ◌<◌, ℕ, length, drop, slice_index_or, arith, Bool, true, false, cond, if◌then◌else◌, not, List, [], ◌∷◌, Option, Some, None, refl, sym, ap, subst, ◌∙◌, nat_eq, is_some}
-use Rattle.std.proofs.lemmas.List.{at_drop_more, drop_all}
-use Rattle.std.specs.Cmp.{nat_cmp_total}
-use Rattle.std.specs.Option.{option_or}
-use Rattle.std.specs.List.{list_any}
+use Rattle.assise_digest.proofs.Common.{◌≡◌, ◌&&◌, ◌||◌, ◌+◌, ◌-◌, ◌<◌, ℕ, length, drop, slice_index_or, arith, Bool, true, false, cond, if◌then◌else◌, not}
+use Rattle.assise_digest.proofs.Common.{List, [], ◌∷◌, Option, Some, None, refl, sym, ap, subst, ◌∙◌, nat_eq, is_some, at_drop_more, drop_all, nat_cmp_total}
+use Rattle.assise_digest.proofs.Common.{option_or, list_any, Content, InodeMap, same_inodes, alike, KeepsNoMore, StandsFor, overlaid, pending_seen, Pending}
+use Rattle.assise_digest.proofs.Common.{end, LogInvariant, Received}
 use Rattle.std.specs.Map.{lookup, keys_of}
 use Rattle.std.specs.FinMap as map
-use Rattle.assise_inode_table.specs.Contents.{Content, InodeMap}
-use Rattle.assise_inode_table.proofs.EffectLists.{same_inodes}
-use Rattle.assise_inode_table.proofs.MapView.{alike}
-use Rattle.assise_digest.specs.Pending.{KeepsNoMore, StandsFor, overlaid, pending_seen}
-use Rattle.assise_digest.specs.declared.pending.Pending.{Pending}
 use Rattle.assise_digest.proofs.InodesUnderRecords.{get-overlaid}
 use Rattle.assise_digest.proofs.KeptStands.{stands_for_none}
-use Rattle.assise_private_log.specs.NumberedLog.{end}
-use Rattle.assise_digest.specs.Invariant.{LogInvariant}
-use Rattle.assise_digest.specs.declared.received.Received.{Received}
 
 -- ---- numbers without an inode
 
@@ -24,7 +15,8 @@ pub any_key : {X : Type 0} (es : List (ℕ × X)) (i : ℕ) → list_any (nat_eq
 any_key [] i = refl
 any_key (e ∷ es) i = go (nat_eq i e.0) (any_key es i)
   where
-    go : (b : Bool) → list_any (nat_eq i) (keys_of es) ≡ is_some (lookup (nat_eq i) es) → (b || list_any (nat_eq i) (keys_of es)) ≡ is_some (cond b (Some e.1) (lookup (nat_eq i) es))
+    go : (b : Bool) → list_any (nat_eq i) (keys_of es) ≡ is_some (lookup (nat_eq i) es) → (b || list_any (nat_eq i) (keys_of es))
+        ≡ is_some (cond b (Some e.1) (lookup (nat_eq i) es))
     go true rest = refl
     go false rest = rest
 
@@ -39,7 +31,8 @@ left_number F xs k h = sym (at_drop_more F xs k 0 h)
 -- ---- the inodes after the move
 
 -- the next one is taken out
-pub removed_next : (m : InodeMap) (x i : ℕ) (left : List ℕ) → cond (list_any (nat_eq i) left) None (map.get (map.remove m x) i) ≡ cond (list_any (nat_eq i) (x ∷ left)) None (map.get m i)
+pub removed_next : (m : InodeMap) (x i : ℕ) (left : List ℕ) → cond (list_any (nat_eq i) left) None (map.get (map.remove m x) i)
+    ≡ cond (list_any (nat_eq i) (x ∷ left)) None (map.get m i)
 removed_next m x i left =
     ap (cond (list_any (nat_eq i) left) None) (map.get-remove nat_cmp_total m x i ∙ ap (λ b. cond b None (map.get m i)) (alike i x))
     ∙ go (nat_eq i x) (list_any (nat_eq i) left) (map.get m i)
@@ -59,7 +52,8 @@ moved_all m w v p gone no_more which moved taken = same_inodes v (overlaid m p) 
     taken i ∙ (λ j. cond (which i j) None (moved i j)) ∙ go i (map.get p.last i) (map.get p.inodes i) refl refl ∙ sym (get-overlaid m p i))
   where
     go : (i : ℕ) (o : Option ℕ) (c : Option Content) → map.get p.last i ≡ o → map.get p.inodes i ≡ c
-        → cond (is_some (map.get p.last i) && not (is_some (map.get p.inodes i))) None (option_or (map.get p.inodes i) (map.get m i)) ≡ pending_seen p i (map.get m i)
+        → cond (is_some (map.get p.last i) && not (is_some (map.get p.inodes i))) None (option_or (map.get p.inodes i) (map.get m i))
+        ≡ pending_seen p i (map.get m i)
     go i None c last is =
         let none : map.get p.inodes i ≡ None = no_more i last in
         ap (λ x. cond (is_some x && not (is_some (map.get p.inodes i))) None (option_or (map.get p.inodes i) (map.get m i))) last

@@ -1,9 +1,6 @@
 -- Trees are put together in postorder.
-use Rattle.std.proofs.Common.{◌≡◌, ◌+◌, List, [], ◌∷◌, ◌++◌, length, map, reverse, sym, ap, ◌∙◌, append_assoc, append-nil, length-append, arith}
-use Rattle.std.proofs.lemmas.List.{reverse-append, map-append}
-use Rattle.assise_seq_tree.specs.Tree.{Tree}
-use Rattle.assise_inode_table.specs.Reach.{Shape, shape_of_tree}
-use Rattle.assise_digest.specs.Postorder.{postorder, shape, subtrees}
+use Rattle.assise_digest.proofs.Common.{◌≡◌, ◌+◌, List, [], ◌∷◌, ◌++◌, length, map, reverse, sym, ap, ◌∙◌, append_assoc, append-nil, length-append, arith}
+use Rattle.assise_digest.proofs.Common.{reverse-append, map-append, Tree, Shape, shape_of_tree, postorder, shape, subtrees}
 use Rattle.assise_digest.specs.declared.spelled.Place.{Place}
 use Rattle.assise_digest.proofs.Forests.{forest, forest_ends, same_forest}
 

@@ -1,13 +1,7 @@
 -- The inodes that a region alone gives.
-use Rattle.std.proofs.Common.{◌≡◌, ◌≤◌, ◌<◌, ◌+◌, ℕ, zero, suc, List, [], ◌∷◌, ◌++◌, length, take, slice_index_or, refl, sym, ap, ◌∙◌, append_assoc, append-nil, min, arith}
-use Rattle.assise_record.specs.LogRecord.{LogRecord}
-use Rattle.assise_record.specs.Records.{all_effects}
-use Rattle.assise_inode_table.specs.Contents.{InodeMap, values}
-use Rattle.assise_inode_table.specs.Effects.{all_applied}
-use Rattle.assise_inode_table.proofs.EffectLists.{get-all_applied, same_inodes, values-all_applied}
-use Rattle.assise_digest.specs.Pending.{Lays, StandsFor, overlaid}
-use Rattle.assise_digest.specs.Region.{ReceivedLog, RegionValue, ahead_below, all_ahead, alone, no_log}
-use Rattle.assise_digest.specs.declared.pending.Pending.{Pending}
+use Rattle.assise_digest.proofs.Common.{◌≡◌, ◌≤◌, ◌<◌, ◌+◌, ℕ, zero, suc, List, [], ◌∷◌, ◌++◌, length, take, slice_index_or, refl, sym, ap, ◌∙◌, append_assoc}
+use Rattle.assise_digest.proofs.Common.{append-nil, min, arith, LogRecord, all_effects, InodeMap, values, all_applied, get-all_applied, same_inodes}
+use Rattle.assise_digest.proofs.Common.{values-all_applied, Lays, StandsFor, overlaid, ReceivedLog, RegionValue, ahead_below, all_ahead, alone, no_log, Pending}
 use Rattle.assise_digest.proofs.InodesUnderRecords.{get-overlaid, laid_over}
 use Rattle.assise_digest.proofs.KeptStands.{seen_after}
 
@@ -29,7 +23,8 @@ one_more_client (l ∷ ls) (b ∷ acked) zero h g = append-nil (all_effects (ahe
 one_more_client (l ∷ ls) (b ∷ acked) (suc k) h g =
     ap (λ n. all_ahead (take n (l ∷ ls)) (b ∷ acked)) next
     ∙ ap (λ es. all_effects (ahead_below l b) ++ es) (one_more_client ls acked k (omega (arith, h)) (omega (arith, g)))
-    ∙ sym (append_assoc (all_effects (ahead_below l b)) (all_ahead (take k ls) acked) (all_effects (ahead_below (slice_index_or ls k no_log) (slice_index_or acked k 0))))
+    ∙ sym (append_assoc (all_effects (ahead_below l b)) (all_ahead (take k ls) acked)
+    (all_effects (ahead_below (slice_index_or ls k no_log) (slice_index_or acked k 0))))
   where
     next : suc k + 1 ≡ suc (k + 1)
     next = omega arith

@@ -1,19 +1,11 @@
 -- The log that a node received of a client, while records come and go.
-use Rattle.std.proofs.Common.{◌≡◌, ◌≤◌, ◌<◌, ◌+◌, ◌-◌, ℕ, Bool, zero, suc, if◌then◌else◌, drop-drop, false, List, [], ◌∷◌, ◌++◌, length, take, drop, Option, Some, None, option_map, refl, sym, ap, subst, ◌∙◌, is_some, true≢false, arith}
-use Rattle.std.proofs.lemmas.Option.{same_Some}
-use Rattle.std.proofs.lemmas.List.{drop-append-le, length-append, length-drop, length-take}
-use Rattle.std.specs.List.{slice_get}
-use Rattle.std.proofs.lemmas.Bool.{le-ltb}
-use Rattle.assise_record.specs.LogRecord.{LogRecord}
-use Rattle.assise_inode_table.specs.Contents.{InodeMap}
-use Rattle.assise_inode_table.specs.Effects.{all_applied}
-use Rattle.assise_inode_table.specs.Whole.{CanBeMadeWhole}
-use Rattle.assise_private_log.specs.NumberedLog.{end, record_at, with_grouped, without_prefix, without_tail}
-use Rattle.assise_digest.specs.Pending.{IsNew, StandsFor, forgotten, taken_in}
-use Rattle.assise_digest.specs.Region.{AreWhole, IsBegun, ReceivedLog, ahead, digested_further, first_effects, from_number, next_effects, up_to_number, with_more}
-use Rattle.assise_digest.specs.Invariant.{LogInvariant, StandsHere, seen_log}
-use Rattle.assise_digest.specs.declared.pending.Pending.{Pending}
-use Rattle.assise_digest.specs.declared.received.Received.{Received}
+use Rattle.assise_digest.proofs.Common.{◌≡◌, ◌≤◌, ◌<◌, ◌+◌, ◌-◌, ℕ, Bool, zero, suc, if◌then◌else◌, drop-drop, false, List, [], ◌∷◌, ◌++◌, length, take, drop}
+use Rattle.assise_digest.proofs.Common.{Option, Some, None, option_map, refl, sym, ap, subst, ◌∙◌, is_some, true≢false, arith, same_Some, drop-append-le}
+use Rattle.assise_digest.proofs.Common.{length-drop, length-take, slice_get, le-ltb, LogRecord, InodeMap, all_applied, CanBeMadeWhole, end, record_at}
+use Rattle.assise_digest.proofs.Common.{with_grouped, without_prefix, without_tail, IsNew, StandsFor, forgotten, taken_in, AreWhole, IsBegun, ReceivedLog}
+use Rattle.assise_digest.proofs.Common.{ahead, digested_further, first_effects, from_number, next_effects, up_to_number, with_more, LogInvariant, StandsHere}
+use Rattle.assise_digest.proofs.Common.{seen_log, Pending, Received}
+use Rattle.std.proofs.lemmas.List.{length-append}
 use Rattle.assise_digest.proofs.KeptStands.{next_is_new, stands_for_one_more, stands_for_the_rest}
 
 -- ---- lists
@@ -76,14 +68,16 @@ ahead_prefix l to low high = drop-drop (l.digested - to) (to - l.log.first) l.lo
 pub kept_more : (p : Pending) (m : InodeMap) (l : ReceivedLog) (r : LogRecord) (k : ℕ) → IsBegun l → StandsFor p m l.digested (ahead l) → k ≡ end l.log
     → StandsFor (taken_in p m k r.effects) m l.digested (ahead (with_more l r))
 kept_more p m l r k b s is =
-    subst (StandsFor (taken_in p m k r.effects) m l.digested) (sym (ahead_more l r b)) (stands_for_one_more p m l.digested k (ahead l) r s (is ∙ count_ahead l b))
+    subst (StandsFor (taken_in p m k r.effects) m l.digested) (sym (ahead_more l r b))
+    (stands_for_one_more p m l.digested k (ahead l) r s (is ∙ count_ahead l b))
 
 pub kept_new : (p : Pending) (m : InodeMap) (l : ReceivedLog) (k : ℕ) → IsBegun l → StandsFor p m l.digested (ahead l) → k ≡ end l.log → IsNew p k
 kept_new p m l k b s is = subst (IsNew p) (sym (is ∙ count_ahead l b)) (next_is_new p m l.digested (ahead l) s)
 
 -- ---- one of these changes
 
-pub sound_more : (m : InodeMap) (x : Received) (r : LogRecord) (begins : Bool) (o : Option Pending) → LogInvariant m x → CanBeMadeWhole r.effects → StandsHere m (with_more (seen_log x) r) o
+pub sound_more : (m : InodeMap) (x : Received) (r : LogRecord) (begins : Bool) (o : Option Pending) → LogInvariant m x → CanBeMadeWhole r.effects →
+    StandsHere m (with_more (seen_log x) r) o
     → LogInvariant m (record { log = with_grouped x.log r begins; digested = x.digested; pending = o })
 sound_more m x r begins o s h kept = record {
   begun = record {
@@ -94,13 +88,15 @@ sound_more m x r begins o s h kept = record {
   stands = stands_like o kept;
 }
   where
-    stands_like : (o : Option Pending) → StandsHere m (with_more (seen_log x) r) o → StandsHere m (seen_log (record { log = with_grouped x.log r begins; digested = x.digested; pending = o })) o
+    stands_like : (o : Option Pending) → StandsHere m (with_more (seen_log x) r) o →
+        StandsHere m (seen_log (record { log = with_grouped x.log r begins; digested = x.digested; pending = o })) o
     stands_like None k = tt
     stands_like (Some p) k = k
 
 -- the next record is digested
 pub sound_counted : (m : InodeMap) (x : Received) (r : LogRecord) → LogInvariant m x → Some r ≡ record_at x.log x.digested
-    → LogInvariant (all_applied m r.effects) (record { log = x.log; digested = x.digested + 1; pending = option_map (λ p. forgotten p x.digested r.effects) x.pending })
+    → LogInvariant (all_applied m r.effects)
+    (record { log = x.log; digested = x.digested + 1; pending = option_map (λ p. forgotten p x.digested r.effects) x.pending })
 sound_counted m x r s is = record {
   begun = record {
     from_first = omega (arith, s.begun.from_first);
@@ -164,9 +160,11 @@ next_there l b h = go (record_at l.log l.digested) refl
     go None is = absurd (there l.log.records (l.digested - l.log.first) (omega (arith, b.from_first, h)) (sym (placed l b) ∙ is))
 
 pub sound_counted_next : (m : InodeMap) (x : Received) → LogInvariant m x → x.digested < end x.log
-    → LogInvariant (all_applied m (next_effects (seen_log x))) (record { log = x.log; digested = x.digested + 1; pending = option_map (λ p. forgotten p x.digested (next_effects (seen_log x))) x.pending })
+    → LogInvariant (all_applied m (next_effects (seen_log x)))
+    (record { log = x.log; digested = x.digested + 1; pending = option_map (λ p. forgotten p x.digested (next_effects (seen_log x))) x.pending })
 sound_counted_next m x s more =
     let there = next_there (seen_log x) s.begun more in
     let next : next_effects (seen_log x) ≡ there.0.effects = ap first_effects (ahead_next (seen_log x) there.0 s.begun there.1) in
-    subst (λ es. LogInvariant (all_applied m es) (record { log = x.log; digested = x.digested + 1; pending = option_map (λ p. forgotten p x.digested es) x.pending })) (sym next)
+    subst (λ es. LogInvariant (all_applied m es)
+    (record { log = x.log; digested = x.digested + 1; pending = option_map (λ p. forgotten p x.digested es) x.pending })) (sym next)
     (sound_counted m x there.0 s there.1)

@@ -1,20 +1,11 @@
 -- The logs of a region, of which one changes.
-use Rattle.std.proofs.Common.{◌≡◌, ◌≢◌, ◌<◌, ◌-◌, ℕ, zero, suc, List, [], ◌∷◌, length, drop, is_some, if◌then◌else◌, true≢false, slice_index_or, slice_set, Option, Some, None, refl, sym, ap, subst, ◌∙◌, inl, inr, true, arith}
-use Rattle.std.proofs.lemmas.Bool.{cases_eq, ne_eqb}
-use Rattle.std.proofs.lemmas.List.{get_or-map, get_or-set_same, get_or-set_other, length-map, length-set, map-set}
+use Rattle.assise_digest.proofs.Common.{◌≡◌, ◌≢◌, ◌<◌, ◌-◌, ℕ, zero, suc, List, [], ◌∷◌, length, drop, is_some, if◌then◌else◌, true≢false, slice_index_or}
+use Rattle.assise_digest.proofs.Common.{slice_set, Option, Some, None, refl, sym, ap, subst, ◌∙◌, inl, inr, true, arith, cases_eq, ne_eqb, get_or-map}
+use Rattle.assise_digest.proofs.Common.{get_or-set_same, get_or-set_other, length-map, length-set, map-set, all_effects, Content, InodeMap, LogRecord, contains}
+use Rattle.assise_digest.proofs.Common.{touched, value_after, with_value, CanBeMadeWhole, get-with_value, NumberedLog, record_at, StandsFor, pending_seen}
+use Rattle.assise_digest.proofs.Common.{AreWhole, HasClient, IsBegun, IsQuiet, ReceivedLog, RegionValue, ahead, log_at, log_of, no_log, read_by, with_log}
+use Rattle.assise_digest.proofs.Common.{LogsInvariant, LogInvariant, StandsHere, seen_log, seen_logs, Pending, Received}
 use Rattle.std.specs.FinMap as map
-use Rattle.assise_record.specs.Records.{all_effects}
-use Rattle.assise_inode_table.specs.Contents.{Content, InodeMap}
-use Rattle.assise_record.specs.LogRecord.{LogRecord}
-use Rattle.assise_inode_table.specs.Effects.{contains, touched, value_after, with_value}
-use Rattle.assise_inode_table.specs.Whole.{CanBeMadeWhole}
-use Rattle.assise_inode_table.proofs.EffectValues.{get-with_value}
-use Rattle.assise_private_log.specs.NumberedLog.{NumberedLog, record_at}
-use Rattle.assise_digest.specs.Pending.{StandsFor, pending_seen}
-use Rattle.assise_digest.specs.Region.{AreWhole, HasClient, IsBegun, IsQuiet, ReceivedLog, RegionValue, ahead, log_at, log_of, no_log, read_by, with_log}
-use Rattle.assise_digest.specs.Invariant.{LogsInvariant, LogInvariant, StandsHere, seen_log, seen_logs}
-use Rattle.assise_digest.specs.declared.pending.Pending.{Pending}
-use Rattle.assise_digest.specs.declared.received.Received.{Received}
 use Rattle.assise_digest.proofs.ReceivedLogs.{ahead_next, whole_drop}
 use Rattle.assise_digest.proofs.KeptStands.{seen_after, stands_beside, stands_for_none}
 
@@ -28,7 +19,8 @@ in_place m xs r c view has =
     omega (arith, has.some, has.there, counted)
 
 -- what stands there
-pub log_there : {hot : ℕ} (m : InodeMap) (xs : List Received) (r : RegionValue) (c : ℕ) (x : Received) → region m hot xs ≡ r → HasClient r c → x ≡ slice_index_or xs (c - 1) x → log_of r c ≡ seen_log x
+pub log_there : {hot : ℕ} (m : InodeMap) (xs : List Received) (r : RegionValue) (c : ℕ) (x : Received) → region m hot xs ≡ r → HasClient r c →
+    x ≡ slice_index_or xs (c - 1) x → log_of r c ≡ seen_log x
 log_there m xs r c x view has is =
     sym (ap (λ s. log_of s c) view) ∙ get_or-map seen_log xs (c - 1) x no_log (in_place m xs r c view has) ∙ ap seen_log (sym is)
 
@@ -41,10 +33,12 @@ pub here_sound : {hot : ℕ} (m : InodeMap) (xs : List Received) (r : RegionValu
 here_sound m xs r c x sound view has = sound_there m xs (c - 1) x sound (in_place m xs r c view has)
 
 -- another log stands in a place, and the others are as sound as before
-pub sound_others : (m w : InodeMap) (xs : List Received) (k : ℕ) (y : Received) → ((j : ℕ) (none : Received) → j ≢ k → j < length xs → LogInvariant w (slice_index_or xs j none)) → LogInvariant w y → LogsInvariant w (slice_set xs k y)
+pub sound_others : (m w : InodeMap) (xs : List Received) (k : ℕ) (y : Received) →
+    ((j : ℕ) (none : Received) → j ≢ k → j < length xs → LogInvariant w (slice_index_or xs j none)) → LogInvariant w y → LogsInvariant w (slice_set xs k y)
 sound_others m w xs k y others here j none h =
     elim (cases_eq j k) [
-      | inl same ↦ subst (LogInvariant w) (sym (ap (λ n. slice_index_or (slice_set xs k y) n none) same ∙ get_or-set_same xs k y none (omega (arith, within, same)))) here
+      | inl same ↦ subst (LogInvariant w)
+          (sym (ap (λ n. slice_index_or (slice_set xs k y) n none) same ∙ get_or-set_same xs k y none (omega (arith, within, same)))) here
       | inr other ↦ subst (LogInvariant w) (sym (get_or-set_other xs k j y none other)) (others j none other within)
     ]
   where
@@ -67,7 +61,8 @@ with_one {hot = hot} m w xs r c y view =
     ap (λ ls. record { inodes = w; logs = ls; capacity = hot }) (map-set seen_log xs (c - 1) y ∙ ap (λ s. slice_set s.logs (c - 1) (seen_log y)) view)
     ∙ ap (λ s. record { inodes = w; logs = slice_set r.logs (c - 1) (seen_log y); capacity = s.capacity }) view
 
-pub read_there : {hot : ℕ} (m : InodeMap) (xs : List Received) (r : RegionValue) (c i : ℕ) (x : Received) (p : Pending) → region m hot xs ≡ r → LogsInvariant m xs → HasClient r c
+pub read_there : {hot : ℕ} (m : InodeMap) (xs : List Received) (r : RegionValue) (c i : ℕ) (x : Received) (p : Pending) → region m hot xs ≡ r →
+    LogsInvariant m xs → HasClient r c
     → x ≡ slice_index_or xs (c - 1) x → x.pending ≡ Some p → pending_seen p i (map.get m i) ≡ read_by r c i
 read_there m xs r c i x p view sound has is kept =
     let here = sound_there m xs (c - 1) x sound (in_place m xs r c view has) is in
@@ -76,7 +71,8 @@ read_there m xs r c i x p view sound has is kept =
     ∙ ap (λ n. value_after i (map.get n i) (all_effects (ahead (log_of r c)))) (ap (λ s. s.inodes) view)
 
 -- a log changed in its place
-pub changed_there : {hot : ℕ} (F : ReceivedLog → ReceivedLog) (m : InodeMap) (xs : List Received) (r : RegionValue) (c : ℕ) (x y : Received) → region m hot xs ≡ r → HasClient r c
+pub changed_there : {hot : ℕ} (F : ReceivedLog → ReceivedLog) (m : InodeMap) (xs : List Received) (r : RegionValue) (c : ℕ) (x y : Received) →
+    region m hot xs ≡ r → HasClient r c
     → x ≡ slice_index_or xs (c - 1) x → seen_log y ≡ F (seen_log x) → region m hot (slice_set xs (c - 1) y) ≡ with_log r c (F (log_of r c))
 changed_there F m xs r c x y view has is step =
     with_one m m xs r c y view ∙ ap (λ n. record r { inodes = n; logs = slice_set r.logs (c - 1) (seen_log y) }) (ap (λ s. s.inodes) view)
@@ -84,12 +80,14 @@ changed_there F m xs r c x y view has is step =
 
 -- ---- the next record is digested
 
-pub next_whole : (x : Received) (next : LogRecord) → IsBegun (seen_log x) → AreWhole x.log.records → Some next ≡ record_at x.log x.digested → CanBeMadeWhole next.effects
+pub next_whole : (x : Received) (next : LogRecord) → IsBegun (seen_log x) → AreWhole x.log.records → Some next ≡ record_at x.log x.digested →
+    CanBeMadeWhole next.effects
 next_whole x next b w is =
     (subst AreWhole (ahead_next (seen_log x) next b is) (whole_drop (x.digested - x.log.first) x.log.records w)).0
 
 -- what is kept for other clients is untouched
-pub sound_beside : (m w : InodeMap) (x : Received) → LogInvariant m x → ((i : ℕ) → contains (touched (all_effects (ahead (seen_log x)))) i ≡ true → map.get w i ≡ map.get m i) → LogInvariant w x
+pub sound_beside : (m w : InodeMap) (x : Received) → LogInvariant m x →
+    ((i : ℕ) → contains (touched (all_effects (ahead (seen_log x)))) i ≡ true → map.get w i ≡ map.get m i) → LogInvariant w x
 sound_beside m w x s same = record { begun = s.begun; whole = s.whole; stands = go x.pending s.stands }
   where
     go : (o : Option Pending) → StandsHere m (seen_log x) o → StandsHere w (seen_log x) o
@@ -103,7 +101,8 @@ same_item (z ∷ xs) (suc k) x y h a b = same_item xs k x y (omega (arith, h)) a
 
 -- ---- one inode changes that no client's records touch that lives here
 
-pub sound_changed : {hot : ℕ} (m w : InodeMap) (xs : List Received) (r : RegionValue) (i : ℕ) (v : Option Content) → region m hot xs ≡ r → LogsInvariant m xs → IsQuiet r i → w ≡ with_value m i v → LogsInvariant w xs
+pub sound_changed : {hot : ℕ} (m w : InodeMap) (xs : List Received) (r : RegionValue) (i : ℕ) (v : Option Content) → region m hot xs ≡ r → LogsInvariant m xs →
+    IsQuiet r i → w ≡ with_value m i v → LogsInvariant w xs
 sound_changed m w xs r i v view sound quiet is k none h = record { begun = here.begun; whole = here.whole; stands = go x.pending refl here.stands }
   where
     x : Received
@@ -121,7 +120,8 @@ sound_changed m w xs r i v view sound quiet is k none h = record { begun = here.
     go : (o : Option Pending) → x.pending ≡ o → StandsHere m (seen_log x) o → StandsHere w (seen_log x) o
     go None e s = tt
     go (Some p) e s = stands_beside p m w x.digested (ahead (seen_log x)) s (λ j among. value j (λ same.
-        true≢false (sym among ∙ ap (contains (touched (all_effects (ahead (seen_log x))))) same ∙ sym (ap (λ l. contains (touched (all_effects (ahead l))) i) there) ∙ quiet k (ap (λ l. l.at_home) there ∙ ap is_some e))))
+        true≢false (sym among ∙ ap (contains (touched (all_effects (ahead (seen_log x))))) same
+        ∙ sym (ap (λ l. contains (touched (all_effects (ahead l))) i) there) ∙ quiet k (ap (λ l. l.at_home) there ∙ ap is_some e))))
 
 -- ---- a client without records
 

@@ -1,19 +1,10 @@
 -- What is kept beside an area stands for records that give way to others with the same net effect, once their numbers are noted.
-use Rattle.std.proofs.Common.{◌≡◌, ℕ, suc, ◌+◌, ◌||◌, Bool, true, false, if◌then◌else◌, List, [], ◌∷◌, ◌++◌, length, Option, Some, None, refl, ap, sym, ◌∙◌, arith}
-use Rattle.std.specs.Option.{option_or, is_some}
-use Rattle.std.proofs.lemmas.Bool.{false≢true}
+use Rattle.assise_digest.proofs.Common.{◌≡◌, ℕ, suc, ◌+◌, ◌||◌, Bool, true, false, if◌then◌else◌, List, [], ◌∷◌, ◌++◌, length, Option, Some, None, refl, ap}
+use Rattle.assise_digest.proofs.Common.{sym, ◌∙◌, arith, option_or, false≢true, nat_cmp, LogRecord, all_effects, all_effects-append, InodeMap, contains}
+use Rattle.assise_digest.proofs.Common.{touched, value_after, ComeToSame, contains-both, value_after-append, last_touch, StandsFor, all_noted, last_noted}
+use Rattle.assise_digest.proofs.Common.{Pending}
+use Rattle.std.specs.Option.{is_some}
 use Rattle.std.specs.FinMap as map
-use Rattle.std.specs.Ordering.{nat_cmp}
-use Rattle.assise_record.specs.LogRecord.{LogRecord}
-use Rattle.assise_record.specs.Records.{all_effects}
-use Rattle.assise_record.proofs.Records.{all_effects-append}
-use Rattle.assise_inode_table.specs.Contents.{InodeMap}
-use Rattle.assise_inode_table.specs.Effects.{contains, touched, value_after}
-use Rattle.assise_inode_table.proofs.Grouped.{ComeToSame}
-use Rattle.assise_inode_table.proofs.EffectValues.{contains-both, value_after-append}
-use Rattle.assise_digest.specs.Ahead.{last_touch}
-use Rattle.assise_digest.specs.Pending.{StandsFor, all_noted, last_noted}
-use Rattle.assise_digest.specs.declared.pending.Pending.{Pending}
 use Rattle.assise_digest.proofs.KeptInodes.{get-noted}
 use Rattle.assise_digest.proofs.KeptStands.{is_touched}
 
@@ -40,7 +31,8 @@ last-both : (n : ℕ) (fs rs : List LogRecord) (i : ℕ) → last_touch n (fs ++
 last-both n [] rs i = (let same : n ≡ n + 0 = omega arith in ap (λ k. last_touch k rs i) same ∙ or_none (last_touch (n + 0) rs i))
 last-both n (f ∷ fs) rs i =
     (let same : (n + 1) + length fs ≡ n + suc (length fs) = omega arith in
-    ap (λ o. option_or o (if contains (touched f.effects) i then Some n else None)) (last-both (n + 1) fs rs i ∙ ap (λ k. option_or (last_touch k rs i) (last_touch (n + 1) fs i)) same)
+    ap (λ o. option_or o (if contains (touched f.effects) i then Some n else None))
+    (last-both (n + 1) fs rs i ∙ ap (λ k. option_or (last_touch k rs i) (last_touch (n + 1) fs i)) same)
     ∙ or_both (last_touch (n + suc (length fs)) rs i) (last_touch (n + 1) fs i) (if contains (touched f.effects) i then Some n else None))
 
 pub renoted : (p : Pending) (m : InodeMap) (n : ℕ) (fs old new : List LogRecord) → StandsFor p m n (fs ++ old) → ComeToSame new old →

@@ -1,30 +1,16 @@
 -- What holds of a log goes on when its last records give way to groups.
-use Rattle.std.proofs.Common.{◌≡◌, ℕ, zero, suc, ◌+◌, ◌-◌, ◌≤◌, ◌||◌, true, is_some, IsSome, Option, Some, None, option_map, List, [], ◌∷◌, ◌++◌, length, take, drop, map, refl, ap, sym, ◌∙◌, subst, arith, take-append-drop}
+use Rattle.assise_digest.proofs.Common.{◌≡◌, ℕ, zero, suc, ◌+◌, ◌-◌, ◌≤◌, ◌||◌, true, is_some, IsSome, Option, Some, None, option_map, List, [], ◌∷◌, ◌++◌}
+use Rattle.assise_digest.proofs.Common.{length, take, drop, map, refl, ap, sym, ◌∙◌, subst, arith, take-append-drop, IfSome, nat_cmp, drop-append-add}
+use Rattle.assise_digest.proofs.Common.{drop-append-le, get_or-set_same, length-drop, length-take, cond_both, or_right, Effect, LogRecord, all_marks}
+use Rattle.assise_digest.proofs.Common.{all_records, begun_by, coalesced_group, groups_of, left_in, left_of, all_effects, record_of, all_effects-append}
+use Rattle.assise_digest.proofs.Common.{Content, InodeMap, contains, touched, value_after, CanBeMadeWhole, ComeToSame, contains-both, value_after-append}
+use Rattle.assise_digest.proofs.Common.{groups_from, regrouped, NumberedLog, end, records_from, HasAllNumbers, StandsFor, last_noted, noted_from, AreWhole}
+use Rattle.assise_digest.proofs.Common.{HasClient, IsBegun, ReceivedLog, RegionValue, ahead, log_of, no_log, read_by, regrouped_from, with_log, LogInvariant}
+use Rattle.assise_digest.proofs.Common.{StandsHere, seen_log, Pending, Received}
 use Rattle.std.specs.FinMap as map
-use Rattle.std.specs.Option.{IfSome}
-use Rattle.std.specs.Ordering.{nat_cmp}
-use Rattle.std.proofs.Math.Seq.{drop-append-add}
-use Rattle.std.proofs.lemmas.List.{drop-append-le, get_or-set_same, length-append, length-drop, length-take}
-use Rattle.std.proofs.lemmas.Bool.{cond_both, or_right}
-use Rattle.assise_record.specs.declared.effect.Effect.{Effect}
-use Rattle.assise_record.specs.LogRecord.{LogRecord}
-use Rattle.assise_record.specs.Groups.{all_marks, all_records, begun_by, coalesced_group, groups_of, left_in, left_of}
-use Rattle.assise_record.specs.Records.{all_effects, record_of}
-use Rattle.assise_record.proofs.Records.{all_effects-append}
-use Rattle.assise_inode_table.specs.Contents.{Content, InodeMap}
-use Rattle.assise_inode_table.specs.Effects.{contains, touched, value_after}
-use Rattle.assise_inode_table.specs.Whole.{CanBeMadeWhole}
-use Rattle.assise_inode_table.proofs.Grouped.{ComeToSame}
+use Rattle.std.proofs.lemmas.List.{length-append}
 use Rattle.assise_inode_table.proofs.LeftWhole.{whole_left}
-use Rattle.assise_inode_table.proofs.EffectValues.{contains-both, value_after-append}
-use Rattle.assise_private_log.specs.Groups.{groups_from, regrouped}
-use Rattle.assise_private_log.specs.NumberedLog.{NumberedLog, end, records_from}
 use Rattle.assise_private_log.proofs.LogGroups.{regrouped_all}
-use Rattle.assise_digest.specs.Pending.{HasAllNumbers, StandsFor, last_noted, noted_from}
-use Rattle.assise_digest.specs.Region.{AreWhole, HasClient, IsBegun, ReceivedLog, RegionValue, ahead, log_of, no_log, read_by, regrouped_from, with_log}
-use Rattle.assise_digest.specs.Invariant.{LogInvariant, StandsHere, seen_log}
-use Rattle.assise_digest.specs.declared.pending.Pending.{Pending}
-use Rattle.assise_digest.specs.declared.received.Received.{Received}
 use Rattle.assise_digest.proofs.CoalescedLogs.{groups_come}
 use Rattle.assise_digest.proofs.KeptInodes.{get-noted}
 use Rattle.assise_digest.proofs.ReceivedLogs.{whole_both, whole_drop, whole_take}
@@ -51,7 +37,8 @@ whole_one call (e ∷ es) w = (w, tt)
 whole_left_in : (rs : List LogRecord) → AreWhole rs → AreWhole (left_in rs)
 whole_left_in [] w = tt
 whole_left_in (r ∷ rs) w =
-    whole_both (record_of r.call (left_of r.effects (all_effects rs))) (left_in rs) (whole_one r.call (left_of r.effects (all_effects rs)) (whole_left r.effects (all_effects rs) w.0)) (whole_left_in rs w.1)
+    whole_both (record_of r.call (left_of r.effects (all_effects rs))) (left_in rs)
+    (whole_one r.call (left_of r.effects (all_effects rs)) (whole_left r.effects (all_effects rs) w.0)) (whole_left_in rs w.1)
 
 whole_begun : (call : ℕ) (rs : List LogRecord) → AreWhole rs → AreWhole (begun_by call rs)
 whole_begun call [] w = tt
@@ -75,7 +62,13 @@ module _ (x : Received) (from : ℕ) (begun : IsBegun (seen_log x)) (low : x.dig
   groups = all_records (groups_from x.log from)
 
   abbrev new_log : NumberedLog
-  new_log = record { first = x.log.first; limit = x.log.limit; records = prefix ++ groups; begins = take (from - x.log.first) x.log.begins ++ all_marks (groups_from x.log from) }
+  new_log = record {
+    first = x.log.first;
+    limit = x.log.limit;
+    records = prefix ++ groups;
+    begins = take (from - x.log.first) x.log.begins ++ all_marks
+        (groups_from x.log from);
+  }
 
   pub new_is : regrouped x.log from ≡ new_log
   new_is = regrouped_all x.log from
@@ -84,7 +77,8 @@ module _ (x : Received) (from : ℕ) (begun : IsBegun (seen_log x)) (low : x.dig
   prefix_long = omega (arith, length-take (from - x.log.first) x.log.records, begun.from_first)
 
   pub tail_is : records_from new_log from ≡ groups
-  tail_is = let all : from - x.log.first ≡ length prefix + 0 = omega (arith, prefix_long) in ap (λ n. drop n (prefix ++ groups)) all ∙ drop-append-add prefix groups 0
+  tail_is = let all : from - x.log.first ≡ length prefix + 0 =
+      omega (arith, prefix_long) in ap (λ n. drop n (prefix ++ groups)) all ∙ drop-append-add prefix groups 0
 
   abbrev passed : List LogRecord
   passed = drop (x.digested - x.log.first) prefix
@@ -111,7 +105,8 @@ module _ (x : Received) (from : ℕ) (begun : IsBegun (seen_log x)) (low : x.dig
   new_begun : IsBegun (record { log = new_log; digested = x.digested; at_home = is_some x.pending })
   new_begun = record { from_first = begun.from_first; to_end = omega (arith, prefix_long, length-append prefix groups, begun.from_first) }
 
-  sound_new : (m : InodeMap) → LogInvariant m x → LogInvariant m (record { log = new_log; digested = x.digested; pending = option_map (λ p. noted_from p from groups) x.pending })
+  sound_new : (m : InodeMap) → LogInvariant m x →
+      LogInvariant m (record { log = new_log; digested = x.digested; pending = option_map (λ p. noted_from p from groups) x.pending })
   sound_new m s = record {
     begun = record { from_first = new_begun.from_first; to_end = new_begun.to_end };
     whole = whole_both prefix groups (whole_take (from - x.log.first) x.log.records s.whole)
@@ -119,13 +114,16 @@ module _ (x : Received) (from : ℕ) (begun : IsBegun (seen_log x)) (low : x.dig
     stands = like x.pending (new_stands m x.pending s.stands);
   }
     where
-      like : (o : Option Pending) → StandsHere m (record { log = new_log; digested = x.digested; at_home = is_some o }) (option_map (λ p. noted_from p from groups) o)
-          → StandsHere m (seen_log (record { log = new_log; digested = x.digested; pending = option_map (λ p. noted_from p from groups) o })) (option_map (λ p. noted_from p from groups) o)
+      like : (o : Option Pending) → StandsHere m (record { log = new_log; digested = x.digested; at_home = is_some o })
+          (option_map (λ p. noted_from p from groups) o)
+          → StandsHere m (seen_log (record { log = new_log; digested = x.digested; pending = option_map (λ p. noted_from p from groups) o }))
+          (option_map (λ p. noted_from p from groups) o)
       like None h = tt
       like (Some p) h = h
 
   -- what is sound stays so
-  pub sound_regrouped : (m : InodeMap) (log : NumberedLog) (o : Option Pending) → LogInvariant m x → log ≡ regrouped x.log from → o ≡ option_map (λ p. noted_from p from (records_from log from)) x.pending
+  pub sound_regrouped : (m : InodeMap) (log : NumberedLog) (o : Option Pending) → LogInvariant m x → log ≡ regrouped x.log from →
+      o ≡ option_map (λ p. noted_from p from (records_from log from)) x.pending
       → LogInvariant m (record { log = log; digested = x.digested; pending = o })
   sound_regrouped m log o s is kept =
       let same : log ≡ new_log = is ∙ new_is in
@@ -135,30 +133,36 @@ module _ (x : Received) (from : ℕ) (begun : IsBegun (seen_log x)) (low : x.dig
       (subst (λ p. LogInvariant m (record { log = new_log; digested = x.digested; pending = p })) (sym pending) (sound_new m s))
 
   -- what the new records touch has a number
-  pub has_all : (m : InodeMap) (log : NumberedLog) (p : Pending) → log ≡ regrouped x.log from → StandsFor p m x.digested (ahead (seen_log x)) → HasAllNumbers p.last (all_effects (records_from log from))
+  pub has_all : (m : InodeMap) (log : NumberedLog) (p : Pending) → log ≡ regrouped x.log from → StandsFor p m x.digested (ahead (seen_log x)) →
+      HasAllNumbers p.last (all_effects (records_from log from))
   has_all m log p is s i among =
       let tail : records_from log from ≡ groups = ap (λ n. records_from n from) (is ∙ new_is) ∙ tail_is in
       let stands : StandsFor p m x.digested (passed ++ records_from x.log from) = subst (StandsFor p m x.digested) ahead_old s in
       let come : ComeToSame groups (records_from x.log from) = groups_come x.log from in
-      let old : contains (touched (all_effects (records_from x.log from))) i ≡ true = sym (come.touch i) ∙ sym (ap (λ rs. contains (touched (all_effects rs)) i) tail) ∙ among in
+      let old : contains (touched (all_effects (records_from x.log from))) i ≡ true = sym (come.touch i)
+      ∙ sym (ap (λ rs. contains (touched (all_effects rs)) i) tail) ∙ among in
       let all : contains (touched (all_effects (passed ++ records_from x.log from))) i ≡ true
-      = ap (λ es. contains (touched es) i) (all_effects-append passed (records_from x.log from)) ∙ contains-both (all_effects passed) (all_effects (records_from x.log from)) i
+      = ap (λ es. contains (touched es) i) (all_effects-append passed (records_from x.log from))
+      ∙ contains-both (all_effects passed) (all_effects (records_from x.log from)) i
       ∙ ap (λ b. contains (touched (all_effects passed)) i || b) old ∙ or_right (contains (touched (all_effects passed)) i) true refl in
       ap is_some (stands.last i) ∙ is_touched x.digested (passed ++ records_from x.log from) i ∙ all
 
-  pub all_there : (m : InodeMap) (log : NumberedLog) (o : Option Pending) → log ≡ regrouped x.log from → StandsHere m (seen_log x) o → IfSome o (λ p. HasAllNumbers p.last (all_effects (records_from log from)))
+  pub all_there : (m : InodeMap) (log : NumberedLog) (o : Option Pending) → log ≡ regrouped x.log from → StandsHere m (seen_log x) o →
+      IfSome o (λ p. HasAllNumbers p.last (all_effects (records_from log from)))
   all_there m log None is s = tt
   all_there m log (Some p) is s = has_all m log p is s
 
   -- what the client reads stays
-  pub values_same : (i : ℕ) (v : Option Content) → value_after i v (all_effects (ahead (regrouped_from (seen_log x) from))) ≡ value_after i v (all_effects (ahead (seen_log x)))
+  pub values_same : (i : ℕ) (v : Option Content) → value_after i v (all_effects (ahead (regrouped_from (seen_log x) from)))
+      ≡ value_after i v (all_effects (ahead (seen_log x)))
   values_same i v =
       let come : ComeToSame groups (records_from x.log from) = groups_come x.log from in
       ap (λ n. value_after i v (all_effects (drop (x.digested - n.first) n.records))) new_is
       ∙ ap (λ rs. value_after i v (all_effects rs)) ahead_new
       ∙ ap (value_after i v) (all_effects-append passed groups) ∙ value_after-append i v (all_effects passed) (all_effects groups)
       ∙ come.net i (value_after i v (all_effects passed))
-      ∙ sym (ap (value_after i v) (all_effects-append passed (records_from x.log from)) ∙ value_after-append i v (all_effects passed) (all_effects (records_from x.log from)))
+      ∙ sym (ap (value_after i v) (all_effects-append passed (records_from x.log from))
+      ∙ value_after-append i v (all_effects passed) (all_effects (records_from x.log from)))
       ∙ sym (ap (λ rs. value_after i v (all_effects rs)) ahead_old)
 
 pub coalesced_read : (r : RegionValue) (c from : ℕ) → HasClient r c → IsBegun (log_of r c) → (log_of r c).digested ≤ from → from ≤ end (log_of r c).log
@@ -167,6 +171,7 @@ coalesced_read r c from has b low high i =
     let l : ReceivedLog = log_of r c in
     let x : Received = record { log = l.log; digested = l.digested; pending = None } in
     let begun : IsBegun (seen_log x) = record { from_first = b.from_first; to_end = b.to_end } in
-    let here : log_of (with_log r c (regrouped_from l from)) c ≡ regrouped_from l from = get_or-set_same r.logs (c - 1) (regrouped_from l from) no_log (omega (arith, has.some, has.there)) in
+    let here : log_of (with_log r c (regrouped_from l from)) c ≡ regrouped_from l from = get_or-set_same r.logs (c - 1) (regrouped_from l from) no_log
+    (omega (arith, has.some, has.there)) in
     ap (λ k. value_after i (map.get r.inodes i) (all_effects (ahead k))) here
     ∙ values_same x from begun low high i (map.get r.inodes i)

@@ -1,29 +1,20 @@
 -- The cluster is made by the first command and by no other.
-use Rattle.std.proofs.Common.{◌≡◌, ◌≤◌, ℕ, ◌+◌, Bool, true, false, ◌||◌, nat_lt, List, [], ◌∷◌, Option, Some, None, Result, Ok, Err, All, refl, ap, sym, subst, inl, inr, arith}
-use Rattle.std.proofs.lemmas.Bool.{cases_Bool}
-use Rattle.std.proofs.lemmas.Bool.Decides.{nat_tests}
+use Rattle.assise_fault_script.proofs.Common.{◌≡◌, ◌≤◌, ℕ, ◌+◌, Bool, true, false, ◌||◌, nat_lt, List, [], ◌∷◌, Option, Some, None, Result, Ok, Err, All, refl}
+use Rattle.assise_fault_script.proofs.Common.{ap, sym, subst, inl, inr, arith, cases_Bool, nat_tests, is_some, is_utf8, Command, Cluster, Manual, Open, Call}
+use Rattle.assise_fault_script.proofs.Common.{Carry, Digest, Release, Crash, Fail, Back, Refill, Join, Raise, Link, Hot, Tree, History, Check, for_cluster}
+use Rattle.assise_fault_script.proofs.Common.{for_manual, for_open, for_carry, for_digest, for_release, for_crash, for_fail, for_back, for_refill, for_join}
+use Rattle.assise_fault_script.proofs.Common.{for_raise, for_link, for_hot, for_tree, for_history, for_check, LineFault, ScriptFault, BadLimit, UnknownCommand}
+use Rattle.assise_fault_script.proofs.Common.{WrongCount, NumberedCommand, call_command, call_word, ◌>>=◌, keyword_command, keyword_of, kind_of, link_kind_of}
+use Rattle.assise_fault_script.proofs.Common.{mode_of, says_cut, cluster_of, cut_link_of, uncut_link_of, hot_capacity_of, begins_with_digit, client_command}
+use Rattle.assise_fault_script.proofs.Common.{cluster_there, command_of, in_turn, is_comment, line_says, nameless_call, other_command, in_limits, limited}
+use Rattle.assise_fault_script.proofs.Common.{number_of, ◌>>>◌, IsCluster, IsOther, ClusterFirst, at_line, commands_from, commands_of, numbered_command}
+use Rattle.assise_fault_script.proofs.Common.{lines_of, words_of}
 use Rattle.std.proofs.lemmas.List.Elements.{All-nil, All-cons}
-use Rattle.std.specs.Prelude.{is_some}
-use Rattle.std.specs.Str.{is_utf8}
 use Rattle.assise_names.specs.declared.call.Op.{Op}
 use Rattle.assise_names.specs.declared.durability.Durability.TheVariants.{Pessimistic}
 use Rattle.assise_names.specs.declared.limits.TheConstants.{MOST_NODES}
-use Rattle.assise_fault_script.specs.declared.command.Command.{Command}
-use Rattle.assise_fault_script.specs.declared.command.Command.TheVariants.{Cluster, Manual, Open, Call, Carry, Digest, Release, Crash, Fail, Back, Refill, Join, Raise, Link, Hot, Tree, History, Check}
 use Rattle.assise_fault_script.specs.declared.command.LinkKind.TheVariants.{Cut}
 use Rattle.assise_fault_script.specs.declared.command.Keyword as first
-use Rattle.assise_fault_script.specs.declared.command.Keyword.TheVariants.{Cluster as for_cluster, Manual as for_manual, Open as for_open, Carry as for_carry, Digest as for_digest, Release as for_release, Crash as for_crash, Fail as for_fail, Back as for_back, Refill as for_refill, Join as for_join, Raise as for_raise, Link as for_link, Hot as for_hot, Tree as for_tree, History as for_history, Check as for_check}
-use Rattle.assise_fault_script.specs.declared.fault.LineFault.{LineFault}
-use Rattle.assise_fault_script.specs.declared.fault.ScriptFault.{ScriptFault}
-use Rattle.assise_fault_script.specs.declared.fault.ScriptFault.TheVariants.{BadLimit, UnknownCommand, WrongCount}
-use Rattle.assise_fault_script.specs.declared.parse.NumberedCommand.{NumberedCommand}
-use Rattle.assise_fault_script.specs.Calls.{call_command, call_word}
-use Rattle.assise_fault_script.specs.Fault.{◌>>=◌}
-use Rattle.assise_fault_script.specs.Keywords.{keyword_command, keyword_of, kind_of, link_kind_of, mode_of, says_cut, cluster_of, cut_link_of, uncut_link_of, hot_capacity_of}
-use Rattle.assise_fault_script.specs.Line.{begins_with_digit, client_command, cluster_there, command_of, in_turn, is_comment, line_says, nameless_call, other_command}
-use Rattle.assise_fault_script.specs.Number.{in_limits, limited, number_of}
-use Rattle.assise_fault_script.specs.Script.{◌>>>◌, IsCluster, IsOther, ClusterFirst, at_line, commands_from, commands_of, numbered_command}
-use Rattle.assise_fault_script.specs.Words.{lines_of, words_of}
 
 -- a result that is there came from one that was
 came_from : {A B : Type 0} (r : Result A ScriptFault) (f : A → Result B ScriptFault) (y : B) → (r >>= f) ≡ Ok y → (x : A) × ((r ≡ Ok x) × (f x ≡ Ok y))
@@ -127,12 +118,17 @@ hot_row (a ∷ []) c h = cc
 hot_row (a ∷ b ∷ d ∷ rest) c h = cc
 
 -- a command without words behind its keyword
-bare_row : (k : first.Keyword) (made : Command) → IsOther made → keyword_command k [] ≡ Ok made → ((a : List ℕ) (rest : List (List ℕ)) → keyword_command k (a ∷ rest) ≡ Err WrongCount) → (rest : List (List ℕ)) (c : Command) → keyword_command k rest ≡ Ok c → IsOther c
+bare_row : (k : first.Keyword) (made : Command) → IsOther made → keyword_command k [] ≡ Ok made →
+    ((a : List ℕ) (rest : List (List ℕ)) → keyword_command k (a ∷ rest) ≡ Err WrongCount) → (rest : List (List ℕ)) (c : Command) →
+    keyword_command k rest ≡ Ok c → IsOther c
 bare_row k made other none some [] c h = let is : made ≡ c = cc in subst IsOther is other
 bare_row k made other none some (a ∷ rest) c h = let bad = some a rest in cc
 
 -- a command with one number behind its keyword
-number_row : (k : first.Keyword) (made : ℕ → Command) → ((n : ℕ) → IsOther (made n)) → keyword_command k [] ≡ Err WrongCount → ((a : List ℕ) → keyword_command k (a ∷ []) ≡ (number_of a >>= λ n. Ok (made n))) → ((a b : List ℕ) (rest : List (List ℕ)) → keyword_command k (a ∷ b ∷ rest) ≡ Err WrongCount) → (rest : List (List ℕ)) (c : Command) → keyword_command k rest ≡ Ok c → IsOther c
+number_row : (k : first.Keyword) (made : ℕ → Command) → ((n : ℕ) → IsOther (made n)) → keyword_command k [] ≡ Err WrongCount →
+    ((a : List ℕ) → keyword_command k (a ∷ []) ≡ (number_of a >>= λ n. Ok (made n))) →
+    ((a b : List ℕ) (rest : List (List ℕ)) → keyword_command k (a ∷ b ∷ rest) ≡ Err WrongCount) → (rest : List (List ℕ)) (c : Command) →
+    keyword_command k rest ≡ Ok c → IsOther c
 number_row k made other none one more [] c h = cc
 number_row k made other none one more (a ∷ []) c h =
     let n = came_from (number_of a) (λ n. Ok (made n)) c (rw (one a) at h) in
@@ -181,14 +177,16 @@ before_cluster for_history u h = cc
 before_cluster for_check u h = cc
 
 -- what a command that a keyword begins makes, by whether the cluster was there
-first_row : (k : first.Keyword) (rest : List (List ℕ)) (c : Command) → (in_turn false k >>= λ _. keyword_command k rest >>= λ c. Ok (Some c)) ≡ Ok (Some c) → IsCluster c
+first_row : (k : first.Keyword) (rest : List (List ℕ)) (c : Command) → (in_turn false k >>= λ _. keyword_command k rest >>= λ c. Ok (Some c)) ≡ Ok (Some c) →
+    IsCluster c
 first_row k rest c h =
     let u = came_from (in_turn false k) (λ _. keyword_command k rest >>= λ c. Ok (Some c)) (Some c) h in
     let d = came_from (keyword_command k rest) (λ c. Ok (Some c)) (Some c) u.1.1 in
     let is : d.0 ≡ c = let e = d.1.1 in cc in
     subst IsCluster is (cluster_row rest d.0 (subst (λ k. keyword_command k rest ≡ Ok d.0) (before_cluster k u.0 u.1.0) d.1.0))
 
-later_row : (k : first.Keyword) (rest : List (List ℕ)) (c : Command) → (in_turn true k >>= λ _. keyword_command k rest >>= λ c. Ok (Some c)) ≡ Ok (Some c) → IsOther c
+later_row : (k : first.Keyword) (rest : List (List ℕ)) (c : Command) → (in_turn true k >>= λ _. keyword_command k rest >>= λ c. Ok (Some c)) ≡ Ok (Some c) →
+    IsOther c
 later_row k rest c h =
     let u = came_from (in_turn true k) (λ _. keyword_command k rest >>= λ c. Ok (Some c)) (Some c) h in
     let d = came_from (keyword_command k rest) (λ c. Ok (Some c)) (Some c) u.1.1 in
@@ -202,7 +200,8 @@ no_call client c h = let n = came_from (number_of client) (λ _. Err UnknownComm
 client_row : (built : Bool) (client : List ℕ) (rest : List (List ℕ)) (c : Command) → client_command built client rest ≡ Ok (Some c) → (built ≡ true) × IsOther c
 client_row built client [] c h = no_call client c h
 client_row built client (name ∷ rest) c h =
-    let n = came_from (number_of client) (λ n. call_word name >>= λ k. cluster_there built >>= λ _. call_command k rest >>= λ op. Ok (Some (Call n op))) (Some c) h in
+    let n = came_from (number_of client) (λ n. call_word name >>= λ k. cluster_there built >>= λ _. call_command k rest >>= λ op. Ok (Some (Call n op)))
+    (Some c) h in
     let k = came_from (call_word name) (λ k. cluster_there built >>= λ _. call_command k rest >>= λ op. Ok (Some (Call n.0 op))) (Some c) n.1.1 in
     let t = came_from (cluster_there built) (λ _. call_command k.0 rest >>= λ op. Ok (Some (Call n.0 op))) (Some c) k.1.1 in
     let op = came_from (call_command k.0 rest) (λ op. Ok (Some (Call n.0 op))) (Some c) t.1.1 in
@@ -221,7 +220,8 @@ first_command : (words : List (List ℕ)) (c : Command) → command_of false wor
 first_command [] c h = cc
 first_command (word ∷ rest) c h =
     elim (cases_Bool (begins_with_digit word)) [
-      | inl client ↦ let row : client_command false word rest ≡ Ok (Some c) = rw client at h in let bad = client_row false word rest c row in let no : false ≡ true = bad.0 in cc
+      | inl client ↦ let row : client_command false word rest ≡ Ok (Some c) =
+          rw client at h in let bad = client_row false word rest c row in let no : false ≡ true = bad.0 in cc
       | inr other ↦
           let row : other_command false word rest ≡ Ok (Some c) = rw other at h in
           let k = came_from (keyword_of word) (λ k. in_turn false k >>= λ _. keyword_command k rest >>= λ c. Ok (Some c)) (Some c) row in
@@ -256,9 +256,12 @@ abbrev Others : List NumberedCommand → Type 0
 Others cs = All (λ n. IsOther n.command) cs
 
 -- what the first line of some says, and what the others say
-said : (number : ℕ) (built : Bool) (line : List ℕ) (lines : List (List ℕ)) (cs : List NumberedCommand) → commands_from number built (line ∷ lines) ≡ Ok cs → (r : Option Command) × ((line_says built line ≡ Ok r) × ((ds : List NumberedCommand) × ((commands_from (number + 1) (is_some r || built) lines ≡ Ok ds) × (cs ≡ numbered_command number r ds))))
+said : (number : ℕ) (built : Bool) (line : List ℕ) (lines : List (List ℕ)) (cs : List NumberedCommand) → commands_from number built (line ∷ lines) ≡ Ok cs →
+    (r : Option Command) × ((line_says built line ≡ Ok r)
+    × ((ds : List NumberedCommand) × ((commands_from (number + 1) (is_some r || built) lines ≡ Ok ds) × (cs ≡ numbered_command number r ds))))
 said number built line lines cs h =
-    let r = came_at (at_line number (line_says built line)) (λ command. commands_from (number + 1) (is_some command || built) lines >>> λ others. Ok (numbered_command number command others)) cs h in
+    let r = came_at (at_line number (line_says built line))
+    (λ command. commands_from (number + 1) (is_some command || built) lines >>> λ others. Ok (numbered_command number command others)) cs h in
     let ds = came_at (commands_from (number + 1) (is_some r.0 || built) lines) (λ others. Ok (numbered_command number r.0 others)) cs r.1.1 in
     (r.0, (plain (line_says built line) r.0 r.1.0, (ds.0, (ds.1.0, let e = ds.1.1 in cc))))
   where
@@ -272,9 +275,11 @@ others number (line ∷ lines) cs h =
     let s = said number true line lines cs h in
     subst Others (sym s.1.1.1.1) (one s.0 s.1.1.0 s.1.0 s.1.1.1.0 (λ ds rest. others (number + 1) lines ds rest))
   where
-    one : (r : Option Command) (ds : List NumberedCommand) → line_says true line ≡ Ok r → commands_from (number + 1) (is_some r || true) lines ≡ Ok ds → ((ds : List NumberedCommand) → commands_from (number + 1) true lines ≡ Ok ds → Others ds) → Others (numbered_command number r ds)
+    one : (r : Option Command) (ds : List NumberedCommand) → line_says true line ≡ Ok r → commands_from (number + 1) (is_some r || true) lines ≡ Ok ds →
+        ((ds : List NumberedCommand) → commands_from (number + 1) true lines ≡ Ok ds → Others ds) → Others (numbered_command number r ds)
     one None ds says rest more = more ds rest
-    one (Some c) ds says rest more = All-cons (λ n. IsOther n.command) record { line = number; command = c } ds (later_command (words_of line) c (of_words true line c says)) (more ds rest)
+    one (Some c) ds says rest more =
+        All-cons (λ n. IsOther n.command) record { line = number; command = c } ds (later_command (words_of line) c (of_words true line c says)) (more ds rest)
 
 from_first : (number : ℕ) (lines : List (List ℕ)) (cs : List NumberedCommand) → commands_from number false lines ≡ Ok cs → ClusterFirst cs
 from_first number [] cs h = let none : [] ≡ cs = cc in subst ClusterFirst none tt
@@ -282,7 +287,8 @@ from_first number (line ∷ lines) cs h =
     let s = said number false line lines cs h in
     subst ClusterFirst (sym s.1.1.1.1) (one s.0 s.1.1.0 s.1.0 s.1.1.1.0 (λ ds rest. from_first (number + 1) lines ds rest))
   where
-    one : (r : Option Command) (ds : List NumberedCommand) → line_says false line ≡ Ok r → commands_from (number + 1) (is_some r || false) lines ≡ Ok ds → ((ds : List NumberedCommand) → commands_from (number + 1) false lines ≡ Ok ds → ClusterFirst ds) → ClusterFirst (numbered_command number r ds)
+    one : (r : Option Command) (ds : List NumberedCommand) → line_says false line ≡ Ok r → commands_from (number + 1) (is_some r || false) lines ≡ Ok ds →
+        ((ds : List NumberedCommand) → commands_from (number + 1) false lines ≡ Ok ds → ClusterFirst ds) → ClusterFirst (numbered_command number r ds)
     one None ds says rest more = more ds rest
     one (Some c) ds says rest more = (first_command (words_of line) c (of_words false line c says), others (number + 1) lines ds rest)
 

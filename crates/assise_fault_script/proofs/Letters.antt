@@ -1,9 +1,7 @@
 -- A word of data by its first letter.
-use Rattle.std.proofs.Common.{◌≡◌, ◌≢◌, ℕ, ◌==◌, true, false, is_some, List, [], ◌∷◌, Ok, Err, Option, Some, None, Bor, MatchOption, refl, ap, inl, inr, arith}
-use Rattle.std.proofs.lemmas.Bool.{cases_Bool}
-use Rattle.std.proofs.lemmas.Bool.Decides.{nat_tests}
-use Rattle.assise_fault_script.specs.declared.fault.ScriptFault.TheVariants.{BadData}
-use Rattle.assise_fault_script.specs.Data.{data_of}
+use Rattle.assise_fault_script.proofs.Common.{◌≡◌, ◌≢◌, ℕ, ◌==◌, true, false, List, [], ◌∷◌, Ok, Err, Option, Some, None, Bor, MatchOption, refl, ap, inl, inr}
+use Rattle.assise_fault_script.proofs.Common.{arith, cases_Bool, nat_tests, BadData, data_of}
+use Rattle.std.proofs.Common.{is_some}
 
 -- the word begins with this letter, or it doesn't
 abbrev pub Begins : ℕ → List ℕ → Option (Bor (List ℕ)) → Type 0
@@ -20,7 +18,8 @@ not_first letter b rest h =
       | inr other ↦ other
     ]
 
-pub other_letter : (word : List ℕ) → ((rest : List ℕ) → word ≢ 116 ∷ rest) → ((rest : List ℕ) → word ≢ 120 ∷ rest) → ((rest : List ℕ) → word ≢ 122 ∷ rest) → data_of word ≡ Err BadData
+pub other_letter : (word : List ℕ) → ((rest : List ℕ) → word ≢ 116 ∷ rest) → ((rest : List ℕ) → word ≢ 120 ∷ rest) → ((rest : List ℕ) → word ≢ 122 ∷ rest) →
+    data_of word ≡ Err BadData
 other_letter [] t x z = refl
 other_letter (b ∷ rest) t x z = rw (not_first 116 b rest t, not_first 120 b rest x, not_first 122 b rest z)
 

@@ -1,3 +1,4 @@
+mod Common
 pub mod ClusterFirst
 pub mod Digits
 pub mod Hex

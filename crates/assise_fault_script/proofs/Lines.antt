@@ -1,14 +1,9 @@
 -- A script is cut at its first line feed.
-use Rattle.std.proofs.Common.{◌≡◌, ◌≢◌, ℕ, true, false, Option, sym, ◌+◌, ◌-◌, ◌<◌, ◌≤◌, Bool, List, [], ◌∷◌, length, take, drop, map, filter, Some, None, nat_lt, ap, ◌∙◌, arith, inl, inr, refl, length-drop}
-use Rattle.std.proofs.lemmas.Bool.{cases_Bool}
-use Rattle.std.proofs.lemmas.Bool.Decides.{nat_tests}
-use Rattle.std.proofs.lemmas.List.{take_all}
-use Rattle.std.proofs.lemmas.List.Splits.{slice_split_first, slice_split_none, length-slice_split}
-use Rattle.std.proofs.lemmas.List.Sums.{fails_before_first}
-use Rattle.std.proofs.lemmas.List.Sums.{position_or_len_is}
-use Rattle.std.specs.List.{slice_split, position, position_or_len}
+use Rattle.assise_fault_script.proofs.Common.{◌≡◌, ◌≢◌, ℕ, true, false, Option, sym, ◌+◌, ◌-◌, ◌<◌, ◌≤◌, Bool, List, [], ◌∷◌, length, take, drop, map, filter}
+use Rattle.assise_fault_script.proofs.Common.{Some, None, nat_lt, ap, ◌∙◌, arith, inl, inr, refl, length-drop, cases_Bool, nat_tests, take_all}
+use Rattle.assise_fault_script.proofs.Common.{slice_split_first, slice_split_none, length-slice_split, fails_before_first, position_or_len_is, slice_split}
+use Rattle.assise_fault_script.proofs.Common.{position, position_or_len, is_line_feed, lines_of, without_return, without_returns}
 use Rattle.memchr.specs.Find.{IsFirstByte, is_byte}
-use Rattle.assise_fault_script.specs.Words.{is_line_feed, lines_of, without_return, without_returns}
 
 -- what stands behind place i
 abbrev pub behind : ℕ → List ℕ → List ℕ
@@ -22,7 +17,8 @@ shorter (q ∷ more) piece h = refl
 first_line : (piece bs : List ℕ) → without_returns (piece ∷ slice_split is_line_feed bs) ≡ without_return piece ∷ lines_of bs
 first_line piece bs = shorter (slice_split is_line_feed bs) piece (rw (length-slice_split is_line_feed bs) (omega arith))
 
-pub cut : (bs : List ℕ) (i : ℕ) → position is_line_feed bs ≡ Some i → (lines_of bs ≡ without_return (take i bs) ∷ lines_of (behind i bs)) × (length (behind i bs) < length bs)
+pub cut : (bs : List ℕ) (i : ℕ) → position is_line_feed bs ≡ Some i → (lines_of bs ≡ without_return (take i bs) ∷ lines_of (behind i bs))
+    × (length (behind i bs) < length bs)
 cut bs i e =
     elim (cases_Bool (nat_lt (position_or_len is_line_feed bs) (length bs))) [
       | inl y ↦
@@ -30,7 +26,8 @@ cut bs i e =
           let some : Some (position_or_len is_line_feed bs) ≡ Some i = rw y at e in
           let is : position_or_len is_line_feed bs ≡ i = cc in
           let all : take (length bs - (i + 1)) (drop (i + 1) bs) ≡ drop (i + 1) bs = take_all _ _ (omega (arith, length-drop (i + 1) bs)) in
-          let parts : slice_split is_line_feed bs ≡ take i bs ∷ slice_split is_line_feed (behind i bs) = rw all (rw is at (slice_split_first is_line_feed bs 0 lt)) in
+          let parts : slice_split is_line_feed bs ≡ take i bs ∷ slice_split is_line_feed (behind i bs) =
+          rw all (rw is at (slice_split_first is_line_feed bs 0 lt)) in
           (ap without_returns parts ∙ first_line (take i bs) (behind i bs), rw all (omega (arith, length-drop (i + 1) bs)))
       | inr n ↦ let none : None ≡ Some i = rw n at e in cc
     ]
@@ -50,12 +47,14 @@ is_false b not_true = elim (cases_Bool b) [ inl is_true ↦ absurd (not_true is_
 -- the first byte that is a line feed stands at the position of one
 pub first_place : (bs : List ℕ) (r : Option ℕ) → IsFirstByte (is_byte 10) bs r → r ≡ position is_line_feed bs
 first_place bs None h =
-    let none : position_or_len is_line_feed bs ≡ length bs = position_or_len_is is_line_feed bs (length bs) 0 (omega arith) (λ k lt. is_false _ (h k (omega arith) lt)) (λ lt. absurd (omega (arith, lt))) in
+    let none : position_or_len is_line_feed bs ≡ length bs = position_or_len_is is_line_feed bs (length bs) 0 (omega arith)
+    (λ k lt. is_false _ (h k (omega arith) lt)) (λ lt. absurd (omega (arith, lt))) in
     let no : nat_lt (position_or_len is_line_feed bs) (length bs) ≡ false = grind (arith, nat_tests) in
     rw no refl
 first_place bs (Some k) h =
     let inside = h.0.high in
-    let at : position_or_len is_line_feed bs ≡ k = position_or_len_is is_line_feed bs k 0 (omega (arith, inside)) (λ j lt. is_false _ (h.0.before j (omega arith) lt)) (λ lt. h.1) in
+    let at : position_or_len is_line_feed bs ≡ k = position_or_len_is is_line_feed bs k 0 (omega (arith, inside))
+    (λ j lt. is_false _ (h.0.before j (omega arith) lt)) (λ lt. h.1) in
     let yes : nat_lt (position_or_len is_line_feed bs) (length bs) ≡ true = grind (arith, nat_tests) in
     rw yes (ap Some (sym at))
 

@@ -1,21 +1,17 @@
 -- Six words or more make no command, whatever stands behind the sixth.
-use Rattle.std.proofs.Common.{◌≡◌, ℕ, Bool, List, [], ◌∷◌, take, Result, Err, refl, ap, sym, ◌∙◌, inl, inr}
-use Rattle.std.proofs.lemmas.Bool.{cases_Bool}
+use Rattle.assise_fault_script.proofs.Common.{◌≡◌, ℕ, Bool, List, [], ◌∷◌, take, Result, Err, refl, ap, sym, ◌∙◌, inl, inr, cases_Bool, for_cluster, for_manual}
+use Rattle.assise_fault_script.proofs.Common.{for_open, for_carry, for_digest, for_release, for_crash, for_fail, for_back, for_refill, for_join, for_raise}
+use Rattle.assise_fault_script.proofs.Common.{for_link, for_hot, for_tree, for_history, for_check, Call, IsOk, Some, Ok, ScriptFault, WrongCount, call_command}
+use Rattle.assise_fault_script.proofs.Common.{call_word, of_path, path_word, ◌>>=◌, keyword_command, keyword_of, begins_with_digit, client_command}
+use Rattle.assise_fault_script.proofs.Common.{cluster_there, command_of, in_turn, other_command, number_of}
 use Rattle.assise_names.specs.Path.{path_of}
 use Rattle.assise_names.specs.declared.path.PathFault.{PathFault}
 use Rattle.assise_fault_script.specs.declared.command.CallWord.{CallWord}
-use Rattle.assise_fault_script.specs.declared.command.CallWord.TheVariants.{Create as for_create, Mkdir as for_mkdir, Read as for_read, Write as for_write, Truncate as for_truncate, Rename as for_rename, Unlink as for_unlink, Rmdir as for_rmdir, List as for_list, Stat as for_stat, Fsync as for_fsync, Dsync as for_dsync}
+use Rattle.assise_fault_script.specs.declared.command.CallWord.TheVariants.{Create as for_create, Mkdir as for_mkdir, Read as for_read, Write as for_write}
+use Rattle.assise_fault_script.specs.declared.command.CallWord.TheVariants.{Truncate as for_truncate, Rename as for_rename, Unlink as for_unlink}
+use Rattle.assise_fault_script.specs.declared.command.CallWord.TheVariants.{Rmdir as for_rmdir, List as for_list, Stat as for_stat, Fsync as for_fsync}
+use Rattle.assise_fault_script.specs.declared.command.CallWord.TheVariants.{Dsync as for_dsync}
 use Rattle.assise_fault_script.specs.declared.command.Keyword as first
-use Rattle.assise_fault_script.specs.declared.command.Keyword.TheVariants.{Cluster as for_cluster, Manual as for_manual, Open as for_open, Carry as for_carry, Digest as for_digest, Release as for_release, Crash as for_crash, Fail as for_fail, Back as for_back, Refill as for_refill, Join as for_join, Raise as for_raise, Link as for_link, Hot as for_hot, Tree as for_tree, History as for_history, Check as for_check}
-use Rattle.assise_fault_script.specs.declared.command.Command.TheVariants.{Call}
-use Rattle.std.proofs.Common.{IsOk, Some, Ok}
-use Rattle.assise_fault_script.specs.declared.fault.ScriptFault.{ScriptFault}
-use Rattle.assise_fault_script.specs.declared.fault.ScriptFault.TheVariants.{WrongCount}
-use Rattle.assise_fault_script.specs.Calls.{call_command, call_word, of_path, path_word}
-use Rattle.assise_fault_script.specs.Fault.{◌>>=◌}
-use Rattle.assise_fault_script.specs.Keywords.{keyword_command, keyword_of}
-use Rattle.assise_fault_script.specs.Line.{begins_with_digit, client_command, cluster_there, command_of, in_turn, other_command}
-use Rattle.assise_fault_script.specs.Number.{number_of}
 
 abbrev Word : Type 0
 Word = List ℕ
@@ -57,12 +53,14 @@ same_after : {A B : Type 0} (r : Result A ScriptFault) (f g : A → Result B Scr
 same_after (Ok x) f g h = h x
 same_after (Err e) f g h = refl
 
-for_client : (built : Bool) (client name a b c d : Word) (rest : List Word) → client_command built client (name ∷ a ∷ b ∷ c ∷ d ∷ []) ≡ client_command built client (name ∷ a ∷ b ∷ c ∷ d ∷ rest)
+for_client : (built : Bool) (client name a b c d : Word) (rest : List Word) → client_command built client (name ∷ a ∷ b ∷ c ∷ d ∷ [])
+    ≡ client_command built client (name ∷ a ∷ b ∷ c ∷ d ∷ rest)
 for_client built client name a b c d rest =
     same_after (number_of client) _ _ (λ n. same_after (call_word name) _ _ (λ k. same_after (cluster_there built) _ _ (λ u.
     ap (λ r. r >>= λ op. Ok (Some (Call n op))) (many_for_call k a b c d [] ∙ sym (many_for_call k a b c d rest)))))
 
-for_other : (built : Bool) (word b c d e : Word) (rest more : List Word) → other_command built word (b ∷ c ∷ d ∷ e ∷ rest) ≡ other_command built word (b ∷ c ∷ d ∷ e ∷ more)
+for_other : (built : Bool) (word b c d e : Word) (rest more : List Word) → other_command built word (b ∷ c ∷ d ∷ e ∷ rest) ≡ other_command built word
+    (b ∷ c ∷ d ∷ e ∷ more)
 for_other built word b c d e rest more =
     same_after (keyword_of word) _ _ (λ k. same_after (in_turn built k) _ _ (λ u.
     ap (λ r. r >>= λ command. Ok (Some command)) (many_for_keyword k b c d e rest ∙ sym (many_for_keyword k b c d e more))))

@@ -1,8 +1,6 @@
 -- A history that is known to be legal is found legal.
-use Rattle.std.proofs.Common.{◌↔◌, Bool, true, IsTrue, Result, Ok, Err, IfOk}
+use Rattle.assise_files.proofs.Common.{◌↔◌, Bool, true, IsTrue, Result, Ok, Err, IfOk, ∥∥₁_elim, Refusal}
 use Rattle.std.proofs.Math.Bool.{Bool-set}
-use Rattle.std.proofs.Math.Logic.{∥∥₁_elim}
-use Rattle.assise_names.specs.declared.refusal.Refusal.{Refusal}
 
 pub found_so : (r : Result Bool Refusal) (P : Type 0) → IfOk r (λ yes. IsTrue yes ↔ P) → ∥ P ∥₁ → IfOk r (λ yes. IsTrue yes)
 found_so (Ok found) P decided holds = ∥∥₁_elim holds (Bool-set found true) (λ h. decided.1 h)

@@ -1,3 +1,4 @@
+mod Common
 mod AlwaysLegal
 mod LostTree
 mod LostWalk

@@ -1,7 +1,7 @@
 -- The links of the nodes that there are.
-use Rattle.std.proofs.Common.{◌≡◌, ℕ, zero, suc, ◌-◌, ◌<◌, List, [], ◌∷◌, Option, Some, None, Ok, length, map, replicate, slice_set, slice_index_or, slice_get, refl, ap, arith}
+use Rattle.assise_files.proofs.Common.{◌≡◌, ℕ, zero, suc, ◌-◌, ◌<◌, List, [], ◌∷◌, Option, Some, None, Ok, length, map, replicate, slice_set, slice_index_or}
+use Rattle.assise_files.proofs.Common.{slice_get, refl, ap, arith, MOST_NODES}
 use Rattle.std.proofs.lemmas.Option.{slice_get_within}
-use Rattle.assise_names.specs.declared.limits.TheConstants.{MOST_NODES}
 use Rattle.assise_manager.specs.declared.phase.Phase.{Phase}
 use Rattle.assise_manager.specs.Standings.{Standing, phase_of, standing_of}
 use Rattle.assise_machine.specs.Clusters.{machine}
@@ -26,7 +26,8 @@ map_set f (y ∷ xs) zero x = refl
 map_set f (y ∷ xs) (suc k) x = ap (λ ys. f y ∷ ys) (map_set f xs k x)
 
 -- items that are all alike in something
-pub all_alike : {X Y : Type 0} (f : X → Y) (y : Y) (xs : List X) → ((k : ℕ) (e : X) → k < length xs → f (slice_index_or xs k e) ≡ y) → map f xs ≡ replicate (length xs) y
+pub all_alike : {X Y : Type 0} (f : X → Y) (y : Y) (xs : List X) → ((k : ℕ) (e : X) → k < length xs → f (slice_index_or xs k e) ≡ y) →
+    map f xs ≡ replicate (length xs) y
 all_alike f y [] h = refl
 all_alike f y (x ∷ xs) h =
     let first : f x ≡ y = h 0 x (omega arith) in

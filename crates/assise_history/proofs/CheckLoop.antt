@@ -1,12 +1,7 @@
 -- What the check of a history knows of the prefix that it has gone along.
-use Rattle.std.proofs.Common.{◌≡◌, ℕ, ◌+◌, ◌<◌, true, false, List, [], ◌∷◌, ◌++◌, length, take, drop, get_or, refl, ap, sym, subst, ◌∙◌}
-use Rattle.std.proofs.lemmas.Bool.{both_ways}
-use Rattle.std.proofs.lemmas.List.{take_more, take-append-drop}
-use Rattle.assise_seq_tree.specs.Tree.{opening}
-use Rattle.assise_history.specs.Entries.{EntryValue}
-use Rattle.assise_history.specs.Kept.{kept, kept_more, IsRun}
-use Rattle.assise_history.specs.Legal.{IsLegal, Fits}
-use Rattle.assise_history.specs.Summary.{follows, summary, summed_from, summary_after, Summary}
+use Rattle.assise_history.proofs.Common.{◌≡◌, ℕ, ◌+◌, ◌<◌, true, false, List, [], ◌∷◌, ◌++◌, length, take, drop, get_or, refl, ap, sym, subst, ◌∙◌, both_ways}
+use Rattle.assise_history.proofs.Common.{take_more, take-append-drop, opening, EntryValue, kept, kept_more, IsRun, IsLegal, Fits, follows, summary, summed_from}
+use Rattle.assise_history.proofs.Common.{summary_after, Summary}
 use Rattle.assise_history.proofs.Runs.{kept-push}
 use Rattle.assise_history.proofs.Legality.{legal-push, legal-prefix, legal-last}
 use Rattle.assise_history.proofs.SummaryAgrees.{may_follow, is_allowed}
@@ -33,16 +28,21 @@ pub not_allowed : (es : List EntryValue) (i : ℕ) (e : EntryValue) → i < leng
 not_allowed es i e h is barred legal =
     both_ways (follows (summary (take i es)) e) barred (is_allowed (take i es) e (prefix_at es i legal) (fits_at es i e h is legal).follows)
 
-pub no_run : (es : List EntryValue) (i : ℕ) (e : EntryValue) → i < length es → e ≡ get_or es i e → (IsRun opening (kept_more (kept (take i es)) e) → ⊥) → IsLegal es → ⊥
+pub no_run : (es : List EntryValue) (i : ℕ) (e : EntryValue) → i < length es → e ≡ get_or es i e → (IsRun opening (kept_more (kept (take i es)) e) → ⊥) →
+    IsLegal es → ⊥
 no_run es i e h is wrong legal = wrong (subst (IsRun opening) (kept-push (take i es) e) (fits_at es i e h is legal).run)
 
 -- one entry more that passes
-pub checked_more : (es : List EntryValue) (i : ℕ) (e : EntryValue) → i < length es → e ≡ get_or es i e → IsLegal (take i es) → follows (summary (take i es)) e ≡ true → IsRun opening (kept_more (kept (take i es)) e) → IsLegal (take (i + 1) es)
+pub checked_more : (es : List EntryValue) (i : ℕ) (e : EntryValue) → i < length es → e ≡ get_or es i e → IsLegal (take i es) → follows (summary (take i es)) e
+    ≡ true → IsRun opening (kept_more (kept (take i es)) e) → IsLegal (take (i + 1) es)
 checked_more es i e h is legal rule run =
-    subst IsLegal (sym (take_more_read es i e h is)) (legal-push (take i es) e legal record { follows = may_follow (take i es) e legal rule; run = subst (IsRun opening) (sym (kept-push (take i es) e)) run })
+    subst IsLegal (sym (take_more_read es i e h is))
+    (legal-push (take i es) e legal record
+    { follows = may_follow (take i es) e legal rule; run = subst (IsRun opening) (sym (kept-push (take i es) e)) run })
 
 pub kept_at : (es : List EntryValue) (i : ℕ) (e : EntryValue) → i < length es → e ≡ get_or es i e → kept (take (i + 1) es) ≡ kept_more (kept (take i es)) e
 kept_at es i e h is = ap kept (take_more_read es i e h is) ∙ kept-push (take i es) e
 
-pub summary_at : (es : List EntryValue) (i : ℕ) (e : EntryValue) → i < length es → e ≡ get_or es i e → summary (take (i + 1) es) ≡ summary_after (summary (take i es)) e
+pub summary_at : (es : List EntryValue) (i : ℕ) (e : EntryValue) → i < length es → e ≡ get_or es i e → summary (take (i + 1) es)
+    ≡ summary_after (summary (take i es)) e
 summary_at es i e h is = ap summary (take_more_read es i e h is) ∙ summary-push (take i es) e

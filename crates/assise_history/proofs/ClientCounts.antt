@@ -1,13 +1,9 @@
 -- How many clients are opened in a legal history, and how many calls are made.
-use Rattle.std.proofs.Common.{◌≡◌, ℕ, ◌+◌, ◌<◌, ◌≤◌, true, false, if◌then◌else◌, ◌==◌, List, [], ◌∷◌, ◌++◌, filter, length, refl, ap, sym, ◌∙◌, inl, inr, arith, eqb-true, eq-eqb, ne_eqb}
-use Rattle.std.proofs.lemmas.Bool.{cases_Bool}
-use Rattle.std.proofs.lemmas.List.{length-append}
-use Rattle.std.proofs.lemmas.List.Elements.{filter-append}
-use Rattle.assise_names.specs.declared.durability.Durability.{Durability}
+use Rattle.assise_history.proofs.Common.{◌≡◌, ℕ, ◌+◌, ◌<◌, ◌≤◌, true, false, if◌then◌else◌, ◌==◌, List, [], ◌∷◌, ◌++◌, filter, length, refl, ap, sym, ◌∙◌, inl}
+use Rattle.assise_history.proofs.Common.{inr, arith, eqb-true, eq-eqb, ne_eqb, cases_Bool, length-append, filter-append, Durability, Call, EntryValue, opens}
+use Rattle.assise_history.proofs.Common.{calls, IsLegal, Fits, IsNextCall, MayOpen, is_opening, is_call_of, clients_opened, calls_made, durability_of}
+use Rattle.assise_history.proofs.Common.{opened_as}
 use Rattle.assise_names.specs.declared.durability.Durability.TheVariants.{Pessimistic}
-use Rattle.assise_history.specs.declared.call.Call.{Call}
-use Rattle.assise_history.specs.Entries.{EntryValue, opens, calls}
-use Rattle.assise_history.specs.Legal.{IsLegal, Fits, IsNextCall, MayOpen, is_opening, is_call_of, clients_opened, calls_made, durability_of, opened_as}
 use Rattle.assise_history.specs.Opened.{is_opening_of, OpensOnce}
 use Rattle.assise_history.proofs.Legality.{along, fits_in}
 
@@ -36,7 +32,8 @@ opened_within h before since c n u legal split =
     omega arith
 
 -- a client that isn't opened yet has no calls
-early_more : (h : List EntryValue) (e : EntryValue) → IsLegal h → Fits h e → ((c : ℕ) → clients_opened h < c → calls_made c h ≡ 0) → (c : ℕ) → clients_opened (h ++ e ∷ []) < c → calls_made c (h ++ e ∷ []) ≡ 0
+early_more : (h : List EntryValue) (e : EntryValue) → IsLegal h → Fits h e → ((c : ℕ) → clients_opened h < c → calls_made c h ≡ 0) → (c : ℕ) →
+    clients_opened (h ++ e ∷ []) < c → calls_made c (h ++ e ∷ []) ≡ 0
 early_more h (calls x) legal fits before c late =
     let all = opened_append h (calls x ∷ []) in
     let made = made_append c h (calls x ∷ []) in
@@ -60,7 +57,8 @@ early_more h e legal fits before c late =
 pub early : (h : List EntryValue) → IsLegal h → (c : ℕ) → clients_opened h < c → calls_made c h ≡ 0
 early = along (λ h. (c : ℕ) → clients_opened h < c → calls_made c h ≡ 0) (λ c late. refl) early_more
 
-pub made_before : (h before later : List EntryValue) (x : Call) (c : ℕ) → h ≡ before ++ calls x ∷ later → x.client ≡ c → calls_made c before + 1 ≤ calls_made c h
+pub made_before : (h before later : List EntryValue) (x : Call) (c : ℕ) → h ≡ before ++ calls x ∷ later → x.client ≡ c →
+    calls_made c before + 1 ≤ calls_made c h
 made_before h before later x c split client =
     let own : (c == x.client) ≡ true = eq-eqb c x.client (sym client) in
     let all = ap (calls_made c) split ∙ made_append c before (calls x ∷ later) in
@@ -78,7 +76,8 @@ number_below h before later x legal split =
     omega arith
 
 -- no client is opened twice
-unopened_more : (h : List EntryValue) (e : EntryValue) → IsLegal h → Fits h e → ((c : ℕ) → clients_opened h < c → times c h ≡ 0) → (c : ℕ) → clients_opened (h ++ e ∷ []) < c → times c (h ++ e ∷ []) ≡ 0
+unopened_more : (h : List EntryValue) (e : EntryValue) → IsLegal h → Fits h e → ((c : ℕ) → clients_opened h < c → times c h ≡ 0) → (c : ℕ) →
+    clients_opened (h ++ e ∷ []) < c → times c (h ++ e ∷ []) ≡ 0
 unfolding times
 unopened_more h (opens d n u) legal fits before c late =
     let all = opened_append h (opens d n u ∷ []) in

@@ -1,9 +1,6 @@
 -- Legal histories, one entry at a time.
-use Rattle.std.proofs.Common.{◌≡◌, ◌↔◌, List, [], ◌∷◌, ◌++◌, refl, ap, subst, ◌∙◌, inl, inr, append_assoc}
-use Rattle.assise_seq_tree.specs.Tree.{opening}
-use Rattle.assise_history.specs.Entries.{EntryValue}
-use Rattle.assise_history.specs.Kept.{kept, IsRun}
-use Rattle.assise_history.specs.Legal.{IsLegal, Fits}
+use Rattle.assise_history.proofs.Common.{◌≡◌, ◌↔◌, List, [], ◌∷◌, ◌++◌, refl, ap, subst, ◌∙◌, inl, inr, append_assoc, opening, EntryValue, kept, IsRun, IsLegal}
+use Rattle.assise_history.proofs.Common.{Fits}
 use Rattle.assise_history.proofs.TestedElements.{by_ends, cut_end, not_nil}
 
 -- where nothing happened
@@ -47,7 +44,8 @@ unfolding IsLegal
 legal_from h each = each
 
 -- one entry after another
-pub along : (P : List EntryValue → Type 0) → P [] → ((h : List EntryValue) (e : EntryValue) → IsLegal h → Fits h e → P h → P (h ++ e ∷ [])) → (h : List EntryValue) → IsLegal h → P h
+pub along : (P : List EntryValue → Type 0) → P [] → ((h : List EntryValue) (e : EntryValue) → IsLegal h → Fits h e → P h → P (h ++ e ∷ [])) →
+    (h : List EntryValue) → IsLegal h → P h
 along P none step h =
     by_ends (λ g. IsLegal g → P g) (λ legal. none)
     (λ g e before legal. let l = legal-prefix g (e ∷ []) legal in step g e l (legal-last g e legal) (before l)) h

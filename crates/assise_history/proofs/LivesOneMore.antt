@@ -1,14 +1,9 @@
 -- What stands in a history with an entry more: which entries keep that a client is alive or may call, and that a node is
 -- down, and what they add to the counts. For whoever makes a history one entry at a time.
-use Rattle.std.proofs.Common.{◌≡◌, ℕ, ◌+◌, ◌<◌, Bool, true, false, ◌||◌, List, [], ◌∷◌, ◌++◌, refl, ap, sym, subst, ◌∙◌, ◌⊎◌, inl, inr, arith, append_assoc}
-use Rattle.std.specs.List.{list_any}
-use Rattle.std.proofs.lemmas.Bool.{or_parts, or_from}
-use Rattle.std.proofs.lemmas.List.Folds.{list_any-append}
-use Rattle.assise_names.specs.declared.durability.Durability.{Durability}
-use Rattle.assise_history.specs.declared.call.Call.{Call}
-use Rattle.assise_history.specs.declared.call.Loss.{Loss}
-use Rattle.assise_history.specs.Entries.{EntryValue, opens, calls, fails}
-use Rattle.assise_history.specs.Legal.{IsLegal, Fits, IsDown, IsOpenedOn, IsPastSyncs, MayCall, calls_made, clients_opened, is_call_of, is_crash_of, is_failure_of, is_opening, is_return_of, syncs}
+use Rattle.assise_history.proofs.Common.{◌≡◌, ℕ, ◌+◌, ◌<◌, Bool, true, false, ◌||◌, List, [], ◌∷◌, ◌++◌, refl, ap, sym, subst, ◌∙◌, ◌⊎◌, inl, inr, arith}
+use Rattle.assise_history.proofs.Common.{append_assoc, list_any, or_parts, or_from, list_any-append, Durability, Call, Loss, EntryValue, opens, calls, fails}
+use Rattle.assise_history.proofs.Common.{IsLegal, Fits, IsDown, IsOpenedOn, IsPastSyncs, MayCall, calls_made, clients_opened, is_call_of, is_crash_of}
+use Rattle.assise_history.proofs.Common.{is_failure_of, is_opening, is_return_of, syncs}
 use Rattle.assise_history.proofs.TestedElements.{cut_end, not_nil}
 use Rattle.assise_history.proofs.Legality.{along}
 use Rattle.assise_history.proofs.ClientCounts.{made_append, next_opened, opened_append, opened_within}
@@ -44,7 +39,8 @@ opened_further h e c n o = record {
 pub may_call-opened : (h : List EntryValue) (c n : ℕ) (u : Durability) → MayCall (h ++ opens c n u ∷ []) c
 may_call-opened h c n u = record { node = n; opened = opened_last h c n u; no_crash = refl; no_failure = refl }
 
-pub may_call-push : (h : List EntryValue) (e : EntryValue) (c : ℕ) (m : MayCall h c) → is_crash_of c e ≡ false → is_failure_of m.node e ≡ false → MayCall (h ++ e ∷ []) c
+pub may_call-push : (h : List EntryValue) (e : EntryValue) (c : ℕ) (m : MayCall h c) → is_crash_of c e ≡ false → is_failure_of m.node e ≡ false →
+    MayCall (h ++ e ∷ []) c
 may_call-push h e c m crash failure = record {
   node = m.node;
   opened = opened_further h e c m.node m.opened;
@@ -58,16 +54,23 @@ pub record StillCalls (h : List EntryValue) (e : EntryValue) (c : ℕ) : Type 0 
   pub no_crash : is_crash_of c e ≡ false
   pub no_failure : is_failure_of could.node e ≡ false
 
-pub may_call-last : (h : List EntryValue) (e : EntryValue) (c : ℕ) → MayCall (h ++ e ∷ []) c → ((n : ℕ) × ((u : Durability) × (e ≡ opens c n u))) ⊎ StillCalls h e c
+pub may_call-last : (h : List EntryValue) (e : EntryValue) (c : ℕ) → MayCall (h ++ e ∷ []) c → ((n : ℕ) × ((u : Durability) × (e ≡ opens c n u)))
+    ⊎ StillCalls h e c
 may_call-last h e c m =
     let o = m.opened in
     elim (cut_end h e o.before (opens c m.node o.durability) o.since o.split) [
       | inl last ↦ inl (m.node, (o.durability, last.last_is))
       | inr earlier ↦
           let crash = none_before (is_crash_of c) earlier.rest e (subst (λ es. list_any (is_crash_of c) es ≡ false) earlier.more_is m.no_crash) in
-          let failure = none_before (is_failure_of m.node) earlier.rest e (subst (λ es. list_any (is_failure_of m.node) es ≡ false) earlier.more_is m.no_failure) in
+          let failure = none_before (is_failure_of m.node) earlier.rest e
+          (subst (λ es. list_any (is_failure_of m.node) es ≡ false) earlier.more_is m.no_failure) in
           inr record {
-            could = record { node = m.node; opened = record { durability = o.durability; before = o.before; since = earlier.rest; split = earlier.split }; no_crash = crash.0; no_failure = failure.0 };
+            could = record {
+              node = m.node;
+              opened = record { durability = o.durability; before = o.before; since = earlier.rest; split = earlier.split };
+              no_crash = crash.0;
+              no_failure = failure.0;
+            };
             no_crash = crash.1;
             no_failure = failure.1;
           }
@@ -87,7 +90,8 @@ down-push h e n d return = record {
   no_return = none_more (is_return_of n) d.since e d.no_return return;
 }
 
-pub down-last : (h : List EntryValue) (e : EntryValue) (n : ℕ) → IsDown (h ++ e ∷ []) n → ((losses : List Loss) × (e ≡ fails n losses)) ⊎ (IsDown h n × (is_return_of n e ≡ false))
+pub down-last : (h : List EntryValue) (e : EntryValue) (n : ℕ) → IsDown (h ++ e ∷ []) n → ((losses : List Loss) × (e ≡ fails n losses))
+    ⊎ (IsDown h n × (is_return_of n e ≡ false))
 down-last h e n d =
     elim (cut_end h e d.before (fails n d.losses) d.since d.split) [
       | inl last ↦ inl (d.losses, last.last_is)
@@ -101,7 +105,8 @@ down-nil n d = not_nil d.before d.since (fails n d.losses) d.split
 
 -- ---- syncs
 
-pub past_syncs-push : (h : List EntryValue) (e : EntryValue) (l : Loss) → ((x : Call) → e ≡ calls x → x.client ≡ l.client → syncs h x ≡ true → x.number < l.first) → IsPastSyncs h l → IsPastSyncs (h ++ e ∷ []) l
+pub past_syncs-push : (h : List EntryValue) (e : EntryValue) (l : Loss) →
+    ((x : Call) → e ≡ calls x → x.client ≡ l.client → syncs h x ≡ true → x.number < l.first) → IsPastSyncs h l → IsPastSyncs (h ++ e ∷ []) l
 past_syncs-push h e l last all before since x split client sync =
     elim (cut_end h e before (calls x) since split) [
       | inl end ↦ last x end.last_is client (subst (λ g. syncs g x ≡ true) (sym end.prefix_is) sync)
@@ -132,9 +137,11 @@ pub record SamePlace (before since : List EntryValue) (n : ℕ) (u : Durability)
   pub durability : u ≡ u2
 
 abbrev OnePlace : List EntryValue → Type 0
-OnePlace h = (c n n2 : ℕ) (u u2 : Durability) (before since before2 since2 : List EntryValue) → h ≡ before ++ opens c n u ∷ since → h ≡ before2 ++ opens c n2 u2 ∷ since2 → SamePlace before since n u before2 since2 n2 u2
+OnePlace h = (c n n2 : ℕ) (u u2 : Durability) (before since before2 since2 : List EntryValue) → h ≡ before ++ opens c n u ∷ since →
+    h ≡ before2 ++ opens c n2 u2 ∷ since2 → SamePlace before since n u before2 since2 n2 u2
 
-opened_late : (h : List EntryValue) (c n m : ℕ) (u v : Durability) (before since : List EntryValue) → IsLegal h → Fits h (opens c n u) → h ≡ before ++ opens c m v ∷ since → ⊥
+opened_late : (h : List EntryValue) (c n m : ℕ) (u v : Durability) (before since : List EntryValue) → IsLegal h → Fits h (opens c n u) →
+    h ≡ before ++ opens c m v ∷ since → ⊥
 opened_late h c n m u v before since legal fits split =
     let next = next_opened h c n u fits in
     let within = opened_within h before since c m v legal split in
@@ -155,9 +162,16 @@ one_place_more h e legal fits place c n n2 u u2 before since before2 since2 spli
         | inl b ↦ absurd (opened_late h c n2 n u2 u before a.rest legal (subst (Fits h) b.last_is fits) a.split)
         | inr b ↦
             let same = place c n n2 u u2 before a.rest before2 b.rest a.split b.split in
-            record { prefix = same.prefix; rest = a.more_is ∙ ap (λ es. es ++ e ∷ []) same.rest ∙ sym b.more_is; node = same.node; durability = same.durability }
+            record {
+              prefix = same.prefix;
+              rest = a.more_is ∙ ap (λ es. es ++ e ∷ []) same.rest ∙ sym b.more_is;
+              node = same.node;
+              durability =
+                  same.durability;
+            }
       ]
     ]
 
-pub one_place : (h : List EntryValue) → IsLegal h → (c n n2 : ℕ) (u u2 : Durability) (before since before2 since2 : List EntryValue) → h ≡ before ++ opens c n u ∷ since → h ≡ before2 ++ opens c n2 u2 ∷ since2 → SamePlace before since n u before2 since2 n2 u2
+pub one_place : (h : List EntryValue) → IsLegal h → (c n n2 : ℕ) (u u2 : Durability) (before since before2 since2 : List EntryValue) →
+    h ≡ before ++ opens c n u ∷ since → h ≡ before2 ++ opens c n2 u2 ∷ since2 → SamePlace before since n u before2 since2 n2 u2
 one_place = along OnePlace (λ c n n2 u u2 before since before2 since2 split split2. absurd (not_nil before since (opens c n u) split)) one_place_more

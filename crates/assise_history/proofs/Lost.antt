@@ -1,12 +1,8 @@
 -- Which calls are lost and which are kept, in the words of the entries.
-use Rattle.std.proofs.Common.{◌≡◌, ◌↔◌, ℕ, zero, suc, nat_le, Bool, true, false, not, ◌&&◌, ◌==◌, List, [], ◌∷◌, ◌++◌, filter, Contains, refl, ap, sym, subst, inl, inr, arith, eqb-true, eq-eqb, leb-true, le-leb}
-use Rattle.std.specs.List.{list_any}
-use Rattle.std.proofs.lemmas.Bool.{cases_Bool, both_ways, false_from_ne_true}
-use Rattle.std.proofs.lemmas.List.Elements.{Contains-append_right, Contains-append_cases}
-use Rattle.assise_history.specs.declared.call.Call.{Call}
-use Rattle.assise_history.specs.declared.call.Loss.{Loss}
-use Rattle.assise_history.specs.Entries.{EntryValue, calls, fails}
-use Rattle.assise_history.specs.Kept.{IsTaken, Stays, loses, is_lost, kept}
+use Rattle.assise_history.proofs.Common.{◌≡◌, ◌↔◌, ℕ, zero, suc, nat_le, Bool, true, false, not, ◌&&◌, ◌==◌, List, [], ◌∷◌, ◌++◌, filter, Contains, refl, ap}
+use Rattle.assise_history.proofs.Common.{sym, subst, inl, inr, arith, eqb-true, eq-eqb, leb-true, le-leb, list_any, cases_Bool, both_ways, false_from_ne_true}
+use Rattle.assise_history.proofs.Common.{Contains-append_right, Contains-append_cases, Call, Loss, EntryValue, calls, fails, IsTaken, Stays, loses, is_lost}
+use Rattle.assise_history.proofs.Common.{kept}
 use Rattle.assise_history.proofs.TestedElements.{passes_from, passes_at, two, two_from}
 use Rattle.assise_history.proofs.Runs.{is_lost-append}
 
@@ -52,7 +48,8 @@ taken (fails n losses ∷ es) x h =
     ]
 taken (e ∷ es) x h = further e es x (taken es x h)
 
-lost_at : (before behind : List EntryValue) (n : ℕ) (losses : List Loss) (x : Call) → loses losses x ≡ true → is_lost (before ++ fails n losses ∷ behind) x ≡ true
+lost_at : (before behind : List EntryValue) (n : ℕ) (losses : List Loss) (x : Call) → loses losses x ≡ true → is_lost (before ++ fails n losses ∷ behind) x
+    ≡ true
 lost_at [] behind n losses x h = rw h refl
 lost_at (fails m others ∷ es) behind n losses x h =
     elim (cases_Bool (loses others x)) [
@@ -64,7 +61,8 @@ lost_at (_ ∷ es) behind n losses x h = lost_at es behind n losses x h
 pub lost : (es : List EntryValue) (x : Call) → IsTaken es x → is_lost es x ≡ true
 lost es x t =
     let p : Loss → Bool = λ l. (l.client == x.client) && nat_le l.first x.number in
-    let one : p t.loss ≡ true = two_from (t.loss.client == x.client) (nat_le t.loss.first x.number) (eq-eqb t.loss.client x.client t.client) (le-leb t.loss.first x.number t.first) in
+    let one : p t.loss ≡ true = two_from (t.loss.client == x.client) (nat_le t.loss.first x.number) (eq-eqb t.loss.client x.client t.client)
+    (le-leb t.loss.first x.number t.first) in
     let all : loses t.losses x ≡ true = subst (λ ls. list_any p ls ≡ true) (sym t.listed) (passes_at p t.lower t.higher t.loss one) in
     subst (λ es. is_lost es x ≡ true) (sym t.split) (lost_at t.before t.behind t.node t.losses x all)
 
@@ -117,7 +115,13 @@ stays (calls y ∷ es) x h =
           elim (Contains-append_cases (y ∷ []) (kept es) x all) [
             | inl first ↦
                 let same = only y x first in
-                record { before = []; later = es; split = ap (λ z. calls z ∷ es) same; safe = λ t. both_ways (is_lost es x) (subst (λ z. is_lost es z ≡ false) same left) (lost es x t) }
+                record {
+                  before = [];
+                  later = es;
+                  split = ap (λ z. calls z ∷ es) same;
+                  safe =
+                      λ t. both_ways (is_lost es x) (subst (λ z. is_lost es z ≡ false) same left) (lost es x t);
+                }
             | inr rest ↦ later_on (calls y) es x (stays es x rest)
           ]
     ]

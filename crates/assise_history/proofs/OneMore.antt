@@ -1,13 +1,7 @@
 -- Legal histories with an entry more, of each kind, in the words of the entries: what a machine cites for one step.
-use Rattle.std.proofs.Common.{◌≡◌, ◌↔◌, ℕ, List, [], ◌∷◌, ◌++◌, refl, sym, subst, ◌∙◌, append_assoc}
-use Rattle.assise_seq_tree.specs.Tree.{opening}
-use Rattle.assise_seq_tree.specs.Answer.{answer}
-use Rattle.assise_names.specs.declared.durability.Durability.{Durability}
-use Rattle.assise_history.specs.declared.call.Call.{Call}
-use Rattle.assise_history.specs.declared.call.Loss.{Loss}
-use Rattle.assise_history.specs.Entries.{EntryValue, opens, calls, crashes, fails, returns}
-use Rattle.assise_history.specs.Kept.{kept, tree_after, IsRun}
-use Rattle.assise_history.specs.Legal.{IsLegal, Fits, IsAlive, IsDown, IsFair, IsNextCall, MayFollow, MayOpen}
+use Rattle.assise_history.proofs.Common.{◌≡◌, ◌↔◌, ℕ, List, [], ◌∷◌, ◌++◌, refl, sym, subst, ◌∙◌, append_assoc, opening, answer, Durability, Call, Loss}
+use Rattle.assise_history.proofs.Common.{EntryValue, opens, calls, crashes, fails, returns, kept, tree_after, IsRun, IsLegal, Fits, IsAlive, IsDown, IsFair}
+use Rattle.assise_history.proofs.Common.{IsNextCall, MayFollow, MayOpen}
 use Rattle.assise_history.proofs.TestedElements.{by_ends}
 use Rattle.assise_history.proofs.Runs.{kept-push, kept-call, run-push, run-last}
 use Rattle.assise_history.proofs.LivesOneMore.{further}
@@ -22,9 +16,11 @@ pub fits_quiet : (h : List EntryValue) (e : EntryValue) → IsLegal h → kept (
 fits_quiet h e legal same may = record { follows = may; run = subst (IsRun opening) (sym same) (legal_run h legal) }
 
 pub fits_call : (h : List EntryValue) (x : Call) → IsLegal h → IsNextCall h x → IsAnswered h x → Fits h (calls x)
-fits_call h x legal next reply = record { follows = next; run = subst (IsRun opening) (sym (kept-call h x)) (run-push opening (kept h) x (legal_run h legal) reply) }
+fits_call h x legal next reply =
+    record { follows = next; run = subst (IsRun opening) (sym (kept-call h x)) (run-push opening (kept h) x (legal_run h legal) reply) }
 
-pub fits_failure : (h : List EntryValue) (n : ℕ) (losses : List Loss) → IsFair h n losses → IsRun opening (kept (h ++ fails n losses ∷ [])) → Fits h (fails n losses)
+pub fits_failure : (h : List EntryValue) (n : ℕ) (losses : List Loss) → IsFair h n losses → IsRun opening (kept (h ++ fails n losses ∷ [])) →
+    Fits h (fails n losses)
 fits_failure h n losses fair run = record { follows = fair; run = run }
 
 pub call_answered : (h : List EntryValue) (x : Call) → Fits h (calls x) → IsAnswered h x
@@ -40,7 +36,8 @@ legal-call h x legal next reply = legal-push h (calls x) legal (fits_call h x le
 pub legal-crash : (h : List EntryValue) (c : ℕ) → IsLegal h → IsAlive h c → IsLegal (h ++ crashes c ∷ [])
 legal-crash h c legal alive = legal-push h (crashes c) legal (fits_quiet h (crashes c) legal (kept-push h (crashes c)) alive)
 
-pub legal-failure : (h : List EntryValue) (n : ℕ) (losses : List Loss) → IsLegal h → IsFair h n losses → IsRun opening (kept (h ++ fails n losses ∷ [])) → IsLegal (h ++ fails n losses ∷ [])
+pub legal-failure : (h : List EntryValue) (n : ℕ) (losses : List Loss) → IsLegal h → IsFair h n losses → IsRun opening (kept (h ++ fails n losses ∷ [])) →
+    IsLegal (h ++ fails n losses ∷ [])
 legal-failure h n losses legal fair run = legal-push h (fails n losses) legal (fits_failure h n losses fair run)
 
 pub legal-return : (h : List EntryValue) (n : ℕ) → IsLegal h → IsDown h n → IsLegal (h ++ returns n ∷ [])
@@ -58,7 +55,8 @@ call_more h x = (
 pub crash_more : (h : List EntryValue) (c : ℕ) → IsLegal (h ++ crashes c ∷ []) ↔ (IsLegal h × IsAlive h c)
 crash_more h c = (λ all. (legal-prefix h (crashes c ∷ []) all, (legal-last h (crashes c) all).follows), λ p. legal-crash h c p.0 p.1)
 
-pub failure_more : (h : List EntryValue) (n : ℕ) (losses : List Loss) → IsLegal (h ++ fails n losses ∷ []) ↔ (IsLegal h × (IsFair h n losses × IsRun opening (kept (h ++ fails n losses ∷ []))))
+pub failure_more : (h : List EntryValue) (n : ℕ) (losses : List Loss) →
+    IsLegal (h ++ fails n losses ∷ []) ↔ (IsLegal h × (IsFair h n losses × IsRun opening (kept (h ++ fails n losses ∷ []))))
 failure_more h n losses = (
   λ all. let fits = legal-last h (fails n losses) all in (legal-prefix h (fails n losses ∷ []) all, (fits.follows, fits.run)),
   λ p. legal-failure h n losses p.0 p.1.0 p.1.1,
@@ -78,10 +76,13 @@ answered_in h before later x legal split = call_answered before x (fits_in h bef
 prefix_of : (h before later : List EntryValue) (e : EntryValue) → h ≡ before ++ e ∷ later → h ≡ (before ++ e ∷ []) ++ later
 prefix_of h before later e split = split ∙ sym (append_assoc before (e ∷ []) later)
 
-pub legal_parts : (h : List EntryValue) → IsLegal h ↔ (((prefix later : List EntryValue) → h ≡ prefix ++ later → IsRun opening (kept prefix)) × ((before later : List EntryValue) (e : EntryValue) → h ≡ before ++ e ∷ later → MayFollow before e))
+pub legal_parts : (h : List EntryValue) →
+    IsLegal h ↔ (((prefix later : List EntryValue) → h ≡ prefix ++ later → IsRun opening (kept prefix))
+    × ((before later : List EntryValue) (e : EntryValue) → h ≡ before ++ e ∷ later → MayFollow before e))
 legal_parts h = (
   λ legal. (λ prefix later split. prefix_run h prefix later legal split, λ before later e split. follows_in h before later e legal split),
-  λ p. legal_from h (λ before later e split. record { follows = p.1 before later e split; run = p.0 (before ++ e ∷ []) later (prefix_of h before later e split) }),
+  λ p. legal_from h (λ before later e split. record
+      { follows = p.1 before later e split; run = p.0 (before ++ e ∷ []) later (prefix_of h before later e split) }),
 )
 
 -- what is enough of calls and failures
@@ -92,7 +93,8 @@ abbrev Answered : List EntryValue → Type 0
 Answered h = (before later : List EntryValue) (x : Call) → h ≡ before ++ calls x ∷ later → IsAnswered before x
 
 abbrev Left : List EntryValue → Type 0
-Left h = (before later : List EntryValue) (n : ℕ) (losses : List Loss) → h ≡ before ++ fails n losses ∷ later → IsRun opening (kept (before ++ fails n losses ∷ []))
+Left h = (before later : List EntryValue) (n : ℕ) (losses : List Loss) → h ≡ before ++ fails n losses ∷ later →
+    IsRun opening (kept (before ++ fails n losses ∷ []))
 
 fits_enough : (h : List EntryValue) (e : EntryValue) → IsLegal h → MayFollow h e → Answered (h ++ e ∷ []) → Left (h ++ e ∷ []) → Fits h e
 fits_enough h (calls x) legal may answered left = fits_call h x legal may (answered h [] x refl)

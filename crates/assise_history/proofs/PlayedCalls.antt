@@ -1,14 +1,11 @@
 -- One entry more for the kept calls and their tree.
-use Rattle.std.proofs.Common.{◌≡◌, ◌↔◌, Bool, true, false, [], ◌∷◌, ◌++◌, refl, ap, ◌∙◌, Bor, map, IsTrue}
-use Rattle.std.proofs.lemmas.List.{map-append}
-use Rattle.assise_seq_tree.specs.Tree.{opening}
-use Rattle.assise_seq_tree.specs.Answer.{answer}
-use Rattle.assise_history.specs.declared.call.Call.{Call}
+use Rattle.assise_history.proofs.Common.{◌≡◌, ◌↔◌, Bool, true, false, [], ◌∷◌, ◌++◌, refl, ap, ◌∙◌, Bor, map, IsTrue, map-append, opening, answer, Call, Goes}
+use Rattle.assise_history.proofs.Common.{IsPlayed, played_calls}
 use Rattle.assise_history.specs.declared.played.Played.{Played}
-use Rattle.assise_history.specs.Played.{Goes, IsPlayed, played_calls}
 use Rattle.assise_history.proofs.Runs.{played_right, played_wrong}
 
-pub goes_play : (p q : Played) (x : Bor Call) (reply : _) (same : Bool) → IsPlayed p → q.calls.items ≡ p.calls.items ++ x ∷ [] → (reply, q.tree) ≡ answer p.tree x.now.op → (IsTrue same ↔ (reply ≡ x.now.reply)) → Goes same (played_calls p ++ x.now ∷ []) q
+pub goes_play : (p q : Played) (x : Bor Call) (reply : _) (same : Bool) → IsPlayed p → q.calls.items ≡ p.calls.items ++ x ∷ [] →
+    (reply, q.tree) ≡ answer p.tree x.now.op → (IsTrue same ↔ (reply ≡ x.now.reply)) → Goes same (played_calls p ++ x.now ∷ []) q
 goes_play p q x reply true played more step h =
     let all : played_calls q ≡ played_calls p ++ x.now ∷ [] = ap (map (λ c. c.now)) more ∙ map-append (λ c. c.now) p.calls.items (x ∷ []) in
     let done = played_right opening (played_calls p) p.tree q.tree reply x.now played.0 played.1 step (h.0 refl) in

@@ -1,16 +1,11 @@
 -- What the summary of a prefix says, in the words of its entries.
-use Rattle.std.proofs.Common.{◌≡◌, ℕ, ◌+◌, Bool, true, false, not, ◌||◌, ◌==◌, List, [], ◌∷◌, ◌++◌, filter, length, Option, Some, None, refl, ap, sym, subst, ◌∙◌, ◌⊎◌, inl, inr, arith, eqb-true, eq-eqb}
-use Rattle.std.specs.List.{list_any}
-use Rattle.std.proofs.lemmas.Bool.{cases_Bool, or_cases, or_left, or_right, or_parts, or_from}
-use Rattle.std.proofs.lemmas.List.{length-map, length-append}
-use Rattle.std.proofs.lemmas.List.Folds.{list_any-append}
+use Rattle.assise_history.proofs.Common.{◌≡◌, ℕ, ◌+◌, Bool, true, false, not, ◌||◌, ◌==◌, List, [], ◌∷◌, ◌++◌, filter, length, Option, Some, None, refl, ap}
+use Rattle.assise_history.proofs.Common.{sym, subst, ◌∙◌, ◌⊎◌, inl, inr, arith, eqb-true, eq-eqb, list_any, cases_Bool, or_cases, or_left, or_right, or_parts}
+use Rattle.assise_history.proofs.Common.{or_from, length-map, length-append, list_any-append, Durability, Loss, ClientSummary, EntryValue, opens, calls}
+use Rattle.assise_history.proofs.Common.{crashes, fails, returns, Summary, nothing_yet, newly_opened, summary_with_call, with_crash, with_failure}
+use Rattle.assise_history.proofs.Common.{summary_after, summed_from, summary, is_down, comes_next, is_crash_of, is_failure_of, is_return_of, clients_opened}
+use Rattle.assise_history.proofs.Common.{IsDown}
 use Rattle.std.proofs.Math.Bool.{or_assoc}
-use Rattle.assise_names.specs.declared.durability.Durability.{Durability}
-use Rattle.assise_history.specs.declared.call.Loss.{Loss}
-use Rattle.assise_history.specs.declared.prefix.ClientSummary.{ClientSummary}
-use Rattle.assise_history.specs.Entries.{EntryValue, opens, calls, crashes, fails, returns}
-use Rattle.assise_history.specs.Summary.{Summary, nothing_yet, newly_opened, summary_with_call, with_crash, with_failure, summary_after, summed_from, summary, is_down, comes_next}
-use Rattle.assise_history.specs.Legal.{is_crash_of, is_failure_of, is_return_of, clients_opened, IsDown}
 use Rattle.assise_history.proofs.TestedElements.{list_any-map}
 
 -- what an entry changes of what is known of a client
@@ -56,7 +51,8 @@ pub record Newly (p : ClientSummary → Bool) (e : EntryValue) : Type 0 where
   pub is : e ≡ opens client node durability
   pub holds : p (newly_opened client node durability) ≡ true
 
-any_after : (p : ClientSummary → Bool) (s : Summary) (e : EntryValue) → list_any p (summary_after s e).clients ≡ true → (list_any (λ k. p (with_entry e k)) s.clients ≡ true) ⊎ Newly p e
+any_after : (p : ClientSummary → Bool) (s : Summary) (e : EntryValue) → list_any p (summary_after s e).clients ≡ true →
+    (list_any (λ k. p (with_entry e k)) s.clients ≡ true) ⊎ Newly p e
 any_after p s (opens c n u) h =
     elim (last_any p s.clients (newly_opened c n u) h) [
       | inl a ↦ inl a
@@ -67,22 +63,42 @@ any_after p s (crashes c) h = inl (sym (list_any-map p (with_crash c) s.clients)
 any_after p s (fails n losses) h = inl (sym (list_any-map p (with_failure n) s.clients) ∙ h)
 any_after p s (returns n) h = inl h
 
-any_before : (p : ClientSummary → Bool) (s : Summary) (e : EntryValue) → list_any (λ k. p (with_entry e k)) s.clients ≡ true → list_any p (summary_after s e).clients ≡ true
+any_before : (p : ClientSummary → Bool) (s : Summary) (e : EntryValue) → list_any (λ k. p (with_entry e k)) s.clients ≡ true →
+    list_any p (summary_after s e).clients ≡ true
 any_before p s (opens c n u) h = list_any-append p s.clients (newly_opened c n u ∷ []) ∙ or_left (list_any p s.clients) _ h
 any_before p s (calls x) h = list_any-map p (summary_with_call x) s.clients ∙ h
 any_before p s (crashes c) h = list_any-map p (with_crash c) s.clients ∙ h
 any_before p s (fails n losses) h = list_any-map p (with_failure n) s.clients ∙ h
 any_before p s (returns n) h = h
 
-found_from : (p : ClientSummary → Bool) (s : Summary) (es : List EntryValue) → list_any p (summed_from s es).clients ≡ true → (list_any (λ k. p (through es k)) s.clients ≡ true) ⊎ Found p es
+found_from : (p : ClientSummary → Bool) (s : Summary) (es : List EntryValue) → list_any p (summed_from s es).clients ≡ true →
+    (list_any (λ k. p (through es k)) s.clients ≡ true) ⊎ Found p es
 found_from p s [] h = inl h
 found_from p s (e ∷ es) h =
     elim (found_from p (summary_after s e) es h) [
       | inl a ↦ elim (any_after (λ k. p (through es k)) s e a) [
         | inl b ↦ inl b
-        | inr o ↦ inr record { client = o.client; node = o.node; durability = o.durability; before = []; since = es; split = ap (λ x. x ∷ es) o.is; holds = o.holds }
+        | inr o ↦ inr record {
+          client = o.client;
+          node = o.node;
+          durability = o.durability;
+          before = [];
+          since = es;
+          split = ap (λ x. x ∷ es) o.is;
+          holds =
+              o.holds;
+        }
       ]
-      | inr f ↦ inr record { client = f.client; node = f.node; durability = f.durability; before = e ∷ f.before; since = f.since; split = ap (λ xs. e ∷ xs) f.split; holds = f.holds }
+      | inr f ↦ inr record {
+        client = f.client;
+        node = f.node;
+        durability = f.durability;
+        before = e ∷ f.before;
+        since = f.since;
+        split =
+            ap (λ xs. e ∷ xs) f.split;
+        holds = f.holds;
+      }
     ]
 
 -- a client of the summary was opened
@@ -93,18 +109,22 @@ found p h is =
       | inr f ↦ f
     ]
 
-any_stays : (p : ClientSummary → Bool) (s : Summary) (es : List EntryValue) → list_any (λ k. p (through es k)) s.clients ≡ true → list_any p (summed_from s es).clients ≡ true
+any_stays : (p : ClientSummary → Bool) (s : Summary) (es : List EntryValue) → list_any (λ k. p (through es k)) s.clients ≡ true →
+    list_any p (summed_from s es).clients ≡ true
 any_stays p s [] h = h
 any_stays p s (e ∷ es) h = any_stays p (summary_after s e) es (any_before (λ k. p (through es k)) s e h)
 
-any_opened : (p : ClientSummary → Bool) (s : Summary) (before since : List EntryValue) (c n : ℕ) (u : Durability) → p (through since (newly_opened c n u)) ≡ true → list_any p (summed_from s (before ++ opens c n u ∷ since)).clients ≡ true
+any_opened : (p : ClientSummary → Bool) (s : Summary) (before since : List EntryValue) (c n : ℕ) (u : Durability) → p (through since (newly_opened c n u))
+    ≡ true → list_any p (summed_from s (before ++ opens c n u ∷ since)).clients ≡ true
 any_opened p s [] since c n u h =
     any_stays p (summary_after s (opens c n u)) since
-    (list_any-append (λ k. p (through since k)) s.clients (newly_opened c n u ∷ []) ∙ or_right (list_any (λ k. p (through since k)) s.clients) _ (or_left (p (through since (newly_opened c n u))) false h))
+    (list_any-append (λ k. p (through since k)) s.clients (newly_opened c n u ∷ []) ∙ or_right (list_any (λ k. p (through since k)) s.clients) _
+    (or_left (p (through since (newly_opened c n u))) false h))
 any_opened p s (e ∷ before) since c n u h = any_opened p (summary_after s e) before since c n u h
 
 -- a client that was opened is in the summary
-pub seen : (p : ClientSummary → Bool) (h before since : List EntryValue) (c n : ℕ) (u : Durability) → h ≡ before ++ opens c n u ∷ since → p (through since (newly_opened c n u)) ≡ true → list_any p (summary h).clients ≡ true
+pub seen : (p : ClientSummary → Bool) (h before since : List EntryValue) (c n : ℕ) (u : Durability) → h ≡ before ++ opens c n u ∷ since →
+    p (through since (newly_opened c n u)) ≡ true → list_any p (summary h).clients ≡ true
 seen p h before since c n u split is = subst (λ es. list_any p (summary es).clients ≡ true) (sym split) (any_opened p nothing_yet before since c n u is)
 
 count_from : (s : Summary) (es : List EntryValue) → length (summed_from s es).clients ≡ length s.clients + clients_opened es
@@ -196,7 +216,8 @@ pub failed_since : (es : List EntryValue) (c n : ℕ) (u : Durability) → (thro
 failed_since es c n u = through_failed es (newly_opened c n u)
 
 -- the nodes that are down
-back_left : (down : List ℕ) (m n : ℕ) → list_any (λ k. k == n) (filter (λ k. not (k == m)) down) ≡ true → (list_any (λ k. k == n) down ≡ true) × ((n == m) ≡ false)
+back_left : (down : List ℕ) (m n : ℕ) → list_any (λ k. k == n) (filter (λ k. not (k == m)) down) ≡ true → (list_any (λ k. k == n) down ≡ true)
+    × ((n == m) ≡ false)
 back_left [] m n h = cc
 back_left (k ∷ ks) m n h =
     elim (cases_Bool (k == m)) [
@@ -212,7 +233,8 @@ back_left (k ∷ ks) m n h =
           ]
     ]
 
-down_after : (s : Summary) (e : EntryValue) (n : ℕ) → is_down (summary_after s e) n ≡ true → ((is_down s n ≡ true) × (is_return_of n e ≡ false)) ⊎ ((losses : List Loss) × (e ≡ fails n losses))
+down_after : (s : Summary) (e : EntryValue) (n : ℕ) → is_down (summary_after s e) n ≡ true → ((is_down s n ≡ true) × (is_return_of n e ≡ false))
+    ⊎ ((losses : List Loss) × (e ≡ fails n losses))
 down_after s (fails m losses) n h =
     elim (or_cases (is_down s n) ((m == n) || false) (sym (list_any-append (λ k. k == n) s.down (m ∷ [])) ∙ h)) [
       | inl a ↦ inl (a, refl)
@@ -237,7 +259,8 @@ back_stays (k ∷ ks) m n h other =
       ]
     ]
 
-down_from : (s : Summary) (es : List EntryValue) (n : ℕ) → is_down (summed_from s es) n ≡ true → ((is_down s n ≡ true) × (list_any (is_return_of n) es ≡ false)) ⊎ IsDown es n
+down_from : (s : Summary) (es : List EntryValue) (n : ℕ) → is_down (summed_from s es) n ≡ true → ((is_down s n ≡ true) × (list_any (is_return_of n) es ≡ false))
+    ⊎ IsDown es n
 down_from s [] n h = inl (h, refl)
 down_from s (e ∷ es) n h =
     elim (down_from (summary_after s e) es n h) [
@@ -266,7 +289,8 @@ stays_down s (e ∷ es) n h none =
     let q = or_parts (is_return_of n e) (list_any (is_return_of n) es) none in
     stays_down (summary_after s e) es n (stays_after s e n h q.0) q.1
 
-down_since : (s : Summary) (before since : List EntryValue) (n : ℕ) (losses : List Loss) → list_any (is_return_of n) since ≡ false → is_down (summed_from s (before ++ fails n losses ∷ since)) n ≡ true
+down_since : (s : Summary) (before since : List EntryValue) (n : ℕ) (losses : List Loss) → list_any (is_return_of n) since ≡ false →
+    is_down (summed_from s (before ++ fails n losses ∷ since)) n ≡ true
 down_since s [] since n losses none =
     stays_down (summary_after s (fails n losses)) since n
     (list_any-append (λ k. k == n) s.down (n ∷ []) ∙ or_right (is_down s n) _ (or_left (n == n) false (eq-eqb n n refl))) none

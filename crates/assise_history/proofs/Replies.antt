@@ -1,5 +1,5 @@
 -- The derived comparison of replies says whether they are the same.
-use Rattle.std.proofs.Common.{rules, ◌≡◌, ◌↔◌, ◌==◌, ℕ, List, Bool, refl, ap, sym, ◌∙◌}
+use Rattle.assise_history.proofs.Common.{rules, ◌≡◌, ◌↔◌, ◌==◌, ℕ, List, Bool, refl, ap, sym, ◌∙◌}
 use Rattle.std.specs.Prelude.{IsTrue}
 use Rattle.std.specs.Cmp.Lexicographic.{pointwise}
 use Rattle.std.specs.Bool.{Decides}

@@ -1,14 +1,7 @@
 -- Runs, one call at a time, and what an entry more keeps.
-use Rattle.std.proofs.Common.{◌≡◌, ℕ, nat_lt, Bool, true, false, not, List, [], ◌∷◌, ◌++◌, filter, map, refl, ap, sym, subst, ◌∙◌}
-use Rattle.std.proofs.Common.{if◌then◌else◌, inl, inr}
-use Rattle.std.proofs.Common.{Bor, take, drop, length, get_or, ◌+◌, ◌<◌, ◌≤◌, arith}
-use Rattle.std.proofs.lemmas.List.{take_more, map-append, take-append-drop}
-use Rattle.std.proofs.lemmas.Bool.{cases_Bool, lt-ltb}
-use Rattle.assise_seq_tree.specs.Tree.{Tree}
-use Rattle.assise_seq_tree.specs.Answer.{answer}
-use Rattle.assise_history.specs.declared.call.Call.{Call}
-use Rattle.assise_history.specs.Entries.{EntryValue, calls, fails}
-use Rattle.assise_history.specs.Kept.{loses, is_lost, kept, kept_more, IsRun, tree_after}
+use Rattle.assise_history.proofs.Common.{◌≡◌, ℕ, nat_lt, Bool, true, false, not, List, [], ◌∷◌, ◌++◌, filter, map, refl, ap, sym, subst, ◌∙◌, if◌then◌else◌}
+use Rattle.assise_history.proofs.Common.{inl, inr, Bor, take, drop, length, get_or, ◌+◌, ◌<◌, ◌≤◌, arith, take_more, map-append, take-append-drop, cases_Bool}
+use Rattle.assise_history.proofs.Common.{lt-ltb, Tree, answer, Call, EntryValue, calls, fails, loses, is_lost, kept, kept_more, IsRun, tree_after}
 
 or_false : (b : Bool) → (if b then true else false) ≡ b
 or_false true = refl
@@ -78,7 +71,8 @@ filter_whole p (x ∷ xs) h =
 
 pub filter_mapped : {X Y : Type 0} (f : X → Y) (p : X → Bool) (xs ys : List X) → ys ≡ filter p xs → nat_lt (length ys) (length xs) ≡ false → map f ys ≡ map f xs
 filter_mapped f p xs ys is long =
-    ap (map f) (is ∙ filter_whole p xs (λ less. let short : nat_lt (length (filter p xs)) (length xs) ≡ true = lt-ltb (length (filter p xs)) (length xs) less in let bad : true ≡ false = sym short ∙ subst (λ zs. nat_lt (length zs) (length xs) ≡ false) is long in cc))
+    ap (map f) (is ∙ filter_whole p xs (λ less. let short : nat_lt (length (filter p xs)) (length xs) ≡ true = lt-ltb (length (filter p xs)) (length xs) less in
+    let bad : true ≡ false = sym short ∙ subst (λ zs. nat_lt (length zs) (length xs) ≡ false) is long in cc))
 
 -- an entry more that is no call and loses none
 kept-quiet : (es : List EntryValue) (e : EntryValue) → ((call : Call) → is_lost (e ∷ []) call ≡ false) → kept (e ∷ []) ≡ [] → kept (es ++ e ∷ []) ≡ kept es
@@ -111,23 +105,27 @@ tree_after-push t [] x = refl
 tree_after-push t (c ∷ cs) x = tree_after-push (answer t c.op).1 cs x
 
 -- one call more was played, and its reply is right
-pub played_right : (s : Tree) (cs : List Call) (t t' : Tree) (reply : _) (x : Call) → IsRun s cs → t ≡ tree_after s cs → (reply, t') ≡ answer t x.op → reply ≡ x.reply → IsRun s (cs ++ x ∷ []) × (t' ≡ tree_after s (cs ++ x ∷ []))
+pub played_right : (s : Tree) (cs : List Call) (t t' : Tree) (reply : _) (x : Call) → IsRun s cs → t ≡ tree_after s cs → (reply, t') ≡ answer t x.op →
+    reply ≡ x.reply → IsRun s (cs ++ x ∷ []) × (t' ≡ tree_after s (cs ++ x ∷ []))
 played_right s cs t t' reply x run is step right =
     let now : (reply, t') ≡ answer (tree_after s cs) x.op = step ∙ ap (λ u. answer u x.op) is in
     (run-push s cs x run (sym right ∙ ap (λ p. p.0) now), ap (λ p. p.1) now ∙ sym (tree_after-push s cs x))
 
 -- its reply is wrong
-pub played_wrong : (s : Tree) (cs : List Call) (t t' : Tree) (reply : _) (x : Call) → t ≡ tree_after s cs → (reply, t') ≡ answer t x.op → (reply ≡ x.reply → ⊥) → IsRun s (cs ++ x ∷ []) → ⊥
+pub played_wrong : (s : Tree) (cs : List Call) (t t' : Tree) (reply : _) (x : Call) → t ≡ tree_after s cs → (reply, t') ≡ answer t x.op →
+    (reply ≡ x.reply → ⊥) → IsRun s (cs ++ x ∷ []) → ⊥
 played_wrong s cs t t' reply x is step wrong run =
     let now : (reply, t') ≡ answer (tree_after s cs) x.op = step ∙ ap (λ u. answer u x.op) is in
     wrong (ap (λ p. p.0) now ∙ sym (run-last s cs x run))
 
 -- one call more of a list of references
-pub calls_more : (cs : List (Bor Call)) (i : ℕ) (d : Bor Call) → i < length cs → map (λ x. x.now) (take (i + 1) cs) ≡ map (λ x. x.now) (take i cs) ++ (get_or cs i d).now ∷ []
+pub calls_more : (cs : List (Bor Call)) (i : ℕ) (d : Bor Call) → i < length cs → map (λ x. x.now) (take (i + 1) cs)
+    ≡ map (λ x. x.now) (take i cs) ++ (get_or cs i d).now ∷ []
 calls_more cs i d h = ap (map (λ x. x.now)) (take_more cs i d h) ∙ map-append (λ x. x.now) (take i cs) (get_or cs i d ∷ [])
 
 -- no prefix that ends with a wrong call is part of a run
-pub stops : (s : Tree) (cs : List (Bor Call)) (i : ℕ) (d : Bor Call) → i < length cs → (IsRun s (map (λ x. x.now) (take i cs) ++ (get_or cs i d).now ∷ []) → ⊥) → IsRun s (map (λ x. x.now) cs) → ⊥
+pub stops : (s : Tree) (cs : List (Bor Call)) (i : ℕ) (d : Bor Call) → i < length cs →
+    (IsRun s (map (λ x. x.now) (take i cs) ++ (get_or cs i d).now ∷ []) → ⊥) → IsRun s (map (λ x. x.now) cs) → ⊥
 stops s cs i d h wrong run =
     let parts : map (λ x. x.now) cs ≡ map (λ x. x.now) (take (i + 1) cs) ++ map (λ x. x.now) (drop (i + 1) cs) =
     ap (map (λ x. x.now)) (sym (take-append-drop (i + 1) cs)) ∙ map-append (λ x. x.now) (take (i + 1) cs) (drop (i + 1) cs) in

@@ -1,19 +1,17 @@
 -- The summary of a prefix allows just what may follow it.
-use Rattle.std.proofs.Common.{◌≡◌, ◌↔◌, ℕ, ◌+◌, ◌<◌, true, false, not, ◌&&◌, ◌==◌, List, [], ◌∷◌, ◌++◌, length, Option, Some, None, refl, ap, sym, subst, ◌∙◌, inl, inr, arith, eqb-true, eq-eqb, ltb-true, lt-ltb}
-use Rattle.std.specs.List.{list_any, list_all}
-use Rattle.std.proofs.lemmas.Bool.{cases_Bool, not-true, not_from_false, both_ways, false_from_ne_true}
-use Rattle.assise_names.specs.declared.durability.Durability.{Durability}
-use Rattle.assise_history.specs.declared.call.Call.{Call}
-use Rattle.assise_history.specs.declared.call.Loss.{Loss}
-use Rattle.assise_history.specs.declared.prefix.ClientSummary.{ClientSummary}
-use Rattle.assise_history.specs.Entries.{EntryValue, opens, calls, crashes, fails, returns}
-use Rattle.assise_history.specs.Legal.{IsLegal, Fits, is_sync, syncs, durability_of, is_crash_of, is_failure_of, calls_made, IsAlive, IsPastSyncs, MayLose, ClientsAscend, IsNextCall, MayOpen, IsFair, MayFollow}
-use Rattle.assise_history.specs.Summary.{follows, summary, newly_opened, is_past, is_down, ascend_from, makes_next_call, may_lose, summary_with_call, with_crash, with_failure, comes_next}
+use Rattle.assise_history.proofs.Common.{◌≡◌, ◌↔◌, ℕ, ◌+◌, ◌<◌, true, false, not, ◌&&◌, ◌==◌, List, [], ◌∷◌, ◌++◌, length, Option, Some, None, refl, ap, sym}
+use Rattle.assise_history.proofs.Common.{subst, ◌∙◌, inl, inr, arith, eqb-true, eq-eqb, ltb-true, list_any, list_all, cases_Bool, not-true, not_from_false}
+use Rattle.assise_history.proofs.Common.{both_ways, false_from_ne_true, Durability, Call, Loss, ClientSummary, EntryValue, opens, calls, crashes, fails}
+use Rattle.assise_history.proofs.Common.{returns, IsLegal, Fits, is_sync, syncs, durability_of, is_crash_of, is_failure_of, calls_made, IsAlive, IsPastSyncs}
+use Rattle.assise_history.proofs.Common.{MayLose, ClientsAscend, IsNextCall, MayOpen, IsFair, MayFollow, follows, summary, newly_opened, is_past, is_down}
+use Rattle.assise_history.proofs.Common.{ascend_from, makes_next_call, may_lose, summary_with_call, with_crash, with_failure, comes_next}
+use Rattle.std.proofs.Common.{lt-ltb}
 use Rattle.assise_history.proofs.TestedElements.{two, two_from, four, four_from, all_at, all_from, cut_end, not_nil}
 use Rattle.assise_history.proofs.Legality.{along}
 use Rattle.assise_history.proofs.ClientCounts.{early, durability_in, made_append, made_before, next_opened, number_in}
 use Rattle.assise_history.proofs.LivesOneMore.{past_syncs-prefix, past_syncs-push}
-use Rattle.assise_history.proofs.Prefixes.{Found, found, seen, count_clients, through, through-push, with_entry, through_client, through_node, through_durability, crashed_since, failed_since, down_found, down_seen, next, comes_next_is}
+use Rattle.assise_history.proofs.Prefixes.{Found, found, seen, count_clients, through, through-push, with_entry, through_client, through_node}
+use Rattle.assise_history.proofs.Prefixes.{through_durability, crashed_since, failed_since, down_found, down_seen, next, comes_next_is}
 
 -- what it takes to make a call
 pub record Makes (x : Call) (k : ClientSummary) : Type 0 where
@@ -34,7 +32,8 @@ makes_parts x k h =
 
 makes_from : (x : Call) (k : ClientSummary) → Makes x k → makes_next_call x k ≡ true
 makes_from x k m =
-    four_from (k.client == x.client) (not k.crashed) (not k.failed) (comes_next k.last x.number) (eq-eqb k.client x.client m.client) (not_from_false k.crashed m.no_crash) (not_from_false k.failed m.no_failure) (comes_next_is k.last x.number ∙ eq-eqb x.number (next k.last) m.number)
+    four_from (k.client == x.client) (not k.crashed) (not k.failed) (comes_next k.last x.number) (eq-eqb k.client x.client m.client)
+    (not_from_false k.crashed m.no_crash) (not_from_false k.failed m.no_failure) (comes_next_is k.last x.number ∙ eq-eqb x.number (next k.last) m.number)
 
 -- who makes a call
 made_by : (h : List EntryValue) (x : Call) (f : Found (makes_next_call x) h) → Makes x (through f.since (newly_opened f.client f.node f.durability))
@@ -45,7 +44,8 @@ maker h x f = sym (through_client f.since (newly_opened f.client f.node f.durabi
 
 -- a client's next number is the count of its calls
 abbrev Numbered : List EntryValue → Type 0
-Numbered h = (c n : ℕ) (u : Durability) (before since : List EntryValue) → h ≡ before ++ opens c n u ∷ since → next (through since (newly_opened c n u)).last ≡ calls_made c h
+Numbered h = (c n : ℕ) (u : Durability) (before since : List EntryValue) → h ≡ before ++ opens c n u ∷ since → next (through since (newly_opened c n u)).last
+    ≡ calls_made c h
 
 call_number : (h : List EntryValue) (x : Call) → Fits h (calls x) → x.number ≡ calls_made x.client h
 call_number h x fits = let is : IsNextCall h x = fits.follows in is.number
@@ -63,7 +63,8 @@ last_own x k own = rw own refl
 last_other : (x : Call) (k : ClientSummary) → (k.client == x.client) ≡ false → (summary_with_call x k).last ≡ k.last
 last_other x k other = rw other refl
 
-number_more : (h : List EntryValue) (e : EntryValue) → IsLegal h → Fits h e → Numbered h → (c n : ℕ) (u : Durability) (before since : List EntryValue) → h ≡ before ++ opens c n u ∷ since
+number_more : (h : List EntryValue) (e : EntryValue) → IsLegal h → Fits h e → Numbered h → (c n : ℕ) (u : Durability) (before since : List EntryValue) →
+    h ≡ before ++ opens c n u ∷ since
     → next (with_entry e (through since (newly_opened c n u))).last ≡ calls_made c (h ++ e ∷ [])
 number_more h (crashes d) legal fits numbered c n u before since split =
     let k = through since (newly_opened c n u) in
@@ -108,7 +109,8 @@ numbered_more h e legal fits numbered c n u before since split =
           let none : next (through since (newly_opened c n u)).last ≡ 0 = ap (λ es. next (through es (newly_opened c n u)).last) end.more_is in
           none ∙ first ∙ ap (λ x. calls_made c (h ++ x ∷ [])) (sym end.last_is)
       | inr early ↦
-          let on : through since (newly_opened c n u) ≡ with_entry e (through early.rest (newly_opened c n u)) = ap (λ es. through es (newly_opened c n u)) early.more_is ∙ through-push early.rest e (newly_opened c n u) in
+          let on : through since (newly_opened c n u) ≡ with_entry e (through early.rest (newly_opened c n u)) = ap (λ es. through es (newly_opened c n u))
+          early.more_is ∙ through-push early.rest e (newly_opened c n u) in
           ap (λ k. next k.last) on ∙ number_more h e legal fits numbered c n u before early.rest early.split
     ]
 
@@ -125,7 +127,13 @@ call_allowed h x legal rule =
     record {
       ready = record {
         node = f.node;
-        opened = record { durability = f.durability; before = f.before; since = f.since; split = subst (λ c. h ≡ f.before ++ opens c f.node f.durability ∷ f.since) who f.split };
+        opened = record {
+          durability = f.durability;
+          before = f.before;
+          since = f.since;
+          split =
+              subst (λ c. h ≡ f.before ++ opens c f.node f.durability ∷ f.since) who f.split;
+        };
         no_crash = subst (λ c. list_any (is_crash_of c) f.since ≡ false) who crash;
         no_failure = sym (failed_since f.since f.client f.node f.durability) ∙ m.no_failure;
       };
@@ -137,7 +145,8 @@ call_follows h x legal is =
     let r = is.ready in
     let o = r.opened in
     let count = numbered h legal x.client r.node o.durability o.before o.since o.split in
-    seen (makes_next_call x) h o.before o.since x.client r.node o.durability o.split (makes_from x (through o.since (newly_opened x.client r.node o.durability)) record {
+    seen (makes_next_call x) h o.before o.since x.client r.node o.durability o.split
+    (makes_from x (through o.since (newly_opened x.client r.node o.durability)) record {
       client = through_client o.since (newly_opened x.client r.node o.durability);
       no_crash = crashed_since o.since x.client r.node o.durability ∙ r.no_crash;
       no_failure = failed_since o.since x.client r.node o.durability ∙ r.no_failure;
@@ -156,7 +165,8 @@ open_allowed h c n u rule =
 open_follows : (h : List EntryValue) (c n : ℕ) (u : Durability) → MayOpen h c n → follows (summary h) (opens c n u) ≡ true
 open_follows h c n u may =
     let first : c ≡ length (summary h).clients + 1 = may.next ∙ ap (λ k. k + 1) (sym (count_clients h)) in
-    two_from (c == length (summary h).clients + 1) (not (is_down (summary h) n)) (eq-eqb c (length (summary h).clients + 1) first) (not_from_false (is_down (summary h) n) (false_from_ne_true (is_down (summary h) n) (λ down. may.up (down_found h n down))))
+    two_from (c == length (summary h).clients + 1) (not (is_down (summary h) n)) (eq-eqb c (length (summary h).clients + 1) first)
+    (not_from_false (is_down (summary h) n) (false_from_ne_true (is_down (summary h) n) (λ down. may.up (down_found h n down))))
 
 -- a crash
 crash_allowed : (h : List EntryValue) (c : ℕ) → list_any (λ k. (k.client == c) && not k.crashed) (summary h).clients ≡ true → IsAlive h c
@@ -168,7 +178,13 @@ crash_allowed h c rule =
     let crash : list_any (is_crash_of f.client) f.since ≡ false = sym (crashed_since f.since f.client f.node f.durability) ∙ not-true k.crashed parts.1 in
     record {
       node = f.node;
-      opened = record { durability = f.durability; before = f.before; since = f.since; split = subst (λ d. h ≡ f.before ++ opens d f.node f.durability ∷ f.since) who f.split };
+      opened = record {
+        durability = f.durability;
+        before = f.before;
+        since = f.since;
+        split =
+            subst (λ d. h ≡ f.before ++ opens d f.node f.durability ∷ f.since) who f.split;
+      };
       no_crash = subst (λ d. list_any (is_crash_of d) f.since ≡ false) who crash;
     }
 
@@ -176,7 +192,9 @@ crash_follows : (h : List EntryValue) (c : ℕ) → IsAlive h c → list_any (λ
 crash_follows h c a =
     let o = a.opened in
     let k = through o.since (newly_opened c a.node o.durability) in
-    seen (λ k. (k.client == c) && not k.crashed) h o.before o.since c a.node o.durability o.split (two_from (k.client == c) (not k.crashed) (eq-eqb k.client c (through_client o.since (newly_opened c a.node o.durability))) (not_from_false k.crashed (crashed_since o.since c a.node o.durability ∙ a.no_crash)))
+    seen (λ k. (k.client == c) && not k.crashed) h o.before o.since c a.node o.durability o.split
+    (two_from (k.client == c) (not k.crashed) (eq-eqb k.client c (through_client o.since (newly_opened c a.node o.durability)))
+    (not_from_false k.crashed (crashed_since o.since c a.node o.durability ∙ a.no_crash)))
 
 -- a failure: its clients ascend
 past_more : (o : Option ℕ) (i j : ℕ) → is_past o i ≡ true → i < j → is_past o j ≡ true
@@ -205,7 +223,8 @@ ascends o (x ∷ xs) h (y ∷ before) between behind l m split =
     let parts = two (is_past o x.client) (ascend_from (Some x.client) xs) h in
     ascends (Some x.client) xs parts.1 before between behind l m tails
 
-ascend_back : (o : Option ℕ) (ls : List Loss) → ClientsAscend ls → ((before behind : List Loss) (l : Loss) → ls ≡ before ++ l ∷ behind → is_past o l.client ≡ true) → ascend_from o ls ≡ true
+ascend_back : (o : Option ℕ) (ls : List Loss) → ClientsAscend ls →
+    ((before behind : List Loss) (l : Loss) → ls ≡ before ++ l ∷ behind → is_past o l.client ≡ true) → ascend_from o ls ≡ true
 ascend_back o [] ascending past = refl
 ascend_back o (x ∷ xs) ascending past =
     two_from (is_past o x.client) (ascend_from (Some x.client) xs) (past [] xs x refl)
@@ -218,16 +237,19 @@ abbrev UpTo : List EntryValue → ℕ → ℕ → Type 0
 UpTo h c j = IsPastSyncs h record { client = c; first = j }
 
 abbrev Synced : List EntryValue → Type 0
-Synced h = (c n : ℕ) (u : Durability) (before since : List EntryValue) → h ≡ before ++ opens c n u ∷ since → (j : ℕ) → (is_past (through since (newly_opened c n u)).synced j ≡ true) ↔ UpTo h c j
+Synced h = (c n : ℕ) (u : Durability) (before since : List EntryValue) → h ≡ before ++ opens c n u ∷ since → (j : ℕ) →
+    (is_past (through since (newly_opened c n u)).synced j ≡ true) ↔ UpTo h c j
 
 up_to-prefix : (h : List EntryValue) (e : EntryValue) (c j : ℕ) → UpTo (h ++ e ∷ []) c j → UpTo h c j
 up_to-prefix h e c j all = past_syncs-prefix h e record { client = c; first = j } all
 
-up_to-quiet : (h : List EntryValue) (e : EntryValue) (c j : ℕ) → ((x : Call) → e ≡ calls x → x.client ≡ c → syncs h x ≡ true → ⊥) → UpTo h c j → UpTo (h ++ e ∷ []) c j
+up_to-quiet : (h : List EntryValue) (e : EntryValue) (c j : ℕ) → ((x : Call) → e ≡ calls x → x.client ≡ c → syncs h x ≡ true → ⊥) → UpTo h c j →
+    UpTo (h ++ e ∷ []) c j
 up_to-quiet h e c j quiet all = past_syncs-push h e record { client = c; first = j } (λ x is client sync. absurd (quiet x is client sync)) all
 
 -- the same is known of the client, and no sync of it more
-synced_quiet : (h : List EntryValue) (e : EntryValue) (c j : ℕ) (k l : ClientSummary) → l.synced ≡ k.synced → ((x : Call) → e ≡ calls x → x.client ≡ c → syncs h x ≡ true → ⊥)
+synced_quiet : (h : List EntryValue) (e : EntryValue) (c j : ℕ) (k l : ClientSummary) → l.synced ≡ k.synced →
+    ((x : Call) → e ≡ calls x → x.client ≡ c → syncs h x ≡ true → ⊥)
     → ((is_past k.synced j ≡ true) ↔ UpTo h c j) → (is_past l.synced j ≡ true) ↔ UpTo (h ++ e ∷ []) c j
 synced_quiet h e c j k l same quiet before = (
   λ past. up_to-quiet h e c j quiet (before.0 (ap (λ s. is_past s j) (sym same) ∙ past)),
@@ -244,7 +266,8 @@ synced_own : (x : Call) (k : ClientSummary) → (k.client == x.client) ≡ true 
 synced_own x k own sync = rw (own, sync) refl
 
 -- a sync more of the client
-synced_sync : (h : List EntryValue) (x : Call) (j : ℕ) → IsLegal h → Fits h (calls x) → syncs h x ≡ true → (is_past (Some x.number) j ≡ true) ↔ UpTo (h ++ calls x ∷ []) x.client j
+synced_sync : (h : List EntryValue) (x : Call) (j : ℕ) → IsLegal h → Fits h (calls x) → syncs h x ≡ true →
+    (is_past (Some x.number) j ≡ true) ↔ UpTo (h ++ calls x ∷ []) x.client j
 synced_sync h x j legal fits sync = (
   λ past before since y split client again.
       let below = ltb-true x.number j past in
@@ -259,7 +282,8 @@ synced_sync h x j legal fits sync = (
   λ all. lt-ltb x.number j (all h [] x refl refl sync),
 )
 
-synced_more : (h : List EntryValue) (e : EntryValue) → IsLegal h → Fits h e → Synced h → (c n : ℕ) (u : Durability) (before since : List EntryValue) → h ≡ before ++ opens c n u ∷ since
+synced_more : (h : List EntryValue) (e : EntryValue) → IsLegal h → Fits h e → Synced h → (c n : ℕ) (u : Durability) (before since : List EntryValue) →
+    h ≡ before ++ opens c n u ∷ since
     → (j : ℕ) → (is_past (with_entry e (through since (newly_opened c n u))).synced j ≡ true) ↔ UpTo (h ++ e ∷ []) c j
 synced_more h (crashes d) legal fits synced c n u before since split j =
     let k = through since (newly_opened c n u) in
@@ -283,13 +307,16 @@ synced_more h (calls y) legal fits synced c n u before since split j =
         | inr plain ↦
             let disjoint : (x : Call) → calls y ≡ calls x → x.client ≡ c → syncs h x ≡ true → ⊥ = λ x is client sync.
             let same : y ≡ x = cc in
-            let opened : durability_of x.client h ≡ k.durability = ap (λ d. durability_of d h) client ∙ durability_in h before since c n u legal split ∙ sym (through_durability since (newly_opened c n u)) in
-            both_ways (is_sync y.op k.durability) plain (subst (λ v. is_sync y.op v ≡ true) opened (subst (λ z. is_sync z.op (durability_of x.client h) ≡ true) (sym same) sync)) in
+            let opened : durability_of x.client h ≡ k.durability = ap (λ d. durability_of d h) client ∙ durability_in h before since c n u legal split
+            ∙ sym (through_durability since (newly_opened c n u)) in
+            both_ways (is_sync y.op k.durability) plain
+            (subst (λ v. is_sync y.op v ≡ true) opened (subst (λ z. is_sync z.op (durability_of x.client h) ≡ true) (sym same) sync)) in
             synced_quiet h (calls y) c j k (summary_with_call y k) (synced_plain y k plain) disjoint (synced c n u before since split j)
         | inl sync ↦
             let same : y.client ≡ c = sym (eqb-true k.client y.client own) ∙ who in
             let last : (summary_with_call y k).synced ≡ Some y.number = synced_own y k own sync in
-            let opened : k.durability ≡ durability_of y.client h = through_durability since (newly_opened c n u) ∙ sym (durability_in h before since c n u legal split) ∙ ap (λ d. durability_of d h) (sym same) in
+            let opened : k.durability ≡ durability_of y.client h = through_durability since (newly_opened c n u)
+            ∙ sym (durability_in h before since c n u legal split) ∙ ap (λ d. durability_of d h) (sym same) in
             let both = synced_sync h y j legal fits (subst (λ v. is_sync y.op v ≡ true) opened sync) in (
               λ past. subst (λ d. UpTo (h ++ calls y ∷ []) d j) same (both.0 (ap (λ s. is_past s j) (sym last) ∙ past)),
               λ all. ap (λ s. is_past s j) last ∙ both.1 (subst (λ d. UpTo (h ++ calls y ∷ []) d j) (sym same) all),
@@ -321,7 +348,8 @@ synced_push h e legal fits synced c n u before since split j =
             λ each. ap (λ es. is_past (through es (newly_opened c n u)).synced j) end.more_is,
           )
       | inr early ↦
-          let on : through since (newly_opened c n u) ≡ with_entry e (through early.rest (newly_opened c n u)) = ap (λ es. through es (newly_opened c n u)) early.more_is ∙ through-push early.rest e (newly_opened c n u) in
+          let on : through since (newly_opened c n u) ≡ with_entry e (through early.rest (newly_opened c n u)) = ap (λ es. through es (newly_opened c n u))
+          early.more_is ∙ through-push early.rest e (newly_opened c n u) in
           let both = synced_more h e legal fits synced c n u before early.rest early.split j in (
             λ past. both.0 (ap (λ k. is_past k.synced j) (sym on) ∙ past),
             λ all. ap (λ k. is_past k.synced j) on ∙ both.1 all,
@@ -339,10 +367,17 @@ fair_pair h n l legal is =
     let who : f.client ≡ l.client = sym (through_client f.since (newly_opened f.client f.node f.durability)) ∙ eqb-true k.client l.client parts.0 in
     let there : f.node ≡ n = sym (through_node f.since (newly_opened f.client f.node f.durability)) ∙ eqb-true k.node n parts.1 in
     let failed : list_any (is_failure_of f.node) f.since ≡ false = sym (failed_since f.since f.client f.node f.durability) ∙ not-true k.failed parts.2 in
-    let placed : h ≡ f.before ++ opens l.client f.node f.durability ∷ f.since = subst (λ c. h ≡ f.before ++ opens c f.node f.durability ∷ f.since) who f.split in
+    let placed : h ≡ f.before ++ opens l.client f.node f.durability ∷ f.since = subst (λ c. h ≡ f.before ++ opens c f.node f.durability ∷ f.since) who f.split
+    in
     record {
       on = record {
-        opened = record { durability = f.durability; before = f.before; since = f.since; split = subst (λ m. h ≡ f.before ++ opens l.client m f.durability ∷ f.since) there placed };
+        opened = record {
+          durability = f.durability;
+          before = f.before;
+          since = f.since;
+          split =
+              subst (λ m. h ≡ f.before ++ opens l.client m f.durability ∷ f.since) there placed;
+        };
         no_failure = subst (λ m. list_any (is_failure_of m) f.since ≡ false) there failed;
       };
       past = subst (λ c. UpTo h c l.first) who ((synced h legal f.client f.node f.durability f.before f.since f.split l.first).0 parts.3);
@@ -365,7 +400,9 @@ failure_allowed h n losses legal rule =
     let parts = two (ascend_from None losses) (list_all (λ l. list_any (may_lose n l) (summary h).clients) losses) rule in
     record {
       ascending = ascends None losses parts.0;
-      each = λ lower higher l split. fair_pair h n l legal (all_at (λ l. list_any (may_lose n l) (summary h).clients) lower higher l (subst (λ ls. list_all (λ l. list_any (may_lose n l) (summary h).clients) ls ≡ true) split parts.1));
+      each = λ lower higher l split. fair_pair h n l legal
+          (all_at (λ l. list_any (may_lose n l) (summary h).clients) lower higher l
+          (subst (λ ls. list_all (λ l. list_any (may_lose n l) (summary h).clients) ls ≡ true) split parts.1));
     }
 
 failure_follows : (h : List EntryValue) (n : ℕ) (losses : List Loss) → IsLegal h → IsFair h n losses → follows (summary h) (fails n losses) ≡ true

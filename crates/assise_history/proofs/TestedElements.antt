@@ -1,7 +1,6 @@
 -- Where an element stands that passes a test, and histories from their ends.
-use Rattle.std.proofs.Common.{◌≡◌, Bool, true, false, ◌&&◌, ◌||◌, ◌⊎◌, List, [], ◌∷◌, ◌++◌, map, refl, ap, sym, subst, inl, inr, append_assoc, append-nil}
-use Rattle.std.specs.List.{list_any, list_all}
-use Rattle.std.proofs.lemmas.Bool.{or_cases, or_left, or_right}
+use Rattle.assise_history.proofs.Common.{◌≡◌, Bool, true, false, ◌&&◌, ◌||◌, ◌⊎◌, List, [], ◌∷◌, ◌++◌, map, refl, ap, sym, subst, inl, inr, append_assoc}
+use Rattle.assise_history.proofs.Common.{append-nil, list_any, list_all, or_cases, or_left, or_right}
 
 -- parts of a test
 pub two : (a b : Bool) → (a && b) ≡ true → (a ≡ true) × (b ≡ true)
@@ -41,7 +40,8 @@ passes_from p [] h = cc
 passes_from p (x ∷ xs) h =
     elim (or_cases (p x) (list_any p xs) h) [
       | inl here ↦ record { item = x; before = []; behind = xs; split = refl; holds = here }
-      | inr there ↦ let q = passes_from p xs there in record { item = q.item; before = x ∷ q.before; behind = q.behind; split = ap (λ ys. x ∷ ys) q.split; holds = q.holds }
+      | inr there ↦ let q = passes_from p xs there in
+          record { item = q.item; before = x ∷ q.before; behind = q.behind; split = ap (λ ys. x ∷ ys) q.split; holds = q.holds }
     ]
 
 pub passes_at : {X : Type 0} (p : X → Bool) (before behind : List X) (x : X) → p x ≡ true → list_any p (before ++ x ∷ behind) ≡ true
@@ -85,10 +85,12 @@ pub record Last {X : Type 0} (h : List X) (e : X) (prefix : List X) (x : X) (mor
   pub last_is : e ≡ x
   pub more_is : more ≡ []
 
-pub cut_end : {X : Type 0} (h : List X) (e : X) (prefix : List X) (x : X) (more : List X) → h ++ e ∷ [] ≡ prefix ++ x ∷ more → Last h e prefix x more ⊎ Earlier h e prefix x more
+pub cut_end : {X : Type 0} (h : List X) (e : X) (prefix : List X) (x : X) (more : List X) → h ++ e ∷ [] ≡ prefix ++ x ∷ more →
+    Last h e prefix x more ⊎ Earlier h e prefix x more
 cut_end [] e [] x more same = inl record { prefix_is = refl; last_is = cc; more_is = cc }
 cut_end [] e (f ∷ prefix) x more same = let tail : [] ≡ prefix ++ x ∷ more = cc in absurd (not_nil prefix more x tail)
-cut_end (y ∷ ys) e [] x more same = let here : y ≡ x = cc in let rest : ys ++ e ∷ [] ≡ more = cc in inr record { rest = ys; split = ap (λ z. z ∷ ys) here; more_is = sym rest }
+cut_end (y ∷ ys) e [] x more same =
+    let here : y ≡ x = cc in let rest : ys ++ e ∷ [] ≡ more = cc in inr record { rest = ys; split = ap (λ z. z ∷ ys) here; more_is = sym rest }
 cut_end (y ∷ ys) e (f ∷ prefix) x more same =
     let here : y ≡ f = cc in
     let tails : ys ++ e ∷ [] ≡ prefix ++ x ∷ more = cc in

@@ -1,22 +1,13 @@
 -- What is planned for the calls that make an inode.
-use Rattle.std.proofs.Common.{◌≡◌, ℕ, ◌-◌, ◌≤◌, List, [], ◌∷◌, length, slice_index_or, Result, Ok, Err, Bor, ap, sym, ◌∙◌}
-use Rattle.assise_names.specs.declared.reply.Reply.TheVariants.{Done, Error}
-use Rattle.assise_names.specs.declared.reply.TreeError.{TreeError}
-use Rattle.assise_names.specs.declared.reply.TreeError.TheVariants.{Exists}
-use Rattle.assise_record.specs.declared.effect.Effect.{Effect}
-use Rattle.assise_record.specs.declared.effect.Effect.TheVariants.{Link}
-use Rattle.assise_seq_tree.specs.Answer.{parent_of}
-use Rattle.assise_inode_table.specs.Calls.{then_or_error, walk, as_links, room_among, make_call}
-use Rattle.assise_inode_table.specs.Contents.{Content, Links, Values}
-use Rattle.assise_inode_table.specs.Interaction.{Interaction, finish}
-use Rattle.assise_inode_plan.specs.Leased.{LeaseView}
-use Rattle.assise_inode_plan.specs.Walking.{plan_from, plan_stopped}
-use Rattle.assise_inode_plan.specs.declared.walk.Stop.{Stop}
+use Rattle.assise_inode_plan.proofs.Common.{◌≡◌, ℕ, ◌-◌, ◌≤◌, List, [], ◌∷◌, length, slice_index_or, Result, Ok, Err, Bor, ap, sym, ◌∙◌, Done, Error, TreeError}
+use Rattle.assise_inode_plan.proofs.Common.{Exists, Effect, Link, parent_of, then_or_error, walk, as_links, room_among, make_call, Content, Links, Values}
+use Rattle.assise_inode_plan.proofs.Common.{Interaction, finish, LeaseView, plan_from, plan_stopped, Stop}
 use Rattle.assise_inode_plan.proofs.WalkEnds.{quiet, Ended, at_stop, at_end, below_root}
 
 -- what follows the walk to the parent
 abbrev pub making : Effect → ℕ → List ℕ → ℕ → Content → Interaction
-making new fresh name d content = then_or_error (as_links content) (λ links. then_or_error (room_among name links) (λ _. finish Done (new ∷ Link d name fresh ∷ [])))
+making new fresh name d content =
+    then_or_error (as_links content) (λ links. then_or_error (room_among name links) (λ _. finish Done (new ∷ Link d name fresh ∷ [])))
 
 module _ (leased : LeaseView) (v : Values) (before : List ℕ) (p : List (List ℕ)) (reads : List ℕ) (end : Result (ℕ × Bor Content) Stop) (none : before ≡ [])
     (ended : (next : ℕ → Content → Interaction) → Ended leased v before (parent_of p) reads end next)
@@ -29,9 +20,11 @@ module _ (leased : LeaseView) (v : Values) (before : List ℕ) (p : List (List �
 
   module _ (r : ℕ × Bor Content) (found : end ≡ Ok r) where
     in_parent : (o : Result Links TreeError) → as_links r.1.now ≡ o →
-        plan_from leased v reads (then_or_error o (λ links. then_or_error (room_among name links) (λ _. finish Done (new ∷ Link r.0 name fresh ∷ [])))) ≡ plan_from leased v [] (make_call new p fresh)
+        plan_from leased v reads (then_or_error o (λ links. then_or_error (room_among name links) (λ _. finish Done (new ∷ Link r.0 name fresh ∷ []))))
+        ≡ plan_from leased v [] (make_call new p fresh)
     in_parent o parent =
-        ap (λ o. plan_from leased v reads (then_or_error o (λ links. then_or_error (room_among name links) (λ _. finish Done (new ∷ Link r.0 name fresh ∷ []))))) (sym parent)
+        ap (λ o. plan_from leased v reads
+        (then_or_error o (λ links. then_or_error (room_among name links) (λ _. finish Done (new ∷ Link r.0 name fresh ∷ []))))) (sym parent)
         ∙ at_end leased v before (parent_of p) reads end none ended r found (making new fresh name) ∙ below
 
     pub make_under_file : (error : TreeError) → as_links r.1.now ≡ Err error → quiet reads (Error error) ≡ plan_from leased v [] (make_call new p fresh)
@@ -42,7 +35,8 @@ module _ (leased : LeaseView) (v : Values) (before : List ℕ) (p : List (List �
     with_room links parent o room =
         ap (λ o. plan_from leased v reads (then_or_error o (λ _. finish Done (new ∷ Link r.0 name fresh ∷ [])))) (sym room) ∙ in_parent (Ok links) parent
 
-    pub make_without_room : (links : Links) (error : TreeError) → as_links r.1.now ≡ Ok links → room_among name links ≡ Err error → quiet reads (Error error) ≡ plan_from leased v [] (make_call new p fresh)
+    pub make_without_room : (links : Links) (error : TreeError) → as_links r.1.now ≡ Ok links → room_among name links ≡ Err error → quiet reads (Error error)
+        ≡ plan_from leased v [] (make_call new p fresh)
     make_without_room links error parent room = with_room links parent (Err error) room
 
     pub make_ends : (links : Links) → as_links r.1.now ≡ Ok links → room_among name links ≡ Ok tt →

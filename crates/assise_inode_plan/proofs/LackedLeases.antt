@@ -1,16 +1,8 @@
 -- Which leases a plan lacks.
-use Rattle.std.proofs.Common.{◌≡◌, ℕ, true, false, List, [], ◌∷◌, ◌++◌, Option, Some, None, refl, ap, sym, subst, ◌∙◌, inl, inr}
-use Rattle.std.proofs.lemmas.Bool.{cases_Bool}
-use Rattle.assise_names.specs.declared.call.Op.{Op}
-use Rattle.assise_names.specs.declared.mode.Mode.{Mode}
-use Rattle.assise_names.specs.declared.mode.Mode.TheVariants.{Read}
-use Rattle.assise_inode_table.specs.Calls.{interaction, step}
-use Rattle.assise_inode_table.specs.Contents.{Values}
-use Rattle.assise_inode_table.specs.Interaction.{Interaction, visit, finish, Step, AgreeOn}
+use Rattle.assise_inode_plan.proofs.Common.{◌≡◌, ℕ, true, false, List, [], ◌∷◌, ◌++◌, Option, Some, None, refl, ap, sym, subst, ◌∙◌, inl, inr, cases_Bool, Op}
+use Rattle.assise_inode_plan.proofs.Common.{Mode, Read, interaction, step, Values, Interaction, visit, finish, Step, AgreeOn, AreLeased, LeaseView}
+use Rattle.assise_inode_plan.proofs.Common.{first_missing, changed_plan_of, ready, missing, plan_lacking, plan_of, visited_plan_of, plan_from}
 use Rattle.assise_inode_table.proofs.Local.{step_local}
-use Rattle.assise_inode_plan.specs.Leased.{AreLeased, LeaseView, first_missing}
-use Rattle.assise_inode_plan.specs.Planning.{changed_plan_of, ready, missing, plan_lacking, plan_of, visited_plan_of}
-use Rattle.assise_inode_plan.specs.Walking.{plan_from}
 use Rattle.assise_inode_plan.proofs.WholeStepPlan.{visits_then_changes}
 use Rattle.assise_inode_plan.proofs.Exact.{whole_plan}
 
@@ -53,7 +45,8 @@ missing_from s (Some w) i mode e =
     ap (λ j. Some (j, w.1)) number ∙ ap (λ m. Some (i, m)) kind
 
 -- of these leases that a step wants
-pub missing_is_first : (leased : LeaseView) (s : Step) (ws : List (ℕ × Mode)) (i : ℕ) (mode : Mode) → plan_lacking s (first_missing leased ws) ≡ missing i mode →
+pub missing_is_first : (leased : LeaseView) (s : Step) (ws : List (ℕ × Mode)) (i : ℕ) (mode : Mode) → plan_lacking s (first_missing leased ws)
+    ≡ missing i mode →
     (before : List (ℕ × Mode)) × (after : List (ℕ × Mode)) × (ws ≡ before ++ (i, mode) ∷ after) × AreLeased leased before × (leased i mode ≡ false)
 missing_is_first leased s ws i mode e =
     let l : Lacks leased ws (i, mode) = lacks leased ws (i, mode) (missing_from s (first_missing leased ws) i mode e) in
@@ -63,14 +56,16 @@ ready_from : (s u : Step) (o : Option (ℕ × Mode)) → plan_lacking s o ≡ re
 ready_from s u None e = (refl, cc)
 ready_from s u (Some w) e = cc
 
-pub ready_has_all : (leased : LeaseView) (s u : Step) (ws : List (ℕ × Mode)) → plan_lacking s (first_missing leased ws) ≡ ready u → (u ≡ s) × AreLeased leased ws
+pub ready_has_all : (leased : LeaseView) (s u : Step) (ws : List (ℕ × Mode)) → plan_lacking s (first_missing leased ws) ≡ ready u →
+    (u ≡ s) × AreLeased leased ws
 ready_has_all leased s u ws e =
     let r = ready_from s u (first_missing leased ws) e in
     (r.1, all_leased leased ws r.0)
 
 -- ---- inodes that agree
 
-same_from : (leased : LeaseView) (v w : Values) (before : List ℕ) (x : Interaction) → ((i : ℕ) → leased i Read ≡ true → v i ≡ w i) → plan_from leased v before x ≡ plan_from leased w before x
+same_from : (leased : LeaseView) (v w : Values) (before : List ℕ) (x : Interaction) → ((i : ℕ) → leased i Read ≡ true → v i ≡ w i) → plan_from leased v before x
+    ≡ plan_from leased w before x
 same_from leased v w before (finish reply es) same = refl
 same_from leased v w before (visit i next) same =
     elim (cases_Bool (leased i Read)) [
@@ -78,12 +73,17 @@ same_from leased v w before (visit i next) same =
       | inr bare ↦ rw bare refl
     ]
 
-pub same_visits : (leased : LeaseView) (v w : Values) (op : Op) (fresh : ℕ) → ((i : ℕ) → leased i Read ≡ true → v i ≡ w i) → visited_plan_of leased (step v op fresh) ≡ visited_plan_of leased (step w op fresh)
-same_visits leased v w op fresh same = sym (whole_plan leased v (interaction op fresh)) ∙ same_from leased v w [] (interaction op fresh) same ∙ whole_plan leased w (interaction op fresh)
+pub same_visits : (leased : LeaseView) (v w : Values) (op : Op) (fresh : ℕ) → ((i : ℕ) → leased i Read ≡ true → v i ≡ w i) →
+    visited_plan_of leased (step v op fresh) ≡ visited_plan_of leased (step w op fresh)
+same_visits leased v w op fresh same =
+    sym (whole_plan leased v (interaction op fresh)) ∙ same_from leased v w [] (interaction op fresh) same ∙ whole_plan leased w (interaction op fresh)
 
-pub same_leased : (leased : LeaseView) (v w : Values) (op : Op) (fresh : ℕ) → ((i : ℕ) → leased i Read ≡ true → v i ≡ w i) → plan_of leased (step v op fresh) ≡ plan_of leased (step w op fresh)
+pub same_leased : (leased : LeaseView) (v w : Values) (op : Op) (fresh : ℕ) → ((i : ℕ) → leased i Read ≡ true → v i ≡ w i) → plan_of leased (step v op fresh)
+    ≡ plan_of leased (step w op fresh)
 same_leased leased v w op fresh same =
-    sym (visits_then_changes leased (step v op fresh)) ∙ ap (changed_plan_of leased) (same_visits leased v w op fresh same) ∙ visits_then_changes leased (step w op fresh)
+    sym (visits_then_changes leased (step v op fresh)) ∙ ap (changed_plan_of leased) (same_visits leased v w op fresh same)
+    ∙ visits_then_changes leased (step w op fresh)
 
-pub same_visited : (leased : LeaseView) (v w : Values) (op : Op) (fresh : ℕ) → AgreeOn (step v op fresh).visits v w → plan_of leased (step v op fresh) ≡ plan_of leased (step w op fresh)
+pub same_visited : (leased : LeaseView) (v w : Values) (op : Op) (fresh : ℕ) → AgreeOn (step v op fresh).visits v w → plan_of leased (step v op fresh)
+    ≡ plan_of leased (step w op fresh)
 same_visited leased v w op fresh agree = ap (plan_of leased) (step_local v w op fresh agree)

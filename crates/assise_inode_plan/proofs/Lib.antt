@@ -1,3 +1,4 @@
+mod Common
 pub mod WalkRest
 pub mod WalkEnds
 pub mod WalkTwice

@@ -1,18 +1,9 @@
 -- What is planned for the calls that remove an entry.
-use Rattle.std.proofs.Common.{◌≡◌, ℕ, ◌-◌, ◌≤◌, ◌==◌, Bool, true, false, if◌then◌else◌, List, [], ◌∷◌, length, slice_index_or, Result, Ok, Err, ap, sym, ◌∙◌}
+use Rattle.assise_inode_plan.proofs.Common.{◌≡◌, ℕ, ◌-◌, ◌≤◌, ◌==◌, Bool, true, false, if◌then◌else◌, List, [], ◌∷◌, length, slice_index_or, Result, Ok, Err}
+use Rattle.assise_inode_plan.proofs.Common.{ap, sym, ◌∙◌, Done, Error, TreeError, IsDir, Invalid, NotEmpty, Unlink, Free, parent_of, then_or_error}
+use Rattle.assise_inode_plan.proofs.Common.{walk_to_entry, as_regular, as_links, without_links, unlink_call, rmdir_call, Content, Links, Values, Interaction}
+use Rattle.assise_inode_plan.proofs.Common.{finish, LeaseView, plan_from, plan_stopped, Entry, Stop}
 use Rattle.std.specs.FinMap as map
-use Rattle.assise_names.specs.declared.reply.Reply.TheVariants.{Done, Error}
-use Rattle.assise_names.specs.declared.reply.TreeError.{TreeError}
-use Rattle.assise_names.specs.declared.reply.TreeError.TheVariants.{IsDir, Invalid, NotEmpty}
-use Rattle.assise_record.specs.declared.effect.Effect.TheVariants.{Unlink, Free}
-use Rattle.assise_seq_tree.specs.Answer.{parent_of}
-use Rattle.assise_inode_table.specs.Calls.{then_or_error, walk_to_entry, as_regular, as_links, without_links, unlink_call, rmdir_call}
-use Rattle.assise_inode_table.specs.Contents.{Content, Links, Values}
-use Rattle.assise_inode_table.specs.Interaction.{Interaction, finish}
-use Rattle.assise_inode_plan.specs.Leased.{LeaseView}
-use Rattle.assise_inode_plan.specs.Walking.{plan_from, plan_stopped}
-use Rattle.assise_inode_plan.specs.declared.walk.Entry.{Entry}
-use Rattle.assise_inode_plan.specs.declared.walk.Stop.{Stop}
 use Rattle.assise_inode_plan.proofs.WalkEnds.{quiet, EndedAtEntry, at_entry_stop, at_entry_end, below_root}
 
 -- the entry goes, and its inode
@@ -27,7 +18,8 @@ abbrev pub removing : List ℕ → ℕ → ℕ → Content → Interaction
 removing name d i content = then_or_error (as_links content) (λ links. then_or_error (without_links links) (λ _. gone name d i))
 
 module _ (leased : LeaseView) (v : Values) (before : List ℕ) (p : List (List ℕ)) (name : List ℕ) (reads : List ℕ) (end : Result Entry Stop) (none : before ≡ [])
-    (ended : (next : ℕ → ℕ → Content → Interaction) → EndedAtEntry leased v before (parent_of p) name reads end next) (some : 1 ≤ length p) (is : name ≡ slice_index_or p (length p - 1) name) where
+    (ended : (next : ℕ → ℕ → Content → Interaction) → EndedAtEntry leased v before (parent_of p) name reads end next) (some : 1 ≤ length p)
+    (is : name ≡ slice_index_or p (length p - 1) name) where
   -- ---- a file
 
   file_below : plan_from leased v [] (walk_to_entry (parent_of p) name (unlinking name)) ≡ plan_from leased v [] (unlink_call p)
@@ -45,7 +37,8 @@ module _ (leased : LeaseView) (v : Values) (before : List ℕ) (p : List (List �
   rmdir_stops stop stopped = at_entry_stop leased v before (parent_of p) name reads end none ended stop stopped (removing name) ∙ directory_below
 
   module _ (e : Entry) (found : end ≡ Ok e) where
-    unlink_checked : (o : Result (List ℕ) TreeError) → as_regular e.content.now ≡ o → plan_from leased v reads (then_or_error o (λ _. gone name e.directory e.inode)) ≡ plan_from leased v [] (unlink_call p)
+    unlink_checked : (o : Result (List ℕ) TreeError) → as_regular e.content.now ≡ o →
+        plan_from leased v reads (then_or_error o (λ _. gone name e.directory e.inode)) ≡ plan_from leased v [] (unlink_call p)
     unlink_checked o file =
         ap (λ o. plan_from leased v reads (then_or_error o (λ _. gone name e.directory e.inode))) (sym file)
         ∙ at_entry_end leased v before (parent_of p) name reads end none ended e found (unlinking name) ∙ file_below
@@ -53,11 +46,13 @@ module _ (leased : LeaseView) (v : Values) (before : List ℕ) (p : List (List �
     pub unlink_fails : (error : TreeError) → as_regular e.content.now ≡ Err error → quiet reads (Error error) ≡ plan_from leased v [] (unlink_call p)
     unlink_fails error file = unlink_checked (Err error) file
 
-    pub unlink_ends : (bytes : List ℕ) → as_regular e.content.now ≡ Ok bytes → plan_from leased v reads (gone name e.directory e.inode) ≡ plan_from leased v [] (unlink_call p)
+    pub unlink_ends : (bytes : List ℕ) → as_regular e.content.now ≡ Ok bytes → plan_from leased v reads (gone name e.directory e.inode)
+        ≡ plan_from leased v [] (unlink_call p)
     unlink_ends bytes file = unlink_checked (Ok bytes) file
 
     rmdir_checked : (o : Result Links TreeError) → as_links e.content.now ≡ o →
-        plan_from leased v reads (then_or_error o (λ links. then_or_error (without_links links) (λ _. gone name e.directory e.inode))) ≡ plan_from leased v [] (rmdir_call p)
+        plan_from leased v reads (then_or_error o (λ links. then_or_error (without_links links) (λ _. gone name e.directory e.inode)))
+        ≡ plan_from leased v [] (rmdir_call p)
     rmdir_checked o dir =
         ap (λ o. plan_from leased v reads (then_or_error o (λ links. then_or_error (without_links links) (λ _. gone name e.directory e.inode)))) (sym dir)
         ∙ at_entry_end leased v before (parent_of p) name reads end none ended e found (removing name) ∙ directory_below
@@ -67,9 +62,11 @@ module _ (leased : LeaseView) (v : Values) (before : List ℕ) (p : List (List �
 
     module _ (links : Links) (dir : as_links e.content.now ≡ Ok links) where
       if_vacant : (b : Bool) → (length (map.keys links) == 0) ≡ b →
-          plan_from leased v reads (then_or_error (if b then Ok (tt {0}) else Err NotEmpty) (λ _. gone name e.directory e.inode)) ≡ plan_from leased v [] (rmdir_call p)
+          plan_from leased v reads (then_or_error (if b then Ok (tt {0}) else Err NotEmpty) (λ _. gone name e.directory e.inode))
+          ≡ plan_from leased v [] (rmdir_call p)
       if_vacant b empty =
-          ap (λ b. plan_from leased v reads (then_or_error (if b then Ok (tt {0}) else Err NotEmpty) (λ _. gone name e.directory e.inode))) (sym empty) ∙ rmdir_checked (Ok links) dir
+          ap (λ b. plan_from leased v reads (then_or_error (if b then Ok (tt {0}) else Err NotEmpty) (λ _. gone name e.directory e.inode))) (sym empty)
+          ∙ rmdir_checked (Ok links) dir
 
       pub rmdir_has_entries : (length (map.keys links) == 0) ≡ false → quiet reads (Error NotEmpty) ≡ plan_from leased v [] (rmdir_call p)
       rmdir_has_entries full = if_vacant false full

@@ -1,24 +1,10 @@
 -- What is planned for renames.
-use Rattle.std.proofs.Common.{◌≡◌, ℕ, ◌-◌, ◌≤◌, ◌==◌, ◌||◌, Bool, true, false, if◌then◌else◌, List, [], ◌∷◌, length, slice_index_or, Result, Ok, Err, IfOk, Bor, ap, sym, ◌∙◌}
-use Rattle.std.proofs.Common.{arith}
-use Rattle.std.proofs.lemmas.Bool.{ne_eqb}
+use Rattle.assise_inode_plan.proofs.Common.{◌≡◌, ℕ, ◌-◌, ◌≤◌, ◌==◌, ◌||◌, Bool, true, false, if◌then◌else◌, List, [], ◌∷◌, length, slice_index_or, Result, Ok}
+use Rattle.assise_inode_plan.proofs.Common.{Err, IfOk, Bor, ap, sym, ◌∙◌, arith, ne_eqb, is_proper_prefix, same_path, Done, Error, TreeError, Invalid, Effect}
+use Rattle.assise_inode_plan.proofs.Common.{Unlink, Free, parent_of, last_name, then_or_error, walk_to_entry, as_links, content_may_replace, move_effects}
+use Rattle.assise_inode_plan.proofs.Common.{replace_target, receive, move_to, rename_call, Content, Links, Values, Interaction, finish, LeaseView, Plan, shown}
+use Rattle.assise_inode_plan.proofs.Common.{plan_from, plan_stopped, Planned, Entry, Stop}
 use Rattle.std.specs.FinMap as map
-use Rattle.assise_names.specs.Path.{is_proper_prefix, same_path}
-use Rattle.assise_names.specs.declared.reply.Reply.TheVariants.{Done, Error}
-use Rattle.assise_names.specs.declared.reply.TreeError.{TreeError}
-use Rattle.assise_names.specs.declared.reply.TreeError.TheVariants.{Invalid}
-use Rattle.assise_record.specs.declared.effect.Effect.{Effect}
-use Rattle.assise_record.specs.declared.effect.Effect.TheVariants.{Unlink, Free}
-use Rattle.assise_seq_tree.specs.Answer.{parent_of, last_name}
-use Rattle.assise_inode_table.specs.Calls.{then_or_error, walk_to_entry, as_links, content_may_replace, move_effects, replace_target, receive, move_to, rename_call}
-use Rattle.assise_inode_table.specs.Contents.{Content, Links, Values}
-use Rattle.assise_inode_table.specs.Interaction.{Interaction, finish}
-use Rattle.assise_inode_plan.specs.Leased.{LeaseView}
-use Rattle.assise_inode_plan.specs.Planning.{Plan, shown}
-use Rattle.assise_inode_plan.specs.Walking.{plan_from, plan_stopped}
-use Rattle.assise_inode_plan.specs.declared.plan.Planned.{Planned}
-use Rattle.assise_inode_plan.specs.declared.walk.Entry.{Entry}
-use Rattle.assise_inode_plan.specs.declared.walk.Stop.{Stop}
 use Rattle.assise_inode_plan.proofs.WalkRest.{Reached, reach_ends, reach_stops}
 use Rattle.assise_inode_plan.proofs.WalkEnds.{quiet, Ended, EndedAtEntry, at_entry_stop, at_entry_end, name_is, walk_ends, walk_stops}
 
@@ -33,21 +19,25 @@ planned_for (Err e) x y planned same = tt
 abbrev pub replacing : Content → ℕ → List ℕ → List Effect → ℕ → Content → Interaction
 replacing moved e new moves g target = then_or_error (content_may_replace moved target) (λ _. finish Done (Unlink e new ∷ Free g ∷ moves))
 
-module _ (leased : LeaseView) (v : Values) (reads more : List ℕ) (g : ℕ) (end : Result (Bor Content) Stop) (reached : (next : ℕ → Content → Interaction) → Reached leased v reads more g end next)
+module _ (leased : LeaseView) (v : Values) (reads more : List ℕ) (g : ℕ) (end : Result (Bor Content) Stop)
+    (reached : (next : ℕ → Content → Interaction) → Reached leased v reads more g end next)
     (moved : Content) (e : ℕ) (new : List ℕ) (moves : List Effect) where
   pub target_stops : (stop : Stop) → end ≡ Err stop → plan_stopped more stop ≡ plan_from leased v reads (replace_target moved e new moves g)
   target_stops stop is = sym (reach_stops leased v reads more g end reached stop is (replacing moved e new moves))
 
   target_checked : (t : Bor Content) → end ≡ Ok t → (o : Result (Unit {0}) TreeError) → content_may_replace moved t.now ≡ o →
-      plan_from leased v more (then_or_error o (λ _. finish Done (Unlink e new ∷ Free g ∷ moves))) ≡ plan_from leased v reads (replace_target moved e new moves g)
+      plan_from leased v more (then_or_error o (λ _. finish Done (Unlink e new ∷ Free g ∷ moves))) ≡ plan_from leased v reads
+      (replace_target moved e new moves g)
   target_checked t is o checked =
       ap (λ o. plan_from leased v more (then_or_error o (λ _. finish Done (Unlink e new ∷ Free g ∷ moves)))) (sym checked)
       ∙ sym (reach_ends leased v reads more g end reached t is (replacing moved e new moves))
 
-  pub target_remains : (t : Bor Content) → end ≡ Ok t → (error : TreeError) → content_may_replace moved t.now ≡ Err error → quiet more (Error error) ≡ plan_from leased v reads (replace_target moved e new moves g)
+  pub target_remains : (t : Bor Content) → end ≡ Ok t → (error : TreeError) → content_may_replace moved t.now ≡ Err error → quiet more (Error error)
+      ≡ plan_from leased v reads (replace_target moved e new moves g)
   target_remains t is error checked = target_checked t is (Err error) checked
 
-  pub target_goes : (t : Bor Content) → end ≡ Ok t → content_may_replace moved t.now ≡ Ok tt → plan_from leased v more (finish Done (Unlink e new ∷ Free g ∷ moves)) ≡ plan_from leased v reads (replace_target moved e new moves g)
+  pub target_goes : (t : Bor Content) → end ≡ Ok t → content_may_replace moved t.now ≡ Ok tt →
+      plan_from leased v more (finish Done (Unlink e new ∷ Free g ∷ moves)) ≡ plan_from leased v reads (replace_target moved e new moves g)
   target_goes t is checked = target_checked t is (Ok tt) checked
 
 -- ---- the directory that takes the moved inode
@@ -57,7 +47,8 @@ abbrev pub receiving : List (List ℕ) → List (List ℕ) → ℕ → ℕ → C
 receiving p q d i moved e content =
     then_or_error (as_links content) (λ links.
     if same_path p q then finish Done []
-    else receive moved (same_path (parent_of p) (parent_of q)) e links (last_name q) (move_effects d (last_name p) e (last_name q) i) (map.get links (last_name q)))
+    else receive moved (same_path (parent_of p) (parent_of q)) e links (last_name q) (move_effects d (last_name p) e (last_name q) i)
+    (map.get links (last_name q)))
 
 module _ (leased : LeaseView) (v : Values) (reads : List ℕ) (p q : List (List ℕ)) (more : List ℕ) (end : Result (ℕ × Bor Content) Stop)
     (ended : (next : ℕ → Content → Interaction) → Ended leased v reads (parent_of q) more end next) (d i : ℕ) (moved : Content) where
@@ -68,12 +59,14 @@ module _ (leased : LeaseView) (v : Values) (reads : List ℕ) (p q : List (List 
     in_directory : (o : Result Links TreeError) → as_links r.1.now ≡ o →
         plan_from leased v more (then_or_error o (λ links.
         if same_path p q then finish Done []
-        else receive moved (same_path (parent_of p) (parent_of q)) r.0 links (last_name q) (move_effects d (last_name p) r.0 (last_name q) i) (map.get links (last_name q))))
+        else receive moved (same_path (parent_of p) (parent_of q)) r.0 links (last_name q) (move_effects d (last_name p) r.0 (last_name q) i)
+        (map.get links (last_name q))))
         ≡ plan_from leased v reads (move_to p q d i moved)
     in_directory o parent =
         ap (λ o. plan_from leased v more (then_or_error o (λ links.
         if same_path p q then finish Done []
-        else receive moved (same_path (parent_of p) (parent_of q)) r.0 links (last_name q) (move_effects d (last_name p) r.0 (last_name q) i) (map.get links (last_name q))))) (sym parent)
+        else receive moved (same_path (parent_of p) (parent_of q)) r.0 links (last_name q) (move_effects d (last_name p) r.0 (last_name q) i)
+        (map.get links (last_name q))))) (sym parent)
         ∙ sym (walk_ends leased v reads (parent_of q) more end ended r is (receiving p q d i moved))
 
     pub move_under_file : (error : TreeError) → as_links r.1.now ≡ Err error → quiet more (Error error) ≡ plan_from leased v reads (move_to p q d i moved)
@@ -82,11 +75,13 @@ module _ (leased : LeaseView) (v : Values) (reads : List ℕ) (p q : List (List 
     module _ (links : Links) (parent : as_links r.1.now ≡ Ok links) where
       if_same : (b : Bool) → same_path p q ≡ b →
           plan_from leased v more (if b then finish Done []
-          else receive moved (same_path (parent_of p) (parent_of q)) r.0 links (last_name q) (move_effects d (last_name p) r.0 (last_name q) i) (map.get links (last_name q)))
+          else receive moved (same_path (parent_of p) (parent_of q)) r.0 links (last_name q) (move_effects d (last_name p) r.0 (last_name q) i)
+          (map.get links (last_name q)))
           ≡ plan_from leased v reads (move_to p q d i moved)
       if_same b same =
           ap (λ b. plan_from leased v more (if b then finish Done []
-          else receive moved (same_path (parent_of p) (parent_of q)) r.0 links (last_name q) (move_effects d (last_name p) r.0 (last_name q) i) (map.get links (last_name q)))) (sym same)
+          else receive moved (same_path (parent_of p) (parent_of q)) r.0 links (last_name q) (move_effects d (last_name p) r.0 (last_name q) i)
+          (map.get links (last_name q)))) (sym same)
           ∙ in_directory (Ok links) parent
 
       pub move_to_itself : same_path p q ≡ true → quiet more Done ≡ plan_from leased v reads (move_to p q d i moved)
@@ -94,38 +89,52 @@ module _ (leased : LeaseView) (v : Values) (reads : List ℕ) (p q : List (List 
 
       pub move_elsewhere : same_path p q ≡ false → (stays : Bool) → stays ≡ same_path (parent_of p) (parent_of q) →
           (name new : List ℕ) → 1 ≤ length p → 1 ≤ length q → name ≡ slice_index_or p (length p - 1) name → new ≡ slice_index_or q (length q - 1) new →
-          plan_from leased v more (receive moved stays r.0 links new (move_effects d name r.0 new i) (map.get links new)) ≡ plan_from leased v reads (move_to p q d i moved)
+          plan_from leased v more (receive moved stays r.0 links new (move_effects d name r.0 new i) (map.get links new)) ≡ plan_from leased v reads
+          (move_to p q d i moved)
       move_elsewhere other stays beside name new some more_some name_at new_at =
           ap (λ b. plan_from leased v more (receive moved b r.0 links new (move_effects d name r.0 new i) (map.get links new))) beside
-          ∙ ap (λ n. plan_from leased v more (receive moved (same_path (parent_of p) (parent_of q)) r.0 links new (move_effects d n r.0 new i) (map.get links new))) (sym (name_is p name some name_at))
-          ∙ ap (λ n. plan_from leased v more (receive moved (same_path (parent_of p) (parent_of q)) r.0 links n (move_effects d (last_name p) r.0 n i) (map.get links n))) (sym (name_is q new more_some new_at))
+          ∙ ap (λ n. plan_from leased v more
+          (receive moved (same_path (parent_of p) (parent_of q)) r.0 links new (move_effects d n r.0 new i) (map.get links new)))
+          (sym (name_is p name some name_at))
+          ∙ ap (λ n. plan_from leased v more
+          (receive moved (same_path (parent_of p) (parent_of q)) r.0 links n (move_effects d (last_name p) r.0 n i) (map.get links n)))
+          (sym (name_is q new more_some new_at))
           ∙ if_same false other
 
 -- ---- the whole call
 
 -- neither path is the root, and the second doesn't go on from the first
-rename_below : (leased : LeaseView) (v : Values) (p q : List (List ℕ)) (name : List ℕ) → 1 ≤ length p → 1 ≤ length q → name ≡ slice_index_or p (length p - 1) name → is_proper_prefix p q ≡ false →
+rename_below : (leased : LeaseView) (v : Values) (p q : List (List ℕ)) (name : List ℕ) → 1 ≤ length p → 1 ≤ length q →
+    name ≡ slice_index_or p (length p - 1) name → is_proper_prefix p q ≡ false →
     plan_from leased v [] (walk_to_entry (parent_of p) name (move_to p q)) ≡ plan_from leased v [] (rename_call p q)
 rename_below leased v p q name some more_some name_at outside =
     ap (λ n. plan_from leased v [] (walk_to_entry (parent_of p) n (move_to p q))) (sym (name_is p name some name_at))
     ∙ ap (λ b. plan_from leased v [] (if b then finish (Error Invalid) [] else walk_to_entry (parent_of p) (last_name p) (move_to p q))) (sym outside)
-    ∙ ap (λ b. plan_from leased v [] (if b then finish (Error Invalid) [] else (if is_proper_prefix p q then finish (Error Invalid) [] else walk_to_entry (parent_of p) (last_name p) (move_to p q))))
+    ∙ ap (λ b. plan_from leased v []
+    (if b then finish (Error Invalid) [] else
+    (if is_proper_prefix p q then finish (Error Invalid) [] else walk_to_entry (parent_of p) (last_name p) (move_to p q))))
     (sym (ne_eqb (length q) 0 (λ none. absurd (omega (arith, more_some, none)))))
-    ∙ ap (λ b. plan_from leased v [] (if b || (length q == 0) then finish (Error Invalid) [] else (if is_proper_prefix p q then finish (Error Invalid) [] else walk_to_entry (parent_of p) (last_name p) (move_to p q))))
+    ∙ ap (λ b. plan_from leased v []
+    (if b || (length q == 0) then finish (Error Invalid) [] else
+    (if is_proper_prefix p q then finish (Error Invalid) [] else walk_to_entry (parent_of p) (last_name p) (move_to p q))))
     (sym (ne_eqb (length p) 0 (λ none. absurd (omega (arith, some, none)))))
 
 -- the names of both paths are looked at
-module _ (leased : LeaseView) (v : Values) (before : List ℕ) (p q names new_names : List (List ℕ)) (name : List ℕ) (reads : List ℕ) (end : Result Entry Stop) (none : before ≡ [])
+module _ (leased : LeaseView) (v : Values) (before : List ℕ) (p q names new_names : List (List ℕ)) (name : List ℕ) (reads : List ℕ) (end : Result Entry Stop)
+    (none : before ≡ [])
     (ended : (next : ℕ → ℕ → Content → Interaction) → EndedAtEntry leased v before (parent_of names) name reads end next)
-    (names_are : names ≡ p) (new_names_are : new_names ≡ q) (some : 1 ≤ length names) (more_some : 1 ≤ length new_names) (name_at : name ≡ slice_index_or names (length names - 1) name)
+    (names_are : names ≡ p) (new_names_are : new_names ≡ q) (some : 1 ≤ length names) (more_some : 1 ≤ length new_names)
+    (name_at : name ≡ slice_index_or names (length names - 1) name)
     (outside : is_proper_prefix p q ≡ false) where
   of_names : plan_from leased v [] (walk_to_entry (parent_of names) name (move_to names new_names)) ≡ plan_from leased v [] (rename_call p q)
   of_names =
-      rename_below leased v names new_names name some more_some name_at (ap (λ x. is_proper_prefix x new_names) names_are ∙ ap (λ y. is_proper_prefix p y) new_names_are ∙ outside)
+      rename_below leased v names new_names name some more_some name_at
+      (ap (λ x. is_proper_prefix x new_names) names_are ∙ ap (λ y. is_proper_prefix p y) new_names_are ∙ outside)
       ∙ ap (λ x. plan_from leased v [] (rename_call x new_names)) names_are ∙ ap (λ y. plan_from leased v [] (rename_call p y)) new_names_are
 
   pub rename_stops : (stop : Stop) → end ≡ Err stop → plan_stopped reads stop ≡ plan_from leased v [] (rename_call p q)
   rename_stops stop stopped = at_entry_stop leased v before (parent_of names) name reads end none ended stop stopped (move_to names new_names) ∙ of_names
 
-  pub rename_goes_on : (e : Entry) → end ≡ Ok e → plan_from leased v reads (move_to names new_names e.directory e.inode e.content.now) ≡ plan_from leased v [] (rename_call p q)
+  pub rename_goes_on : (e : Entry) → end ≡ Ok e → plan_from leased v reads (move_to names new_names e.directory e.inode e.content.now)
+      ≡ plan_from leased v [] (rename_call p q)
   rename_goes_on e found = at_entry_end leased v before (parent_of names) name reads end none ended e found (move_to names new_names) ∙ of_names

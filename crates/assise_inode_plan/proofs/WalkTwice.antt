@@ -1,14 +1,8 @@
 -- A walk that is made again visits the same inodes, and ends at the same.
-use Rattle.std.proofs.Common.{◌≡◌, ℕ, ◌≤◌, Bool, true, false, if◌then◌else◌, List, [], ◌∷◌, ◌++◌, length, take, ap, sym, refl, ◌∙◌, append_assoc, append-nil, length-append, take_all}
-use Rattle.std.proofs.Common.{arith}
-use Rattle.std.proofs.lemmas.List.{take-append-le}
-use Rattle.assise_names.specs.declared.mode.Mode.TheVariants.{Read}
-use Rattle.assise_inode_table.specs.Calls.{walk}
-use Rattle.assise_inode_table.specs.Contents.{Content, Values}
-use Rattle.assise_inode_table.specs.Interaction.{Interaction, visit, finish}
-use Rattle.assise_inode_plan.specs.Leased.{LeaseView}
-use Rattle.assise_inode_plan.specs.Planning.{Plan, ready, missing}
-use Rattle.assise_inode_plan.specs.Walking.{EndsAt, plan_from}
+use Rattle.assise_inode_plan.proofs.Common.{◌≡◌, ℕ, ◌≤◌, Bool, true, false, if◌then◌else◌, List, [], ◌∷◌, ◌++◌, length, take, ap, sym, refl, ◌∙◌, append_assoc}
+use Rattle.assise_inode_plan.proofs.Common.{length-append, take_all, arith, take-append-le, Read, walk, Content, Values, Interaction, visit, finish, LeaseView}
+use Rattle.assise_inode_plan.proofs.Common.{Plan, ready, missing, EndsAt, plan_from}
+use Rattle.std.proofs.Common.{append-nil}
 
 -- the visits of a walk, before one more
 module _ (visits more : List ℕ) (i count : ℕ) (all : count ≡ length visits) (is : more ≡ visits ++ i ∷ []) where
@@ -24,11 +18,13 @@ behind before (ready step) = ready (record { visits = before ++ step.visits; rep
 behind before (missing i mode) = missing i mode
 
 behind_both : (before more : List ℕ) (p : Plan) → behind before (behind more p) ≡ behind (before ++ more) p
-behind_both before more (ready step) = ap (λ l. ready (record { visits = l; reply = step.reply; effects = step.effects })) (sym (append_assoc before more step.visits))
+behind_both before more (ready step) =
+    ap (λ l. ready (record { visits = l; reply = step.reply; effects = step.effects })) (sym (append_assoc before more step.visits))
 behind_both before more (missing i mode) = refl
 
 module _ (leased : LeaseView) (v : Values) where
-  by_lease : (before : List ℕ) (i : ℕ) (b : Bool) (all mine : Plan) → all ≡ behind before mine → (if b then all else missing i Read) ≡ behind before (if b then mine else missing i Read)
+  by_lease : (before : List ℕ) (i : ℕ) (b : Bool) (all mine : Plan) → all ≡ behind before mine → (if b then all else missing i Read)
+      ≡ behind before (if b then mine else missing i Read)
   by_lease before i true all mine same = same
   by_lease before i false all mine same = refl
 
@@ -37,9 +33,11 @@ module _ (leased : LeaseView) (v : Values) where
   later before (finish reply es) = ap (λ l. ready (record { visits = l; reply = reply; effects = es })) (sym (append-nil before))
   later before (visit i next) =
       by_lease before i (leased i Read) (plan_from leased v (before ++ i ∷ []) (next (v i))) (plan_from leased v (i ∷ []) (next (v i)))
-      (later (before ++ i ∷ []) (next (v i)) ∙ sym (behind_both before (i ∷ []) (plan_from leased v [] (next (v i)))) ∙ ap (behind before) (sym (later (i ∷ []) (next (v i)))))
+      (later (before ++ i ∷ []) (next (v i)) ∙ sym (behind_both before (i ∷ []) (plan_from leased v [] (next (v i))))
+      ∙ ap (behind before) (sym (later (i ∷ []) (next (v i)))))
 
-  pub walk_again : (p : List (List ℕ)) (visits : List ℕ) (i : ℕ) (content : Content) → EndsAt leased v [] p visits i content → (before : List ℕ) → EndsAt leased v before p (before ++ visits) i content
+  pub walk_again : (p : List (List ℕ)) (visits : List ℕ) (i : ℕ) (content : Content) → EndsAt leased v [] p visits i content → (before : List ℕ) →
+      EndsAt leased v before p (before ++ visits) i content
   walk_again p visits i content first before next =
       later before (walk p next)
       ∙ ap (behind before) (first next ∙ later visits (next i content))

@@ -1,21 +1,13 @@
 -- A plan by visits, and then by what is changed, is the plan of the whole step.
-use Rattle.std.proofs.Common.{◌≡◌, ℕ, List, [], ◌∷◌, ◌++◌, Option, Some, None, refl, inl, inr}
-use Rattle.std.proofs.lemmas.Bool.{cases_Bool}
-use Rattle.assise_names.specs.declared.mode.Mode.{Mode}
-use Rattle.assise_names.specs.declared.mode.Mode.TheVariants.{Read}
-use Rattle.assise_names.specs.declared.reply.Reply.{Reply}
-use Rattle.assise_seq_tree.specs.Tree.{Tree}
-use Rattle.assise_inode_table.specs.Contents.{Values}
-use Rattle.assise_inode_table.specs.Effects.{touched}
-use Rattle.assise_inode_table.specs.Interaction.{Step}
-use Rattle.assise_inode_plan.specs.Leased.{LeaseView, for_reading, for_writing, first_missing}
-use Rattle.assise_inode_table.specs.Whole.{CanBeMadeWhole}
-use Rattle.assise_inode_plan.specs.Planning.{PlanAnswers, Plan, changed_plan_of, effects_planned, missing, plan_lacking, plan_of, ready, visited_plan_of}
+use Rattle.assise_inode_plan.proofs.Common.{◌≡◌, ℕ, List, [], ◌∷◌, ◌++◌, Option, Some, None, refl, inl, inr, cases_Bool, Mode, Read, Reply, Tree, Values}
+use Rattle.assise_inode_plan.proofs.Common.{touched, Step, LeaseView, for_reading, for_writing, first_missing, CanBeMadeWhole, PlanAnswers, Plan}
+use Rattle.assise_inode_plan.proofs.Common.{changed_plan_of, effects_planned, missing, plan_lacking, plan_of, ready, visited_plan_of}
 
 pub visits_then_changes : (leased : LeaseView) (s : Step) → changed_plan_of leased (visited_plan_of leased s) ≡ plan_of leased s
 visits_then_changes leased s = go s.visits
   where
-    go : (is : List ℕ) → changed_plan_of leased (plan_lacking s (first_missing leased (for_reading is))) ≡ plan_lacking s (first_missing leased (for_reading is ++ for_writing (touched s.effects)))
+    go : (is : List ℕ) → changed_plan_of leased (plan_lacking s (first_missing leased (for_reading is)))
+        ≡ plan_lacking s (first_missing leased (for_reading is ++ for_writing (touched s.effects)))
     go [] = refl
     go (i ∷ is) =
         elim (cases_Bool (leased i Read)) [
@@ -24,7 +16,8 @@ visits_then_changes leased s = go s.visits
         ]
 
 -- where a lease is missing, nothing is answered
-pub answers_kept : (v : Values) (outcome : Reply × Tree) (leased : LeaseView) (p : Plan) → PlanAnswers v outcome p → PlanAnswers v outcome (changed_plan_of leased p)
+pub answers_kept : (v : Values) (outcome : Reply × Tree) (leased : LeaseView) (p : Plan) → PlanAnswers v outcome p →
+    PlanAnswers v outcome (changed_plan_of leased p)
 answers_kept v outcome leased (missing i mode) h = tt
 answers_kept v outcome leased (ready s) h = go (first_missing leased (for_writing (touched s.effects)))
   where

@@ -1,17 +1,14 @@
 -- What is changed has to be leased for writing.
-use Rattle.std.proofs.Common.{◌≡◌, ℕ, ◌+◌, ◌<◌, ◌≤◌, true, false, List, ◌∷◌, length, drop, slice_index_or, Some, None, refl, ap, sym, ◌∙◌}
-use Rattle.std.proofs.lemmas.List.{drop_more}
-use Rattle.std.proofs.Math.ListN.{drop_of_length-le}
-use Rattle.assise_names.specs.declared.mode.Mode.TheVariants.{Write}
-use Rattle.assise_record.specs.declared.effect.Effect.{Effect}
+use Rattle.assise_inode_plan.proofs.Common.{◌≡◌, ℕ, ◌+◌, ◌<◌, ◌≤◌, true, false, List, ◌∷◌, length, drop, slice_index_or, Some, None, refl, ap, sym, ◌∙◌}
+use Rattle.assise_inode_plan.proofs.Common.{drop_more, drop_of_length-le, Write, Effect, touched, LeaseView, for_writing, first_missing}
 use Rattle.assise_record.specs.Touched.{touched_by}
-use Rattle.assise_inode_table.specs.Effects.{touched}
-use Rattle.assise_inode_plan.specs.Leased.{LeaseView, for_writing, first_missing}
 
-lacking : (leased : LeaseView) (e : Effect) (es : List Effect) → leased (touched_by e) Write ≡ false → first_missing leased (for_writing (touched (e ∷ es))) ≡ Some (touched_by e, Write)
+lacking : (leased : LeaseView) (e : Effect) (es : List Effect) → leased (touched_by e) Write ≡ false → first_missing leased (for_writing (touched (e ∷ es)))
+    ≡ Some (touched_by e, Write)
 lacking leased e es bare = rw bare refl
 
-holding : (leased : LeaseView) (e : Effect) (es : List Effect) → leased (touched_by e) Write ≡ true → first_missing leased (for_writing (touched (e ∷ es))) ≡ first_missing leased (for_writing (touched es))
+holding : (leased : LeaseView) (e : Effect) (es : List Effect) → leased (touched_by e) Write ≡ true → first_missing leased (for_writing (touched (e ∷ es)))
+    ≡ first_missing leased (for_writing (touched es))
 holding leased e es held = rw held refl
 
 -- the effects from the k-th on are looked at
@@ -20,9 +17,11 @@ LooksAt leased es k = first_missing leased (for_writing (touched es)) ≡ first_
 
 at_effect : (leased : LeaseView) (es : List Effect) (k : ℕ) (e : Effect) → LooksAt leased es k → k < length es → e ≡ slice_index_or es k e →
     first_missing leased (for_writing (touched es)) ≡ first_missing leased (for_writing (touched (e ∷ drop (k + 1) es)))
-at_effect leased es k e so_far few is = so_far ∙ ap (λ fs. first_missing leased (for_writing (touched fs))) (drop_more es k e few ∙ ap (λ f. f ∷ drop (k + 1) es) (sym is))
+at_effect leased es k e so_far few is =
+    so_far ∙ ap (λ fs. first_missing leased (for_writing (touched fs))) (drop_more es k e few ∙ ap (λ f. f ∷ drop (k + 1) es) (sym is))
 
-pub effect_lacks : (leased : LeaseView) (es : List Effect) (k : ℕ) (e : Effect) → LooksAt leased es k → k < length es → e ≡ slice_index_or es k e → leased (touched_by e) Write ≡ false →
+pub effect_lacks : (leased : LeaseView) (es : List Effect) (k : ℕ) (e : Effect) → LooksAt leased es k → k < length es → e ≡ slice_index_or es k e →
+    leased (touched_by e) Write ≡ false →
     first_missing leased (for_writing (touched es)) ≡ Some (touched_by e, Write)
 effect_lacks leased es k e so_far few is bare = at_effect leased es k e so_far few is ∙ lacking leased e (drop (k + 1) es) bare
 

@@ -1,19 +1,14 @@
 -- What stands at the opening.
-use Rattle.std.proofs.Common.{◌≡◌, ℕ, inl, inr, [], if◌then◌else◌, cond, Ok, Some, None, IsSome, nat_cmp, ap, sym, ◌∙◌, ◌==◌}
-use Rattle.std.proofs.lemmas.Bool.{ne_eqb, cases_eq}
-use Rattle.std.specs.Cmp.{nat_cmp_total}
-use Rattle.std.specs.Ordering.{eq_by_cmp}
+use Rattle.assise_inode_table.proofs.Common.{◌≡◌, ℕ, inl, inr, [], if◌then◌else◌, cond, Ok, Some, None, IsSome, nat_cmp, ap, sym, ◌∙◌, ◌==◌, ne_eqb, cases_eq}
+use Rattle.assise_inode_table.proofs.Common.{nat_cmp_total, eq_by_cmp, opening_tree, directory, values, opening_inodes, Spells}
 use Rattle.std.specs.FinMap as map
-use Rattle.assise_seq_tree.specs.Tree.{opening as opening_tree}
-use Rattle.assise_inode_table.specs.Contents.{directory, values}
-use Rattle.assise_inode_table.specs.Opening.{opening_inodes}
-use Rattle.assise_inode_table.specs.Spelled.{Spells}
 use Rattle.assise_inode_table.proofs.Leaves.{empty_spells}
 use Rattle.assise_inode_table.proofs.EffectValues.{same_number}
 
 value_at_opening : (i : ℕ) → values opening_inodes i ≡ (if 0 == i then Some (directory map.empty) else None)
 value_at_opening i =
-    map.get-insert nat_cmp_total map.empty 0 (directory map.empty) i ∙ ap (λ o. cond (eq_by_cmp nat_cmp i 0) (Some (directory map.empty)) o) (map.get-empty nat_cmp i)
+    map.get-insert nat_cmp_total map.empty 0 (directory map.empty) i ∙ ap (λ o. cond (eq_by_cmp nat_cmp i 0) (Some (directory map.empty)) o)
+    (map.get-empty nat_cmp i)
     ∙ ap (λ b. cond b (Some (directory map.empty)) None) (same_number i 0)
 
 -- the root alone is there

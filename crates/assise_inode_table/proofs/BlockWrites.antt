@@ -1,16 +1,10 @@
 -- Writes, reads and cuts of bytes in blocks.
-use Rattle.std.proofs.Common.{◌≡◌, ℕ, zero, suc, ◌+◌, ◌-◌, ◌*◌, ◌/◌, ◌%◌, ◌<◌, ◌≤◌, ◌≢◌, List, [], ◌∷◌, ◌++◌, length, take, drop, replicate, refl, ap, sym, ◌∙◌, subst, get_or, set, arith, min, max, inl, inr, append_assoc, append-nil, length-append, take-append-drop}
+use Rattle.assise_inode_table.proofs.Common.{◌≡◌, ℕ, zero, suc, ◌+◌, ◌-◌, ◌*◌, ◌/◌, ◌%◌, ◌<◌, ◌≤◌, ◌≢◌, List, [], ◌∷◌, ◌++◌, length, take, drop, replicate}
+use Rattle.assise_inode_table.proofs.Common.{refl, ap, sym, ◌∙◌, subst, get_or, set, arith, min, max, inl, inr, append_assoc, append-nil, length-append}
+use Rattle.assise_inode_table.proofs.Common.{take-append-drop, cases_lt, same_number_lists, get_or-take, get_or-drop, length-take, length-drop, take-take}
+use Rattle.assise_inode_table.proofs.Common.{drop-take, drop-drop, drop_more, set_split, take-append-le, take_more_set, take_min, drop_min, concat-append}
+use Rattle.assise_inode_table.proofs.Common.{take-add, div_ceil, concat, bytes_from, overwritten, length-overwritten, IsCut}
 use Rattle.bytes.proofs.Chunks.{concat_push}
-use Rattle.std.proofs.lemmas.Bool.{cases_lt}
-use Rattle.std.proofs.lemmas.Grind.{same_number_lists}
-use Rattle.std.proofs.lemmas.List.{get_or-take, get_or-drop, length-take, length-drop, take-take, drop-take, drop-drop, drop_more, set_split, take-append-le, take_more_set, take_min, drop_min}
-use Rattle.std.proofs.lemmas.List.Folds.{concat-append}
-use Rattle.std.proofs.Math.Seq.{take-add}
-use Rattle.std.specs.Int.{div_ceil}
-use Rattle.std.specs.List.{concat}
-use Rattle.assise_seq_tree.specs.Contents.{bytes_from, overwritten}
-use Rattle.assise_seq_tree.proofs.BytesRead.{length-overwritten}
-use Rattle.assise_inode_table.specs.Blocks.{IsCut}
 use Rattle.assise_inode_table.proofs.Bytes.{written_before, written_here, written_behind}
 use Rattle.assise_inode_table.proofs.BlockBytes.{cut_take, cut_drop, cut_append, cut_one, concat_take, concat_drop, least, most, full, as_many}
 
@@ -39,8 +33,10 @@ written_within xs f p o new held before behind =
     ap (λ n. drop ((o - f) + length new) (take n (drop f xs))) whole ∙ drop-take ((o - f) + length new) (p - e) (drop f xs)
     ∙ ap (take (p - e)) (drop-drop ((o - f) + length new) f xs ∙ ap (λ n. drop n xs) (omega arith)) in
     let outer : drop p xs ≡ drop (p - e) (drop e xs) = sym (drop-drop (p - e) e xs ∙ ap (λ n. drop n xs) (omega arith)) in
-    let back : drop ((o - f) + length new) r ++ drop p xs ≡ drop e xs = ap (λ zs. zs ++ drop p xs) inner ∙ ap (λ zs. take (p - e) (drop e xs) ++ zs) outer ∙ take-append-drop (p - e) (drop e xs) in
-    joined (take f xs) (take (o - f) r) (zeros ((o - f) - length r)) (zeros (o - length xs)) new (drop ((o - f) + length new) r) (drop p xs) (take o xs) (drop e xs) prefix (ap zeros gap) back
+    let back : drop ((o - f) + length new) r ++ drop p xs ≡ drop e xs = ap (λ zs. zs ++ drop p xs) inner ∙ ap (λ zs. take (p - e) (drop e xs) ++ zs) outer
+    ∙ take-append-drop (p - e) (drop e xs) in
+    joined (take f xs) (take (o - f) r) (zeros ((o - f) - length r)) (zeros (o - length xs)) new (drop ((o - f) + length new) r) (drop p xs) (take o xs)
+    (drop e xs) prefix (ap zeros gap) back
   where
     joined : (a b z y n d t u v : List ℕ) → a ++ b ≡ u → z ≡ y → d ++ t ≡ v → a ++ ((((b ++ z) ++ n) ++ d) ++ t) ≡ ((u ++ y) ++ n) ++ v
     joined a b z y n d t u v p q r = rw (← p, ← q, ← r) (simp append_assoc)
@@ -83,14 +79,16 @@ part_over k n xs o new =
     ])
 
 -- `count` blocks hold it, and no fewer
-pub over_more : (bs : List (List ℕ)) (o : ℕ) (new : List ℕ) (count k : ℕ) → IsCut bs → count ≡ max (length bs) (div_ceil (o + length new) 4096) → k < count → 4096 * k < length (overwritten (concat bs) o new)
+pub over_more : (bs : List (List ℕ)) (o : ℕ) (new : List ℕ) (count k : ℕ) → IsCut bs → count ≡ max (length bs) (div_ceil (o + length new) 4096) → k < count →
+    4096 * k < length (overwritten (concat bs) o new)
 over_more bs o new count k cut is more = go bs refl
   where
     go : (cs : List (List ℕ)) → cs ≡ bs → 4096 * k < length (overwritten (concat bs) o new)
     go [] e = omega (arith, is, more, length-overwritten (concat bs) o new, ap length e)
     go (c ∷ cs) e = omega (arith, is, more, length-overwritten (concat bs) o new, least bs cut (omega (arith, ap length e)))
 
-pub over_room : (bs : List (List ℕ)) (o : ℕ) (new : List ℕ) (count : ℕ) → IsCut bs → count ≡ max (length bs) (div_ceil (o + length new) 4096) → length (overwritten (concat bs) o new) ≤ 4096 * count
+pub over_room : (bs : List (List ℕ)) (o : ℕ) (new : List ℕ) (count : ℕ) → IsCut bs → count ≡ max (length bs) (div_ceil (o + length new) 4096) →
+    length (overwritten (concat bs) o new) ≤ 4096 * count
 over_room bs o new count cut is = omega (arith, is, length-overwritten (concat bs) o new, most bs cut)
 
 -- ---- writes
@@ -127,7 +125,13 @@ module _ {bs : List (List ℕ)} {size o : ℕ} {new : List ℕ} {first past unti
 
   pub reached_held : length (concat (take (until - first) (drop first bs))) ≤ size
   reached_held =
-      omega (arith, ap length reached_is, length-take (4096 * (until - first)) (drop (4096 * first) (concat bs)), length-drop (4096 * first) (concat bs), r.bytes)
+      omega (
+        arith,
+        ap length reached_is,
+        length-take (4096 * (until - first)) (drop (4096 * first) (concat bs)),
+        length-drop (4096 * first) (concat bs),
+        r.bytes,
+      )
 
   pub made_is : (bytes : List ℕ) → bytes ≡ overwritten (concat (take (until - first) (drop first bs))) (o - first * 4096) new
       → bytes ≡ overwritten (take (4096 * past - 4096 * first) (drop (4096 * first) (concat bs))) (o - 4096 * first) new
@@ -150,10 +154,12 @@ module _ {bs : List (List ℕ)} {size o : ℕ} {new : List ℕ} {first past unti
       ∙ ap (λ zs. concat (take first bs) ++ zs) (concat-append made (drop until bs))
       ∙ ap (λ zs. zs ++ (concat made ++ concat (drop until bs))) (concat_take bs first r.cut (omega (arith, r.stop, first_held)))
       ∙ ap (λ zs. take (4096 * first) (concat bs) ++ (zs ++ concat (drop until bs))) is
-      ∙ ap (λ zs. take (4096 * first) (concat bs) ++ (overwritten (take (4096 * past - 4096 * first) (drop (4096 * first) (concat bs))) (o - 4096 * first) new ++ zs)) past_same
+      ∙ ap (λ zs. take (4096 * first)
+      (concat bs) ++ (overwritten (take (4096 * past - 4096 * first) (drop (4096 * first) (concat bs))) (o - 4096 * first) new ++ zs)) past_same
       ∙ written_within (concat bs) (4096 * first) (4096 * past) o new (omega (arith, r.held, r.bytes)) r.before r.behind
 
-  pub still_cut : (made : List (List ℕ)) → IsCut made → concat made ≡ overwritten (take (4096 * past - 4096 * first) (drop (4096 * first) (concat bs))) (o - 4096 * first) new
+  pub still_cut : (made : List (List ℕ)) → IsCut made → concat made ≡ overwritten (take (4096 * past - 4096 * first) (drop (4096 * first) (concat bs)))
+      (o - 4096 * first) new
       → IsCut (take first bs ++ (made ++ drop until bs))
   still_cut made cut is =
       let fits = first_held in
@@ -162,11 +168,26 @@ module _ {bs : List (List ℕ)} {size o : ℕ} {new : List ℕ} {first past unti
       let prefix = concat_take bs until r.cut (omega (arith, r.stop)) in
       let bytes : length (concat made) ≡ 4096 * (past - first) =
       ap length is ∙ length-overwritten (take (4096 * past - 4096 * first) (drop (4096 * first) (concat bs))) (o - 4096 * first) new
-      ∙ omega (arith, length-take (4096 * past - 4096 * first) (drop (4096 * first) (concat bs)), length-drop (4096 * first) (concat bs), length-take (4096 * until) (concat bs), ap length prefix, room, r.stop, r.behind, r.before, r.some, length-drop until bs, p) in
+      ∙ omega (
+        arith,
+        length-take (4096 * past - 4096 * first) (drop (4096 * first) (concat bs)),
+        length-drop (4096 * first) (concat bs),
+        length-take (4096 * until) (concat bs),
+        ap length prefix,
+        room,
+        r.stop,
+        r.behind,
+        r.before,
+        r.some,
+        length-drop until bs,
+        p,
+      ) in
       omega (arith, bytes, as_many made (past - first) cut bytes) in
       let head : length (concat (take first bs)) ≡ 4096 * length (take first bs) =
-      ap length (concat_take bs first r.cut (omega (arith, r.stop, fits))) ∙ omega (arith, length-take (4096 * first) (concat bs), length-take first bs, r.held, r.bytes, r.stop, fits) in
-      cut_append (take first bs) (made ++ drop until bs) (cut_take bs first r.cut) (cut_append made (drop until bs) cut (cut_drop bs until r.cut) tail) (λ p. head)
+      ap length (concat_take bs first r.cut (omega (arith, r.stop, fits)))
+      ∙ omega (arith, length-take (4096 * first) (concat bs), length-take first bs, r.held, r.bytes, r.stop, fits) in
+      cut_append (take first bs) (made ++ drop until bs) (cut_take bs first r.cut) (cut_append made (drop until bs) cut (cut_drop bs until r.cut) tail)
+      (λ p. head)
 
   -- where the write reaches one block alone, that one changes
   pub one_written : suc first ≡ until → (d b : List ℕ) → o - first * 4096 + length new ≤ 4096 → b ≡ overwritten (get_or bs first d) (o - first * 4096) new
@@ -178,8 +199,10 @@ module _ {bs : List (List ℕ)} {size o : ℕ} {new : List ℕ} {first past unti
       let reached : take (until - first) (drop first bs) ≡ old ∷ [] = ap (λ n. take n (drop first bs)) one ∙ ap (take 1) (drop_more bs first d held) in
       let cut : IsCut (old ∷ []) = subst IsCut reached cut_reached in
       let size = length-overwritten old (o - first * 4096) new in
-      let bytes = made_is (concat (b ∷ [])) (append-nil b ∙ is ∙ ap (λ xs. overwritten xs (o - first * 4096) new) (sym (append-nil old) ∙ sym (ap concat reached))) in
-      let made = cut_one b (omega (arith, ap length is, size, least (old ∷ []) cut, ap length (append-nil old))) (omega (arith, ap length is, size, fits, most (old ∷ []) cut, ap length (append-nil old))) in
+      let bytes = made_is (concat (b ∷ []))
+      (append-nil b ∙ is ∙ ap (λ xs. overwritten xs (o - first * 4096) new) (sym (append-nil old) ∙ sym (ap concat reached))) in
+      let made = cut_one b (omega (arith, ap length is, size, least (old ∷ []) cut, ap length (append-nil old)))
+      (omega (arith, ap length is, size, fits, most (old ∷ []) cut, ap length (append-nil old))) in
       let put : set bs first b ≡ take first bs ++ b ∷ drop until bs = set_split bs first b held ∙ ap (λ n. take first bs ++ b ∷ drop n bs) next in
       (subst IsCut (sym put) (still_cut (b ∷ []) made bytes), ap concat put ∙ written (b ∷ []) bytes)
 
@@ -188,7 +211,8 @@ pub end_held : (bs : List (List ℕ)) (start end : ℕ) → IsCut bs → start <
 end_held bs start end cut some within = omega (arith, most bs cut)
 
 pub part_of : (bs : List (List ℕ)) (start end : ℕ) → IsCut bs → start < end → end ≤ length (concat bs)
-    → bytes_from (start - start / 4096 * 4096) (end - start) (concat (take ((end - 1) / 4096 + 1 - start / 4096) (drop (start / 4096) bs))) ≡ bytes_from start (end - start) (concat bs)
+    → bytes_from (start - start / 4096 * 4096) (end - start) (concat (take ((end - 1) / 4096 + 1 - start / 4096) (drop (start / 4096) bs)))
+    ≡ bytes_from start (end - start) (concat bs)
 part_of bs start end cut some within =
     let first = start / 4096 in
     let until = (end - 1) / 4096 + 1 in
@@ -206,7 +230,8 @@ part_of bs start end cut some within =
     ∙ ap (take (end - start)) (drop-drop (start - 4096 * first) (4096 * first) (concat bs) ∙ ap (λ n. drop n (concat bs)) (omega arith))
 
 -- a read that starts before the size reads the bytes up to it
-pub read_within : (xs : List ℕ) (size offset most start end : ℕ) → size ≤ length xs → start ≡ min size offset → end ≡ start + min (size - start) most → start < end
+pub read_within : (xs : List ℕ) (size offset most start end : ℕ) → size ≤ length xs → start ≡ min size offset → end ≡ start + min (size - start) most →
+    start < end
     → bytes_from start (end - start) xs ≡ bytes_from offset most (take size xs)
 read_within xs size offset most start end held s e some =
     let at : start ≡ offset = omega arith in
@@ -218,7 +243,8 @@ read_within xs size offset most start end held s e some =
     ∙ take-take (end - start) left ys (omega arith) ∙ ap (λ n. take (end - start) (drop n xs)) (sym at))
 
 -- ---- cuts
-pub bytes_between : (bs : List (List ℕ)) (size : ℕ) → IsCut bs → size ≤ length (concat bs) → size % 4096 ≡ 0 → concat (take (size / 4096) bs) ≡ take size (concat bs)
+pub bytes_between : (bs : List (List ℕ)) (size : ℕ) → IsCut bs → size ≤ length (concat bs) → size % 4096 ≡ 0 → concat (take (size / 4096) bs)
+    ≡ take size (concat bs)
 bytes_between bs size cut within e =
     let held : size / 4096 ≤ length bs = omega (arith, most bs cut) in
     concat_take bs (size / 4096) cut held ∙ ap (λ n. take n (concat bs)) (omega arith)
@@ -229,7 +255,8 @@ unfolding IsCut
 first_long rest b [] cut within small = omega (arith, length-append b [])
 first_long rest b (c ∷ bs) cut within small = let one = cut.2 (omega arith) in omega (arith, one)
 
-block_long : (bs : List (List ℕ)) (k rest : ℕ) (d : List ℕ) → IsCut bs → k < length bs → 4096 * k + rest ≤ length (concat bs) → rest < 4096 → rest ≤ length (get_or bs k d)
+block_long : (bs : List (List ℕ)) (k rest : ℕ) (d : List ℕ) → IsCut bs → k < length bs → 4096 * k + rest ≤ length (concat bs) → rest < 4096 →
+    rest ≤ length (get_or bs k d)
 unfolding IsCut
 block_long [] k rest d cut held within small = absurd (omega arith)
 block_long (b ∷ bs) zero rest d cut held within small = first_long rest b bs cut (omega arith) small
@@ -237,7 +264,8 @@ block_long (b ∷ bs) (suc k) rest d cut held within small =
     let one = cut.2 (omega arith) in
     block_long bs k rest d cut.3 (omega arith) (omega (arith, one, length-append b (concat bs))) small
 
-block_taken : (bs : List (List ℕ)) (k rest : ℕ) (d : List ℕ) → IsCut bs → k < length bs → 4096 * k + rest ≤ length (concat bs) → rest < 4096 → concat (take k bs) ++ take rest (get_or bs k d) ≡ take (4096 * k + rest) (concat bs)
+block_taken : (bs : List (List ℕ)) (k rest : ℕ) (d : List ℕ) → IsCut bs → k < length bs → 4096 * k + rest ≤ length (concat bs) → rest < 4096 →
+    concat (take k bs) ++ take rest (get_or bs k d) ≡ take (4096 * k + rest) (concat bs)
 unfolding IsCut
 block_taken bs k rest d cut held within small =
     let xs = concat bs in

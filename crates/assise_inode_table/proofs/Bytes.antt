@@ -1,10 +1,7 @@
 -- The bytes of a file by their places, with zeros past its end.
-use Rattle.std.proofs.Common.{◌≡◌, ℕ, ◌+◌, ◌-◌, ◌<◌, ◌≤◌, ◌⊎◌, List, ◌++◌, get_or, length, take, drop, replicate, refl, ap, sym, ◌∙◌, arith, max, inl, inr, length-append}
-use Rattle.std.proofs.lemmas.Bool.{cases_lt}
-use Rattle.std.proofs.lemmas.Grind.{same_number_lists}
-use Rattle.std.proofs.lemmas.List.{get_or_append_left, get_or-append_right, get_or-take, get_or-drop, get_or-replicate, get_or_past, length-take}
-use Rattle.assise_seq_tree.specs.Contents.{overwritten, resized}
-use Rattle.assise_seq_tree.proofs.BytesRead.{length-overwritten}
+use Rattle.assise_inode_table.proofs.Common.{◌≡◌, ℕ, ◌+◌, ◌-◌, ◌<◌, ◌≤◌, ◌⊎◌, List, ◌++◌, get_or, length, take, drop, replicate, refl, ap, sym, ◌∙◌, arith, max}
+use Rattle.assise_inode_table.proofs.Common.{inl, inr, length-append, cases_lt, same_number_lists, get_or_append_left, get_or-append_right, get_or-take}
+use Rattle.assise_inode_table.proofs.Common.{get_or-drop, get_or-replicate, get_or_past, length-take, overwritten, resized, length-overwritten}
 use Rattle.assise_seq_tree.proofs.FileResized.{length-resized}
 
 abbrev pub byte : List ℕ → ℕ → ℕ
@@ -88,7 +85,8 @@ size_keeps o e xs ys n d = record {
 }
 
 -- a write over these bytes leaves no difference
-pub write_settles : (o e : ℕ) (xs ys : List ℕ) (k : ℕ) (new : List ℕ) → DifferIn o e xs ys → k ≤ o → e ≤ k + length new → overwritten xs k new ≡ overwritten ys k new
+pub write_settles : (o e : ℕ) (xs ys : List ℕ) (k : ℕ) (new : List ℕ) → DifferIn o e xs ys → k ≤ o → e ≤ k + length new →
+    overwritten xs k new ≡ overwritten ys k new
 write_settles o e xs ys k new d low high =
     same_number_lists (overwritten xs k new) (overwritten ys k new) (omega (arith, length-overwritten xs k new, length-overwritten ys k new, d.lengths))
     (λ p _. written_alike xs ys k new p (λ out. d.bytes p (elim out [ inl before ↦ inl (omega arith) | inr behind ↦ inr (omega arith) ])))

@@ -1,26 +1,13 @@
 -- How calls may end: with an error and no effects, or with what each call does.
-use Rattle.std.proofs.Common.{◌≡◌, ◌≤◌, ℕ, Bool, true, false, List, [], ◌∷◌, length, cond, ◌||◌, ◌==◌, nat_le, Option, Some, None, Result, Ok, Err, refl, sym, arith}
-use Rattle.std.specs.Prelude.{ok_or}
-use Rattle.std.specs.List.{list_any}
+use Rattle.assise_inode_table.proofs.Common.{◌≡◌, ◌≤◌, ℕ, Bool, true, false, List, [], ◌∷◌, length, cond, ◌||◌, ◌==◌, nat_le, Option, Some, None, Result, Ok}
+use Rattle.assise_inode_table.proofs.Common.{Err, refl, sym, arith, ok_or, list_any, cond_both, eqb-true, is_proper_prefix, same_path, Op, Create, Mkdir, Read}
+use Rattle.assise_inode_table.proofs.Common.{WriteCall, Truncate, Rename, UnlinkCall, Rmdir, ListCall, Stat, Fsync, Dsync, Reply, Done, Bytes, Names, Error}
+use Rattle.assise_inode_table.proofs.Common.{TreeError, NoEnt, Exists, IsDir, Invalid, TooBig, Effect, NewFile, NewDir, Write, SetLen, Link, Unlink, Free}
+use Rattle.assise_inode_table.proofs.Common.{parent_of, last_name, bytes_from, is_within, then_or_error, walk_from, walk_to_entry, as_regular, as_links}
+use Rattle.assise_inode_table.proofs.Common.{room_among, without_links, content_may_replace, stat_reply, room_beside, receive, move_effects, make_call}
+use Rattle.assise_inode_table.proofs.Common.{write_effects, interaction, step, Content, Links, Values, makes, Interaction, finish, reply_of, effects_of}
+use Rattle.assise_inode_table.proofs.Common.{makes_inode, link_of}
 use Rattle.std.specs.FinMap as map
-use Rattle.std.proofs.lemmas.Bool.{cond_both, eqb-true}
-use Rattle.assise_names.specs.Path.{is_proper_prefix, same_path}
-use Rattle.assise_names.specs.declared.call.Op.{Op}
-use Rattle.assise_names.specs.declared.call.Op.TheVariants.{Create, Mkdir, Read, Write as WriteCall, Truncate, Rename, Unlink as UnlinkCall, Rmdir, List as ListCall, Stat, Fsync, Dsync}
-use Rattle.assise_names.specs.declared.reply.Reply.{Reply}
-use Rattle.assise_names.specs.declared.reply.Reply.TheVariants.{Done, Bytes, Names, Error}
-use Rattle.assise_names.specs.declared.reply.TreeError.{TreeError}
-use Rattle.assise_names.specs.declared.reply.TreeError.TheVariants.{NoEnt, Exists, IsDir, Invalid, TooBig}
-use Rattle.assise_record.specs.declared.effect.Effect.{Effect}
-use Rattle.assise_record.specs.declared.effect.Effect.TheVariants.{NewFile, NewDir, Write, SetLen, Link, Unlink, Free}
-use Rattle.assise_seq_tree.specs.Answer.{parent_of, last_name}
-use Rattle.assise_seq_tree.specs.Contents.{bytes_from, is_within}
-use Rattle.assise_inode_table.specs.Calls.{then_or_error, walk_from, walk_to_entry, as_regular, as_links, room_among, without_links, content_may_replace, stat_reply, room_beside, receive, move_effects, make_call, write_effects, interaction, step}
-use Rattle.assise_inode_table.specs.Contents.{Content, Links, Values}
-use Rattle.assise_inode_table.specs.Effects.{makes}
-use Rattle.assise_inode_table.specs.Interaction.{Interaction, finish, reply_of, effects_of}
-use Rattle.assise_inode_table.specs.Numbers.{makes_inode}
-use Rattle.assise_inode_table.specs.Reach.{link_of}
 
 -- what holds of the reply and the effects of a call, where it is done
 abbrev pub HoldsWhereDone : (Reply → List Effect → Type 0) → Op → ℕ → Type 0
@@ -55,7 +42,8 @@ module _ (v : Values) (P : Reply → List Effect → Type 0) (faults : (e : Tree
   walked i [] next h = or_error (ok_or (v i) NoEnt) (λ content. next i content) (λ content. h i content)
   walked i (name ∷ p) next h = or_error (link_of (v i) name) (λ j. walk_from j p next) (λ j. walked j p next h)
 
-  walked_to_entry : (p : List (List ℕ)) (name : List ℕ) (next : ℕ → ℕ → Content → Interaction) → ((d i : ℕ) (content : Content) → Ends (next d i content)) → Ends (walk_to_entry p name next)
+  walked_to_entry : (p : List (List ℕ)) (name : List ℕ) (next : ℕ → ℕ → Content → Interaction) → ((d i : ℕ) (content : Content) → Ends (next d i content)) →
+      Ends (walk_to_entry p name next)
   walked_to_entry p name next h =
       walked 0 p (λ d content. then_or_error (link_of (Some content) name) (λ i. walk_from i [] (next d)))
       (λ d content. or_error (link_of (Some content) name) (λ i. walk_from i [] (next d)) (λ i. walked i [] (next d) (λ j found. h d j found)))
@@ -65,7 +53,8 @@ module _ (v : Values) (P : Reply → List Effect → Type 0) (faults : (e : Tree
       chosen (length p == 0) _ _ (faults Exists)
       (walked 0 _ _ (λ d content. or_error (as_links content) _ (λ links. or_error (room_among (last_name p) links) _ (λ _. h d))))
 
-  received : (moved : Content) (stays : Bool) (e : ℕ) (links : Links) (new : List ℕ) (moves : List Effect) (o : Option ℕ) → P Done moves → ((g : ℕ) → P Done (Unlink e new ∷ Free g ∷ moves)) →
+  received : (moved : Content) (stays : Bool) (e : ℕ) (links : Links) (new : List ℕ) (moves : List Effect) (o : Option ℕ) → P Done moves →
+      ((g : ℕ) → P Done (Unlink e new ∷ Free g ∷ moves)) →
       Ends (receive moved stays e links new moves o)
   received moved stays e links new moves None h k = or_error (room_beside stays links) _ (λ _. h)
   received moved stays e links new moves (Some g) h k =
@@ -77,14 +66,18 @@ module _ (v : Values) (P : Reply → List Effect → Type 0) (faults : (e : Tree
       chosen ((length p == 0) || (length q == 0)) _ _ (faults Invalid)
       (chosen (is_proper_prefix p q) _ _ (faults Invalid)
       (walked_to_entry _ _ _ (λ d i content. walked 0 _ _ (λ e goal. or_error (as_links goal) _ (λ links.
-      chosen (same_path p q) _ _ h.0 (received content (same_path (parent_of p) (parent_of q)) e links (last_name q) (move_effects d (last_name p) e (last_name q) i) (map.get links (last_name q)) (h.1 d e i) (λ g. h.2 d e i g)))))))
+      chosen (same_path p q) _ _ h.0
+      (received content (same_path (parent_of p) (parent_of q)) e links (last_name q) (move_effects d (last_name p) e (last_name q) i)
+      (map.get links (last_name q)) (h.1 d e i) (λ g. h.2 d e i g)))))))
 
   pub call_ends : (op : Op) (fresh : ℕ) → HoldsWhereDone P op fresh → Ends (interaction op fresh)
   call_ends (Create p) fresh h = made (NewFile fresh) p fresh h
   call_ends (Mkdir p) fresh h = made (NewDir fresh) p fresh h
   call_ends (Read p offset most) fresh h = walked 0 p _ (λ i content. or_error (as_regular content) _ (λ bytes. h (bytes_from offset most bytes)))
-  call_ends (WriteCall p offset new) fresh h = walked 0 p _ (λ i content. or_error (as_regular content) _ (λ _. chosen (is_within offset new) _ _ (h i) (faults TooBig)))
-  call_ends (Truncate p size) fresh h = walked 0 p _ (λ i content. or_error (as_regular content) _ (λ _. chosen (nat_le size 1048576) _ _ (h i) (faults TooBig)))
+  call_ends (WriteCall p offset new) fresh h =
+      walked 0 p _ (λ i content. or_error (as_regular content) _ (λ _. chosen (is_within offset new) _ _ (h i) (faults TooBig)))
+  call_ends (Truncate p size) fresh h =
+      walked 0 p _ (λ i content. or_error (as_regular content) _ (λ _. chosen (nat_le size 1048576) _ _ (h i) (faults TooBig)))
   call_ends (Rename p q) fresh h = renamed p q fresh h
   call_ends (UnlinkCall p) fresh h =
       chosen (length p == 0) _ _ (faults IsDir)
@@ -145,5 +138,6 @@ own_where_done (Stat p) fresh = λ content j h. cc
 own_where_done Fsync fresh = λ j h. cc
 own_where_done Dsync fresh = λ j h. cc
 
-pub makes_own : (v : Values) (op : Op) (fresh i : ℕ) → list_any (makes i) (step v op fresh).effects ≡ true → (i ≡ fresh) × (makes_inode op (step v op fresh).reply ≡ true)
+pub makes_own : (v : Values) (op : Op) (fresh i : ℕ) → list_any (makes i) (step v op fresh).effects ≡ true →
+    (i ≡ fresh) × (makes_inode op (step v op fresh).reply ≡ true)
 makes_own v op fresh = call_ends v (MakesOwn op fresh) (λ e i h. cc) op fresh (own_where_done op fresh)

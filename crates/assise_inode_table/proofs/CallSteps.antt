@@ -1,14 +1,7 @@
 -- Over inodes that spell a tree a call is what it is on the tree.
-use Rattle.std.proofs.Common.{◌≡◌, ℕ, true, None}
-use Rattle.std.specs.List.{list_any}
-use Rattle.assise_names.specs.declared.call.Op.{Op}
-use Rattle.assise_names.specs.declared.call.Op.TheVariants.{Create, Mkdir, Read, Write, Truncate, Rename, Unlink, Rmdir, List as ListCall, Stat, Fsync, Dsync}
-use Rattle.assise_seq_tree.specs.Tree.{Tree}
-use Rattle.assise_seq_tree.specs.Answer.{answer}
-use Rattle.assise_inode_table.specs.Contents.{Values}
-use Rattle.assise_inode_table.specs.Effects.{after, makes}
-use Rattle.assise_inode_table.specs.Calls.{interaction, step}
-use Rattle.assise_inode_table.specs.Spelled.{Spells}
+use Rattle.assise_inode_table.proofs.Common.{◌≡◌, ℕ, true, None, list_any, Op, Create, Mkdir, Read, Truncate, Rename, Rmdir, ListCall, Stat, Fsync, Dsync, Tree}
+use Rattle.assise_inode_table.proofs.Common.{answer, Values, after, makes, interaction, step, Spells}
+use Rattle.assise_names.specs.declared.call.Op.TheVariants.{Write, Unlink}
 use Rattle.assise_inode_table.proofs.CallsAgree.{Agrees}
 use Rattle.assise_inode_table.proofs.WalkMeets.{settled}
 use Rattle.assise_inode_table.proofs.QuietCalls.{stat_agrees, read_agrees, list_agrees, sync_agrees}

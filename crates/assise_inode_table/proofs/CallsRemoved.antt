@@ -1,19 +1,10 @@
 -- Calls that no other client saw are taken out of a run.
-use Rattle.std.proofs.Common.{◌≡◌, ℕ, ◌<◌, ◌≤◌, arith, Bool, true, false, List, [], ◌∷◌, ◌++◌, filter, if◌then◌else◌, None, refl, ap, sym, ◌∙◌, subst, ◌||◌, ◌==◌, inl, inr, MatchBool}
-use Rattle.std.specs.List.{list_any}
-use Rattle.std.proofs.lemmas.Bool.{cases_Bool, cases_eq, ltb-true, ltb-false, eqb-true, or_cases, or_parts, or_right as or_true_right}
-use Rattle.assise_record.specs.declared.effect.Effect.{Effect}
-use Rattle.assise_record.specs.declared.effect.Effect.TheVariants.{NewFile, NewDir, Write, SetLen, Link, Unlink, Free}
-use Rattle.assise_record.specs.Touched.{touched_by}
-use Rattle.assise_seq_tree.specs.Tree.{Tree}
-use Rattle.assise_seq_tree.specs.Answer.{answer}
-use Rattle.assise_seq_tree.specs.Runs.{AreAnswered, tree_after_calls}
-use Rattle.assise_inode_table.specs.Contents.{Values}
-use Rattle.assise_inode_table.specs.Effects.{after, makes, touched, contains, value_after}
-use Rattle.assise_inode_table.specs.Interaction.{Step, AgreeOn}
-use Rattle.assise_inode_table.specs.Spelled.{Spells}
-use Rattle.assise_inode_table.specs.Traces.{NumberedCall, trace, step_of, values_after_calls, MakesNew, AllMakeNew, exchanges, ops, Each, NumbersAscend, below}
-use Rattle.assise_inode_table.specs.Unseen.{Clear, Unseen}
+use Rattle.assise_inode_table.proofs.Common.{◌≡◌, ℕ, ◌<◌, ◌≤◌, arith, Bool, true, false, List, [], ◌∷◌, ◌++◌, if◌then◌else◌, None, refl, ap, sym, ◌∙◌, subst}
+use Rattle.assise_inode_table.proofs.Common.{◌||◌, ◌==◌, inl, inr, MatchBool, list_any, cases_Bool, cases_eq, ltb-true, ltb-false, eqb-true, or_cases, or_parts}
+use Rattle.assise_inode_table.proofs.Common.{or_true_right, Effect, NewFile, NewDir, Write, SetLen, Link, Unlink, Free, touched_by, Tree, answer, AreAnswered}
+use Rattle.assise_inode_table.proofs.Common.{tree_after_calls, Values, after, makes, touched, contains, value_after, Step, AgreeOn, Spells, NumberedCall, trace}
+use Rattle.assise_inode_table.proofs.Common.{step_of, values_after_calls, MakesNew, AllMakeNew, exchanges, ops, Each, NumbersAscend, below, Clear, Unseen}
+use Rattle.std.proofs.Common.{filter}
 use Rattle.assise_inode_table.proofs.EffectValues.{contains-append, untouched}
 use Rattle.assise_inode_table.proofs.Local.{step_local}
 use Rattle.assise_inode_table.proofs.PairwiseLists.{each-always, each-both, clear-left, clear-right, clear-append, clear_nothing, AscendsAlong, ascends_along}
@@ -46,8 +37,10 @@ agree_dirty dirty v w es a = λ i f.
     untouched i (v i) es (or_parts (contains (touched es) i) (contains dirty i) split).0 ∙ a i (or_parts (contains (touched es) i) (contains dirty i) split).1
 
 -- a call that stays is the same step over both maps
-same_here : (dirty : List ℕ) (v w : Values) (x : NumberedCall) → AgreeOff dirty v w → Clear dirty ((step_of v x).visits ++ touched (step_of v x).effects) → step_of v x ≡ step_of w x
-same_here dirty v w x a h = step_local v w x.op x.fresh (agree_on dirty (step_of v x).visits v w a (clear-left dirty (step_of v x).visits (touched (step_of v x).effects) h))
+same_here : (dirty : List ℕ) (v w : Values) (x : NumberedCall) → AgreeOff dirty v w → Clear dirty ((step_of v x).visits ++ touched (step_of v x).effects) →
+    step_of v x ≡ step_of w x
+same_here dirty v w x a h = step_local v w x.op x.fresh
+    (agree_on dirty (step_of v x).visits v w a (clear-left dirty (step_of v x).visits (touched (step_of v x).effects) h))
 
 -- ---- the steps
 
@@ -111,16 +104,19 @@ clear_there dirty (j ∷ js) i h t =
     ]
 
 -- a call that stays makes a new inode over the other map too
-makes_new : (dirty : List ℕ) (v w : Values) (x : NumberedCall) → AgreeOff dirty v w → Clear dirty ((step_of v x).visits ++ touched (step_of v x).effects) → MakesNew v x → MakesNew w x
+makes_new : (dirty : List ℕ) (v w : Values) (x : NumberedCall) → AgreeOff dirty v w → Clear dirty ((step_of v x).visits ++ touched (step_of v x).effects) →
+    MakesNew v x → MakesNew w x
 makes_new dirty v w x a h new =
     subst (λ s. list_any (makes x.fresh) s.effects ≡ true → w x.fresh ≡ None) (same_here dirty v w x a h)
-    (λ m. sym (a x.fresh (clear_there dirty (touched (step_of v x).effects) x.fresh (clear-right dirty (step_of v x).visits (touched (step_of v x).effects) h) (all_touched x.fresh (step_of v x).effects m))) ∙ new m)
+    (λ m. sym (a x.fresh (clear_there dirty (touched (step_of v x).effects) x.fresh (clear-right dirty (step_of v x).visits (touched (step_of v x).effects) h)
+    (all_touched x.fresh (step_of v x).effects m))) ∙ new m)
 
 one_more : (w : Values) (u : Tree) (x : NumberedCall) (xs : List NumberedCall) → Spells w u → x.reply ≡ (step_of w x).reply → MakesNew w x →
     Goes (after w (step_of w x).effects) (answer u x.op).1 xs → Goes w u (x ∷ xs)
 one_more w u x xs s reply new g = record { run = (reply ∙ step_replies w u x.op x.fresh s, g.run); new = (new, g.new); spelled = g.spelled }
 
-goes : (stays : NumberedCall → Bool) (xs : List NumberedCall) (v w : Values) (u : Tree) (dirty : List ℕ) → AgreeOff dirty v w → StaysClear stays dirty (trace v xs) →
+goes : (stays : NumberedCall → Bool) (xs : List NumberedCall) (v w : Values) (u : Tree) (dirty : List ℕ) → AgreeOff dirty v w →
+    StaysClear stays dirty (trace v xs) →
     AllReply v xs → AllMakeNew v xs → Spells w u → Goes w u (filter stays xs)
 goes stays [] v w u dirty a c r n s = record { run = tt; new = tt; spelled = s }
 goes stays (x ∷ xs) v w u dirty a c r n s =
@@ -176,9 +172,12 @@ stays_clear a b dirty (x ∷ xs) le h u r =
         ])
         u r
 
-unseen_stays : (v : Values) (a b : ℕ → ℕ) (xs : List NumberedCall) → NumbersAscend xs → Unseen a (trace v xs) → ((c : ℕ) → a c ≤ b c) → StaysClear (below b) [] (trace v xs)
+unseen_stays : (v : Values) (a b : ℕ → ℕ) (xs : List NumberedCall) → NumbersAscend xs → Unseen a (trace v xs) → ((c : ℕ) → a c ≤ b c) →
+    StaysClear (below b) [] (trace v xs)
 unseen_stays v a b xs r u le =
-    stays_clear a b [] (trace v xs) le (each-always (λ y. below b y.0 ≡ true → Clear [] (y.1.visits ++ touched y.1.effects)) (trace v xs) (λ y _. clear_nothing (y.1.visits ++ touched y.1.effects))) u (ascends_along v xs r)
+    stays_clear a b [] (trace v xs) le
+    (each-always (λ y. below b y.0 ≡ true → Clear [] (y.1.visits ++ touched y.1.effects)) (trace v xs)
+    (λ y _. clear_nothing (y.1.visits ++ touched y.1.effects))) u (ascends_along v xs r)
 
 pub tails_trace : (v : Values) (a b : ℕ → ℕ) (xs : List NumberedCall) → NumbersAscend xs → Unseen a (trace v xs) → ((c : ℕ) → a c ≤ b c) →
     trace v (filter (below b) xs) ≡ filter (λ x. below b x.0) (trace v xs)
@@ -188,14 +187,17 @@ tails_go : (v : Values) (t : Tree) (a b : ℕ → ℕ) (xs : List NumberedCall) 
     Unseen a (trace v xs) → ((c : ℕ) → a c ≤ b c) → Goes v t (filter (below b) xs)
 tails_go v t a b xs s run r new u le = goes (below b) xs v v t [] (λ i f. refl) (unseen_stays v a b xs r u le) (replied v t xs s run new) new s
 
-pub tails_run : (v : Values) (t : Tree) (a b : ℕ → ℕ) (xs : List NumberedCall) → Spells v t → AreAnswered t (exchanges xs) → NumbersAscend xs → AllMakeNew v xs →
+pub tails_run : (v : Values) (t : Tree) (a b : ℕ → ℕ) (xs : List NumberedCall) → Spells v t → AreAnswered t (exchanges xs) → NumbersAscend xs →
+    AllMakeNew v xs →
     Unseen a (trace v xs) → ((c : ℕ) → a c ≤ b c) → AreAnswered t (exchanges (filter (below b) xs))
 tails_run v t a b xs s run r new u le = (tails_go v t a b xs s run r new u le).run
 
-pub tails_new : (v : Values) (t : Tree) (a b : ℕ → ℕ) (xs : List NumberedCall) → Spells v t → AreAnswered t (exchanges xs) → NumbersAscend xs → AllMakeNew v xs →
+pub tails_new : (v : Values) (t : Tree) (a b : ℕ → ℕ) (xs : List NumberedCall) → Spells v t → AreAnswered t (exchanges xs) → NumbersAscend xs →
+    AllMakeNew v xs →
     Unseen a (trace v xs) → ((c : ℕ) → a c ≤ b c) → AllMakeNew v (filter (below b) xs)
 tails_new v t a b xs s run r new u le = (tails_go v t a b xs s run r new u le).new
 
-pub tails_spelled : (v : Values) (t : Tree) (a b : ℕ → ℕ) (xs : List NumberedCall) → Spells v t → AreAnswered t (exchanges xs) → NumbersAscend xs → AllMakeNew v xs →
+pub tails_spelled : (v : Values) (t : Tree) (a b : ℕ → ℕ) (xs : List NumberedCall) → Spells v t → AreAnswered t (exchanges xs) → NumbersAscend xs →
+    AllMakeNew v xs →
     Unseen a (trace v xs) → ((c : ℕ) → a c ≤ b c) → Spells (values_after_calls v (filter (below b) xs)) (tree_after_calls t (ops (filter (below b) xs)))
 tails_spelled v t a b xs s run r new u le = (tails_go v t a b xs s run r new u le).spelled

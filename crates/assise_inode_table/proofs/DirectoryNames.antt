@@ -1,15 +1,10 @@
 -- The names in a directory: of its entries and of its links.
-use Rattle.std.proofs.Common.{◌≡◌, ℕ, true, false, cond, List, [], ◌∷◌, map, Some, None, is_some, Ordering, Less, Equal, Greater, nat_cmp, T, refl, sym, ap, ◌∙◌}
+use Rattle.assise_inode_table.proofs.Common.{◌≡◌, ℕ, true, false, cond, List, [], ◌∷◌, map, Some, None, is_some, Ordering, Less, Equal, Greater, nat_cmp, T}
+use Rattle.assise_inode_table.proofs.Common.{refl, sym, ap, ◌∙◌, list_any, is_lt, slice_cmp, below_all, is_sorted, dir, Entries, no_entries, entry, same_name}
+use Rattle.assise_inode_table.proofs.Common.{find, IsBelow, AreOrdered, names_of, same_entries, Links}
 use Rattle.std.specs.Prelude.{◌||◌}
-use Rattle.std.specs.List.{list_any}
-use Rattle.std.specs.Ordering.{is_lt}
-use Rattle.std.specs.Cmp.Lexicographic.{slice_cmp}
 use Rattle.std.specs.FinMap as fin
-use Rattle.std.specs.FinMap.Entries.{below_all, is_sorted}
 use Rattle.std.proofs.Math.Facts.{and_yes}
-use Rattle.assise_seq_tree.specs.Tree.{dir, Entries, no_entries, entry, same_name, find, IsBelow, AreOrdered, names_of}
-use Rattle.assise_seq_tree.proofs.Sets.{same_entries}
-use Rattle.assise_inode_table.specs.Contents.{Links}
 
 pub is_some-find : (name : List ℕ) (es : Entries) → is_some (find name es) ≡ list_any (same_name name) (names_of es)
 is_some-find name no_entries = refl
@@ -35,7 +30,8 @@ names_of-bare (name ∷ names) = ap (λ ks. name ∷ ks) (names_of-bare names)
 find-bare : (q : List ℕ) (names : List (List ℕ)) → find q (bare names) ≡ cond (list_any (same_name q) names) (Some (dir no_entries)) None
 find-bare q [] = refl
 find-bare q (name ∷ names) =
-    elim (same_name q name) as (λ b. cond b (Some (dir no_entries)) (find q (bare names)) ≡ cond (b || list_any (same_name q) names) (Some (dir no_entries)) None) [
+    elim (same_name q name) as (λ b. cond b (Some (dir no_entries)) (find q (bare names)) ≡ cond (b || list_any (same_name q) names) (Some (dir no_entries))
+    None) [
       | true ↦ refl
       | false ↦ find-bare q names
     ]
@@ -68,7 +64,8 @@ less Greater h = absurd h
 
 below-keys : (name : List ℕ) (es : List (List ℕ × ℕ)) → T (below_all (slice_cmp nat_cmp) name es) → IsBelow name (bare (map (λ e. e.0) es))
 below-keys name [] h = tt
-below-keys name (e ∷ es) h = let both = and_yes (is_lt (slice_cmp nat_cmp name e.0)) (below_all (slice_cmp nat_cmp) name es) h in (less _ both.0, below-keys name es both.1)
+below-keys name (e ∷ es) h =
+    let both = and_yes (is_lt (slice_cmp nat_cmp name e.0)) (below_all (slice_cmp nat_cmp) name es) h in (less _ both.0, below-keys name es both.1)
 
 ascend-sorted : (es : List (List ℕ × ℕ)) → T (is_sorted (slice_cmp nat_cmp) es) → Ascend (map (λ e. e.0) es)
 ascend-sorted [] h = tt
@@ -80,7 +77,8 @@ pub ascend-keys : (links : Links) → Ascend (fin.keys links)
 ascend-keys links = ascend-sorted (fin.entries links) (fin.entries_sorted links)
 
 -- ordered entries have the names that the links have, where both have the same ones
-pub names_are_keys : (es : Entries) (links : Links) → AreOrdered es → ((q : List ℕ) → is_some (find q es) ≡ is_some (fin.get links q)) → names_of es ≡ fin.keys links
+pub names_are_keys : (es : Entries) (links : Links) → AreOrdered es → ((q : List ℕ) → is_some (find q es) ≡ is_some (fin.get links q)) →
+    names_of es ≡ fin.keys links
 names_are_keys es links s h =
     same_names (names_of es) (fin.keys links) (ascend-names es s) (ascend-keys links) (λ q. sym (is_some-find q es) ∙ h q ∙ fin.contains_key-keys links q)
 

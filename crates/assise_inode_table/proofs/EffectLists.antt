@@ -1,14 +1,10 @@
 -- Effects made one after another.
-use Rattle.std.proofs.Common.{◌≡◌, ℕ, zero, suc, ◌+◌, ◌<◌, cond, List, [], ◌∷◌, ◌++◌, ◌≤◌, ◌-◌, length, take, drop, slice_index_or, Option, Some, IsSome, refl, ap, sym, subst, ◌∙◌, inl, inr, arith}
-use Rattle.std.proofs.lemmas.Bool.{eq-eqb, ne_eqb, cases_eq}
-use Rattle.std.proofs.lemmas.List.{take_all, take_more}
-use Rattle.std.specs.Cmp.{nat_cmp_total}
+use Rattle.assise_inode_table.proofs.Common.{◌≡◌, ℕ, zero, suc, ◌+◌, ◌<◌, cond, List, [], ◌∷◌, ◌++◌, ◌≤◌, ◌-◌, length, take, drop, slice_index_or, Option, Some}
+use Rattle.assise_inode_table.proofs.Common.{IsSome, refl, ap, sym, subst, ◌∙◌, inl, inr, arith, eq-eqb, ne_eqb, cases_eq, take_all, take_more, nat_cmp_total}
+use Rattle.assise_inode_table.proofs.Common.{Effect, Content, InodeMap, values, TakesAway, after, all_applied, applied, value_after, with_value, OnlyFirstAsks}
+use Rattle.assise_inode_table.proofs.Common.{OnlyTakeAway}
 use Rattle.std.specs.Option.{is_some}
 use Rattle.std.specs.FinMap as map
-use Rattle.assise_record.specs.declared.effect.Effect.{Effect}
-use Rattle.assise_inode_table.specs.Contents.{Content, InodeMap, values}
-use Rattle.assise_inode_table.specs.Effects.{TakesAway, after, all_applied, applied, value_after, with_value}
-use Rattle.assise_inode_table.specs.Whole.{OnlyFirstAsks, OnlyTakeAway}
 use Rattle.assise_inode_table.proofs.EffectValues.{get-applied, get-with_value}
 
 -- ---- one after another
@@ -17,7 +13,8 @@ pub append_applied : (m : InodeMap) (es fs : List Effect) → all_applied m (es 
 append_applied m [] fs = refl
 append_applied m (e ∷ es) fs = append_applied (applied m e) es fs
 
-pub one_more_applied : (m : InodeMap) (es : List Effect) (i : ℕ) (e : Effect) → i < length es → e ≡ slice_index_or es i e → all_applied m (take (i + 1) es) ≡ applied (all_applied m (take i es)) e
+pub one_more_applied : (m : InodeMap) (es : List Effect) (i : ℕ) (e : Effect) → i < length es → e ≡ slice_index_or es i e → all_applied m (take (i + 1) es)
+    ≡ applied (all_applied m (take i es)) e
 one_more_applied m es i e h is = ap (all_applied m) (take_more es i e h ∙ ap (λ x. take i es ++ x ∷ []) (sym is)) ∙ append_applied m (take i es) (e ∷ [])
 
 pub get-all_applied : (m : InodeMap) (es : List Effect) (i : ℕ) → map.get (all_applied m es) i ≡ value_after i (map.get m i) es

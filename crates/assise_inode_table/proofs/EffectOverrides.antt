@@ -1,19 +1,11 @@
 -- What an effect did is of no account once a later one overrides it.
-use Rattle.std.proofs.Common.{◌≡◌, ℕ, ◌+◌, ◌==◌, ◌||◌, ◌⊎◌, Bool, true, false, cond, if◌then◌else◌, nat_le, List, [], ◌∷◌, length, Option, Some, None, refl, ap, sym, ◌∙◌, subst, inl, inr}
-use Rattle.std.proofs.lemmas.Bool.{cases_Bool, eq-eqb, eqb-true, leb-true, and_parts, or_cases, or_right, false≢true}
-use Rattle.std.specs.Cmp.Lexicographic.{nat_list_cmp_total}
+use Rattle.assise_inode_table.proofs.Common.{◌≡◌, ℕ, ◌+◌, ◌==◌, ◌||◌, ◌⊎◌, Bool, true, false, cond, if◌then◌else◌, nat_le, List, [], ◌∷◌, length, Option, Some}
+use Rattle.assise_inode_table.proofs.Common.{None, refl, ap, sym, ◌∙◌, subst, inl, inr, cases_Bool, eq-eqb, eqb-true, leb-true, and_parts, or_cases, or_right}
+use Rattle.assise_inode_table.proofs.Common.{false≢true, nat_list_cmp_total, exact_bytes, overwritten, resized, same_name, one_name, Effect, NewFile, NewDir}
+use Rattle.assise_inode_table.proofs.Common.{Write, SetLen, Link, Unlink, Free, touched_by, covers, is_write_within, is_of_entry, overrides, overridden}
+use Rattle.assise_inode_table.proofs.Common.{coalesced, Content, Links, regular, directory, effect_on, value_after, contains, touched, SameNetEffect}
 use Rattle.std.specs.FinMap as map
-use Rattle.std.proofs.lemmas.Map.Lookups.{exact_bytes}
-use Rattle.assise_seq_tree.specs.Contents.{overwritten, resized}
-use Rattle.assise_seq_tree.specs.Tree.{same_name}
-use Rattle.assise_seq_tree.proofs.Sets.{one_name}
-use Rattle.assise_record.specs.declared.effect.Effect.{Effect}
-use Rattle.assise_record.specs.declared.effect.Effect.TheVariants.{NewFile, NewDir, Write, SetLen, Link, Unlink, Free}
 use Rattle.assise_record.specs.Patch.{Patch}
-use Rattle.assise_record.specs.Touched.{touched_by}
-use Rattle.assise_record.specs.Coalesced.{covers, is_write_within, is_of_entry, overrides, overridden, coalesced}
-use Rattle.assise_inode_table.specs.Contents.{Content, Links, regular, directory}
-use Rattle.assise_inode_table.specs.Effects.{effect_on, value_after, contains, touched, SameNetEffect}
 use Rattle.assise_inode_table.proofs.Bytes.{DifferIn, written_differs, write_keeps, size_keeps, write_settles}
 
 -- ---- values that differ only by what an effect did
@@ -116,7 +108,8 @@ bytes_keep p (SetLen j n) x y d =
 bytes_keep p (Link b name j) x y d = bytes_then p (Link b name j) x y (λ bytes. bytes) (λ bytes. refl) d d.differ
 bytes_keep p (Unlink b name) x y d = bytes_then p (Unlink b name) x y (λ bytes. bytes) (λ bytes. refl) d d.differ
 
-entry_keeps : (name : List ℕ) (f : Effect) (x y : Option Content) → AtName name x y → (effect_on x f ≡ effect_on y f) ⊎ AtName name (effect_on x f) (effect_on y f)
+entry_keeps : (name : List ℕ) (f : Effect) (x y : Option Content) → AtName name x y → (effect_on x f ≡ effect_on y f) ⊎ AtName name (effect_on x f)
+    (effect_on y f)
 entry_keeps name (NewFile j) x y d = inl refl
 entry_keeps name (NewDir j) x y d = inl refl
 entry_keeps name (Free j) x y d = inl refl
@@ -245,7 +238,8 @@ overrides_same (Unlink b name) e h = entry_same b name e h
 -- ---- lists of effects
 
 -- values that differ only by what an effect did are the same after effects of which one overrides it
-later : (i : ℕ) (e : Effect) (es : List Effect) (x y : Option Content) → touched_by e ≡ i → Differ e x y → overridden e es ≡ true → value_after i x es ≡ value_after i y es
+later : (i : ℕ) (e : Effect) (es : List Effect) (x y : Option Content) → touched_by e ≡ i → Differ e x y → overridden e es ≡ true →
+    value_after i x es ≡ value_after i y es
 later i e [] x y own d h = absurd (false≢true h)
 later i e (f ∷ fs) x y own d h =
     elim (cases_Bool (touched_by f == i)) [
@@ -271,7 +265,8 @@ same_net [] i old = refl
 same_net (e ∷ es) i old =
     elim (cases_Bool (overridden e es)) [
       | inl gone ↦ ap (λ b. value_after i old (if b then coalesced es else e ∷ coalesced es)) gone ∙ same_net es i old ∙ skipped i e es old gone
-      | inr stays ↦ ap (λ b. value_after i old (if b then coalesced es else e ∷ coalesced es)) stays ∙ same_net es i (if touched_by e == i then effect_on old e else old)
+      | inr stays ↦ ap (λ b. value_after i old (if b then coalesced es else e ∷ coalesced es)) stays
+          ∙ same_net es i (if touched_by e == i then effect_on old e else old)
     ]
 
 -- the last effect on an inode stays
@@ -292,6 +287,7 @@ same_touch [] i = refl
 same_touch (e ∷ es) i =
     elim (cases_Bool (overridden e es)) [
       | inl gone ↦ ap (λ b. contains (touched (if b then coalesced es else e ∷ coalesced es)) i) gone ∙ same_touch es i
-          ∙ absorbed (touched_by e == i) (contains (touched es) i) (λ own. subst (λ j. contains (touched es) j ≡ true) (eqb-true (touched_by e) i own) (touched_later e es gone))
+          ∙ absorbed (touched_by e == i) (contains (touched es) i)
+          (λ own. subst (λ j. contains (touched es) j ≡ true) (eqb-true (touched_by e) i own) (touched_later e es gone))
       | inr stays ↦ ap (λ b. contains (touched (if b then coalesced es else e ∷ coalesced es)) i) stays ∙ ap (λ b. (touched_by e == i) || b) (same_touch es i)
     ]

@@ -1,16 +1,10 @@
 -- What effects make of the value of an inode.
-use Rattle.std.proofs.Common.{◌≡◌, ℕ, Bool, true, false, cond, if◌then◌else◌, List, [], ◌∷◌, ◌++◌, ◌||◌, ◌==◌, Option, Some, None, refl, ap, sym, ◌∙◌, inl, inr}
-use Rattle.assise_seq_tree.proofs.Sets.{tied}
-use Rattle.std.proofs.lemmas.Bool.{eq-eqb, ne_eqb, cases_eq, false_from_ne_true, or_parts}
-use Rattle.std.proofs.lemmas.List.{map-append}
-use Rattle.std.specs.Ordering.{nat_cmp, eq_by_cmp, is_eq}
-use Rattle.std.specs.Cmp.{nat_cmp_total, tied_itself}
-use Rattle.std.proofs.lemmas.Map.Lookups.{exact_unsigned}
+use Rattle.assise_inode_table.proofs.Common.{◌≡◌, ℕ, Bool, true, false, cond, if◌then◌else◌, List, [], ◌∷◌, ◌++◌, ◌||◌, ◌==◌, Option, Some, None, refl, ap, sym}
+use Rattle.assise_inode_table.proofs.Common.{◌∙◌, inl, inr, tied, eq-eqb, ne_eqb, cases_eq, false_from_ne_true, or_parts, map-append, eq_by_cmp, is_eq}
+use Rattle.assise_inode_table.proofs.Common.{nat_cmp_total, tied_itself, exact_unsigned, Effect, touched_by, Content, InodeMap, effect_on, value_after, touched}
+use Rattle.assise_inode_table.proofs.Common.{contains, with_value, applied}
+use Rattle.std.specs.Ordering.{nat_cmp}
 use Rattle.std.specs.FinMap as fin
-use Rattle.assise_record.specs.declared.effect.Effect.{Effect}
-use Rattle.assise_record.specs.Touched.{touched_by}
-use Rattle.assise_inode_table.specs.Contents.{Content, InodeMap}
-use Rattle.assise_inode_table.specs.Effects.{effect_on, value_after, touched, contains, with_value, applied}
 
 or_assoc : (a b c : Bool) → ((a || b) || c) ≡ (a || (b || c))
 or_assoc true b c = refl
@@ -53,7 +47,8 @@ pub get-applied : (m : InodeMap) (e : Effect) (i : ℕ) → fin.get (applied m e
 get-applied m e i =
     get-with_value m (touched_by e) (effect_on (fin.get m (touched_by e)) e) i ∙ go
   where
-    go : (if touched_by e == i then effect_on (fin.get m (touched_by e)) e else fin.get m i) ≡ (if touched_by e == i then effect_on (fin.get m i) e else fin.get m i)
+    go : (if touched_by e == i then effect_on (fin.get m (touched_by e)) e else fin.get m i)
+        ≡ (if touched_by e == i then effect_on (fin.get m i) e else fin.get m i)
     go =
         elim (cases_eq (touched_by e) i) [
           | inl same ↦ ap (λ j. if touched_by e == i then effect_on (fin.get m j) e else fin.get m i) same

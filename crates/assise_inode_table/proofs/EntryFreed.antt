@@ -1,11 +1,7 @@
 -- What an entry led to goes with it.
-use Rattle.std.proofs.Common.{◌≡◌, ◌≢◌, ℕ, Bool, true, false, List, [], ◌∷◌, ◌++◌, None, IsSome, is_some, Ok, refl, sym, ap, ◌∙◌, eqb}
-use Rattle.std.proofs.lemmas.Bool.{false≢true, eqb-true, eqb-false}
-use Rattle.assise_seq_tree.specs.Tree.{Tree, without}
-use Rattle.assise_seq_tree.proofs.Moves.{Path}
-use Rattle.assise_inode_table.specs.Contents.{Links, Values}
-use Rattle.assise_inode_table.specs.Reach.{children, reach}
-use Rattle.assise_inode_table.specs.Spelled.{Spells, AgreeBut, RemovesLink}
+use Rattle.assise_inode_table.proofs.Common.{◌≡◌, ◌≢◌, ℕ, Bool, true, false, List, [], ◌∷◌, ◌++◌, None, IsSome, is_some, Ok, refl, sym, ap, ◌∙◌, eqb}
+use Rattle.assise_inode_table.proofs.Common.{false≢true, eqb-true, eqb-false, Tree, without, Path, Links, Values, children, reach, Spells, AgreeBut}
+use Rattle.assise_inode_table.proofs.Common.{RemovesLink}
 use Rattle.assise_inode_table.proofs.PathReach.{Keeps, away_keeps, same_reach, kept_spells}
 use Rattle.assise_inode_table.proofs.Leaves.{LeadsNowhere, alone}
 use Rattle.assise_inode_table.proofs.EntryUnlinked.{rest, disjoint, others_reached}

@@ -1,16 +1,10 @@
 -- An entry is moved to another place, with all that it leads to.
-use Rattle.std.proofs.Common.{◌≡◌, ℕ, ◌==◌, Bool, true, false, cond, List, [], ◌∷◌, ◌++◌, Option, Some, None, IsSome, is_some, Ok, refl, sym, ap, ◌∙◌, eqb}
+use Rattle.assise_inode_table.proofs.Common.{◌≡◌, ℕ, ◌==◌, Bool, true, false, cond, List, [], ◌∷◌, ◌++◌, Option, Some, None, IsSome, is_some, Ok, refl, sym, ap}
+use Rattle.assise_inode_table.proofs.Common.{◌∙◌, eqb, cond_both, eq-eqb, ne_eqb, eqb-true, eqb-false, nat_list_cmp_total, Link, Unlink, Tree, same_name, at}
+use Rattle.assise_inode_table.proofs.Common.{put, without, Path, directory, Links, Values, after, effect_on, children, reach, SpellsFrom, Spells, ShareNone}
+use Rattle.assise_inode_table.proofs.Common.{AddsLink, RemovesLink}
 use Rattle.std.proofs.lemmas.List.{append_assoc}
-use Rattle.std.proofs.lemmas.Bool.{cond_both, eq-eqb, ne_eqb, eqb-true, eqb-false}
-use Rattle.std.specs.Cmp.Lexicographic.{nat_list_cmp_total}
 use Rattle.std.specs.FinMap as map
-use Rattle.assise_record.specs.declared.effect.Effect.TheVariants.{Link, Unlink}
-use Rattle.assise_seq_tree.specs.Tree.{Tree, same_name, at, put, without}
-use Rattle.assise_seq_tree.proofs.Moves.{Path}
-use Rattle.assise_inode_table.specs.Contents.{directory, Links, Values}
-use Rattle.assise_inode_table.specs.Effects.{after, effect_on}
-use Rattle.assise_inode_table.specs.Reach.{children, reach}
-use Rattle.assise_inode_table.specs.Spelled.{SpellsFrom, Spells, ShareNone, AddsLink, RemovesLink}
 use Rattle.assise_inode_table.proofs.Prefixes.{past, past-Some}
 use Rattle.assise_inode_table.proofs.PathReach.{same_reach}
 use Rattle.assise_inode_table.proofs.SubtreeLinked.{linked, old_reached, held_reached}
@@ -88,7 +82,8 @@ module _ (v : Values) (t m : Tree) (d e i : ℕ) (p q : Path) (name new : List �
     where
       go : (o : Option Path) → past (p ++ name ∷ []) x ≡ o → Reached j
       go None none =
-          let b = others_reached v between 0 d i t p name from s.tree parent removes j (outside_away v between 0 d i t p name from s.tree parent removes x j none direct) x direct in
+          let b = others_reached v between 0 d i t p name from s.tree parent removes j
+          (outside_away v between 0 d i t p name from s.tree parent removes x j none direct) x direct in
           old_reached between moved 0 e i (without t (p ++ name ∷ [])) m q new left rest_spelled moved_spelled moved_disjoint goal_after adds j b.0 b.1
       go (Some a) some =
           let path = ap (reach (children v) 0) (sym (past-Some (p ++ name ∷ []) x a some ∙ append_assoc p (name ∷ []) a)) ∙ direct in

@@ -1,15 +1,8 @@
 -- One entry of a directory comes to lead elsewhere: what is reached and shown from there.
-use Rattle.std.proofs.Common.{◌≡◌, ℕ, true, false, cond, List, [], ◌∷◌, Option, Some, Result, Ok, Err, refl, sym, ap, ◌∙◌}
-use Rattle.std.specs.Prelude.{ok_or}
+use Rattle.assise_inode_table.proofs.Common.{◌≡◌, ℕ, true, false, cond, List, [], ◌∷◌, Option, Some, Result, Ok, Err, refl, sym, ap, ◌∙◌, ok_or, TreeError}
+use Rattle.assise_inode_table.proofs.Common.{NoEnt, Tree, dir, Entries, same_name, find, names_of, ◌>>=◌, Path, directory, Links, Values, Shape, folder}
+use Rattle.assise_inode_table.proofs.Common.{children, reach, link_of, shape_of, shown_from, shown_in, ReachesOnce, AgreeBut}
 use Rattle.std.specs.FinMap as map
-use Rattle.assise_names.specs.declared.reply.TreeError.{TreeError}
-use Rattle.assise_names.specs.declared.reply.TreeError.TheVariants.{NoEnt}
-use Rattle.assise_seq_tree.specs.Tree.{Tree, dir, Entries, same_name, find, names_of}
-use Rattle.assise_seq_tree.specs.Answer.{◌>>=◌}
-use Rattle.assise_seq_tree.proofs.Moves.{Path}
-use Rattle.assise_inode_table.specs.Contents.{directory, Links, Values}
-use Rattle.assise_inode_table.specs.Reach.{Shape, folder, children, reach, link_of, shape_of, shown_from, shown_in}
-use Rattle.assise_inode_table.specs.Spelled.{ReachesOnce, AgreeBut}
 use Rattle.assise_inode_table.proofs.PathReach.{no_way_back, Keeps, away_keeps, same_rest, same_reach, same_shown}
 use Rattle.assise_inode_table.proofs.TreeShows.{shown_here, shown_dir, shown_below}
 
@@ -40,7 +33,8 @@ module _ (v w : Values) (d : ℕ) (once : ReachesOnce (children v) d) (others : 
   entry_shown x q (Ok k) e = same_shown v w q k (entry_keeps x k e)
   entry_shown x q (Err z) e = refl
 
-module _ (v w : Values) (d : ℕ) (name : List ℕ) (before after : Links) (target : Option ℕ) (c : Relinks v w d name before after target) (once : ReachesOnce (children v) d) where
+module _ (v w : Values) (d : ℕ) (name : List ℕ) (before after : Links) (target : Option ℕ) (c : Relinks v w d name before after target)
+    (once : ReachesOnce (children v) d) where
   link_now : (x : List ℕ) → link_of (w d) x ≡ ok_or (cond (same_name x name) target (map.get before x)) NoEnt
   link_now x = ap (λ o. link_of o x) c.now ∙ ap (λ o. ok_or o NoEnt) (c.gets x)
 

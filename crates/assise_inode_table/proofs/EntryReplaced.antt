@@ -1,20 +1,13 @@
 -- An entry is moved onto another, whose inode is freed.
-use Rattle.std.proofs.Common.{◌≡◌, ◌≢◌, ℕ, ◌==◌, Bool, true, false, cond, List, [], ◌∷◌, ◌++◌, Option, Some, None, Ok, refl, sym, ap, subst, ◌∙◌}
-use Rattle.std.proofs.lemmas.Bool.{cond_both, eq-eqb, ne_eqb, eqb-true}
+use Rattle.assise_inode_table.proofs.Common.{◌≡◌, ◌≢◌, ℕ, ◌==◌, Bool, true, false, cond, List, [], ◌∷◌, ◌++◌, Option, Some, None, Ok, refl, sym, ap, subst, ◌∙◌}
+use Rattle.assise_inode_table.proofs.Common.{cond_both, eq-eqb, ne_eqb, eqb-true, ok_or, nat_list_cmp_total, NoEnt, Link, Unlink, Free, Tree, dir, Entries}
+use Rattle.assise_inode_table.proofs.Common.{same_name, find, remove, at, put, without, IsOrdered, AreOrdered, same_itself, one_name, shadowed, find-set}
+use Rattle.assise_inode_table.proofs.Common.{find-remove, ordered-remove, ordered-set, same_entries, at-put, put-put, Path, Disjoint, at-without_disjoint}
+use Rattle.assise_inode_table.proofs.Common.{without-put, ordered-without, directory, Links, Values, after, children, reach, link_of, Spells, AgreeBut}
+use Rattle.assise_inode_table.proofs.Common.{RemovesLink}
 use Rattle.std.proofs.lemmas.List.{append_assoc, append-nil}
-use Rattle.std.specs.Prelude.{ok_or}
-use Rattle.std.specs.Cmp.Lexicographic.{nat_list_cmp_total}
 use Rattle.std.specs.FinMap as map
-use Rattle.assise_names.specs.declared.reply.TreeError.TheVariants.{NoEnt}
-use Rattle.assise_record.specs.declared.effect.Effect.TheVariants.{Link, Unlink, Free}
-use Rattle.assise_seq_tree.specs.Tree.{Tree, dir, Entries, same_name, find, remove, set, at, put, without, IsOrdered, AreOrdered}
-use Rattle.assise_seq_tree.proofs.Sets.{same_itself, one_name, shadowed, find-set, find-remove, ordered-remove, ordered-set, same_entries}
-use Rattle.assise_seq_tree.proofs.TreePut.{at-put, put-put}
-use Rattle.assise_seq_tree.proofs.Moves.{Path, Disjoint, at-without_disjoint, without-put, ordered-without}
-use Rattle.assise_inode_table.specs.Contents.{directory, Links, Values}
-use Rattle.assise_inode_table.specs.Effects.{after}
-use Rattle.assise_inode_table.specs.Reach.{children, reach, link_of}
-use Rattle.assise_inode_table.specs.Spelled.{Spells, AgreeBut, RemovesLink}
+use Rattle.assise_seq_tree.specs.Tree.{set}
 use Rattle.assise_inode_table.proofs.Prefixes.{past, past-Some}
 use Rattle.assise_inode_table.proofs.PathReach.{reach_step, reach-append, same_reach}
 use Rattle.assise_inode_table.proofs.TreeShows.{put_entry, without_entry}
@@ -30,7 +23,8 @@ use Rattle.assise_inode_table.proofs.EntryMoved.{moved_spells}
 set-remove : (name : List ℕ) (x : Tree) (es : Entries) → AreOrdered es → IsOrdered x → set name x (remove name es) ≡ set name x es
 set-remove name x es s o =
     same_entries (set name x (remove name es)) (set name x es) (ordered-set name x (remove name es) (ordered-remove name es s) o) (ordered-set name x es s o)
-    (λ q. find-set q name x (remove name es) ∙ ap (cond (same_name q name) (Some x)) (find-remove q name es s) ∙ sym (shadowed (same_name q name) (Some x) None (find q es)) ∙ sym (find-set q name x es))
+    (λ q. find-set q name x (remove name es) ∙ ap (cond (same_name q name) (Some x)) (find-remove q name es s)
+    ∙ sym (shadowed (same_name q name) (Some x) None (find q es)) ∙ sym (find-set q name x es))
 
 -- what was taken out doesn't matter where something else is put
 put-without_same : (p : Path) (name : List ℕ) (t x : Tree) (es : Entries) → IsOrdered t → IsOrdered x → AreOrdered es → at t p ≡ Ok (dir es) →
@@ -173,12 +167,14 @@ module _ (v : Values) (t m : Tree) (d e i g : ℕ) (p q : Path) (name new : List
   same_tree : put (without (without t (q ++ new ∷ [])) (p ++ name ∷ [])) (q ++ new ∷ []) m ≡ put (without t (p ++ name ∷ [])) (q ++ new ∷ []) m
   same_tree =
       sym (without-put (p ++ name ∷ []) (q ++ new ∷ []) (without t (q ++ new ∷ [])) m (ordered-without (q ++ new ∷ []) t ordered) moved_ordered disjoint)
-      ∙ ap (λ u. without u (p ++ name ∷ [])) (put-without_same q new t m place.entries ordered moved_ordered (spelled_is_ordered v e (dir place.entries) place.spells) place.place)
+      ∙ ap (λ u. without u (p ++ name ∷ []))
+      (put-without_same q new t m place.entries ordered moved_ordered (spelled_is_ordered v e (dir place.entries) place.spells) place.place)
       ∙ without-put (p ++ name ∷ []) (q ++ new ∷ []) t m ordered moved_ordered disjoint
 
   pub displaced_spells : Spells (after v (Unlink e new ∷ Free g ∷ Unlink d name ∷ Link e new i ∷ [])) (put (without t (p ++ name ∷ [])) (q ++ new ∷ []) m)
   unfolding cleared left
   displaced_spells =
       subst (Spells (after v (Unlink e new ∷ Free g ∷ Unlink d name ∷ Link e new i ∷ []))) same_tree
-      (moved_spells cleared (without t (q ++ new ∷ [])) m d e i p q name new left (map.remove to new) without_target (still p d parent_free parent) parent_holds (entry_by (e == d) refl)
+      (moved_spells cleared (without t (q ++ new ∷ [])) m d e i p q name new left (map.remove to new) without_target (still p d parent_free parent) parent_holds
+      (entry_by (e == d) refl)
       (at-without_disjoint (q ++ new ∷ []) (p ++ name ∷ []) t turned ∙ there) (still q e goal_free goal) goal_holds no_target outside)

@@ -1,18 +1,10 @@
 -- An entry is taken out: what it held stands apart from then on.
-use Rattle.std.proofs.Common.{◌≡◌, ℕ, Bool, true, false, cond, List, [], ◌∷◌, ◌++◌, Option, Some, None, is_some, Ok, Err, refl, sym, ap, subst, ◌∙◌, inl}
-use Rattle.std.specs.Prelude.{ok_or}
+use Rattle.assise_inode_table.proofs.Common.{◌≡◌, ℕ, Bool, true, false, cond, List, [], ◌∷◌, ◌++◌, Option, Some, None, is_some, Ok, Err, refl, sym, ap, subst}
+use Rattle.assise_inode_table.proofs.Common.{◌∙◌, inl, ok_or, option_map_or, nat_list_cmp_total, NoEnt, Tree, dir, Entries, same_name, find, remove, at}
+use Rattle.assise_inode_table.proofs.Common.{without, AreOrdered, names_of, same_itself, one_name, find-remove, ordered-remove, Path, no_error, Links, Values}
+use Rattle.assise_inode_table.proofs.Common.{children, reach, link_of, ReachesOnce, SpellsFrom, ShareNone, RemovesLink}
 use Rattle.std.proofs.lemmas.List.{append_assoc}
-use Rattle.std.specs.Option.{option_map_or}
-use Rattle.std.specs.Cmp.Lexicographic.{nat_list_cmp_total}
 use Rattle.std.specs.FinMap as map
-use Rattle.assise_names.specs.declared.reply.TreeError.TheVariants.{NoEnt}
-use Rattle.assise_seq_tree.specs.Tree.{Tree, dir, Entries, same_name, find, remove, at, without, AreOrdered, names_of}
-use Rattle.assise_seq_tree.proofs.Sets.{same_itself, one_name, find-remove, ordered-remove}
-use Rattle.assise_seq_tree.proofs.Moves.{Path}
-use Rattle.assise_seq_tree.proofs.Checks.{no_error}
-use Rattle.assise_inode_table.specs.Contents.{Links, Values}
-use Rattle.assise_inode_table.specs.Reach.{children, reach, link_of}
-use Rattle.assise_inode_table.specs.Spelled.{ReachesOnce, SpellsFrom, ShareNone, RemovesLink}
 use Rattle.assise_inode_table.proofs.Prefixes.{past, past_prefix, past_itself, past-Some}
 use Rattle.assise_inode_table.proofs.PathReach.{reach_step, reach-append, once_below, Away, no_way_back, Keeps, away_keeps, same_reach, kept_spells}
 use Rattle.assise_inode_table.proofs.TreeShows.{without_entry}
@@ -22,10 +14,12 @@ use Rattle.assise_inode_table.proofs.ReachedSpelling.{descend, Directory, direct
 use Rattle.assise_inode_table.proofs.EntryRelinked.{Relinks, relinked, relinked_shows}
 use Rattle.assise_inode_table.proofs.InodeRegrown.{detour, IsOwn, regrown, still_reached}
 
-links_less : (v w : Values) (d : ℕ) (name : List ℕ) (i : ℕ) (links : Links) → RemovesLink v w d name i links → Relinks v w d name links (map.remove links name) None
+links_less : (v w : Values) (d : ℕ) (name : List ℕ) (i : ℕ) (links : Links) → RemovesLink v w d name i links → Relinks v w d name links (map.remove links name)
+    None
 links_less v w d name i links u = record { old = u.before; now = u.after; gets = λ x. map.get-remove nat_list_cmp_total links name x; others = u.others }
 
-names_less : (es : Entries) (links : Links) (name : List ℕ) → AreOrdered es → names_of es ≡ map.keys links → names_of (remove name es) ≡ map.keys (map.remove links name)
+names_less : (es : Entries) (links : Links) (name : List ℕ) → AreOrdered es → names_of es ≡ map.keys links → names_of (remove name es)
+    ≡ map.keys (map.remove links name)
 names_less es links name s names =
     names_are_keys (remove name es) (map.remove links name) (ordered-remove name es s) (λ q.
     ap is_some (find-remove q name es s)
@@ -98,7 +92,8 @@ module _ (v w : Values) (r d i : ℕ) (t : Tree) (p : Path) (name : List ℕ) (l
   found_before q j e = go (past p q) refl
     where
       back : (o : Option Path) → past p q ≡ o → option_map_or (λ rest. reach (children w) d rest) o (reach (children v) r q) ≡ Ok j
-      back o f = ap (λ x. option_map_or (λ rest. reach (children w) d rest) x (reach (children v) r q)) (sym f) ∙ sym (detour v w d p r u.others s.once parent q) ∙ e
+      back o f = ap (λ x. option_map_or (λ rest. reach (children w) d rest) x (reach (children v) r q)) (sym f)
+          ∙ sym (detour v w d p r u.others s.once parent q) ∙ e
 
       go : (o : Option Path) → past p q ≡ o → reach (children v) r q ≡ Ok j
       go None f = back None f

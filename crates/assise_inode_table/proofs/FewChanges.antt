@@ -1,13 +1,7 @@
 -- Changes of a few inodes.
-use Rattle.std.proofs.Common.{◌≡◌, ◌≢◌, inl, inr, ℕ, zero, suc, ◌+◌, ◌<◌, ◌==◌, ◌||◌, Bool, true, false, List, [], ◌∷◌, ◌++◌, if◌then◌else◌, length, get_or, set, take, Option, refl, sym, ap, ◌∙◌, subst, arith}
-use Rattle.std.proofs.lemmas.Bool.{cases_eq, eq-eqb, ne_eqb, or_parts}
-use Rattle.std.proofs.lemmas.List.{take_more}
-use Rattle.assise_record.specs.declared.effect.Effect.{Effect}
-use Rattle.assise_record.specs.Touched.{touched_by}
-use Rattle.assise_inode_table.specs.Contents.{Content}
-use Rattle.assise_inode_table.specs.Effects.{effect_on, value_after}
-use Rattle.assise_inode_table.specs.Changes.{found, is_among, Lacks, AreDistinctChanges, IsPlace}
-use Rattle.assise_inode_table.specs.declared.changes.Change.{Change}
+use Rattle.assise_inode_table.proofs.Common.{◌≡◌, ◌≢◌, inl, inr, ℕ, zero, suc, ◌+◌, ◌<◌, ◌==◌, ◌||◌, Bool, true, false, List, [], ◌∷◌, ◌++◌, if◌then◌else◌}
+use Rattle.assise_inode_table.proofs.Common.{length, get_or, set, take, Option, refl, sym, ap, ◌∙◌, subst, arith, cases_eq, eq-eqb, ne_eqb, or_parts, take_more}
+use Rattle.assise_inode_table.proofs.Common.{Effect, touched_by, Content, effect_on, value_after, found, is_among, Lacks, AreDistinctChanges, IsPlace, Change}
 
 -- a choice by whether two numbers are one
 pub chosen_same : {X : Type 0} (i j : ℕ) (x y : X) → i ≡ j → (if i == j then x else y) ≡ x
@@ -53,7 +47,8 @@ lacks_at (c ∷ cs) zero i none within h = h.0
 lacks_at (c ∷ cs) (suc p) i none within h = lacks_at cs p i none (omega arith) h.1
 
 -- the value at the place of an inode is the one that is found
-pub found_at : (cs : List Change) (p i : ℕ) (none : Change) (old : Option Content) → AreDistinctChanges cs → p < length cs → (get_or cs p none).inode ≡ i → found cs i old ≡ (get_or cs p none).value
+pub found_at : (cs : List Change) (p i : ℕ) (none : Change) (old : Option Content) → AreDistinctChanges cs → p < length cs → (get_or cs p none).inode ≡ i →
+    found cs i old ≡ (get_or cs p none).value
 found_at [] p i none old distinct within is = absurd (omega arith)
 found_at (c ∷ cs) zero i none old distinct within is = chosen_same c.inode i c.value (found cs i old) is
 found_at (c ∷ cs) (suc p) i none old distinct within is =
@@ -61,12 +56,14 @@ found_at (c ∷ cs) (suc p) i none old distinct within is =
     chosen_other c.inode i c.value (found cs i old) (λ e. lacks_at cs p c.inode none inside distinct.0 (is ∙ sym e))
     ∙ found_at cs p i none old distinct.1 inside is
 
-lacks_set : (cs : List Change) (p i j : ℕ) (none : Change) (v : Option Content) → p < length cs → (get_or cs p none).inode ≡ i → Lacks cs j → Lacks (set cs p (record { inode = i; value = v })) j
+lacks_set : (cs : List Change) (p i j : ℕ) (none : Change) (v : Option Content) → p < length cs → (get_or cs p none).inode ≡ i → Lacks cs j →
+    Lacks (set cs p (record { inode = i; value = v })) j
 lacks_set [] p i j none v within is h = absurd (omega arith)
 lacks_set (c ∷ cs) zero i j none v within is h = ((λ e. h.0 (is ∙ e)), h.1)
 lacks_set (c ∷ cs) (suc p) i j none v within is h = (h.0, lacks_set cs p i j none v (omega arith) is h.1)
 
-pub distinct_set : (cs : List Change) (p i : ℕ) (none : Change) (v : Option Content) → p < length cs → (get_or cs p none).inode ≡ i → AreDistinctChanges cs → AreDistinctChanges (set cs p (record { inode = i; value = v }))
+pub distinct_set : (cs : List Change) (p i : ℕ) (none : Change) (v : Option Content) → p < length cs → (get_or cs p none).inode ≡ i → AreDistinctChanges cs →
+    AreDistinctChanges (set cs p (record { inode = i; value = v }))
 distinct_set [] p i none v within is h = absurd (omega arith)
 distinct_set (c ∷ cs) zero i none v within is h = (subst (Lacks cs) is h.0, h.1)
 distinct_set (c ∷ cs) (suc p) i none v within is h = (lacks_set cs p i c.inode none v (omega arith) is h.0, distinct_set cs p i none v (omega arith) is h.1)
@@ -77,15 +74,19 @@ found_set [] p i j none v old distinct within is = absurd (omega arith)
 found_set (c ∷ cs) zero i j none v old distinct within is =
     elim (cases_eq i j) [
       | inl same ↦ chosen_same i j v (found cs j old) same ∙ sym (chosen_same i j v _ same)
-      | inr other ↦ chosen_other i j v (found cs j old) other ∙ sym (chosen_other c.inode j c.value (found cs j old) (λ e. other (sym is ∙ e))) ∙ sym (chosen_other i j v _ other)
+      | inr other ↦ chosen_other i j v (found cs j old) other ∙ sym (chosen_other c.inode j c.value (found cs j old) (λ e. other (sym is ∙ e)))
+          ∙ sym (chosen_other i j v _ other)
     ]
 found_set (c ∷ cs) (suc p) i j none v old distinct within is =
     let inside : p < length cs = omega arith in
-    let rest : found (set cs p (record { inode = i; value = v })) j old ≡ (if i == j then v else found cs j old) = found_set cs p i j none v old distinct.1 inside is in
+    let rest : found (set cs p (record { inode = i; value = v })) j old ≡ (if i == j then v else found cs j old) = found_set cs p i j none v old distinct.1
+    inside is in
     let away : c.inode ≢ i = (λ e. lacks_at cs p c.inode none inside distinct.0 (is ∙ sym e)) in
     elim (cases_eq c.inode j) [
-      | inl same ↦ chosen_same c.inode j c.value _ same ∙ sym (chosen_same c.inode j c.value (found cs j old) same) ∙ sym (chosen_other i j v _ (λ e. away (same ∙ sym e)))
-      | inr other ↦ chosen_other c.inode j c.value _ other ∙ rest ∙ ap (λ x. if i == j then v else x) (sym (chosen_other c.inode j c.value (found cs j old) other))
+      | inl same ↦ chosen_same c.inode j c.value _ same ∙ sym (chosen_same c.inode j c.value (found cs j old) same)
+          ∙ sym (chosen_other i j v _ (λ e. away (same ∙ sym e)))
+      | inr other ↦ chosen_other c.inode j c.value _ other ∙ rest
+          ∙ ap (λ x. if i == j then v else x) (sym (chosen_other c.inode j c.value (found cs j old) other))
     ]
 
 -- an inode that was not among them is put behind them as it is
@@ -98,7 +99,8 @@ found_push cs c j old is =
     ])
 
 -- an effect is made of the value at the place of its inode
-pub made : (cs : List Change) (p : ℕ) (here : Change) (e : Effect) (base : ℕ → Option Content) (before : ℕ → Option Content) (new : Option Content) → AreDistinctChanges cs → IsPlace cs p (touched_by e)
+pub made : (cs : List Change) (p : ℕ) (here : Change) (e : Effect) (base : ℕ → Option Content) (before : ℕ → Option Content) (new : Option Content) →
+    AreDistinctChanges cs → IsPlace cs p (touched_by e)
     → here ≡ get_or cs p here → new ≡ effect_on here.value e → ((i : ℕ) → found cs i (base i) ≡ before i)
     → (i : ℕ) → found (set cs p (record { inode = here.inode; value = new })) i (base i) ≡ value_after i (before i) (e ∷ [])
 made cs p here e base before new distinct place read is same i =
@@ -109,11 +111,13 @@ made cs p here e base before new distinct place read is same i =
     ap (λ k. found (set cs p (record { inode = k; value = new })) i (base i)) at
     ∙ found_set cs p (touched_by e) i here new (base i) distinct place.within (place.is here)
     ∙ elim (cases_eq (touched_by e) i) [
-      | inl alike ↦ chosen_same (touched_by e) i new _ alike ∙ after ∙ ap (λ j. effect_on (before j) e) alike ∙ sym (chosen_same (touched_by e) i (effect_on (before i) e) (before i) alike)
+      | inl alike ↦ chosen_same (touched_by e) i new _ alike ∙ after ∙ ap (λ j. effect_on (before j) e) alike
+          ∙ sym (chosen_same (touched_by e) i (effect_on (before i) e) (before i) alike)
       | inr differs ↦ chosen_other (touched_by e) i new _ differs ∙ same i ∙ sym (chosen_other (touched_by e) i (effect_on (before i) e) (before i) differs)
     ]
 
-pub made_distinct : (cs : List Change) (p i : ℕ) (here : Change) (new : Option Content) → AreDistinctChanges cs → IsPlace cs p i → here ≡ get_or cs p here → AreDistinctChanges (set cs p (record { inode = here.inode; value = new }))
+pub made_distinct : (cs : List Change) (p i : ℕ) (here : Change) (new : Option Content) → AreDistinctChanges cs → IsPlace cs p i → here ≡ get_or cs p here →
+    AreDistinctChanges (set cs p (record { inode = here.inode; value = new }))
 made_distinct cs p i here new distinct place read =
     let at : here.inode ≡ i = ap (λ x. x.inode) read ∙ place.is here in
     subst (λ k. AreDistinctChanges (set cs p (record { inode = k; value = new }))) (sym at) (distinct_set cs p i here new place.within (place.is here) distinct)
@@ -133,27 +137,32 @@ pub among_push : (cs : List Change) (c : Change) (i : ℕ) → is_among (cs ++ c
 among_push [] c i = refl
 among_push (x ∷ xs) c i = ap (λ b. (x.inode == i) || b) (among_push xs c i) ∙ turned (x.inode == i) (c.inode == i) (is_among xs i)
 
-pub among_set : (cs : List Change) (p k i : ℕ) (none : Change) (v : Option Content) → p < length cs → (get_or cs p none).inode ≡ k → is_among (set cs p (record { inode = k; value = v })) i ≡ is_among cs i
+pub among_set : (cs : List Change) (p k i : ℕ) (none : Change) (v : Option Content) → p < length cs → (get_or cs p none).inode ≡ k →
+    is_among (set cs p (record { inode = k; value = v })) i ≡ is_among cs i
 among_set [] p k i none v within is = refl
 among_set (c ∷ cs) zero k i none v within is = ap (λ j. (j == i) || is_among cs i) (sym is)
 among_set (c ∷ cs) (suc p) k i none v within is = ap (λ b. (c.inode == i) || b) (among_set cs p k i none v (omega arith) is)
 
 pub among_place : (cs : List Change) (p k i : ℕ) (none : Change) → p < length cs → (get_or cs p none).inode ≡ k → is_among cs i ≡ ((k == i) || is_among cs i)
 among_place [] p k i none within is = absurd (omega arith)
-among_place (c ∷ cs) zero k i none within is = ap (λ j. (j == i) || is_among cs i) is ∙ twice (k == i) (is_among cs i) ∙ ap (λ j. (k == i) || ((j == i) || is_among cs i)) (sym is)
+among_place (c ∷ cs) zero k i none within is =
+    ap (λ j. (j == i) || is_among cs i) is ∙ twice (k == i) (is_among cs i) ∙ ap (λ j. (k == i) || ((j == i) || is_among cs i)) (sym is)
   where
     twice : (a b : Bool) → (a || b) ≡ (a || (a || b))
     twice true b = refl
     twice false b = refl
-among_place (c ∷ cs) (suc p) k i none within is = ap (λ b. (c.inode == i) || b) (among_place cs p k i none (omega arith) is) ∙ turned (c.inode == i) (k == i) (is_among cs i)
+among_place (c ∷ cs) (suc p) k i none within is =
+    ap (λ b. (c.inode == i) || b) (among_place cs p k i none (omega arith) is) ∙ turned (c.inode == i) (k == i) (is_among cs i)
 
 pub not_among : (cs : List Change) (i : ℕ) (old : Option Content) → is_among cs i ≡ false → found cs i old ≡ old
 not_among [] i old e = refl
-not_among (c ∷ cs) i old e = ap (λ b. if b then c.value else found cs i old) (or_parts (c.inode == i) (is_among cs i) e).0 ∙ not_among cs i old (or_parts (c.inode == i) (is_among cs i) e).1
+not_among (c ∷ cs) i old e = ap (λ b. if b then c.value else found cs i old) (or_parts (c.inode == i) (is_among cs i) e).0
+    ∙ not_among cs i old (or_parts (c.inode == i) (is_among cs i) e).1
 
 pub among : (cs : List Change) (i : ℕ) (old other : Option Content) → is_among cs i ≡ true → found cs i old ≡ found cs i other
 among [] i old other e = cc
-among (c ∷ cs) i old other e = elim (c.inode == i) as (λ b. (b || is_among cs i) ≡ true → (if b then c.value else found cs i old) ≡ (if b then c.value else found cs i other)) [
-  | true ↦ λ h. refl
-  | false ↦ λ h. among cs i old other h
-] e
+among (c ∷ cs) i old other e =
+    elim (c.inode == i) as (λ b. (b || is_among cs i) ≡ true → (if b then c.value else found cs i old) ≡ (if b then c.value else found cs i other)) [
+      | true ↦ λ h. refl
+      | false ↦ λ h. among cs i old other h
+    ] e

@@ -1,11 +1,6 @@
 -- The bytes of a file change.
-use Rattle.std.proofs.Common.{◌≡◌, ℕ, Bool, true, false, List, [], Some, IsSome, is_some, Ok, refl, sym, ap, ◌∙◌, inl, eqb}
-use Rattle.std.proofs.lemmas.Bool.{eqb-true, eqb-false}
-use Rattle.assise_seq_tree.specs.Tree.{Tree, file, put}
-use Rattle.assise_seq_tree.proofs.Moves.{Path}
-use Rattle.assise_inode_table.specs.Contents.{regular, Values}
-use Rattle.assise_inode_table.specs.Reach.{children, reach}
-use Rattle.assise_inode_table.specs.Spelled.{Spells, SpellsFrom, AgreeBut}
+use Rattle.assise_inode_table.proofs.Common.{◌≡◌, ℕ, Bool, true, false, List, [], Some, IsSome, is_some, Ok, refl, sym, ap, ◌∙◌, inl, eqb, eqb-true, eqb-false}
+use Rattle.assise_inode_table.proofs.Common.{Tree, file, put, Path, regular, Values, children, reach, Spells, SpellsFrom, AgreeBut}
 use Rattle.assise_inode_table.proofs.ReachedSpelling.{Below, descend}
 use Rattle.assise_inode_table.proofs.Leaves.{alone, file_nowhere, file_spells}
 use Rattle.assise_inode_table.proofs.InodeRegrown.{IsOwn, regrown, still_reached}

@@ -1,13 +1,11 @@
 -- Records that come to the same: what is left of groups, between two places where groups end, and the records of those groups.
-use Rattle.std.proofs.Common.{◌≡◌, ℕ, ◌+◌, ◌-◌, ◌≤◌, ◌||◌, true, List, [], ◌∷◌, ◌++◌, length, refl, ap, sym, ◌∙◌, subst, arith, inl, inr}
-use Rattle.std.proofs.lemmas.Bool.{eqb-true}
-use Rattle.assise_record.specs.Groups.{AreGroups, all_records, all_coalesced, are_whole, were, coalesced_group}
+use Rattle.assise_inode_table.proofs.Common.{◌≡◌, ℕ, ◌+◌, ◌-◌, ◌≤◌, ◌||◌, true, List, [], ◌∷◌, ◌++◌, length, refl, ap, sym, ◌∙◌, subst, arith, inl, inr}
+use Rattle.assise_inode_table.proofs.Common.{eqb-true, AreGroups, all_records, all_coalesced, are_whole, were, coalesced_group, group-effects, value_after}
+use Rattle.assise_inode_table.proofs.Common.{contains, touched, SameNetEffect}
 use Rattle.assise_record.specs.LogRecord.{LogRecord}
 use Rattle.assise_record.specs.Records.{all_effects}
-use Rattle.assise_record.proofs.GroupRest.{group-effects}
 use Rattle.assise_record.proofs.Records.{all_effects-append}
 use Rattle.assise_record.proofs.WholeGroups.{ends, part, part_none, part_past, part_from, were-none, were-past, were-ascends, whole_none}
-use Rattle.assise_inode_table.specs.Effects.{value_after, contains, touched, SameNetEffect}
 use Rattle.assise_inode_table.proofs.EffectValues.{contains-both, value_after-append}
 use Rattle.assise_inode_table.proofs.EffectOverrides.{same_net, same_touch}
 
@@ -75,13 +73,16 @@ parts_same (g ∷ gs) j k h bj bk le =
                 let old_k : were (g ∷ gs) k ≡ length g + were gs (k - a) = were-past g gs k past in
                 let t : ComeToSame (part (all_coalesced gs) (j - a) (k - a)) (part (all_records gs) (were gs (j - a)) (were gs (k - a))) =
                 parts_same gs (j - a) (k - a) h.1 rest_j rest (omega (arith, le)) in
-                let left : part (all_coalesced (g ∷ gs)) j k ≡ part (all_coalesced gs) (j - a) (k - a) = part_past (coalesced_group g) (all_coalesced gs) j k past_j le in
+                let left : part (all_coalesced (g ∷ gs)) j k ≡ part (all_coalesced gs) (j - a) (k - a) = part_past (coalesced_group g) (all_coalesced gs) j k
+                past_j le in
                 let sum_j : (length g + were gs (j - a)) - length g ≡ were gs (j - a) = omega arith in
                 let sum_k : (length g + were gs (k - a)) - length g ≡ were gs (k - a) = omega arith in
                 let right : part (all_records (g ∷ gs)) (were (g ∷ gs) j) (were (g ∷ gs) k) ≡ part (all_records gs) (were gs (j - a)) (were gs (k - a)) =
                 ap (λ x. part (all_records (g ∷ gs)) x (were (g ∷ gs) k)) old_j ∙ ap (λ x. part (all_records (g ∷ gs)) (length g + were gs (j - a)) x) old_k
-                ∙ part_past g (all_records gs) (length g + were gs (j - a)) (length g + were gs (k - a)) (omega arith) (omega (arith, were-ascends gs (j - a) (k - a) (omega (arith, le))))
-                ∙ ap (λ x. part (all_records gs) x ((length g + were gs (k - a)) - length g)) sum_j ∙ ap (λ x. part (all_records gs) (were gs (j - a)) x) sum_k in
+                ∙ part_past g (all_records gs) (length g + were gs (j - a)) (length g + were gs (k - a)) (omega arith)
+                (omega (arith, were-ascends gs (j - a) (k - a) (omega (arith, le))))
+                ∙ ap (λ x. part (all_records gs) x ((length g + were gs (k - a)) - length g)) sum_j ∙ ap (λ x. part (all_records gs) (were gs (j - a)) x) sum_k
+                in
                 subst (λ rs. ComeToSame rs (part (all_records (g ∷ gs)) (were (g ∷ gs) j) (were (g ∷ gs) k))) (sym left)
                 (subst (λ rs. ComeToSame (part (all_coalesced gs) (j - a) (k - a)) rs) (sym right) t)
           ]

@@ -1,23 +1,13 @@
 -- The numbers of the inodes that clients make.
-use Rattle.std.proofs.Common.{◌≡◌, ◌≢◌, ◌<◌, ◌≤◌, ℕ, ◌⊎◌, inl, inr, ◌==◌, ◌&&◌, Bool, true, false, cond, if◌then◌else◌, List, [], ◌∷◌, ◌++◌, Option, Some, None, IsSome, refl, sym, ap, subst, ◌∙◌, append_assoc, arith}
-use Rattle.std.specs.Prelude.{option_map}
-use Rattle.std.specs.List.{list_any}
-use Rattle.std.proofs.lemmas.Bool.{eq-eqb, or_right, or_left}
+use Rattle.assise_inode_table.proofs.Common.{◌≡◌, ◌≢◌, ◌<◌, ◌≤◌, ℕ, ◌⊎◌, inl, inr, ◌==◌, ◌&&◌, Bool, true, false, cond, if◌then◌else◌, List, [], ◌∷◌, ◌++◌}
+use Rattle.assise_inode_table.proofs.Common.{Option, Some, None, IsSome, refl, sym, ap, subst, ◌∙◌, append_assoc, arith, option_map, list_any, eq-eqb, or_right}
+use Rattle.assise_inode_table.proofs.Common.{or_left, touched_by, Effect, NewFile, NewDir, Write, SetLen, Link, Unlink, Free, answer, AreAnswered, Tree}
+use Rattle.assise_inode_table.proofs.Common.{opening_tree, Content, Values, values, after, changed, effect_on, makes, value_after, AnsweredCall, inode_number}
+use Rattle.assise_inode_table.proofs.Common.{makes_inode, inodes_made, numbered_call, numbered_after, numbered, opening_inodes, Spells, AllMakeNew, Each}
+use Rattle.assise_inode_table.proofs.Common.{exchanges, step_of}
 use Rattle.std.specs.Cmp.Derive.{both_true}
 use Rattle.std.proofs.lemmas.List.{append-nil}
 use Rattle.std.proofs.lemmas.List.Sums.{sum_by-append}
-use Rattle.assise_record.specs.Touched.{touched_by}
-use Rattle.assise_record.specs.declared.effect.Effect.{Effect}
-use Rattle.assise_record.specs.declared.effect.Effect.TheVariants.{NewFile, NewDir, Write, SetLen, Link, Unlink, Free}
-use Rattle.assise_seq_tree.specs.Answer.{answer}
-use Rattle.assise_seq_tree.specs.Runs.{AreAnswered}
-use Rattle.assise_seq_tree.specs.Tree.{Tree, opening as opening_tree}
-use Rattle.assise_inode_table.specs.Contents.{Content, Values, values}
-use Rattle.assise_inode_table.specs.Effects.{after, changed, effect_on, makes, value_after}
-use Rattle.assise_inode_table.specs.Numbers.{AnsweredCall, inode_number, makes_inode, inodes_made, numbered_call, numbered_after, numbered}
-use Rattle.assise_inode_table.specs.Opening.{opening_inodes}
-use Rattle.assise_inode_table.specs.Spelled.{Spells}
-use Rattle.assise_inode_table.specs.Traces.{AllMakeNew, Each, exchanges, step_of}
 use Rattle.assise_inode_table.proofs.AtOpening.{root_alone, opening_spells}
 use Rattle.assise_inode_table.proofs.CallEnds.{makes_own}
 use Rattle.assise_inode_table.proofs.CallSteps.{step_replies, step_spells}
@@ -32,10 +22,13 @@ not_the_root c k some = λ root. omega arith
 
 -- ---- one call more
 
-pub one_more_after : (before xs : List AnsweredCall) (x : AnsweredCall) → numbered_after before (xs ++ x ∷ []) ≡ numbered_after before xs ++ numbered_call (before ++ xs) x ∷ []
+pub one_more_after : (before xs : List AnsweredCall) (x : AnsweredCall) → numbered_after before (xs ++ x ∷ []) ≡ numbered_after before xs ++ numbered_call
+    (before ++ xs) x ∷ []
 one_more_after before [] x = ap (λ prefix. numbered_call prefix x ∷ []) (sym (append-nil before))
 one_more_after before (y ∷ ys) x =
-    ap (λ zs. numbered_call before y ∷ zs) (one_more_after (before ++ y ∷ []) ys x ∙ ap (λ prefix. numbered_after (before ++ y ∷ []) ys ++ numbered_call prefix x ∷ []) (append_assoc before (y ∷ []) ys))
+    ap (λ zs. numbered_call before y ∷ zs)
+    (one_more_after (before ++ y ∷ []) ys x ∙ ap (λ prefix. numbered_after (before ++ y ∷ []) ys ++ numbered_call prefix x ∷ [])
+    (append_assoc before (y ∷ []) ys))
 
 pub one_more : (xs : List AnsweredCall) (x : AnsweredCall) → numbered (xs ++ x ∷ []) ≡ numbered xs ++ numbered_call xs x ∷ []
 one_more xs x = one_more_after [] xs x
@@ -108,7 +101,8 @@ AreOfCalls xs v = (i : ℕ) → IsSome (v i) → (i ≡ 0) ⊎ IsOfCalls xs i
 of_more : (xs ys : List AnsweredCall) (i : ℕ) → IsOfCalls xs i → IsOfCalls (xs ++ ys) i
 of_more xs ys i m = record { client = m.client; count = m.count; some = m.some; made = omega (arith, m.made, more_made m.client xs ys); number = m.number }
 
-of_one_more : (before : List AnsweredCall) (x : AnsweredCall) (v : Values) → 0 < x.client → x.reply ≡ (step_of v (numbered_call before x)).reply → AreOfCalls before v →
+of_one_more : (before : List AnsweredCall) (x : AnsweredCall) (v : Values) → 0 < x.client → x.reply ≡ (step_of v (numbered_call before x)).reply →
+    AreOfCalls before v →
     AreOfCalls (before ++ x ∷ []) (after v (step_of v (numbered_call before x)).effects)
 of_one_more before x v some replied old = λ i h.
     elim (there_or_made i (v i) (step_of v (numbered_call before x)).effects h) [
@@ -122,7 +116,8 @@ of_one_more before x v some replied old = λ i h.
           inr (record { client = x.client; count = inodes_made x.client before; some = some; made = one_made x before made; number = o.0 })
     ]
 
-nobody_made : (before : List AnsweredCall) (x : AnsweredCall) (v : Values) → 0 < x.client → ((c : ℕ) → inodes_made c before < 4294967296) → AreOfCalls before v → v (numbered_call before x).fresh ≡ None
+nobody_made : (before : List AnsweredCall) (x : AnsweredCall) (v : Values) → 0 < x.client → ((c : ℕ) → inodes_made c before < 4294967296) →
+    AreOfCalls before v → v (numbered_call before x).fresh ≡ None
 nobody_made before x v some few old = go (v (numbered_call before x).fresh) refl
   where
     go : (o : Option Content) → v (numbered_call before x).fresh ≡ o → o ≡ None
@@ -136,7 +131,8 @@ nobody_made before x v some few old = go (v (numbered_call before x).fresh) refl
               absurd (omega (arith, again, m.made))
         ]
 
-all_new : (before xs : List AnsweredCall) (v : Values) (t : Tree) → Spells v t → AreOfCalls before v → Each (λ x. 0 < x.client) xs → ((c : ℕ) → inodes_made c (before ++ xs) < 4294967296) →
+all_new : (before xs : List AnsweredCall) (v : Values) (t : Tree) → Spells v t → AreOfCalls before v → Each (λ x. 0 < x.client) xs →
+    ((c : ℕ) → inodes_made c (before ++ xs) < 4294967296) →
     AreAnswered t (exchanges (numbered_after before xs)) → AllMakeNew v (numbered_after before xs)
 all_new before [] v t s old some few answered = tt
 all_new before (x ∷ xs) v t s old some few answered =
@@ -144,9 +140,11 @@ all_new before (x ∷ xs) v t s old some few answered =
     let none = nobody_made before x v some.0 (λ c. omega (arith, few c, more_made c before (x ∷ xs))) old in
     let replied : x.reply ≡ (step_of v y).reply = answered.0 ∙ sym (step_replies v t x.op y.fresh s) in (
       (λ _. none),
-      all_new (before ++ x ∷ []) xs (after v (step_of v y).effects) (answer t x.op).1 (step_spells v t x.op y.fresh s (λ _. none)) (of_one_more before x v some.0 replied old) some.1
+      all_new (before ++ x ∷ []) xs (after v (step_of v y).effects) (answer t x.op).1 (step_spells v t x.op y.fresh s (λ _. none))
+          (of_one_more before x v some.0 replied old) some.1
           (λ c. subst (λ ys. inodes_made c ys < 4294967296) (sym (append_assoc before (x ∷ []) xs)) (few c)) answered.1,
     )
 
-pub new_from_opening : (xs : List AnsweredCall) → Each (λ x. 0 < x.client) xs → ((c : ℕ) → inodes_made c xs < 4294967296) → AreAnswered opening_tree (exchanges (numbered xs)) → AllMakeNew (values opening_inodes) (numbered xs)
+pub new_from_opening : (xs : List AnsweredCall) → Each (λ x. 0 < x.client) xs → ((c : ℕ) → inodes_made c xs < 4294967296) →
+    AreAnswered opening_tree (exchanges (numbered xs)) → AllMakeNew (values opening_inodes) (numbered xs)
 new_from_opening xs some few answered = all_new [] xs (values opening_inodes) opening_tree opening_spells (λ i h. inl (root_alone i h)) some few answered

@@ -1,15 +1,7 @@
 -- One inode changes, and so does the tree at its path.
-use Rattle.std.proofs.Common.{◌≡◌, ℕ, Bool, true, false, cond, List, [], ◌∷◌, ◌++◌, Option, Some, None, Result, Ok, Err, refl, sym, ap, ◌∙◌, ◌⊎◌, inl, inr}
-use Rattle.std.specs.Option.{option_map_or}
-use Rattle.assise_names.specs.declared.reply.TreeError.{TreeError}
-use Rattle.assise_seq_tree.specs.Tree.{Tree, same_name, at, put}
-use Rattle.assise_seq_tree.specs.Answer.{◌>>=◌}
-use Rattle.assise_seq_tree.proofs.Sets.{one_name}
-use Rattle.assise_seq_tree.proofs.Moves.{Path}
-use Rattle.assise_seq_tree.proofs.Checks.{then_ok}
-use Rattle.assise_inode_table.specs.Contents.{Values}
-use Rattle.assise_inode_table.specs.Reach.{children, reach, link_of, shape_of, shown_in}
-use Rattle.assise_inode_table.specs.Spelled.{ReachesOnce, SpellsFrom, AgreeBut}
+use Rattle.assise_inode_table.proofs.Common.{◌≡◌, ℕ, Bool, true, false, cond, List, [], ◌∷◌, ◌++◌, Option, Some, None, Result, Ok, Err, refl, sym, ap, ◌∙◌, ◌⊎◌}
+use Rattle.assise_inode_table.proofs.Common.{inl, inr, option_map_or, TreeError, Tree, same_name, at, put, ◌>>=◌, one_name, Path, then_ok, Values, children}
+use Rattle.assise_inode_table.proofs.Common.{reach, link_of, shape_of, shown_in, ReachesOnce, SpellsFrom, AgreeBut}
 use Rattle.assise_inode_table.proofs.Prefixes.{two_names, past, past_prefix, past_itself, past-Some}
 use Rattle.assise_inode_table.proofs.PathReach.{reach_step, reach-append, once_child, Away, away_keeps, same_reach}
 use Rattle.assise_inode_table.proofs.TreeShows.{shown-put}
@@ -44,7 +36,8 @@ first_name v w d r j name x p q others once parent there ih = turn (same_name x 
         ∙ ap (option_map_or (λ rest. reach (children w) d rest) (past p q)) (sym (reach_step (children v) r j x q (is e)))
     turn false e = other_names v w d r name x p q others once parent e (children v r x) refl
 
-pub detour : (v w : Values) (d : ℕ) (p : Path) (r : ℕ) → AgreeBut d v w → ReachesOnce (children v) r → reach (children v) r p ≡ Ok d → (q : Path) → Detour v w d r p q
+pub detour : (v w : Values) (d : ℕ) (p : Path) (r : ℕ) → AgreeBut d v w → ReachesOnce (children v) r → reach (children v) r p ≡ Ok d → (q : Path) →
+    Detour v w d r p q
 detour v w d [] r others once parent q = let is : r ≡ d = cc in ap (λ i. reach (children w) i q) is
 detour v w d (name ∷ p) r others once parent [] = refl
 detour v w d (name ∷ p) r others once parent (x ∷ q) =
@@ -103,7 +96,8 @@ module _ (v w : Values) (r d : ℕ) (t found y : Tree) (p : Path) (s : SpellsFro
       go (besides none g) (through z be h) = absurd (disjoint a z j none g h)
       go (besides none g) (besides nothing h) = s.once a b j g h
 
-  shown_outside : (q : Path) → past p q ≡ None → (o : Result ℕ TreeError) → reach (children v) r q ≡ o → (o >>= λ j. shape_of (w j)) ≡ (o >>= λ j. shape_of (v j))
+  shown_outside : (q : Path) → past p q ≡ None → (o : Result ℕ TreeError) → reach (children v) r q ≡ o → (o >>= λ j. shape_of (w j))
+      ≡ (o >>= λ j. shape_of (v j))
   shown_outside q none (Err e) is = refl
   shown_outside q none (Ok j) is =
       ap shape_of (others j (λ same.
@@ -112,7 +106,8 @@ module _ (v w : Values) (r d : ℕ) (t found y : Tree) (p : Path) (s : SpellsFro
       cc))
 
   shown : (q : Path) (o : Option Path) → past p q ≡ o
-      → (option_map_or (λ rest. reach (children w) d rest) o (reach (children v) r q) >>= λ j. shape_of (w j)) ≡ option_map_or (λ rest. shown_in y rest) o (shown_in t q)
+      → (option_map_or (λ rest. reach (children w) d rest) o (reach (children v) r q) >>= λ j. shape_of (w j)) ≡ option_map_or (λ rest. shown_in y rest) o
+      (shown_in t q)
   shown q (Some a) e = new.shows a
   shown q None e = shown_outside q e (reach (children v) r q) refl ∙ s.shows q
 
@@ -123,7 +118,8 @@ module _ (v w : Values) (r d : ℕ) (t found y : Tree) (p : Path) (s : SpellsFro
   }
 
   -- what was reached is reached, where d still leads to all that it led to
-  pub still_reached : (j : ℕ) (q : Path) → reach (children v) r q ≡ Ok j → ((a : Path) → reach (children v) d a ≡ Ok j → (b : Path) × (reach (children w) d b ≡ Ok j))
+  pub still_reached : (j : ℕ) (q : Path) → reach (children v) r q ≡ Ok j →
+      ((a : Path) → reach (children v) d a ≡ Ok j → (b : Path) × (reach (children w) d b ≡ Ok j))
       → (b : Path) × (reach (children w) r b ≡ Ok j)
   still_reached j q e below = go (past p q) refl
     where

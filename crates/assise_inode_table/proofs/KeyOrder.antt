@@ -1,10 +1,6 @@
 -- Keys in order, in parts.
-use Rattle.std.proofs.Common.{◌≡◌, List, [], ◌∷◌, ◌++◌, sym, ap, subst, refl, ◌∙◌, true, false, true≢false, Ordering, Less, Equal, Greater, is_gt}
-use Rattle.std.specs.List.{AllByRecursion}
-use Rattle.std.specs.List.Sorted.{IsStrictlySortedBy}
-use Rattle.std.specs.Ordering.{ordering_reverse}
-use Rattle.std.specs.Cmp.{IsTotalOrder}
-use Rattle.std.specs.FinMap.{IsAntisymmetric}
+use Rattle.assise_inode_table.proofs.Common.{◌≡◌, List, [], ◌∷◌, ◌++◌, sym, ap, subst, refl, ◌∙◌, true, false, true≢false, Ordering, Less, Equal, Greater}
+use Rattle.assise_inode_table.proofs.Common.{is_gt, AllByRecursion, IsStrictlySortedBy, ordering_reverse, IsTotalOrder, IsAntisymmetric}
 
 module _ {K : Type 0} (P : K → Type 0) where
   pub all_left : (xs ys : List K) → AllByRecursion P (xs ++ ys) → AllByRecursion P xs
@@ -46,19 +42,25 @@ module _ {K : Type 0} (R : K → K → Ordering) where
   above_head y ys s = s.0
 
   -- one more key, in a gap
-  pub sorted_between : (xs : List K) (k : K) (ys : List K) → IsStrictlySortedBy R (xs ++ ys) → AllByRecursion (λ x. R x k ≡ Less) xs → AllByRecursion (λ y. R k y ≡ Less) ys
+  pub sorted_between : (xs : List K) (k : K) (ys : List K) → IsStrictlySortedBy R (xs ++ ys) → AllByRecursion (λ x. R x k ≡ Less) xs →
+      AllByRecursion (λ y. R k y ≡ Less) ys
       → IsStrictlySortedBy R (xs ++ k ∷ ys)
   unfolding IsStrictlySortedBy
   sorted_between [] k ys s a b = (b, s)
-  sorted_between (x ∷ xs) k ys s a b =
-      (all_both (λ z. R x z ≡ Less) xs (k ∷ ys) (all_left (λ z. R x z ≡ Less) xs ys s.0) (a.0, all_right (λ z. R x z ≡ Less) xs ys s.0), sorted_between xs k ys s.1 a.1 b)
+  sorted_between (x ∷ xs) k ys s a b = (
+    all_both (λ z. R x z ≡ Less) xs (k ∷ ys) (all_left (λ z. R x z ≡ Less) xs ys s.0) (a.0, all_right (λ z. R x z ≡ Less) xs ys s.0),
+    sorted_between xs k ys s.1 a.1 b,
+  )
 
   -- without a part
   pub sorted_without : (xs ys zs : List K) → IsStrictlySortedBy R (xs ++ (ys ++ zs)) → IsStrictlySortedBy R (xs ++ zs)
   unfolding IsStrictlySortedBy
   sorted_without [] ys zs s = sorted_right ys zs s
-  sorted_without (x ∷ xs) ys zs s =
-      (all_both (λ z. R x z ≡ Less) xs zs (all_left (λ z. R x z ≡ Less) xs (ys ++ zs) s.0) (all_right (λ z. R x z ≡ Less) ys zs (all_right (λ z. R x z ≡ Less) xs (ys ++ zs) s.0)), sorted_without xs ys zs s.1)
+  sorted_without (x ∷ xs) ys zs s = (
+    all_both (λ z. R x z ≡ Less) xs zs (all_left (λ z. R x z ≡ Less) xs (ys ++ zs) s.0)
+        (all_right (λ z. R x z ≡ Less) ys zs (all_right (λ z. R x z ≡ Less) xs (ys ++ zs) s.0)),
+    sorted_without xs ys zs s.1,
+  )
 
 module _ {K : Type 0} {R : K → K → Ordering} (o : IsTotalOrder R) (same : IsAntisymmetric R) where
   pub turned : (x y : K) → R x y ≡ Less → R y x ≡ Greater

@@ -1,12 +1,9 @@
 -- Changes that come late give the same values.
-use Rattle.std.proofs.Common.{◌≡◌, ℕ, ◌<◌, ◌≤◌, arith, Bool, true, false, List, [], ◌∷◌, ◌++◌, if◌then◌else◌, Option, refl, ap, sym, ◌∙◌, subst, ◌||◌, ◌&&◌, nat_le, nat_lt, ◌==◌, inl, inr}
-use Rattle.std.proofs.lemmas.Bool.{cases_eq, eqb-true, ltb-true, leb-true, le-ltb, and_parts}
+use Rattle.assise_inode_table.proofs.Common.{◌≡◌, ℕ, ◌<◌, ◌≤◌, arith, Bool, true, false, List, [], ◌∷◌, ◌++◌, if◌then◌else◌, Option, refl, ap, sym, ◌∙◌, subst}
+use Rattle.assise_inode_table.proofs.Common.{◌||◌, ◌&&◌, nat_le, nat_lt, ◌==◌, inl, inr, cases_eq, eqb-true, ltb-true, leb-true, le-ltb, and_parts, Content}
+use Rattle.assise_inode_table.proofs.Common.{Values, touched, value_after, contains, Step, NumberedCall, trace, Each, NumbersAscend, below, window, Clear}
+use Rattle.assise_inode_table.proofs.Common.{Unseen}
 use Rattle.std.proofs.lemmas.Bool.Decides.{nat_tests}
-use Rattle.assise_inode_table.specs.Contents.{Content, Values}
-use Rattle.assise_inode_table.specs.Effects.{touched, value_after, contains}
-use Rattle.assise_inode_table.specs.Interaction.{Step}
-use Rattle.assise_inode_table.specs.Traces.{NumberedCall, trace, Each, NumbersAscend, below, window}
-use Rattle.assise_inode_table.specs.Unseen.{Clear, Unseen}
 use Rattle.assise_inode_table.specs.Late.{late_value, Quiet, NoneBetween, raised_at}
 use Rattle.assise_inode_table.proofs.EffectValues.{untouched}
 use Rattle.assise_inode_table.proofs.PairwiseLists.{each-both, clear_not, clear-right, AscendsAlong, ascends_along}
@@ -18,7 +15,8 @@ Test = NumberedCall → Bool
 quiet_value : (passes : Test) (i : ℕ) (old : Option Content) (xs : List (NumberedCall × Step)) → Quiet passes i xs → late_value passes i old xs ≡ old
 quiet_value passes i old [] q = refl
 quiet_value passes i old (x ∷ xs) q =
-    elim (passes x.0) as (λ b. (b ≡ true → contains (touched x.1.effects) i ≡ false) → late_value passes i (if b then value_after i old x.1.effects else old) xs ≡ old) [
+    elim (passes x.0) as (λ b. (b ≡ true → contains (touched x.1.effects) i ≡ false) → late_value passes i (if b then value_after i old x.1.effects else old) xs
+    ≡ old) [
       | true ↦ λ h. rw (untouched i old x.1.effects (h refl)) (quiet_value passes i old xs q.1)
       | false ↦ λ h. quiet_value passes i old xs q.1
     ] q.0
@@ -31,15 +29,20 @@ late early later i old (x ∷ xs) h =
     elim (later x.0) as (λ b.
     (b ≡ true → (early x.0 ≡ false) × (contains (touched x.1.effects) i ≡ true → Quiet early i xs)) →
     late_value (λ c. early c || later c) i (if early x.0 || b then w else old) xs
-    ≡ late_value later i (if b then value_after i (late_value early i (if early x.0 then w else old) xs) x.1.effects else late_value early i (if early x.0 then w else old) xs) xs) [
+    ≡ late_value later i (if b then value_after i (late_value early i (if early x.0 then w else old) xs) x.1.effects else late_value early i
+    (if early x.0 then w else old) xs) xs) [
       | true ↦ λ p.
-          subst (λ k. late_value (λ c. early c || later c) i (if k || true then w else old) xs ≡ late_value later i (value_after i (late_value early i (if k then w else old) xs) x.1.effects) xs) (sym (p refl).0)
-          (elim (contains (touched x.1.effects) i) as (λ b. contains (touched x.1.effects) i ≡ b → (b ≡ true → Quiet early i xs) → late_value (λ c. early c || later c) i w xs ≡ late_value later i (value_after i (late_value early i old xs) x.1.effects) xs) [
-            | true ↦ λ e q. rw (quiet_value early i old xs (q refl)) (late early later i w xs h.1 ∙ ap (λ u. late_value later i u xs) (quiet_value early i w xs (q refl)))
+          subst (λ k. late_value (λ c. early c || later c) i (if k || true then w else old) xs
+          ≡ late_value later i (value_after i (late_value early i (if k then w else old) xs) x.1.effects) xs) (sym (p refl).0)
+          (elim (contains (touched x.1.effects) i) as (λ b. contains (touched x.1.effects) i ≡ b → (b ≡ true → Quiet early i xs) →
+          late_value (λ c. early c || later c) i w xs ≡ late_value later i (value_after i (late_value early i old xs) x.1.effects) xs) [
+            | true ↦ λ e q. rw (quiet_value early i old xs (q refl))
+                (late early later i w xs h.1 ∙ ap (λ u. late_value later i u xs) (quiet_value early i w xs (q refl)))
             | false ↦ λ e q. rw (untouched i old x.1.effects e, untouched i (late_value early i old xs) x.1.effects e) (late early later i old xs h.1)
           ] refl (p refl).1)
       | false ↦ λ p.
-          elim (early x.0) as (λ k. late_value (λ c. early c || later c) i (if k || false then w else old) xs ≡ late_value later i (late_value early i (if k then w else old) xs) xs) [
+          elim (early x.0) as (λ k. late_value (λ c. early c || later c) i (if k || false then w else old) xs
+          ≡ late_value later i (late_value early i (if k then w else old) xs) xs) [
             | true ↦ late early later i w xs h.1
             | false ↦ late early later i old xs h.1
           ]
@@ -47,11 +50,13 @@ late early later i old (x ∷ xs) h =
 
 -- ---- the next calls of a client
 
-pub value-same : (t u : Test) (i : ℕ) (old : Option Content) (xs : List (NumberedCall × Step)) → ((x : NumberedCall) → t x ≡ u x) → late_value t i old xs ≡ late_value u i old xs
+pub value-same : (t u : Test) (i : ℕ) (old : Option Content) (xs : List (NumberedCall × Step)) → ((x : NumberedCall) → t x ≡ u x) →
+    late_value t i old xs ≡ late_value u i old xs
 value-same t u i old [] h = refl
 value-same t u i old (x ∷ xs) h = rw (h x.0) (value-same t u i (if u x.0 then value_after i old x.1.effects else old) xs h)
 
-quiet_from : (passes : Test) (i : ℕ) (xs : List (NumberedCall × Step)) → Each (λ y. passes y.0 ≡ true → contains (touched y.1.effects) i ≡ false) xs → Quiet passes i xs
+quiet_from : (passes : Test) (i : ℕ) (xs : List (NumberedCall × Step)) → Each (λ y. passes y.0 ≡ true → contains (touched y.1.effects) i ≡ false) xs →
+    Quiet passes i xs
 quiet_from passes i [] h = tt
 quiet_from passes i (x ∷ xs) h = (h.0, quiet_from passes i xs h.1)
 
@@ -62,7 +67,8 @@ in_window c a b x e =
     (eqb-true x.client c p.0, leb-true a x.number q.0, ltb-true x.number b q.1)
 
 -- no call below the thresholds comes after one of the window and touches the same inode
-none_between : (a b : ℕ → ℕ) (c k i : ℕ) (xs : List (NumberedCall × Step)) → Unseen a xs → AscendsAlong xs → a c ≤ b c → NoneBetween (below b) (window c (b c) k) i xs
+none_between : (a b : ℕ → ℕ) (c k i : ℕ) (xs : List (NumberedCall × Step)) → Unseen a xs → AscendsAlong xs → a c ≤ b c →
+    NoneBetween (below b) (window c (b c) k) i xs
 none_between a b c k i [] u r le = tt
 none_between a b c k i (x ∷ xs) u r le = (
   (λ e.
@@ -81,7 +87,8 @@ none_between a b c k i (x ∷ xs) u r le = (
                   let l : y.0.number < b y.0.client = ltb-true y.0.number (b y.0.client) kept in
                   let m : y.0.number < b x.0.client = subst (λ d. y.0.number < b d) same l in
                   absurd (omega (arith, ascend same, m, high))
-              | inr other ↦ clear_not (touched x.1.effects) (touched y.1.effects) i (clear-right (touched x.1.effects) y.1.visits (touched y.1.effects) (clear unseen other)) t
+              | inr other ↦ clear_not (touched x.1.effects) (touched y.1.effects) i
+                  (clear-right (touched x.1.effects) y.1.visits (touched y.1.effects) (clear unseen other)) t
             ])
             u.0 r.0),
       )),
@@ -92,7 +99,8 @@ raised_below : (b : ℕ → ℕ) (c k : ℕ) (x : NumberedCall) → b c ≤ k �
 raised_below b c k x h = grind (arith, nat_tests)
 
 -- the next calls of one client, after all others
-pub late_client : (v : Values) (a b : ℕ → ℕ) (c k i : ℕ) (old : Option Content) (xs : List NumberedCall) → Unseen a (trace v xs) → NumbersAscend xs → a c ≤ b c → b c ≤ k →
+pub late_client : (v : Values) (a b : ℕ → ℕ) (c k i : ℕ) (old : Option Content) (xs : List NumberedCall) → Unseen a (trace v xs) → NumbersAscend xs →
+    a c ≤ b c → b c ≤ k →
     late_value (below (raised_at b c k)) i old (trace v xs) ≡ late_value (window c (b c) k) i (late_value (below b) i old (trace v xs)) (trace v xs)
 late_client v a b c k i old xs u r le up =
     value-same (below (raised_at b c k)) (λ x. below b x || window c (b c) k x) i old (trace v xs) (λ x. raised_below b c k x up)

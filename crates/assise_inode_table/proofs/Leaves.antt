@@ -1,17 +1,8 @@
 -- Inodes that lead nowhere: files and empty directories.
-use Rattle.std.proofs.Common.{◌≡◌, ◌≢◌, ℕ, false, List, [], ◌∷◌, Option, Some, None, is_some, Ok, Err, nat_cmp, refl, sym, ap, ◌∙◌}
-use Rattle.std.specs.Prelude.{ok_or}
-use Rattle.std.specs.List.{list_any}
-use Rattle.std.specs.Cmp.Lexicographic.{slice_cmp}
+use Rattle.assise_inode_table.proofs.Common.{◌≡◌, ◌≢◌, ℕ, false, List, [], ◌∷◌, Option, Some, None, is_some, Ok, Err, nat_cmp, refl, sym, ap, ◌∙◌, ok_or}
+use Rattle.assise_inode_table.proofs.Common.{list_any, slice_cmp, NoEnt, file, dir, no_entries, same_name, at, ◌>>=◌, Path, then_ok, regular, directory, Links}
+use Rattle.assise_inode_table.proofs.Common.{Values, Children, children, reach, link_of, folder, shape_of, shown_from, shown_in, SpellsFrom}
 use Rattle.std.specs.FinMap as map
-use Rattle.assise_names.specs.declared.reply.TreeError.TheVariants.{NoEnt}
-use Rattle.assise_seq_tree.specs.Tree.{file, dir, no_entries, same_name, at}
-use Rattle.assise_seq_tree.specs.Answer.{◌>>=◌}
-use Rattle.assise_seq_tree.proofs.Moves.{Path}
-use Rattle.assise_seq_tree.proofs.Checks.{then_ok}
-use Rattle.assise_inode_table.specs.Contents.{regular, directory, Links, Values}
-use Rattle.assise_inode_table.specs.Reach.{Children, children, reach, link_of, folder, shape_of, shown_from, shown_in}
-use Rattle.assise_inode_table.specs.Spelled.{SpellsFrom}
 use Rattle.assise_inode_table.proofs.DirectoryNames.{names_are_keys}
 
 abbrev pub LeadsNowhere : Children → ℕ → Type 0
@@ -41,7 +32,8 @@ file_spells v i bytes here = record {
 
 -- ---- a directory without links
 pub vacant_nowhere : (v : Values) (i : ℕ) (links : Links) → v i ≡ Some (directory links) → map.keys links ≡ [] → LeadsNowhere (children v) i
-vacant_nowhere v i links here none name j e = go (map.get links name) (map.contains_key-keys links name ∙ ap (list_any (same_name name)) none) (sym (ap (λ o. link_of o name) here) ∙ e)
+vacant_nowhere v i links here none name j e =
+    go (map.get links name) (map.contains_key-keys links name ∙ ap (list_any (same_name name)) none) (sym (ap (λ o. link_of o name) here) ∙ e)
   where
     go : (o : Option ℕ) → is_some o ≡ false → ok_or o NoEnt ≡ Ok j → ⊥
     go None absent f = cc

@@ -1,17 +1,14 @@
 -- What is left of effects that can be made all or none can be made so too.
-use Rattle.std.proofs.Common.{◌≡◌, inl, inr, if◌then◌else◌, List, [], ◌∷◌, ◌++◌, refl, ap, sym, ◌∙◌, subst, append_assoc, append-nil}
-use Rattle.std.proofs.lemmas.Bool.{cases_Bool}
-use Rattle.assise_record.specs.declared.effect.Effect.{Effect}
-use Rattle.assise_record.specs.Coalesced.{overridden}
-use Rattle.assise_record.specs.Groups.{left_of}
-use Rattle.assise_inode_table.specs.Whole.{OnlyTakeAway, OnlyFirstAsks, MakesThenAsks, EndsWithLink, CanBeMadeWhole}
+use Rattle.assise_inode_table.proofs.Common.{◌≡◌, inl, inr, if◌then◌else◌, List, [], ◌∷◌, ◌++◌, refl, ap, sym, ◌∙◌, subst, append_assoc, append-nil, cases_Bool}
+use Rattle.assise_inode_table.proofs.Common.{Effect, overridden, left_of, OnlyTakeAway, OnlyFirstAsks, MakesThenAsks, EndsWithLink, CanBeMadeWhole}
 use Rattle.assise_inode_table.proofs.EffectLists.{first_of_away}
 
 left_of-both : (es fs later : List Effect) → left_of (es ++ fs) later ≡ left_of es (fs ++ later) ++ left_of fs later
 left_of-both [] fs later = refl
 left_of-both (e ∷ es) fs later = go (left_of-both es fs later)
   where
-    go : left_of (es ++ fs) later ≡ left_of es (fs ++ later) ++ left_of fs later → left_of (e ∷ (es ++ fs)) later ≡ left_of (e ∷ es) (fs ++ later) ++ left_of fs later
+    go : left_of (es ++ fs) later ≡ left_of es (fs ++ later) ++ left_of fs later → left_of (e ∷ (es ++ fs)) later ≡ left_of (e ∷ es) (fs ++ later) ++ left_of fs
+        later
     go ih =
         ap (λ gs. if overridden e gs then left_of (es ++ fs) later else e ∷ left_of (es ++ fs) later) (append_assoc es fs later)
         ∙ elim (cases_Bool (overridden e (es ++ (fs ++ later)))) [

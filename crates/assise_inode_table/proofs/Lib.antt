@@ -1,3 +1,4 @@
+mod Common
 pub mod BlockWrites
 pub mod BlockBytes
 pub mod EffectValues

@@ -1,30 +1,25 @@
 -- A link that is made before effects that only take away.
-use Rattle.std.proofs.Common.{◌≡◌, ℕ, ◌==◌, ◌&&◌, Bool, true, false, if◌then◌else◌, cond, List, [], ◌∷◌, ◌++◌, ◌+◌, ◌<◌, ◌≤◌, ◌-◌, arith, length, take, slice_index_or, Option, Some, None, refl, ap, sym, subst, ◌∙◌, inl, inr}
-use Rattle.std.specs.List.{filter, list_all}
-use Rattle.std.proofs.lemmas.List.{take_all, take_more, same_from_push}
-use Rattle.std.proofs.lemmas.List.Elements.{filter-append}
-use Rattle.std.proofs.lemmas.Bool.{eq-eqb, eqb-true, and_parts, not-false, not-true}
-use Rattle.std.specs.Cmp.Lexicographic.{nat_list_cmp_total}
+use Rattle.assise_inode_table.proofs.Common.{◌≡◌, ℕ, ◌==◌, ◌&&◌, Bool, true, false, if◌then◌else◌, cond, List, [], ◌∷◌, ◌++◌, ◌+◌, ◌<◌, ◌≤◌, ◌-◌, arith, length}
+use Rattle.assise_inode_table.proofs.Common.{take, slice_index_or, Option, Some, None, refl, ap, sym, subst, ◌∙◌, inl, inr, filter, list_all, take_all}
+use Rattle.assise_inode_table.proofs.Common.{take_more, same_from_push, filter-append, eq-eqb, eqb-true, and_parts, not-false, not-true, nat_list_cmp_total}
+use Rattle.assise_inode_table.proofs.Common.{Effect, NewFile, NewDir, Write, SetLen, Link, Unlink, Free, same_name, one_name, swapped, shadowed, not_both}
+use Rattle.assise_inode_table.proofs.Common.{Content, regular, directory, Links, InodeMap, TakesAway, all_applied, applied, effect_on, value_after}
+use Rattle.assise_inode_table.proofs.Common.{CanBeChangedWhole, OnlyFirstAsks, OnlyTakeAway, is_link, leaves_entry, takes_away}
 use Rattle.std.specs.FinMap as map
-use Rattle.assise_record.specs.declared.effect.Effect.{Effect}
-use Rattle.assise_record.specs.declared.effect.Effect.TheVariants.{NewFile, NewDir, Write, SetLen, Link, Unlink, Free}
-use Rattle.assise_seq_tree.specs.Tree.{same_name}
-use Rattle.assise_seq_tree.proofs.Sets.{one_name, swapped, shadowed, not_both}
-use Rattle.assise_inode_table.specs.Contents.{Content, regular, directory, Links, InodeMap}
-use Rattle.assise_inode_table.specs.Effects.{TakesAway, all_applied, applied, effect_on, value_after}
-use Rattle.assise_inode_table.specs.Whole.{CanBeChangedWhole, OnlyFirstAsks, OnlyTakeAway, is_link, leaves_entry, takes_away}
 use Rattle.assise_inode_table.proofs.EffectLists.{append_applied, get-all_applied, same_inodes}
 use Rattle.assise_inode_table.proofs.EffectOverrides.{same_links}
 
 -- ---- the entries of one directory
 
-insert_other : (links : Links) (name other : List ℕ) (i : ℕ) → same_name other name ≡ false → map.insert (map.remove links other) name i ≡ map.remove (map.insert links name i) other
+insert_other : (links : Links) (name other : List ℕ) (i : ℕ) → same_name other name ≡ false → map.insert (map.remove links other) name i
+    ≡ map.remove (map.insert links name i) other
 insert_other links name other i differs =
     same_links _ _ (λ x.
     map.get-insert nat_list_cmp_total (map.remove links other) name i x
     ∙ ap (cond (same_name x name) (Some i)) (map.get-remove nat_list_cmp_total links other x)
     ∙ swapped (same_name x name) (same_name x other) (Some i) None (map.get links x) (not_both x other name differs)
-    ∙ sym (map.get-remove nat_list_cmp_total (map.insert links name i) other x ∙ ap (cond (same_name x other) None) (map.get-insert nat_list_cmp_total links name i x)))
+    ∙ sym (map.get-remove nat_list_cmp_total (map.insert links name i) other x
+    ∙ ap (cond (same_name x other) None) (map.get-insert nat_list_cmp_total links name i x)))
 
 insert_again : (links : Links) (name : List ℕ) (i : ℕ) → map.insert (map.remove links name) name i ≡ map.insert links name i
 insert_again links name i =
@@ -52,7 +47,8 @@ same_entry_after (Some (directory links)) c d name other i same =
 -- ---- one inode of a number, after both effects
 
 both_orders : (a b : Bool) (o : Option Content) (e f : Effect) → (a ≡ true → b ≡ true → effect_on (effect_on o e) f ≡ effect_on (effect_on o f) e) →
-    (if b then effect_on (if a then effect_on o e else o) f else (if a then effect_on o e else o)) ≡ (if a then effect_on (if b then effect_on o f else o) e else (if b then effect_on o f else o))
+    (if b then effect_on (if a then effect_on o e else o) f else (if a then effect_on o e else o))
+    ≡ (if a then effect_on (if b then effect_on o f else o) e else (if b then effect_on o f else o))
 both_orders true true o e f same = same refl refl
 both_orders true false o e f same = refl
 both_orders false true o e f same = refl
@@ -74,7 +70,8 @@ away_cases P entry inode (SetLen c size) t = absurd t
 away_cases P entry inode (Link c other j) t = absurd t
 
 module _ (d : ℕ) (name : List ℕ) (i : ℕ) where
-  link_before : (q : ℕ) (o : Option Content) (e : Effect) → TakesAway e → leaves_entry d name e ≡ true → value_after q o (e ∷ Link d name i ∷ []) ≡ value_after q o (Link d name i ∷ e ∷ [])
+  link_before : (q : ℕ) (o : Option Content) (e : Effect) → TakesAway e → leaves_entry d name e ≡ true → value_after q o (e ∷ Link d name i ∷ [])
+      ≡ value_after q o (Link d name i ∷ e ∷ [])
   link_before q o =
       away_cases (λ e. leaves_entry d name e ≡ true → value_after q o (e ∷ Link d name i ∷ []) ≡ value_after q o (Link d name i ∷ e ∷ []))
       (λ c other leaves. both_orders (c == q) (d == q) o (Unlink c other) (Link d name i) (λ at_c at_d.
@@ -83,7 +80,8 @@ module _ (d : ℕ) (name : List ℕ) (i : ℕ) where
       ∙ not-true ((c == d) && same_name other name) leaves)))
       (λ c leaves. both_orders (c == q) (d == q) o (Free c) (Link d name i) (λ at_c at_d. refl))
 
-  link_instead : (q : ℕ) (o : Option Content) (e : Effect) → TakesAway e → leaves_entry d name e ≡ false → value_after q o (e ∷ Link d name i ∷ []) ≡ value_after q o (Link d name i ∷ [])
+  link_instead : (q : ℕ) (o : Option Content) (e : Effect) → TakesAway e → leaves_entry d name e ≡ false → value_after q o (e ∷ Link d name i ∷ [])
+      ≡ value_after q o (Link d name i ∷ [])
   link_instead q o =
       away_cases (λ e. leaves_entry d name e ≡ false → value_after q o (e ∷ Link d name i ∷ []) ≡ value_after q o (Link d name i ∷ []))
       (λ c other gone.
@@ -94,14 +92,17 @@ module _ (d : ℕ) (name : List ℕ) (i : ℕ) where
 
   -- ---- all inodes
 
-  applied_before : (m : InodeMap) (e : Effect) → TakesAway e → leaves_entry d name e ≡ true → applied (applied m e) (Link d name i) ≡ applied (applied m (Link d name i)) e
+  applied_before : (m : InodeMap) (e : Effect) → TakesAway e → leaves_entry d name e ≡ true → applied (applied m e) (Link d name i)
+      ≡ applied (applied m (Link d name i)) e
   applied_before m e t leaves =
       same_inodes _ _ (λ q.
       get-all_applied m (e ∷ Link d name i ∷ []) q ∙ link_before q (map.get m q) e t leaves ∙ sym (get-all_applied m (Link d name i ∷ e ∷ []) q))
 
-  applied_instead : (m : InodeMap) (e : Effect) → TakesAway e → leaves_entry d name e ≡ false → applied (applied m e) (Link d name i) ≡ applied m (Link d name i)
+  applied_instead : (m : InodeMap) (e : Effect) → TakesAway e → leaves_entry d name e ≡ false → applied (applied m e) (Link d name i)
+      ≡ applied m (Link d name i)
   applied_instead m e t gone =
-      same_inodes _ _ (λ q. get-all_applied m (e ∷ Link d name i ∷ []) q ∙ link_instead q (map.get m q) e t gone ∙ sym (get-all_applied m (Link d name i ∷ []) q))
+      same_inodes _ _ (λ q. get-all_applied m (e ∷ Link d name i ∷ []) q ∙ link_instead q (map.get m q) e t gone
+      ∙ sym (get-all_applied m (Link d name i ∷ []) q))
 
   one_behind : (m : InodeMap) (e : Effect) (es : List Effect) (b : Bool) → TakesAway e → leaves_entry d name e ≡ b →
       all_applied (applied (applied m e) (Link d name i)) es ≡ all_applied (applied m (Link d name i)) (cond b (e ∷ es) es)
@@ -153,7 +154,8 @@ all_pass [] t = refl
 all_pass (e ∷ es) t = rw (away_test e t.0) (all_pass es t.1)
 
 -- a list whose last effect is no link, or whose others don't only take away, is made in its order
-pub made_in_order : (es before : List Effect) (last : Effect) → es ≡ before ++ last ∷ [] → CanBeChangedWhole es → (is_link last ≡ true → list_all takes_away before ≡ true → ⊥) → OnlyFirstAsks es
+pub made_in_order : (es before : List Effect) (last : Effect) → es ≡ before ++ last ∷ [] → CanBeChangedWhole es →
+    (is_link last ≡ true → list_all takes_away before ≡ true → ⊥) → OnlyFirstAsks es
 made_in_order es before last are (inl asks) other = asks
 made_in_order es before last are (inr w) other =
     let same = same_from_push w.before before w.last last (sym w.are ∙ are) in
@@ -162,7 +164,8 @@ made_in_order es before last are (inr w) other =
 -- the effects before the last one, and the last one
 pub last_behind : (es : List Effect) (last : Effect) → 1 ≤ length es → last ≡ slice_index_or es (length es - 1) last → es ≡ take (length es - 1) es ++ last ∷ []
 last_behind es last some is =
-    sym (take_all (length es - 1 + 1) es (omega (arith, some))) ∙ take_more es (length es - 1) last (omega (arith, some)) ∙ ap (λ x. take (length es - 1) es ++ x ∷ []) (sym is)
+    sym (take_all (length es - 1 + 1) es (omega (arith, some))) ∙ take_more es (length es - 1) last (omega (arith, some))
+    ∙ ap (λ x. take (length es - 1) es ++ x ∷ []) (sym is)
 
 -- a link doesn't take away
 link_not_away : (e : Effect) → is_link e ≡ true → TakesAway e → ⊥

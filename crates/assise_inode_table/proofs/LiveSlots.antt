@@ -1,17 +1,10 @@
 -- The entries that slots have, and the map that they make, where one slot changes.
-use Rattle.std.proofs.Common.{◌≡◌, ℕ, ◌+◌, suc, List, [], ◌∷◌, ◌++◌, length, Option, Some, None, cond, Bool, true, false, refl, sym, ap, subst, ◌∙◌, arith, Ordering, Less, is_eq, length-append}
-use Rattle.assise_seq_tree.proofs.Sets.{tied}
-use Rattle.std.specs.List.{AllByRecursion}
-use Rattle.std.specs.List.Sorted.{IsStrictlySortedBy}
-use Rattle.std.specs.Map.{keys_of, lookup}
-use Rattle.std.specs.BTreeMap.{is_at}
-use Rattle.std.specs.Option.{option_or}
-use Rattle.std.specs.Cmp.{IsTotalOrder, eq_by_cmp_equiv, tied_itself}
+use Rattle.assise_inode_table.proofs.Common.{◌≡◌, ℕ, ◌+◌, suc, List, [], ◌∷◌, ◌++◌, length, Option, Some, None, cond, Bool, true, false, refl, sym, ap, subst}
+use Rattle.assise_inode_table.proofs.Common.{◌∙◌, arith, Ordering, Less, length-append, tied, AllByRecursion, IsStrictlySortedBy, keys_of, lookup, is_at}
+use Rattle.assise_inode_table.proofs.Common.{option_or, IsTotalOrder, eq_by_cmp_equiv, tied_itself, IsAntisymmetric, map-append, flat_map-append, Slot}
+use Rattle.assise_inode_table.proofs.Common.{live_entry, live}
+use Rattle.std.proofs.Common.{is_eq}
 use Rattle.std.specs.FinMap as map
-use Rattle.std.specs.FinMap.{IsAntisymmetric}
-use Rattle.std.proofs.lemmas.List.{map-append}
-use Rattle.std.proofs.lemmas.List.Concat.{flat_map-append}
-use Rattle.assise_inode_table.specs.Pieces.{Slot, live_entry, live}
 use Rattle.assise_inode_table.proofs.MapView.{get-view, insert-view, remove-view, keys-view, length-keys}
 use Rattle.assise_inode_table.proofs.KeyOrder.{all_weaker, below_next, above_head, sorted_right, sorted_between, turned}
 
@@ -45,7 +38,8 @@ pub or_none : {X : Type 0} (x : Option X) → option_or x None ≡ x
 or_none None = refl
 or_none (Some x) = refl
 
-lookup_middle : {K X : Type 0} (t : K → Bool) (xs ys zs : List (K × X)) → lookup t (xs ++ (ys ++ zs)) ≡ option_or (lookup t xs) (option_or (lookup t ys) (lookup t zs))
+lookup_middle : {K X : Type 0} (t : K → Bool) (xs ys zs : List (K × X)) → lookup t (xs ++ (ys ++ zs)) ≡ option_or (lookup t xs)
+    (option_or (lookup t ys) (lookup t zs))
 lookup_middle t xs ys zs = lookup-append t xs (ys ++ zs) ∙ ap (option_or (lookup t xs)) (lookup-append t ys zs)
 
 -- slots before and behind a name
@@ -60,11 +54,13 @@ module _ {R : List ℕ → List ℕ → Ordering} (o : IsTotalOrder R) (same : I
 
   none_before : (k : List ℕ) (xs zs : List Slot) → Parts R k xs zs → lookup (is_at (R k)) (live xs) ≡ None
   none_before k xs zs p =
-      nowhere k (live xs) (live_all (λ y. is_at (R k) y ≡ false) xs (all_weaker (λ key. R key k ≡ Less) (λ y. is_at (R k) y ≡ false) (keys_of xs) (λ y h. ap is_eq (turned o same y k h)) p.smaller))
+      nowhere k (live xs) (live_all (λ y. is_at (R k) y ≡ false) xs
+      (all_weaker (λ key. R key k ≡ Less) (λ y. is_at (R k) y ≡ false) (keys_of xs) (λ y h. ap is_eq (turned o same y k h)) p.smaller))
 
   none_behind : (k : List ℕ) (xs zs : List Slot) → Parts R k xs zs → lookup (is_at (R k)) (live zs) ≡ None
   none_behind k xs zs p =
-      nowhere k (live zs) (live_all (λ y. is_at (R k) y ≡ false) zs (all_weaker (λ key. R k key ≡ Less) (λ y. is_at (R k) y ≡ false) (keys_of zs) (λ y h. ap is_eq h) p.greater))
+      nowhere k (live zs) (live_all (λ y. is_at (R k) y ≡ false) zs
+      (all_weaker (λ key. R k key ≡ Less) (λ y. is_at (R k) y ≡ false) (keys_of zs) (λ y h. ap is_eq h) p.greater))
 
   here : (k : List ℕ) (link : Option ℕ) → lookup (is_at (R k)) (live_entry k link) ≡ link
   here k None = refl
@@ -89,10 +85,12 @@ module _ {R : List ℕ → List ℕ → Ordering} (o : IsTotalOrder R) (same : I
       ∙ ap (λ a. option_or (lookup (is_at (R q)) (live xs)) (option_or a (lookup (is_at (R q)) (live zs)))) (elsewhere q k link h)
 
   changed : (k : List ℕ) (old new : Option ℕ) (xs zs : List Slot) → Parts R k xs zs → (q : List ℕ)
-      → lookup (is_at (R q)) (live xs ++ (live_entry k new ++ live zs)) ≡ cond (is_at (R k) q) new (lookup (is_at (R q)) (live xs ++ (live_entry k old ++ live zs)))
+      → lookup (is_at (R q)) (live xs ++ (live_entry k new ++ live zs)) ≡ cond (is_at (R k) q) new
+      (lookup (is_at (R q)) (live xs ++ (live_entry k old ++ live zs)))
   changed k old new xs zs p q = go (is_at (R k) q) refl
     where
-      go : (b : Bool) → is_at (R k) q ≡ b → lookup (is_at (R q)) (live xs ++ (live_entry k new ++ live zs)) ≡ cond b new (lookup (is_at (R q)) (live xs ++ (live_entry k old ++ live zs)))
+      go : (b : Bool) → is_at (R k) q ≡ b → lookup (is_at (R q)) (live xs ++ (live_entry k new ++ live zs))
+          ≡ cond b new (lookup (is_at (R q)) (live xs ++ (live_entry k old ++ live zs)))
       go true e = subst (λ q. lookup (is_at (R q)) (live xs ++ (live_entry k new ++ live zs)) ≡ new) (same k q (tied (R k q) e)) (found k new xs zs p)
       go false e =
           let apart = (eq_by_cmp_equiv o).symm q k ∙ e in
@@ -102,7 +100,8 @@ module _ {R : List ℕ → List ℕ → Ordering} (o : IsTotalOrder R) (same : I
   at_slot k link xs zs = live-append xs ((k, link) ∷ zs)
 
   -- what the map has at a slot's name, and at one in a gap
-  pub slot_got : (k : List ℕ) (link : Option ℕ) (xs zs : List Slot) → Parts R k xs zs → map.get (map.from_entries {R = R} (live (xs ++ (k, link) ∷ zs))) k ≡ link
+  pub slot_got : (k : List ℕ) (link : Option ℕ) (xs zs : List Slot) → Parts R k xs zs → map.get (map.from_entries {R = R} (live (xs ++ (k, link) ∷ zs))) k
+      ≡ link
   slot_got k link xs zs p = get-view o (live (xs ++ (k, link) ∷ zs)) k ∙ ap (lookup (is_at (R k))) (at_slot k link xs zs) ∙ found k link xs zs p
 
   pub gap_got : (k : List ℕ) (xs zs : List Slot) → Parts R k xs zs → map.get (map.from_entries {R = R} (live (xs ++ zs))) k ≡ None
@@ -135,16 +134,22 @@ module _ {R : List ℕ → List ℕ → Ordering} (o : IsTotalOrder R) (same : I
   pub parts_of_slot : (k : List ℕ) (link : Option ℕ) (xs zs : List Slot) → IsStrictlySortedBy R (keys_of (xs ++ (k, link) ∷ zs)) → Parts R k xs zs
   parts_of_slot k link xs zs s =
       let ordered = subst (IsStrictlySortedBy R) (keys-append xs ((k, link) ∷ zs)) s in
-      record { smaller = below_next R (keys_of xs) k (keys_of zs) ordered; greater = above_head R k (keys_of zs) (sorted_right R (keys_of xs) (k ∷ keys_of zs) ordered) }
+      record {
+        smaller = below_next R (keys_of xs) k (keys_of zs) ordered;
+        greater =
+            above_head R k (keys_of zs) (sorted_right R (keys_of xs) (k ∷ keys_of zs) ordered);
+      }
 
   -- one more slot in a gap
-  pub gap_sorted : (k : List ℕ) (link : Option ℕ) (xs zs : List Slot) → Parts R k xs zs → IsStrictlySortedBy R (keys_of (xs ++ zs)) → IsStrictlySortedBy R (keys_of (xs ++ (k, link) ∷ zs))
+  pub gap_sorted : (k : List ℕ) (link : Option ℕ) (xs zs : List Slot) → Parts R k xs zs → IsStrictlySortedBy R (keys_of (xs ++ zs)) →
+      IsStrictlySortedBy R (keys_of (xs ++ (k, link) ∷ zs))
   gap_sorted k link xs zs p s =
       subst (IsStrictlySortedBy R) (sym (keys-append xs ((k, link) ∷ zs)))
       (sorted_between R (keys_of xs) k (keys_of zs) (subst (IsStrictlySortedBy R) (keys-append xs zs) s) p.smaller p.greater)
 
   -- another link for a slot
-  pub slot_sorted : (k : List ℕ) (old new : Option ℕ) (xs zs : List Slot) → IsStrictlySortedBy R (keys_of (xs ++ (k, old) ∷ zs)) → IsStrictlySortedBy R (keys_of (xs ++ (k, new) ∷ zs))
+  pub slot_sorted : (k : List ℕ) (old new : Option ℕ) (xs zs : List Slot) → IsStrictlySortedBy R (keys_of (xs ++ (k, old) ∷ zs)) →
+      IsStrictlySortedBy R (keys_of (xs ++ (k, new) ∷ zs))
   slot_sorted k old new xs zs s = subst (IsStrictlySortedBy R) (keys-append xs ((k, old) ∷ zs) ∙ sym (keys-append xs ((k, new) ∷ zs))) s
 
   -- the names, and how many there are
@@ -155,9 +160,11 @@ module _ {R : List ℕ → List ℕ → Ordering} (o : IsTotalOrder R) (same : I
   live_count slots s = length-keys o (live slots) (live_sorted R slots s)
 
 -- ---- how many entries there are
-pub count_slot : (k : List ℕ) (link : Option ℕ) (xs zs : List Slot) → length (live (xs ++ (k, link) ∷ zs)) ≡ length (live xs) + (length (live_entry k link) + length (live zs))
+pub count_slot : (k : List ℕ) (link : Option ℕ) (xs zs : List Slot) → length (live (xs ++ (k, link) ∷ zs))
+    ≡ length (live xs) + (length (live_entry k link) + length (live zs))
 count_slot k link xs zs =
-    ap length (live-append xs ((k, link) ∷ zs)) ∙ length-append (live xs) (live_entry k link ++ live zs) ∙ ap (λ n. length (live xs) + n) (length-append (live_entry k link) (live zs))
+    ap length (live-append xs ((k, link) ∷ zs)) ∙ length-append (live xs) (live_entry k link ++ live zs)
+    ∙ ap (λ n. length (live xs) + n) (length-append (live_entry k link) (live zs))
 
 pub count_gap : (xs zs : List Slot) → length (live (xs ++ zs)) ≡ length (live xs) + length (live zs)
 count_gap xs zs = ap length (live-append xs zs) ∙ length-append (live xs) (live zs)

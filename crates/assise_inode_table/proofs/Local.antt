@@ -1,9 +1,6 @@
 -- A call depends on the inodes alone that it visits.
-use Rattle.std.proofs.Common.{◌≡◌, ℕ, ◌∷◌, refl, ap, ◌∙◌}
-use Rattle.assise_names.specs.declared.call.Op.{Op}
-use Rattle.assise_inode_table.specs.Contents.{Values}
-use Rattle.assise_inode_table.specs.Interaction.{Interaction, visit, finish, visits_of, Step, step_by, AgreeOn}
-use Rattle.assise_inode_table.specs.Calls.{interaction, step}
+use Rattle.assise_inode_table.proofs.Common.{◌≡◌, ℕ, ◌∷◌, refl, ap, ◌∙◌, Op, Values, Interaction, visit, finish, visits_of, Step, step_by, AgreeOn, interaction}
+use Rattle.assise_inode_table.proofs.Common.{step}
 
 -- a visit more
 visited : ℕ → Step → Step

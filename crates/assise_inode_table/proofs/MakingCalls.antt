@@ -1,28 +1,17 @@
 -- The calls that make an inode agree with the tree: create and mkdir.
-use Rattle.std.proofs.Common.{◌≡◌, ◌≢◌, ℕ, ◌<◌, arith, true, if◌then◌else◌, nat_le, ◌==◌, List, [], ◌∷◌, ◌++◌, length, Option, Some, None, is_some, Result, Ok, Err, refl, ap, sym, subst, ◌∙◌, inl, inr}
-use Rattle.std.specs.List.{list_any}
-use Rattle.std.proofs.lemmas.Bool.{cases_Bool, eq-eqb, ne_eqb, eqb-false}
+use Rattle.assise_inode_table.proofs.Common.{◌≡◌, ◌≢◌, ℕ, ◌<◌, arith, true, if◌then◌else◌, nat_le, ◌==◌, List, [], ◌∷◌, ◌++◌, length, Option, Some, None}
+use Rattle.assise_inode_table.proofs.Common.{is_some, Result, Ok, Err, refl, ap, sym, subst, ◌∙◌, inl, inr, list_any, cases_Bool, eq-eqb, ne_eqb, eqb-false}
+use Rattle.assise_inode_table.proofs.Common.{Reply, Done, Error, TreeError, Exists, NotDir, DirFull, touched_by, Effect, NewFile, NewDir, Link, Tree, file, dir}
+use Rattle.assise_inode_table.proofs.Common.{Entries, no_entries, same_name, find, at, put, names_of, ◌>>=◌, parent_of, last_name, as_directory, room_for}
+use Rattle.assise_inode_table.proofs.Common.{room_at, reply_and_tree, create_answer, mkdir_answer, Path, parent_and_last, Content, regular, directory, Links}
+use Rattle.assise_inode_table.proofs.Common.{Values, effect_on, after, makes, Interaction, finish, then_or_error, as_links, room_among, walk, make_call}
+use Rattle.assise_inode_table.proofs.Common.{create_call, mkdir_call, children, Spells, SpellsFrom}
 use Rattle.std.specs.FinMap as map
-use Rattle.assise_names.specs.declared.reply.Reply.{Reply}
-use Rattle.assise_names.specs.declared.reply.Reply.TheVariants.{Done, Error}
-use Rattle.assise_names.specs.declared.reply.TreeError.{TreeError}
-use Rattle.assise_names.specs.declared.reply.TreeError.TheVariants.{Exists, NotDir, DirFull}
-use Rattle.assise_record.specs.Touched.{touched_by}
-use Rattle.assise_record.specs.declared.effect.Effect.{Effect}
-use Rattle.assise_record.specs.declared.effect.Effect.TheVariants.{NewFile, NewDir, Link}
-use Rattle.assise_seq_tree.specs.Tree.{Tree, file, dir, Entries, no_entries, same_name, find, at, put, names_of}
-use Rattle.assise_seq_tree.specs.Answer.{◌>>=◌, parent_of, last_name, as_directory, room_for, room_at, reply_and_tree, create_answer, mkdir_answer}
-use Rattle.assise_seq_tree.proofs.Moves.{Path, parent_and_last}
-use Rattle.assise_inode_table.specs.Contents.{Content, regular, directory, Links, Values}
-use Rattle.assise_inode_table.specs.Effects.{effect_on, after, makes}
-use Rattle.assise_inode_table.specs.Interaction.{Interaction, finish}
-use Rattle.assise_inode_table.specs.Calls.{then_or_error, as_links, room_among, walk, make_call, create_call, mkdir_call}
-use Rattle.assise_inode_table.specs.Reach.{children}
-use Rattle.assise_inode_table.specs.Spelled.{Spells, SpellsFrom}
 use Rattle.assise_inode_table.proofs.CallsAgree.{Agrees, agrees, agrees_quietly}
 use Rattle.assise_inode_table.proofs.NewInodeLinked.{created as made}
 use Rattle.assise_inode_table.proofs.Leaves.{LeadsNowhere, file_nowhere, file_spells, empty_nowhere, empty_spells}
-use Rattle.assise_inode_table.proofs.WalkMeets.{settled, walk_fails, walk_to_file, walk_to_directory, Meets, nothing, a_file, a_directory, FindsDirectory, meets, same_count}
+use Rattle.assise_inode_table.proofs.WalkMeets.{settled, walk_fails, walk_to_file, walk_to_directory, Meets, nothing, a_file, a_directory, FindsDirectory}
+use Rattle.assise_inode_table.proofs.WalkMeets.{meets, same_count}
 use Rattle.assise_inode_table.proofs.DirectoryNames.{is_some-find}
 use Rattle.assise_inode_table.proofs.MapChanges.{no_content}
 
@@ -94,7 +83,8 @@ module _ (v : Values) (t : Tree) (p : Path) (fresh : ℕ) (new : Effect) (child 
 
   -- below the root
   link_new : ℕ → Content → Interaction
-  link_new d content = then_or_error (as_links content) (λ links. then_or_error (room_among (last_name p) links) (λ _. finish Done (new ∷ Link d (last_name p) fresh ∷ [])))
+  link_new d content = then_or_error (as_links content)
+      (λ links. then_or_error (room_among (last_name p) links) (λ _. finish Done (new ∷ Link d (last_name p) fresh ∷ [])))
 
   walk_parent : Interaction
   walk_parent = walk (parent_of p) link_new
@@ -107,7 +97,8 @@ module _ (v : Values) (t : Tree) (p : Path) (fresh : ℕ) (new : Effect) (child 
 
   in_directory : 0 < length p → (d : FindsDirectory v t (parent_of p)) → Agrees v fresh (settled v walk_parent) answer_below
   unfolding link_new walk_parent below_root answer_below
-  in_directory long d = go (room_among (last_name p) d.links) refl (sym (room_same (last_name p) d.links d.entries d.names)) (walk_to_directory v t (parent_of p) link_new d)
+  in_directory long d = go (room_among (last_name p) d.links) refl (sym (room_same (last_name p) d.links d.entries d.names))
+      (walk_to_directory v t (parent_of p) link_new d)
     where
       go : (r : Result (Unit {0}) TreeError) → room_among (last_name p) d.links ≡ r → room_for (last_name p) d.entries ≡ r →
           settled v walk_parent ≡ settled v (link_new d.inode (directory d.links)) → Agrees v fresh (settled v walk_parent) answer_below
@@ -130,7 +121,8 @@ module _ (v : Values) (t : Tree) (p : Path) (fresh : ℕ) (new : Effect) (child 
   unfolding link_new walk_parent below_root answer_below
   make_agrees =
       elim (cases_Bool (length p == 0)) [
-        | inl root ↦ agrees_quietly v t fresh (settled v (make_call new p fresh)) (reply_and_tree t (room_at t p >>= λ _. Ok (Done, put t p child))) (Error Exists) s (rw root refl) (rw root refl)
+        | inl root ↦ agrees_quietly v t fresh (settled v (make_call new p fresh)) (reply_and_tree t (room_at t p >>= λ _. Ok (Done, put t p child)))
+            (Error Exists) s (rw root refl) (rw root refl)
         | inr deep ↦ (let below = make_below (let no = eqb-false (length p) 0 deep in omega (arith, no)) in rw deep below)
       ]
 

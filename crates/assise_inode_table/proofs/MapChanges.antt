@@ -1,14 +1,10 @@
 -- Changes put into a map, one after another.
-use Rattle.std.proofs.Common.{◌≡◌, ◌≢◌, inl, inr, ℕ, ◌+◌, ◌<◌, ◌==◌, ◌||◌, Bool, true, false, List, [], ◌∷◌, ◌++◌, if◌then◌else◌, cond, length, take, slice_index_or, Option, Some, None, IsSome, refl, sym, ap, ◌∙◌, subst}
+use Rattle.assise_inode_table.proofs.Common.{◌≡◌, ◌≢◌, inl, inr, ℕ, ◌+◌, ◌<◌, ◌==◌, ◌||◌, Bool, true, false, List, [], ◌∷◌, ◌++◌, if◌then◌else◌, cond, length}
+use Rattle.assise_inode_table.proofs.Common.{take, slice_index_or, Option, Some, None, IsSome, refl, sym, ap, ◌∙◌, subst, cases_eq, cases_Bool, eq-eqb}
+use Rattle.assise_inode_table.proofs.Common.{false≢true, ne_eqb, or_parts, take_more, Effect, Content, InodeMap, regular, all_applied, contains, value_after}
+use Rattle.assise_inode_table.proofs.Common.{with_value, AreDistinctChanges, ArePlaced, Lacks, found, is_among, placed, placed_one, map_without, Change}
 use Rattle.std.specs.Option.{is_some}
-use Rattle.std.proofs.lemmas.Bool.{cases_eq, cases_Bool, eq-eqb, false≢true, ne_eqb, or_parts}
-use Rattle.std.proofs.lemmas.List.{take_more}
 use Rattle.std.specs.FinMap as map
-use Rattle.assise_record.specs.declared.effect.Effect.{Effect}
-use Rattle.assise_inode_table.specs.Contents.{Content, InodeMap, regular}
-use Rattle.assise_inode_table.specs.Effects.{all_applied, contains, value_after, with_value}
-use Rattle.assise_inode_table.specs.Changes.{AreDistinctChanges, ArePlaced, Lacks, found, is_among, placed, placed_one, map_without}
-use Rattle.assise_inode_table.specs.declared.changes.Change.{Change}
 use Rattle.assise_inode_table.proofs.EffectLists.{get-all_applied, same_inodes}
 use Rattle.assise_inode_table.proofs.FewChanges.{among, distinct_prefix, chosen_other, chosen_same, found_append}
 use Rattle.assise_inode_table.proofs.EffectValues.{contains-append, get-with_value}
@@ -27,7 +23,8 @@ get-without m (i ∷ is) j =
     go false b o = refl
 
 -- the map without an inode more, which wasn't there before
-pub without_new : (m n : InodeMap) (made : List ℕ) (i : ℕ) → map.get m i ≡ None → ((j : ℕ) → i ≢ j → map.get n j ≡ map.get m j) → map_without n (made ++ i ∷ []) ≡ map_without m made
+pub without_new : (m n : InodeMap) (made : List ℕ) (i : ℕ) → map.get m i ≡ None → ((j : ℕ) → i ≢ j → map.get n j ≡ map.get m j) → map_without n (made ++ i ∷ [])
+    ≡ map_without m made
 without_new m n made i new others =
     same_inodes _ _ (λ j.
     get-without n (made ++ i ∷ []) j ∙ ap (λ b. if b then None else map.get n j) (contains-append made (i ∷ []) j)
@@ -83,7 +80,8 @@ placed_append : (m : InodeMap) (cs ds : List Change) → placed m (cs ++ ds) ≡
 placed_append m [] ds = refl
 placed_append m (c ∷ cs) ds = placed_append (placed_one m c.inode) cs ds
 
-pub one_more_placed : (m : InodeMap) (cs : List Change) (k : ℕ) (c : Change) → k < length cs → c ≡ slice_index_or cs k c → placed m (take (k + 1) cs) ≡ placed_one (placed m (take k cs)) c.inode
+pub one_more_placed : (m : InodeMap) (cs : List Change) (k : ℕ) (c : Change) → k < length cs → c ≡ slice_index_or cs k c → placed m (take (k + 1) cs)
+    ≡ placed_one (placed m (take k cs)) c.inode
 one_more_placed m cs k c within is = ap (placed m) (take_more cs k c within ∙ ap (λ x. take k cs ++ x ∷ []) (sym is)) ∙ placed_append m (take k cs) (c ∷ [])
 
 -- only their own inodes are made
@@ -123,19 +121,22 @@ all_left old m all distinct is =
 pub next_there : (old m : InodeMap) (all left rest : List Change) (c : Change) → IsLeft old m all left → left ≡ rest ++ c ∷ [] → IsSome (map.get m c.inode)
 next_there old m all left rest c h is = (there_prefix m rest c (subst (ArePlaced m) is h.there)).1
 
-pub next_left : (old m n : InodeMap) (all left rest : List Change) (c : Change) → IsLeft old m all left → left ≡ rest ++ c ∷ [] → n ≡ with_value m c.inode c.value → IsLeft old n all rest
+pub next_left : (old m n : InodeMap) (all left rest : List Change) (c : Change) → IsLeft old m all left → left ≡ rest ++ c ∷ [] →
+    n ≡ with_value m c.inode c.value → IsLeft old n all rest
 next_left old m n all left rest c h is put =
     let split : AreDistinctChanges rest × Lacks rest c.inode = distinct_prefix rest c (subst AreDistinctChanges is h.distinct) in
     let now : (j : ℕ) → map.get n j ≡ (if c.inode == j then c.value else map.get m j) = λ j. ap (λ x. map.get x j) put ∙ get-with_value m c.inode c.value j in
     record {
       distinct = split.0;
-      there = still_there m n rest c.inode split.1 (λ j other. now j ∙ chosen_other c.inode j c.value (map.get m j) other) (there_prefix m rest c (subst (ArePlaced m) is h.there)).0;
+      there = still_there m n rest c.inode split.1 (λ j other. now j ∙ chosen_other c.inode j c.value (map.get m j) other)
+          (there_prefix m rest c (subst (ArePlaced m) is h.there)).0;
       values = λ j. ap (found rest j) (now j) ∙ sym (found_append rest (c ∷ []) j (map.get m j)) ∙ ap (λ cs. found cs j (map.get m j)) (sym is) ∙ h.values j;
     }
 
 -- ---- on copies
 
-pub made_on_copies : (m n : InodeMap) (cs : List Change) (es : List Effect) → ((i : ℕ) → found cs i (map.get m i) ≡ value_after i (map.get m i) es) → ((i : ℕ) → map.get n i ≡ found cs i (map.get m i)) → n ≡ all_applied m es
+pub made_on_copies : (m n : InodeMap) (cs : List Change) (es : List Effect) → ((i : ℕ) → found cs i (map.get m i) ≡ value_after i (map.get m i) es) →
+    ((i : ℕ) → map.get n i ≡ found cs i (map.get m i)) → n ≡ all_applied m es
 made_on_copies m n cs es changes put = same_inodes _ _ (λ i. put i ∙ changes i ∙ sym (get-all_applied m es i))
 
 -- ---- one more
@@ -144,7 +145,8 @@ made_on_copies m n cs es changes put = same_inodes _ _ (λ i. put i ∙ changes 
 pub without_last : (m n : InodeMap) (all rest : List ℕ) (i : ℕ) → all ≡ rest ++ i ∷ [] → n ≡ map.remove m i → map_without n rest ≡ map_without m all
 without_last m n all rest i is removed =
     same_inodes _ _ (λ j.
-    get-without n rest j ∙ ap (λ x. if contains rest j then None else map.get x j) removed ∙ ap (λ o. if contains rest j then None else o) (get-with_value m i None j)
+    get-without n rest j ∙ ap (λ x. if contains rest j then None else map.get x j) removed
+    ∙ ap (λ o. if contains rest j then None else o) (get-with_value m i None j)
     ∙ go (contains rest j) (i == j) (map.get m j) ∙ sym (ap (λ b. if b then None else map.get m j) (contains-append rest (i ∷ []) j))
     ∙ sym (get-without m (rest ++ i ∷ []) j) ∙ ap (λ is. map.get (map_without m is) j) (sym is))
   where

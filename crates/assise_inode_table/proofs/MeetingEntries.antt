@@ -1,17 +1,8 @@
 -- A walk to an entry meets what stands at the path of the entry, and the directory that has it.
-use Rattle.std.proofs.Common.{◌≡◌, ℕ, List, [], ◌∷◌, ◌++◌, Option, Some, None, Result, Ok, Err, refl, ap, sym, ◌∙◌}
-use Rattle.std.specs.Prelude.{ok_or}
+use Rattle.assise_inode_table.proofs.Common.{◌≡◌, ℕ, List, [], ◌∷◌, ◌++◌, Option, Some, None, Result, Ok, Err, refl, ap, sym, ◌∙◌, ok_or, Error, TreeError}
+use Rattle.assise_inode_table.proofs.Common.{NoEnt, ◌>>=◌, Path, then_ok, Content, directory, Links, Values, Interaction, then_or_error, walk_from}
+use Rattle.assise_inode_table.proofs.Common.{walk_to_entry, Children, children, reach, link_of}
 use Rattle.std.specs.FinMap as map
-use Rattle.assise_names.specs.declared.reply.Reply.TheVariants.{Error}
-use Rattle.assise_names.specs.declared.reply.TreeError.{TreeError}
-use Rattle.assise_names.specs.declared.reply.TreeError.TheVariants.{NoEnt}
-use Rattle.assise_seq_tree.specs.Answer.{◌>>=◌}
-use Rattle.assise_seq_tree.proofs.Moves.{Path}
-use Rattle.assise_seq_tree.proofs.Checks.{then_ok}
-use Rattle.assise_inode_table.specs.Contents.{Content, directory, Links, Values}
-use Rattle.assise_inode_table.specs.Interaction.{Interaction}
-use Rattle.assise_inode_table.specs.Calls.{then_or_error, walk_from, walk_to_entry}
-use Rattle.assise_inode_table.specs.Reach.{Children, children, reach, link_of}
 use Rattle.assise_inode_table.proofs.ReachedSpelling.{LinkTo, link_to}
 use Rattle.assise_inode_table.proofs.WalkMeets.{settled, found, walk_fails, walk_finds, found_there}
 
@@ -47,7 +38,8 @@ entry_at v p name i e =
 
 -- ---- how the walk ends
 
-pub walk_finds_entry : (v : Values) (p : Path) (name : List ℕ) (i : ℕ) (c : Content) (next : ℕ → ℕ → Content → Interaction) (h : HasEntry v p name i) → v i ≡ Some c →
+pub walk_finds_entry : (v : Values) (p : Path) (name : List ℕ) (i : ℕ) (c : Content) (next : ℕ → ℕ → Content → Interaction) (h : HasEntry v p name i) →
+    v i ≡ Some c →
     settled v (walk_to_entry p name next) ≡ settled v (next h.parent i c)
 walk_finds_entry v p name i c next h holds =
     walk_finds v p (λ d content. then_or_error (link_of (Some content) name) (λ j. walk_from j [] (next d))) h.parent (directory h.links)
@@ -62,7 +54,8 @@ module _ (v : Values) (p : Path) (name : List ℕ) (e : TreeError) (next : ℕ �
   abbrev whole_of : Result ℕ TreeError → Result (ℕ × Content) TreeError
   whole_of r = r >>= λ j. ok_or (v j) NoEnt >>= λ c. Ok (j, c)
 
-  at_entry : (d i : ℕ) (o : Option Content) → ◌≡◌ {A = Result (ℕ × Content) TreeError} (ok_or o NoEnt >>= λ c. Ok (i, c)) (Err e) → settled v (then_or_error (ok_or o NoEnt) (λ content. next d i content)) ≡ (Error e, [])
+  at_entry : (d i : ℕ) (o : Option Content) → ◌≡◌ {A = Result (ℕ × Content) TreeError} (ok_or o NoEnt >>= λ c. Ok (i, c)) (Err e) →
+      settled v (then_or_error (ok_or o NoEnt) (λ content. next d i content)) ≡ (Error e, [])
   at_entry d i None f = cc
   at_entry d i (Some c) f = cc
 
@@ -70,11 +63,13 @@ module _ (v : Values) (p : Path) (name : List ℕ) (e : TreeError) (next : ℕ �
   at_link d (Ok i) f = at_entry d i (v i) f
   at_link d (Err x) f = cc
 
-  at_parent : (d : ℕ) (o : Option Content) → reach (children v) 0 p ≡ Ok d → v d ≡ o → whole_of (link_of o name) ≡ Err e → settled v (walk_to_entry p name next) ≡ (Error e, [])
+  at_parent : (d : ℕ) (o : Option Content) → reach (children v) 0 p ≡ Ok d → v d ≡ o → whole_of (link_of o name) ≡ Err e → settled v (walk_to_entry p name next)
+      ≡ (Error e, [])
   at_parent d None reached holds f = walk_fails v p onward e (ap whole_of reached ∙ ap (λ o. ok_or o NoEnt >>= λ c. Ok (d, c)) holds ∙ f)
   at_parent d (Some c) reached holds f = walk_finds v p onward d c (found_there v p d c reached holds) ∙ at_link d (link_of (Some c) name) f
 
-  on_the_way : (r : Result ℕ TreeError) → reach (children v) 0 p ≡ r → whole_of (r >>= λ d. children v d name) ≡ Err e → settled v (walk_to_entry p name next) ≡ (Error e, [])
+  on_the_way : (r : Result ℕ TreeError) → reach (children v) 0 p ≡ r → whole_of (r >>= λ d. children v d name) ≡ Err e → settled v (walk_to_entry p name next)
+      ≡ (Error e, [])
   on_the_way (Ok d) is f = at_parent d (v d) is refl f
   on_the_way (Err x) is f = walk_fails v p onward e (ap whole_of is ∙ f)
 

@@ -1,11 +1,6 @@
 -- A new inode that leads nowhere is linked into a directory.
-use Rattle.std.proofs.Common.{◌≡◌, ◌≢◌, ℕ, Bool, true, false, List, [], ◌∷◌, ◌++◌, None, IsSome, is_some, Ok, refl, sym, ap, ◌∙◌, eqb}
-use Rattle.std.proofs.lemmas.Bool.{eqb-true, eqb-false}
-use Rattle.assise_seq_tree.specs.Tree.{Tree, put}
-use Rattle.assise_seq_tree.proofs.Moves.{Path}
-use Rattle.assise_inode_table.specs.Contents.{Links, Values}
-use Rattle.assise_inode_table.specs.Reach.{children, reach}
-use Rattle.assise_inode_table.specs.Spelled.{Spells, SpellsFrom, ShareNone, AgreeBut, AddsLink}
+use Rattle.assise_inode_table.proofs.Common.{◌≡◌, ◌≢◌, ℕ, Bool, true, false, List, [], ◌∷◌, ◌++◌, None, IsSome, is_some, Ok, refl, sym, ap, ◌∙◌, eqb, eqb-true}
+use Rattle.assise_inode_table.proofs.Common.{eqb-false, Tree, put, Path, Links, Values, children, reach, Spells, SpellsFrom, ShareNone, AgreeBut, AddsLink}
 use Rattle.assise_inode_table.proofs.PathReach.{Keeps, away_keeps, same_reach, kept_spells}
 use Rattle.assise_inode_table.proofs.ReachedSpelling.{none_is_away}
 use Rattle.assise_inode_table.proofs.Leaves.{LeadsNowhere, alone}

@@ -1,11 +1,6 @@
 -- What holds of each element of a list, and of each two.
-use Rattle.std.proofs.Common.{◌≡◌, ℕ, ◌<◌, true, false, List, [], ◌∷◌, ◌++◌, ◌==◌, refl, ◌∙◌, subst, inl, inr}
-use Rattle.std.proofs.lemmas.Bool.{cases_Bool, eqb-true, both_ways, or_from}
-use Rattle.assise_inode_table.specs.Contents.{Values}
-use Rattle.assise_inode_table.specs.Effects.{contains, after}
-use Rattle.assise_inode_table.specs.Interaction.{Step}
-use Rattle.assise_inode_table.specs.Traces.{NumberedCall, trace, step_of, Each, Pairs, NumbersAscend}
-use Rattle.assise_inode_table.specs.Unseen.{Clear}
+use Rattle.assise_inode_table.proofs.Common.{◌≡◌, ℕ, ◌<◌, true, false, List, [], ◌∷◌, ◌++◌, ◌==◌, refl, ◌∙◌, subst, inl, inr, cases_Bool, eqb-true, both_ways}
+use Rattle.assise_inode_table.proofs.Common.{or_from, Values, contains, after, Step, NumberedCall, trace, step_of, Each, Pairs, NumbersAscend, Clear}
 use Rattle.assise_inode_table.proofs.EffectValues.{contains-append}
 
 pub each-map : {X : Type 0} (P Q : X → Type 0) (xs : List X) → ((x : X) → P x → Q x) → Each P xs → Each Q xs
@@ -25,7 +20,8 @@ each-both P Q R (x ∷ xs) f h k = (f x h.0 k.0, each-both P Q R xs f h.1 k.1)
 abbrev pub AscendsAlong : List (NumberedCall × Step) → Type 0
 AscendsAlong xs = Pairs (λ x y. y.0.client ≡ x.0.client → x.0.number < y.0.number) xs
 
-each_along : (x : NumberedCall) (v : Values) (xs : List NumberedCall) → Each (λ y. y.client ≡ x.client → x.number < y.number) xs → Each (λ y. y.0.client ≡ x.client → x.number < y.0.number) (trace v xs)
+each_along : (x : NumberedCall) (v : Values) (xs : List NumberedCall) → Each (λ y. y.client ≡ x.client → x.number < y.number) xs →
+    Each (λ y. y.0.client ≡ x.client → x.number < y.0.number) (trace v xs)
 each_along x v [] h = tt
 each_along x v (y ∷ ys) h = (h.0, each_along x (after v (step_of v y).effects) ys h.1)
 

@@ -1,13 +1,6 @@
 -- What paths reach and show, and where it stays as inodes change.
-use Rattle.std.proofs.Common.{◌≡◌, ◌≢◌, ℕ, List, [], ◌∷◌, ◌++◌, Result, Ok, Err, refl, sym, ap, subst, ◌∙◌}
-use Rattle.assise_names.specs.declared.reply.TreeError.{TreeError}
-use Rattle.assise_seq_tree.specs.Tree.{Tree}
-use Rattle.assise_seq_tree.specs.Answer.{◌>>=◌}
-use Rattle.assise_seq_tree.proofs.Moves.{Path}
-use Rattle.assise_seq_tree.proofs.Checks.{then_ok}
-use Rattle.assise_inode_table.specs.Contents.{Values}
-use Rattle.assise_inode_table.specs.Reach.{Children, children, reach, link_of, shape_of, shown_from}
-use Rattle.assise_inode_table.specs.Spelled.{ReachesOnce, SpellsFrom, AgreeBut}
+use Rattle.assise_inode_table.proofs.Common.{◌≡◌, ◌≢◌, ℕ, List, [], ◌∷◌, ◌++◌, Result, Ok, Err, refl, sym, ap, subst, ◌∙◌, TreeError, Tree, ◌>>=◌, Path}
+use Rattle.assise_inode_table.proofs.Common.{then_ok, Values, Children, children, reach, link_of, shape_of, shown_from, ReachesOnce, SpellsFrom, AgreeBut}
 
 -- ---- one step, and then the rest
 pub reach_step : (c : Children) (r k : ℕ) (name : List ℕ) (q : Path) → c r name ≡ Ok k → reach c r (name ∷ q) ≡ reach c k q
@@ -50,7 +43,8 @@ keeps_child v w j k name keeps e q i h = keeps (name ∷ q) i (reach_step (child
 pub away_keeps : (v w : Values) (d j : ℕ) → AgreeBut d v w → Away (children v) j d → Keeps v w j
 away_keeps v w d j others away q k h = others k (λ is. away q (h ∙ ap Ok is))
 
-pub same_rest : (c b : Children) (q : Path) (o : Result ℕ TreeError) → ((k : ℕ) → o ≡ Ok k → reach b k q ≡ reach c k q) → (o >>= λ k. reach b k q) ≡ (o >>= λ k. reach c k q)
+pub same_rest : (c b : Children) (q : Path) (o : Result ℕ TreeError) → ((k : ℕ) → o ≡ Ok k → reach b k q ≡ reach c k q) → (o >>= λ k. reach b k q)
+    ≡ (o >>= λ k. reach c k q)
 same_rest c b q (Ok k) same = same k refl
 same_rest c b q (Err e) same = refl
 

@@ -1,24 +1,25 @@
 -- A piece that is split, and one that goes; a piece's names and links side by side.
-use Rattle.std.proofs.Common.{◌≡◌, ℕ, zero, suc, ◌+◌, ◌<◌, ◌≤◌, List, [], ◌∷◌, ◌++◌, length, take, drop, set, insert, remove, get_or, zip, refl, sym, ap, subst, ◌∙◌, arith, append_assoc, nat_cmp, take-append-drop}
-use Rattle.std.specs.List.Sorted.{IsStrictlySortedBy}
-use Rattle.std.specs.Map.{keys_of}
-use Rattle.std.specs.Cmp.Lexicographic.{slice_cmp}
-use Rattle.std.proofs.lemmas.List.{length-append, length-drop, take_all}
-use Rattle.std.proofs.lemmas.List.Elements.{All-set}
+use Rattle.assise_inode_table.proofs.Common.{◌≡◌, ℕ, zero, suc, ◌+◌, ◌<◌, ◌≤◌, List, [], ◌∷◌, ◌++◌, length, take, drop, set, insert, get_or, zip, refl, sym, ap}
+use Rattle.assise_inode_table.proofs.Common.{subst, ◌∙◌, arith, append_assoc, nat_cmp, take-append-drop, IsStrictlySortedBy, keys_of, slice_cmp, length-drop}
+use Rattle.assise_inode_table.proofs.Common.{take_all, All-set, Slot, live, slots_in, piece_at, Ascend, AreFilled}
+use Rattle.std.proofs.Common.{remove}
+use Rattle.std.proofs.lemmas.List.{length-append}
 use Rattle.std.proofs.lemmas.Slice.Zip.{length-zip, get_or-zip}
-use Rattle.assise_inode_table.specs.Pieces.{Slot, live, slots_in, piece_at, Ascend, AreFilled}
 use Rattle.assise_inode_table.proofs.KeyOrder.{sorted_without}
 use Rattle.assise_inode_table.proofs.LiveSlots.{live-append, keys-append}
 use Rattle.assise_inode_table.proofs.PieceSlots.{three_parts, slots-append}
 
 -- ---- a piece in two
-split_slots_at : (ps : List (List Slot)) (w : ℕ) (lower upper : List Slot) → w < length ps → piece_at ps w ≡ lower ++ upper → slots_in (set (insert ps (suc w) upper) w lower) ≡ slots_in ps
+split_slots_at : (ps : List (List Slot)) (w : ℕ) (lower upper : List Slot) → w < length ps → piece_at ps w ≡ lower ++ upper →
+    slots_in (set (insert ps (suc w) upper) w lower) ≡ slots_in ps
 split_slots_at [] w lower upper h e = absurd (omega arith)
 split_slots_at (p ∷ ps) zero lower upper h e = sym (append_assoc lower upper (slots_in ps)) ∙ ap (λ q. q ++ slots_in ps) (sym e)
 split_slots_at (p ∷ ps) (suc w) lower upper h e = ap (λ xs. p ++ xs) (split_slots_at ps w lower upper (omega arith) e)
 
-pub split_slots : (ps : List (List Slot)) (w n : ℕ) (lower upper : List Slot) → w < length ps → n ≡ w + 1 → piece_at ps w ≡ lower ++ upper → slots_in (set (insert ps n upper) w lower) ≡ slots_in ps
-split_slots ps w n lower upper h e parts = subst (λ m. slots_in (set (insert ps m upper) w lower) ≡ slots_in ps) {x = suc w} (omega arith) (split_slots_at ps w lower upper h parts)
+pub split_slots : (ps : List (List Slot)) (w n : ℕ) (lower upper : List Slot) → w < length ps → n ≡ w + 1 → piece_at ps w ≡ lower ++ upper →
+    slots_in (set (insert ps n upper) w lower) ≡ slots_in ps
+split_slots ps w n lower upper h e parts =
+    subst (λ m. slots_in (set (insert ps m upper) w lower) ≡ slots_in ps) {x = suc w} (omega arith) (split_slots_at ps w lower upper h parts)
 
 -- ---- a lower half that joins the piece in front
 join_slots_at : (ps : List (List Slot)) (v : ℕ) (lower upper : List Slot) → suc v < length ps → piece_at ps (suc v) ≡ lower ++ upper
@@ -51,14 +52,16 @@ gone_live ps w h gone =
     let front = slots_in (take w ps) in
     let back = slots_in (drop (suc w) ps) in
     ap live (removed_slots ps w) ∙ live-append front back
-    ∙ sym (ap live (three_parts ps w h) ∙ live-append front (piece_at ps w ++ back) ∙ ap (λ es. live front ++ es) (live-append (piece_at ps w) back) ∙ ap (λ es. live front ++ (es ++ live back)) gone)
+    ∙ sym (ap live (three_parts ps w h) ∙ live-append front (piece_at ps w ++ back) ∙ ap (λ es. live front ++ es) (live-append (piece_at ps w) back)
+    ∙ ap (λ es. live front ++ (es ++ live back)) gone)
 
 pub gone_ascend : (ps : List (List Slot)) (w : ℕ) → w < length ps → Ascend (slots_in ps) → Ascend (slots_in (remove ps w))
 gone_ascend ps w h s =
     let front = slots_in (take w ps) in
     let back = slots_in (drop (suc w) ps) in
     let p = piece_at ps w in
-    let keys : keys_of (slots_in ps) ≡ keys_of front ++ (keys_of p ++ keys_of back) = ap keys_of (three_parts ps w h) ∙ keys-append front (p ++ back) ∙ ap (λ ks. keys_of front ++ ks) (keys-append p back) in
+    let keys : keys_of (slots_in ps) ≡ keys_of front ++ (keys_of p ++ keys_of back) = ap keys_of (three_parts ps w h) ∙ keys-append front (p ++ back)
+    ∙ ap (λ ks. keys_of front ++ ks) (keys-append p back) in
     subst (IsStrictlySortedBy (slice_cmp nat_cmp)) (sym (ap keys_of (removed_slots ps w) ∙ keys-append front back))
     (sorted_without (slice_cmp nat_cmp) (keys_of front) (keys_of p) (keys_of back) (subst (IsStrictlySortedBy (slice_cmp nat_cmp)) keys s))
 

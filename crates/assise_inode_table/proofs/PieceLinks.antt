@@ -1,11 +1,10 @@
 -- A piece's links, and which of its entries are gone, as one list.
-use Rattle.std.proofs.Common.{◌≡◌, ℕ, zero, suc, ◌+◌, ◌-◌, ◌<◌, ◌≤◌, Bool, true, false, true≢false, List, [], ◌∷◌, ◌++◌, length, Some, None, take, drop, set, insert, get_or, zip, refl, sym, ap, ap₂, ◌∙◌, arith, append_assoc}
-use Rattle.std.specs.List.{list_all}
+use Rattle.assise_inode_table.proofs.Common.{◌≡◌, ℕ, zero, suc, ◌+◌, ◌-◌, ◌<◌, ◌≤◌, Bool, true, false, true≢false, List, [], ◌∷◌, ◌++◌, length, Some, None}
+use Rattle.assise_inode_table.proofs.Common.{take, drop, set, insert, get_or, zip, refl, sym, ap, ap₂, ◌∙◌, arith, append_assoc, list_all, put_mid, mid_of}
+use Rattle.assise_inode_table.proofs.Common.{post_of, length-take, length-drop, IsPiece, Slot, link_or_none, links_or_none, live, slot_link}
 use lib.Seq.{take-take}
-use borrow.Rule.Slice.PartMut.{put_mid, mid_of, post_of}
-use Rattle.std.proofs.lemmas.List.{length-append, length-take, length-drop}
+use Rattle.std.proofs.lemmas.List.{length-append}
 use Rattle.std.proofs.lemmas.List.Edits.{length-insert}
-use Rattle.assise_inode_table.specs.Pieces.{IsPiece, Slot, link_or_none, links_or_none, live, slot_link}
 use Rattle.assise_inode_table.proofs.PieceChanges.{length-side, link-side, side-append, sides-append, side-take, take-side, drop-side, insert-side}
 
 pub links-length : (ls : List ℕ) (gs : List Bool) → length gs ≡ length ls → length (links_or_none ls gs) ≡ length ls

@@ -1,18 +1,10 @@
 -- What a search among a piece's names finds, and a piece's names and links as slots.
-use Rattle.std.proofs.Common.{◌≡◌, ℕ, ◌+◌, ◌<◌, ◌≤◌, List, [], ◌∷◌, ◌++◌, length, Option, Some, None, Result, Ok, Err, IfOk, IfErr, take, drop, get_or, zip, refl, sym, ap, subst, ◌∙◌, arith, append-nil, nat_cmp, Ordering, Less, Equal, Greater, inl, inr}
-use Rattle.std.specs.List.{AllByRecursion}
-use Rattle.std.specs.List.Sorted.{IsStrictlySortedBy, IsSearchInRange, IsBinarySearchResult, IsNonDecreasingBy}
-use Rattle.std.specs.Map.{keys_of}
-use Rattle.std.specs.Ordering.{ordering_index}
-use Rattle.std.specs.Cmp.{IsTotalOrder}
-use Rattle.std.specs.FinMap.{IsAntisymmetric}
-use Rattle.std.specs.Cmp.Lexicographic.{slice_cmp, nat_list_cmp_total}
-use Rattle.std.proofs.lemmas.Map.Lookups.{exact_bytes}
-use Rattle.std.proofs.lemmas.Map.Keys.{Less-from_sorted}
-use Rattle.std.proofs.lemmas.Bool.{cases_lt}
-use Rattle.std.proofs.lemmas.List.{length-take, length-drop, take_all, get_or-take, get_or-drop, take-map, drop-map, take_more}
-use Rattle.std.proofs.lemmas.List.Elements.{recursion_from_All}
-use Rattle.assise_inode_table.specs.Pieces.{live_entry, live, slot_link, IsSlotOf, IsGapFor}
+use Rattle.assise_inode_table.proofs.Common.{◌≡◌, ℕ, ◌+◌, ◌<◌, ◌≤◌, List, [], ◌∷◌, ◌++◌, length, Option, Some, None, Result, Ok, Err, IfOk, IfErr, take, drop}
+use Rattle.assise_inode_table.proofs.Common.{get_or, zip, refl, sym, ap, subst, ◌∙◌, arith, append-nil, nat_cmp, Ordering, Less, Equal, Greater, inl, inr}
+use Rattle.assise_inode_table.proofs.Common.{AllByRecursion, IsStrictlySortedBy, IsSearchInRange, IsBinarySearchResult, IsNonDecreasingBy, keys_of}
+use Rattle.assise_inode_table.proofs.Common.{ordering_index, IsTotalOrder, IsAntisymmetric, slice_cmp, nat_list_cmp_total, exact_bytes, Less-from_sorted}
+use Rattle.assise_inode_table.proofs.Common.{cases_lt, length-take, length-drop, take_all, get_or-take, get_or-drop, take-map, drop-map, take_more}
+use Rattle.assise_inode_table.proofs.Common.{recursion_from_All, live_entry, live, slot_link, IsSlotOf, IsGapFor}
 use Rattle.assise_inode_table.proofs.KeyOrder.{turned_back}
 use Rattle.assise_inode_table.proofs.LiveSlots.{live-append, keys-append}
 use Rattle.assise_inode_table.proofs.PieceChanges.{length-side, keys-side, name-side, link-side}
@@ -39,7 +31,11 @@ module _ {K : Type 0} {R : K → K → Ordering} (o : IsTotalOrder R) (same : Is
 
 module _ (name : List ℕ) (ns : List (List ℕ)) (ls : List (Option ℕ)) (few : length ns ≤ length ls) where
   found : (at : ℕ) → at < length ns → ((d : List ℕ) → slice_cmp nat_cmp (get_or ns at d) name ≡ Equal) → IsSlotOf name (zip ns ls) at
-  found at h e = record { within = omega (arith, h, length-side ns ls few); named = name-side ns ls at [] None h few ∙ exact_bytes (get_or ns at []) name (e []) }
+  found at h e = record {
+    within = omega (arith, h, length-side ns ls few);
+    named = name-side ns ls at [] None h few
+        ∙ exact_bytes (get_or ns at []) name (e []);
+  }
 
   keys-take : (at : ℕ) → keys_of (take at (zip ns ls)) ≡ take at ns
   keys-take at = sym (take-map (λ e. e.0) at (zip ns ls)) ∙ ap (take at) (keys-side ns ls few)
@@ -51,19 +47,23 @@ module _ (name : List ℕ) (ns : List (List ℕ)) (ls : List (Option ℕ)) (few 
       → ((k : ℕ) (d : List ℕ) → at ≤ k → k < length ns → slice_cmp nat_cmp (get_or ns k d) name ≡ Greater) → IsGapFor name (zip ns ls) at
   missed at h below above = record {
     within = omega (arith, h, length-side ns ls few);
-    smaller = subst (AllByRecursion (λ key. slice_cmp nat_cmp key name ≡ Less)) (sym (keys-take at)) (recursion_from_All (λ key. slice_cmp nat_cmp key name ≡ Less) (take at ns) (λ k d inside.
+    smaller = subst (AllByRecursion (λ key. slice_cmp nat_cmp key name ≡ Less)) (sym (keys-take at))
+        (recursion_from_All (λ key. slice_cmp nat_cmp key name ≡ Less) (take at ns) (λ k d inside.
         let low : k < at = omega (arith, inside, length-take at ns) in
         subst (λ key. slice_cmp nat_cmp key name ≡ Less) (sym (get_or-take at ns k d low)) (below k d (omega arith) low)));
-    greater = subst (AllByRecursion (λ key. slice_cmp nat_cmp name key ≡ Less)) (sym (keys-drop at)) (recursion_from_All (λ key. slice_cmp nat_cmp name key ≡ Less) (drop at ns) (λ k d inside.
+    greater = subst (AllByRecursion (λ key. slice_cmp nat_cmp name key ≡ Less)) (sym (keys-drop at))
+        (recursion_from_All (λ key. slice_cmp nat_cmp name key ≡ Less) (drop at ns) (λ k d inside.
         subst (λ key. slice_cmp nat_cmp name key ≡ Less) (sym (get_or-drop at ns k d))
         (turned_back nat_list_cmp_total exact_bytes (get_or ns (at + k) d) name (above (at + k) d (omega arith) (omega (arith, inside, length-drop at ns))))));
   }
 
-  pub search_found : (r : Result ℕ ℕ) → IsSearchInRange r (length ns) → IsBinarySearchResult (λ y. slice_cmp nat_cmp y name) ns r → IfOk r (IsSlotOf name (zip ns ls))
+  pub search_found : (r : Result ℕ ℕ) → IsSearchInRange r (length ns) → IsBinarySearchResult (λ y. slice_cmp nat_cmp y name) ns r →
+      IfOk r (IsSlotOf name (zip ns ls))
   search_found (Ok at) within is = found at within is
   search_found (Err at) within is = tt
 
-  pub search_missed : (r : Result ℕ ℕ) → IsStrictlySortedBy (slice_cmp nat_cmp) ns → IsSearchInRange r (length ns) → IsBinarySearchResult (λ y. slice_cmp nat_cmp y name) ns r → IfErr r (IsGapFor name (zip ns ls))
+  pub search_missed : (r : Result ℕ ℕ) → IsStrictlySortedBy (slice_cmp nat_cmp) ns → IsSearchInRange r (length ns) →
+      IsBinarySearchResult (λ y. slice_cmp nat_cmp y name) ns r → IfErr r (IsGapFor name (zip ns ls))
   search_missed (Ok at) s within is = tt
   search_missed (Err at) s within is = let parted = is (searchable nat_list_cmp_total exact_bytes ns name s) in missed at within parted.0 parted.1
 
@@ -82,11 +82,14 @@ module _ (ns : List (List ℕ)) (ls : List (Option ℕ)) (few : length ns ≤ le
       ∙ ap (λ es. live (take at (zip ns ls)) ++ es) (append-nil (live_entry (get_or ns at []) (get_or ls at None)))
 
   pub listed_none : get_or ls at None ≡ None → keys_of (live (take (at + 1) (zip ns ls))) ≡ keys_of (live (take at (zip ns ls)))
-  listed_none none = ap keys_of (live_more ∙ ap (λ l. live (take at (zip ns ls)) ++ live_entry (get_or ns at []) l) none ∙ append-nil (live (take at (zip ns ls))))
+  listed_none none = ap keys_of (live_more ∙ ap (λ l. live (take at (zip ns ls)) ++ live_entry (get_or ns at []) l) none
+      ∙ append-nil (live (take at (zip ns ls))))
 
-  pub listed_some : (v : ℕ) → get_or ls at None ≡ Some v → keys_of (live (take (at + 1) (zip ns ls))) ≡ keys_of (live (take at (zip ns ls))) ++ get_or ns at [] ∷ []
+  pub listed_some : (v : ℕ) → get_or ls at None ≡ Some v → keys_of (live (take (at + 1) (zip ns ls))) ≡ keys_of (live (take at (zip ns ls))) ++ get_or ns
+      at [] ∷ []
   listed_some v some =
-      ap keys_of (live_more ∙ ap (λ l. live (take at (zip ns ls)) ++ live_entry (get_or ns at []) l) some) ∙ keys-append (live (take at (zip ns ls))) ((get_or ns at [], v) ∷ [])
+      ap keys_of (live_more ∙ ap (λ l. live (take at (zip ns ls)) ++ live_entry (get_or ns at []) l) some)
+      ∙ keys-append (live (take at (zip ns ls))) ((get_or ns at [], v) ∷ [])
 
 pub take_side_all : (ns : List (List ℕ)) (ls : List (Option ℕ)) (at : ℕ) → length ns ≤ length ls → length ns ≤ at → take at (zip ns ls) ≡ zip ns ls
 take_side_all ns ls at few h = take_all at (zip ns ls) (omega (arith, length-side ns ls few))

@@ -1,21 +1,16 @@
 -- The slots of pieces about a place, and what an edit of a piece makes of them.
-use Rattle.std.proofs.Common.{◌≡◌, ℕ, zero, suc, ◌+◌, ◌^◌, ◌<◌, ◌≤◌, List, [], ◌∷◌, ◌++◌, length, Option, Some, None, take, drop, set, insert, get_or, refl, sym, ap, subst, ◌∙◌, arith, true, false, is_gt, append_assoc, append-nil, nat_cmp, Less, take-append-drop, add-zero, true≢false, is_none, cond, Bool, not, is_some, inl, inr}
-use Rattle.std.specs.List.{AllByRecursion}
-use Rattle.std.specs.List.Sorted.{IsStrictlySortedBy}
-use Rattle.std.specs.Map.{keys_of}
-use Rattle.std.specs.Int.{from_bool}
-use Rattle.std.proofs.lemmas.Bool.{cases_lt}
-use Rattle.assise_inode_table.specs.Contents.{Links}
-use Rattle.std.specs.Cmp.Lexicographic.{slice_cmp, nat_list_cmp_total}
+use Rattle.assise_inode_table.proofs.Common.{◌≡◌, ℕ, zero, suc, ◌+◌, ◌^◌, ◌<◌, ◌≤◌, List, [], ◌∷◌, ◌++◌, length, Option, Some, None, take, drop, set, insert}
+use Rattle.assise_inode_table.proofs.Common.{get_or, refl, sym, ap, subst, ◌∙◌, arith, true, false, is_gt, append_assoc, append-nil, nat_cmp, Less}
+use Rattle.assise_inode_table.proofs.Common.{take-append-drop, add-zero, true≢false, is_none, cond, Bool, not, is_some, inl, inr, AllByRecursion}
+use Rattle.assise_inode_table.proofs.Common.{IsStrictlySortedBy, keys_of, from_bool, cases_lt, Links, slice_cmp, nat_list_cmp_total, exact_bytes, set-get_or}
+use Rattle.assise_inode_table.proofs.Common.{set_split, take_all, drop_all, get_or-drop, length-set, length-drop, take_more, get_or_read, flat_map-append}
+use Rattle.assise_inode_table.proofs.Common.{All-drop, All-set, Slot, live, slots_in, links_in, piece_at, slot_name, slot_link, slots_before, slots_behind}
+use Rattle.assise_inode_table.proofs.Common.{Ascend, AreFilled, IsDirectory, IsGapFor, IsPieceFor, StandsAt}
 use Rattle.std.specs.FinMap as map
-use Rattle.std.proofs.lemmas.Map.Lookups.{exact_bytes}
-use Rattle.std.proofs.lemmas.List.{set-get_or, set_split, take_all, drop_all, get_or-drop, length-set, length-drop, take_more, get_or_read}
-use Rattle.std.proofs.lemmas.List.Concat.{flat_map-append}
-use Rattle.std.proofs.lemmas.List.Elements.{All-drop, All-set}
-use Rattle.assise_inode_table.specs.Pieces.{Slot, live, slots_in, links_in, piece_at, slot_name, slot_link, slots_before, slots_behind, Ascend, AreFilled, IsDirectory, IsGapFor, IsPieceFor, StandsAt}
 use Rattle.assise_inode_table.proofs.MapView.{remove-absent}
 use Rattle.assise_inode_table.proofs.KeyOrder.{all_both, all_weaker, below_next, above_head, sorted_left, sorted_right, below_through, turned_back, is_greater}
-use Rattle.assise_inode_table.proofs.LiveSlots.{Parts, live-append, keys-append, parts_of_slot, slot_got, gap_got, slot_linked, gap_linked, slot_unlinked, slot_sorted, gap_sorted, count_linked, count_gone, count_relinked, live_keys, live_count, live_sorted}
+use Rattle.assise_inode_table.proofs.LiveSlots.{Parts, live-append, keys-append, parts_of_slot, slot_got, gap_got, slot_linked, gap_linked, slot_unlinked}
+use Rattle.assise_inode_table.proofs.LiveSlots.{slot_sorted, gap_sorted, count_linked, count_gone, count_relinked, live_keys, live_count, live_sorted}
 
 pub slots-append : (ps qs : List (List Slot)) → slots_in (ps ++ qs) ≡ slots_in ps ++ slots_in qs
 slots-append ps qs = flat_map-append (λ p. p) ps qs
@@ -46,7 +41,8 @@ edited ps w front s back h =
     ∙ ap (λ xs. slots_in (take w ps) ++ xs) (append_assoc front (s ∷ back) rest)
     ∙ sym (append_assoc (slots_in (take w ps)) front (s ∷ (back ++ rest)))
 
-pub inserted_slots : (ps : List (List Slot)) (w at : ℕ) (s : Slot) → w < length ps → slots_in (set ps w (insert (piece_at ps w) at s)) ≡ slots_before ps w at ++ s ∷ slots_behind ps w at
+pub inserted_slots : (ps : List (List Slot)) (w at : ℕ) (s : Slot) → w < length ps → slots_in (set ps w (insert (piece_at ps w) at s))
+    ≡ slots_before ps w at ++ s ∷ slots_behind ps w at
 inserted_slots ps w at s h = edited ps w (take at (piece_at ps w)) s (drop at (piece_at ps w)) h
 
 set_slots : (ps : List (List Slot)) (w at : ℕ) (s : Slot) → w < length ps → at < length (piece_at ps w)
@@ -55,7 +51,8 @@ set_slots ps w at s h k =
     ap (λ p. slots_in (set ps w p)) (set_split (piece_at ps w) at s k) ∙ edited ps w (take at (piece_at ps w)) s (drop (suc at) (piece_at ps w)) h
 
 -- the slots about the one of a name
-old_slots : (name : List ℕ) (ps : List (List Slot)) (w at : ℕ) → StandsAt name ps w at → slots_in ps ≡ slots_before ps w at ++ (name, slot_link (piece_at ps w) at) ∷ slots_behind ps w (suc at)
+old_slots : (name : List ℕ) (ps : List (List Slot)) (w at : ℕ) → StandsAt name ps w at →
+    slots_in ps ≡ slots_before ps w at ++ (name, slot_link (piece_at ps w) at) ∷ slots_behind ps w (suc at)
 old_slots name ps w at is =
     let p = piece_at ps w in
     ap slots_in (sym (set-get_or ps w []))
@@ -64,9 +61,11 @@ old_slots name ps w at is =
     ∙ ap (λ n. slots_before ps w at ++ (n, slot_link p at) ∷ slots_behind ps w (suc at)) is.slot.named
 
 -- ---- what stands before and behind a place
-slot_parts : (name : List ℕ) (ps : List (List Slot)) (w at : ℕ) → Ascend (slots_in ps) → StandsAt name ps w at → Parts (slice_cmp nat_cmp) name (slots_before ps w at) (slots_behind ps w (suc at))
+slot_parts : (name : List ℕ) (ps : List (List Slot)) (w at : ℕ) → Ascend (slots_in ps) → StandsAt name ps w at →
+    Parts (slice_cmp nat_cmp) name (slots_before ps w at) (slots_behind ps w (suc at))
 slot_parts name ps w at s is =
-    parts_of_slot nat_list_cmp_total exact_bytes name (slot_link (piece_at ps w) at) (slots_before ps w at) (slots_behind ps w (suc at)) (subst Ascend (old_slots name ps w at is) s)
+    parts_of_slot nat_list_cmp_total exact_bytes name (slot_link (piece_at ps w) at) (slots_before ps w at) (slots_behind ps w (suc at))
+    (subst Ascend (old_slots name ps w at is) s)
 
 first_of : (p : List Slot) → 0 < length p → p ≡ (slot_name p 0, slot_link p 0) ∷ drop 1 p
 first_of [] h = absurd (omega arith)
@@ -78,8 +77,10 @@ before_first ps w s h filled =
     let p = piece_at ps w in
     let front = slots_in (take w ps) in
     let back = drop 1 p ++ slots_in (drop (suc w) ps) in
-    let parts : slots_in ps ≡ front ++ (slot_name p 0, slot_link p 0) ∷ back = three_parts ps w h ∙ ap (λ q. front ++ (q ++ slots_in (drop (suc w) ps))) (first_of p filled) in
-    below_next (slice_cmp nat_cmp) (keys_of front) (slot_name p 0) (keys_of back) (subst (IsStrictlySortedBy (slice_cmp nat_cmp)) (ap keys_of parts ∙ keys-append front ((slot_name p 0, slot_link p 0) ∷ back)) s)
+    let parts : slots_in ps ≡ front ++ (slot_name p 0, slot_link p 0) ∷ back = three_parts ps w h ∙ ap (λ q. front ++ (q ++ slots_in (drop (suc w) ps)))
+    (first_of p filled) in
+    below_next (slice_cmp nat_cmp) (keys_of front) (slot_name p 0) (keys_of back)
+    (subst (IsStrictlySortedBy (slice_cmp nat_cmp)) (ap keys_of parts ∙ keys-append front ((slot_name p 0, slot_link p 0) ∷ back)) s)
 
 pieces_before : (name : List ℕ) (ps : List (List Slot)) (w : ℕ) → Ascend (slots_in ps) → AreFilled ps → IsPieceFor name ps w
     → AllByRecursion (λ key. slice_cmp nat_cmp key name ≡ Less) (keys_of (slots_in (take w ps)))
@@ -90,12 +91,14 @@ pieces_before name ps (suc w) s filled is =
     (λ key h. below_through nat_list_cmp_total exact_bytes key (slot_name p 0) name h (is.from (omega arith)))
     (before_first ps (suc w) s is.within (filled (suc w) [] is.within))
 
-behind_first : (name : List ℕ) (qs : List (List Slot)) → Ascend (slots_in qs) → AreFilled qs → (0 < length qs → is_gt (slice_cmp nat_cmp (slot_name (piece_at qs 0) 0) name) ≡ true)
+behind_first : (name : List ℕ) (qs : List (List Slot)) → Ascend (slots_in qs) → AreFilled qs →
+    (0 < length qs → is_gt (slice_cmp nat_cmp (slot_name (piece_at qs 0) 0) name) ≡ true)
     → AllByRecursion (λ key. slice_cmp nat_cmp name key ≡ Less) (keys_of (slots_in qs))
 behind_first name [] s filled until = tt
 behind_first name ([] ∷ qs) s filled until = absurd (let h = filled 0 [] (omega arith) in omega arith)
 behind_first name ((slot ∷ q) ∷ qs) s filled until =
-    let first = turned_back nat_list_cmp_total exact_bytes slot.0 name (is_greater nat_list_cmp_total exact_bytes (slice_cmp nat_cmp slot.0 name) (until (omega arith))) in (
+    let first = turned_back nat_list_cmp_total exact_bytes slot.0 name
+    (is_greater nat_list_cmp_total exact_bytes (slice_cmp nat_cmp slot.0 name) (until (omega arith))) in (
       first,
       all_weaker (λ key. slice_cmp nat_cmp slot.0 key ≡ Less) (λ key. slice_cmp nat_cmp name key ≡ Less) (keys_of (q ++ slots_in qs))
           (λ key h. nat_list_cmp_total.trans name slot.0 key first h) (above_head (slice_cmp nat_cmp) slot.0 (keys_of (q ++ slots_in qs)) s),
@@ -107,7 +110,8 @@ pieces_behind name ps w s filled is =
     let qs = drop (suc w) ps in
     let front = slots_in (take w ps) ++ piece_at ps w in
     let parts : slots_in ps ≡ front ++ slots_in qs = three_parts ps w is.within ∙ sym (append_assoc (slots_in (take w ps)) (piece_at ps w) (slots_in qs)) in
-    let ascend : Ascend (slots_in qs) = sorted_right (slice_cmp nat_cmp) (keys_of front) (keys_of (slots_in qs)) (subst (IsStrictlySortedBy (slice_cmp nat_cmp)) (ap keys_of parts ∙ keys-append front (slots_in qs)) s) in
+    let ascend : Ascend (slots_in qs) = sorted_right (slice_cmp nat_cmp) (keys_of front) (keys_of (slots_in qs))
+    (subst (IsStrictlySortedBy (slice_cmp nat_cmp)) (ap keys_of parts ∙ keys-append front (slots_in qs)) s) in
     let next : piece_at qs 0 ≡ piece_at ps (suc w) = get_or-drop (suc w) ps 0 [] ∙ ap (piece_at ps) (add-zero (suc w)) in
     behind_first name qs ascend (All-drop (λ p. 0 < length p) (suc w) ps filled)
     (λ h. ap (λ p. is_gt (slice_cmp nat_cmp (slot_name p 0) name)) next ∙ is.until (omega (arith, h, length-drop (suc w) ps)))
@@ -119,77 +123,109 @@ gap_parts name ps w at s filled is gap =
     record {
       smaller =
           subst (AllByRecursion (λ key. slice_cmp nat_cmp key name ≡ Less)) (sym (keys-append (slots_in (take w ps)) (take at p)))
-          (all_both (λ key. slice_cmp nat_cmp key name ≡ Less) (keys_of (slots_in (take w ps))) (keys_of (take at p)) (pieces_before name ps w s filled is) gap.smaller);
+          (all_both (λ key. slice_cmp nat_cmp key name ≡ Less) (keys_of (slots_in (take w ps))) (keys_of (take at p)) (pieces_before name ps w s filled is)
+          gap.smaller);
       greater =
           subst (AllByRecursion (λ key. slice_cmp nat_cmp name key ≡ Less)) (sym (keys-append (drop at p) (slots_in (drop (suc w) ps))))
-          (all_both (λ key. slice_cmp nat_cmp name key ≡ Less) (keys_of (drop at p)) (keys_of (slots_in (drop (suc w) ps))) gap.greater (pieces_behind name ps w s filled is));
+          (all_both (λ key. slice_cmp nat_cmp name key ≡ Less) (keys_of (drop at p)) (keys_of (slots_in (drop (suc w) ps))) gap.greater
+          (pieces_behind name ps w s filled is));
     }
 
 -- ---- what the directory has at a name
-pub got_slot : (name : List ℕ) (ps : List (List Slot)) (w at : ℕ) → Ascend (slots_in ps) → StandsAt name ps w at → map.get (links_in ps) name ≡ slot_link (piece_at ps w) at
+pub got_slot : (name : List ℕ) (ps : List (List Slot)) (w at : ℕ) → Ascend (slots_in ps) → StandsAt name ps w at → map.get (links_in ps) name
+    ≡ slot_link (piece_at ps w) at
 got_slot name ps w at s is =
     ap (λ slots. map.get (map.from_entries {R = slice_cmp nat_cmp} (live slots)) name) (old_slots name ps w at is)
-    ∙ slot_got nat_list_cmp_total exact_bytes name (slot_link (piece_at ps w) at) (slots_before ps w at) (slots_behind ps w (suc at)) (slot_parts name ps w at s is)
+    ∙ slot_got nat_list_cmp_total exact_bytes name (slot_link (piece_at ps w) at) (slots_before ps w at) (slots_behind ps w (suc at))
+    (slot_parts name ps w at s is)
 
-pub got_none : (name : List ℕ) (ps : List (List Slot)) (w at : ℕ) → Ascend (slots_in ps) → AreFilled ps → IsPieceFor name ps w → IsGapFor name (piece_at ps w) at → map.get (links_in ps) name ≡ None
+pub got_none : (name : List ℕ) (ps : List (List Slot)) (w at : ℕ) → Ascend (slots_in ps) → AreFilled ps → IsPieceFor name ps w →
+    IsGapFor name (piece_at ps w) at → map.get (links_in ps) name ≡ None
 got_none name ps w at s filled is gap =
     ap (λ slots. map.get (map.from_entries {R = slice_cmp nat_cmp} (live slots)) name) (around ps w at is.within)
     ∙ gap_got nat_list_cmp_total exact_bytes name (slots_before ps w at) (slots_behind ps w at) (gap_parts name ps w at s filled is gap)
 
 -- ---- a link under a name that stands there, and a removal
-new_slots : (name : List ℕ) (ps qs : List (List Slot)) (w at : ℕ) (link : Option ℕ) → StandsAt name ps w at → qs ≡ set ps w (set (piece_at ps w) at (slot_name (piece_at ps w) at, link))
+new_slots : (name : List ℕ) (ps qs : List (List Slot)) (w at : ℕ) (link : Option ℕ) → StandsAt name ps w at →
+    qs ≡ set ps w (set (piece_at ps w) at (slot_name (piece_at ps w) at, link))
     → slots_in qs ≡ slots_before ps w at ++ (name, link) ∷ slots_behind ps w (suc at)
 new_slots name ps qs w at link is new =
     ap slots_in new ∙ set_slots ps w at (slot_name (piece_at ps w) at, link) is.within is.slot.within
     ∙ ap (λ n. slots_before ps w at ++ (n, link) ∷ slots_behind ps w (suc at)) is.slot.named
 
 module _ (name : List ℕ) (ps qs : List (List Slot)) (w at : ℕ) (is : StandsAt name ps w at) where
-  pub put_slot : (v : ℕ) → Ascend (slots_in ps) → qs ≡ set ps w (set (piece_at ps w) at (slot_name (piece_at ps w) at, Some v)) → links_in qs ≡ map.insert (links_in ps) name v
+  pub put_slot : (v : ℕ) → Ascend (slots_in ps) → qs ≡ set ps w (set (piece_at ps w) at (slot_name (piece_at ps w) at, Some v)) →
+      links_in qs ≡ map.insert (links_in ps) name v
   put_slot v s new =
       ap (λ slots. map.from_entries {R = slice_cmp nat_cmp} (live slots)) (new_slots name ps qs w at (Some v) is new)
-      ∙ slot_linked nat_list_cmp_total exact_bytes name (slot_link (piece_at ps w) at) v (slots_before ps w at) (slots_behind ps w (suc at)) (slot_parts name ps w at s is)
+      ∙ slot_linked nat_list_cmp_total exact_bytes name (slot_link (piece_at ps w) at) v (slots_before ps w at) (slots_behind ps w (suc at))
+      (slot_parts name ps w at s is)
       ∙ ap (λ slots. map.insert (map.from_entries {R = slice_cmp nat_cmp} (live slots)) name v) (sym (old_slots name ps w at is))
 
-  pub cut_slot : Ascend (slots_in ps) → qs ≡ set ps w (set (piece_at ps w) at (slot_name (piece_at ps w) at, None)) → links_in qs ≡ map.remove (links_in ps) name
+  pub cut_slot : Ascend (slots_in ps) → qs ≡ set ps w (set (piece_at ps w) at (slot_name (piece_at ps w) at, None)) →
+      links_in qs ≡ map.remove (links_in ps) name
   cut_slot s new =
       ap (λ slots. map.from_entries {R = slice_cmp nat_cmp} (live slots)) (new_slots name ps qs w at None is new)
-      ∙ slot_unlinked nat_list_cmp_total exact_bytes name (slot_link (piece_at ps w) at) (slots_before ps w at) (slots_behind ps w (suc at)) (slot_parts name ps w at s is)
+      ∙ slot_unlinked nat_list_cmp_total exact_bytes name (slot_link (piece_at ps w) at) (slots_before ps w at) (slots_behind ps w (suc at))
+      (slot_parts name ps w at s is)
       ∙ ap (λ slots. map.remove (map.from_entries {R = slice_cmp nat_cmp} (live slots)) name) (sym (old_slots name ps w at is))
 
   pub set_ascend : (link : Option ℕ) → Ascend (slots_in ps) → qs ≡ set ps w (set (piece_at ps w) at (slot_name (piece_at ps w) at, link)) → Ascend (slots_in qs)
   set_ascend link s new =
       subst Ascend (sym (new_slots name ps qs w at link is new))
-      (slot_sorted nat_list_cmp_total exact_bytes name (slot_link (piece_at ps w) at) link (slots_before ps w at) (slots_behind ps w (suc at)) (subst Ascend (old_slots name ps w at is) s))
+      (slot_sorted nat_list_cmp_total exact_bytes name (slot_link (piece_at ps w) at) link (slots_before ps w at) (slots_behind ps w (suc at))
+      (subst Ascend (old_slots name ps w at is) s))
 
   pub set_filled : (link : Option ℕ) → AreFilled ps → qs ≡ set ps w (set (piece_at ps w) at (slot_name (piece_at ps w) at, link)) → AreFilled qs
   set_filled link filled new =
       subst AreFilled (sym new)
-      (All-set (λ p. 0 < length p) ps w (set (piece_at ps w) at (slot_name (piece_at ps w) at, link)) (omega (arith, length-set (piece_at ps w) at (slot_name (piece_at ps w) at, link), is.slot.within)) filled)
+      (All-set (λ p. 0 < length p) ps w (set (piece_at ps w) at (slot_name (piece_at ps w) at, link))
+      (omega (arith, length-set (piece_at ps w) at (slot_name (piece_at ps w) at, link), is.slot.within)) filled)
 
   -- how many entries there are then
   pub count_put : (v n : ℕ) → qs ≡ set ps w (set (piece_at ps w) at (slot_name (piece_at ps w) at, Some v)) → slot_link (piece_at ps w) at ≡ None
       → n ≡ length (live (slots_in ps)) → suc n ≡ length (live (slots_in qs))
   count_put v n new none count =
-      let old = ap (λ slots. length (live slots)) (old_slots name ps w at is) ∙ ap (λ l. length (live (slots_before ps w at ++ (name, l) ∷ slots_behind ps w (suc at)))) none in
+      let old = ap (λ slots. length (live slots)) (old_slots name ps w at is)
+      ∙ ap (λ l. length (live (slots_before ps w at ++ (name, l) ∷ slots_behind ps w (suc at)))) none in
       let now = ap (λ slots. length (live slots)) (new_slots name ps qs w at (Some v) is new) in
-      omega (arith, old, now, count, count_gone name (slots_before ps w at) (slots_behind ps w (suc at)), count_linked name v (slots_before ps w at) (slots_behind ps w (suc at)))
+      omega (
+        arith,
+        old,
+        now,
+        count,
+        count_gone name (slots_before ps w at) (slots_behind ps w (suc at)),
+        count_linked name v (slots_before ps w at)
+            (slots_behind ps w (suc at)),
+      )
 
   pub count_kept : (v u n : ℕ) → qs ≡ set ps w (set (piece_at ps w) at (slot_name (piece_at ps w) at, Some v)) → slot_link (piece_at ps w) at ≡ Some u
       → n ≡ length (live (slots_in ps)) → n ≡ length (live (slots_in qs))
   count_kept v u n new some count =
-      let old = ap (λ slots. length (live slots)) (old_slots name ps w at is) ∙ ap (λ l. length (live (slots_before ps w at ++ (name, l) ∷ slots_behind ps w (suc at)))) some in
+      let old = ap (λ slots. length (live slots)) (old_slots name ps w at is)
+      ∙ ap (λ l. length (live (slots_before ps w at ++ (name, l) ∷ slots_behind ps w (suc at)))) some in
       let now = ap (λ slots. length (live slots)) (new_slots name ps qs w at (Some v) is new) in
       omega (arith, old, now, count, count_relinked name u v (slots_before ps w at) (slots_behind ps w (suc at)))
 
   pub count_cut : (u n : ℕ) → qs ≡ set ps w (set (piece_at ps w) at (slot_name (piece_at ps w) at, None)) → slot_link (piece_at ps w) at ≡ Some u
       → n ≡ length (live (slots_in ps)) → n ≡ suc (length (live (slots_in qs)))
   count_cut u n new some count =
-      let old = ap (λ slots. length (live slots)) (old_slots name ps w at is) ∙ ap (λ l. length (live (slots_before ps w at ++ (name, l) ∷ slots_behind ps w (suc at)))) some in
+      let old = ap (λ slots. length (live slots)) (old_slots name ps w at is)
+      ∙ ap (λ l. length (live (slots_before ps w at ++ (name, l) ∷ slots_behind ps w (suc at)))) some in
       let now = ap (λ slots. length (live slots)) (new_slots name ps qs w at None is new) in
-      omega (arith, old, now, count, count_gone name (slots_before ps w at) (slots_behind ps w (suc at)), count_linked name u (slots_before ps w at) (slots_behind ps w (suc at)))
+      omega (
+        arith,
+        old,
+        now,
+        count,
+        count_gone name (slots_before ps w at) (slots_behind ps w (suc at)),
+        count_linked name u (slots_before ps w at)
+            (slots_behind ps w (suc at)),
+      )
 
 -- ---- a new name in a gap
-module _ (name : List ℕ) (v : ℕ) (ps qs : List (List Slot)) (w at : ℕ) (s : Ascend (slots_in ps)) (filled : AreFilled ps) (is : IsPieceFor name ps w) (gap : IsGapFor name (piece_at ps w) at) (new : slots_in qs ≡ slots_before ps w at ++ (name, Some v) ∷ slots_behind ps w at) where
+module _ (name : List ℕ) (v : ℕ) (ps qs : List (List Slot)) (w at : ℕ) (s : Ascend (slots_in ps)) (filled : AreFilled ps) (is : IsPieceFor name ps w)
+    (gap : IsGapFor name (piece_at ps w) at) (new : slots_in qs ≡ slots_before ps w at ++ (name, Some v) ∷ slots_behind ps w at) where
   pub added_links : links_in qs ≡ map.insert (links_in ps) name v
   added_links =
       ap (λ slots. map.from_entries {R = slice_cmp nat_cmp} (live slots)) new
@@ -199,14 +235,22 @@ module _ (name : List ℕ) (v : ℕ) (ps qs : List (List Slot)) (w at : ℕ) (s 
   pub added_ascend : Ascend (slots_in qs)
   added_ascend =
       subst Ascend (sym new)
-      (gap_sorted nat_list_cmp_total exact_bytes name (Some v) (slots_before ps w at) (slots_behind ps w at) (gap_parts name ps w at s filled is gap) (subst Ascend (around ps w at is.within) s))
+      (gap_sorted nat_list_cmp_total exact_bytes name (Some v) (slots_before ps w at) (slots_behind ps w at) (gap_parts name ps w at s filled is gap)
+      (subst Ascend (around ps w at is.within) s))
 
   pub added_count : (n : ℕ) → n ≡ length (live (slots_in ps)) → suc n ≡ length (live (slots_in qs))
   added_count n count =
-      omega (arith, count, ap (λ slots. length (live slots)) new, ap (λ slots. length (live slots)) (around ps w at is.within), count_linked name v (slots_before ps w at) (slots_behind ps w at))
+      omega (
+        arith,
+        count,
+        ap (λ slots. length (live slots)) new,
+        ap (λ slots. length (live slots)) (around ps w at is.within),
+        count_linked name v (slots_before ps w at) (slots_behind ps w at),
+      )
 
 -- a piece of its own, behind a piece of which none stands behind the name
-pub begun_behind : (ps : List (List Slot)) (w n at : ℕ) (s : Slot) → w < length ps → n ≡ w + 1 → length (piece_at ps w) ≤ at → slots_in (insert ps n (s ∷ [])) ≡ slots_before ps w at ++ s ∷ slots_behind ps w at
+pub begun_behind : (ps : List (List Slot)) (w n at : ℕ) (s : Slot) → w < length ps → n ≡ w + 1 → length (piece_at ps w) ≤ at → slots_in (insert ps n (s ∷ []))
+    ≡ slots_before ps w at ++ s ∷ slots_behind ps w at
 begun_behind ps w n at s h e full =
     let p = piece_at ps w in
     subst (λ m. slots_in (insert ps m (s ∷ [])) ≡ slots_before ps w at ++ s ∷ slots_behind ps w at) (sym e)
@@ -230,7 +274,8 @@ module _ (name : List ℕ) (ps : List (List Slot)) (w at : ℕ) (is : StandsAt n
   pub link_read : (link : Option ℕ) → link ≡ slot_link p at → link ≡ slot_link (piece_at ps w) at
   link_read link h = h ∙ ap (λ q. slot_link q at) (read_piece ps w p is.within e)
 
-  pub link_set : (q : List Slot) (link : Option ℕ) → q ≡ set p at (slot_name p at, link) → set ps w q ≡ set ps w (set (piece_at ps w) at (slot_name (piece_at ps w) at, link))
+  pub link_set : (q : List Slot) (link : Option ℕ) → q ≡ set p at (slot_name p at, link) →
+      set ps w q ≡ set ps w (set (piece_at ps w) at (slot_name (piece_at ps w) at, link))
   link_set q link h = ap (set ps w) (h ∙ ap (λ r. set r at (slot_name r at, link)) (read_piece ps w p is.within e))
 
 pub listed_pieces : (ps : List (List Slot)) (i : ℕ) (p : List Slot) → i < length ps → p ≡ get_or ps i p
@@ -260,8 +305,10 @@ piece_ascend ps w h s =
     let front = slots_in (take w ps) in
     let back = slots_in (drop (suc w) ps) in
     let p = piece_at ps w in
-    let keys : keys_of (slots_in ps) ≡ keys_of front ++ (keys_of p ++ keys_of back) = ap keys_of (three_parts ps w h) ∙ keys-append front (p ++ back) ∙ ap (λ ks. keys_of front ++ ks) (keys-append p back) in
-    sorted_left (slice_cmp nat_cmp) (keys_of p) (keys_of back) (sorted_right (slice_cmp nat_cmp) (keys_of front) (keys_of p ++ keys_of back) (subst (IsStrictlySortedBy (slice_cmp nat_cmp)) keys s))
+    let keys : keys_of (slots_in ps) ≡ keys_of front ++ (keys_of p ++ keys_of back) = ap keys_of (three_parts ps w h) ∙ keys-append front (p ++ back)
+    ∙ ap (λ ks. keys_of front ++ ks) (keys-append p back) in
+    sorted_left (slice_cmp nat_cmp) (keys_of p) (keys_of back)
+    (sorted_right (slice_cmp nat_cmp) (keys_of front) (keys_of p ++ keys_of back) (subst (IsStrictlySortedBy (slice_cmp nat_cmp)) keys s))
 
 -- a name without an entry
 pub remove_none : (m : Links) (name : List ℕ) → map.get m name ≡ None → m ≡ map.remove m name
@@ -285,7 +332,8 @@ one_entry name v = record { ascend = (tt, tt); filled = λ k d h. one k d h; cou
     one (suc k) d h = absurd (omega arith)
 
 -- an entry more, where the one that stood there was gone
-pub count_any : (name : List ℕ) (ps qs : List (List Slot)) (w at : ℕ) → StandsAt name ps w at → (v n more : ℕ) → qs ≡ set ps w (set (piece_at ps w) at (slot_name (piece_at ps w) at, Some v))
+pub count_any : (name : List ℕ) (ps qs : List (List Slot)) (w at : ℕ) → StandsAt name ps w at → (v n more : ℕ) →
+    qs ≡ set ps w (set (piece_at ps w) at (slot_name (piece_at ps w) at, Some v))
     → more ≡ cond (is_none (slot_link (piece_at ps w) at)) 1 0 → n ≡ length (live (slots_in ps)) → n + more ≡ length (live (slots_in qs))
 count_any name ps qs w at is v n more new e count = go (slot_link (piece_at ps w) at) refl
   where

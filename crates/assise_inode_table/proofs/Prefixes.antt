@@ -1,10 +1,7 @@
 -- Paths that begin with a prefix.
-use Rattle.std.proofs.Common.{◌≡◌, ◌≢◌, ℕ, Bool, true, false, cond, List, [], ◌∷◌, ◌++◌, Option, Some, None, refl, sym, ap, ◌∙◌}
-use Rattle.std.proofs.lemmas.Bool.{false≢true}
+use Rattle.assise_inode_table.proofs.Common.{◌≡◌, ◌≢◌, ℕ, Bool, true, false, cond, List, [], ◌∷◌, ◌++◌, Option, Some, None, refl, sym, ap, ◌∙◌, false≢true}
+use Rattle.assise_inode_table.proofs.Common.{same_name, same_itself, one_name, Path}
 use Rattle.std.proofs.lemmas.List.{append-nil}
-use Rattle.assise_seq_tree.specs.Tree.{same_name}
-use Rattle.assise_seq_tree.proofs.Sets.{same_itself, one_name}
-use Rattle.assise_seq_tree.proofs.Moves.{Path}
 
 pub two_names : (x n : List ℕ) → same_name x n ≡ false → x ≢ n
 two_names x n e h = false≢true (sym e ∙ ap (λ m. same_name m n) h ∙ same_itself n)

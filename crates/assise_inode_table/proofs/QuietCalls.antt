@@ -1,16 +1,7 @@
 -- The calls that change nothing agree with the tree: stat, read, list and fsync.
-use Rattle.std.proofs.Common.{ℕ, [], length, refl}
+use Rattle.assise_inode_table.proofs.Common.{ℕ, [], length, refl, Done, Bytes, Names, File, Dir, Error, NotDir, IsDir, bytes_from, Tree, read_answer}
+use Rattle.assise_inode_table.proofs.Common.{list_answer, stat_answer, Path, Values, finish, read_call, list_call, stat_call, Spells}
 use Rattle.std.specs.FinMap as map
-use Rattle.assise_names.specs.declared.reply.Reply.TheVariants.{Done, Bytes, Names, File, Dir, Error}
-use Rattle.assise_names.specs.declared.reply.TreeError.TheVariants.{NotDir, IsDir}
-use Rattle.assise_seq_tree.specs.Contents.{bytes_from}
-use Rattle.assise_seq_tree.specs.Tree.{Tree}
-use Rattle.assise_seq_tree.specs.Answer.{read_answer, list_answer, stat_answer}
-use Rattle.assise_seq_tree.proofs.Moves.{Path}
-use Rattle.assise_inode_table.specs.Contents.{Values}
-use Rattle.assise_inode_table.specs.Interaction.{finish}
-use Rattle.assise_inode_table.specs.Calls.{read_call, list_call, stat_call}
-use Rattle.assise_inode_table.specs.Spelled.{Spells}
 use Rattle.assise_inode_table.proofs.CallsAgree.{Agrees, agrees_quietly}
 use Rattle.assise_inode_table.proofs.WalkMeets.{settled, walk_fails, walk_to_file, walk_to_directory, Meets, nothing, a_file, a_directory, meets, same_count}
 
@@ -23,7 +14,8 @@ stat_agrees v t p fresh s = go (meets v t p s)
     go (a_directory d) =
         agrees_quietly v t fresh _ _ (Dir (length (map.keys d.links))) s (walk_to_directory v t p _ d) (rw (d.there, same_count d.entries d.links d.names) refl)
 
-pub read_agrees : (v : Values) (t : Tree) (p : Path) (offset most fresh : ℕ) → Spells v t → Agrees v fresh (settled v (read_call p offset most)) (read_answer t p offset most)
+pub read_agrees : (v : Values) (t : Tree) (p : Path) (offset most fresh : ℕ) → Spells v t → Agrees v fresh (settled v (read_call p offset most))
+    (read_answer t p offset most)
 read_agrees v t p offset most fresh s = go (meets v t p s)
   where
     go : Meets v t p → Agrees v fresh (settled v (read_call p offset most)) (read_answer t p offset most)

@@ -1,19 +1,9 @@
 -- What an inode that is reached spells: the tree at its path.
-use Rattle.std.proofs.Common.{◌≡◌, ℕ, true, List, [], ◌∷◌, Option, Some, None, IsSome, is_some, Result, Ok, refl, sym, ap, subst, ◌∙◌}
-use Rattle.std.specs.Prelude.{ok_or}
-use Rattle.std.specs.List.{list_any}
+use Rattle.assise_inode_table.proofs.Common.{◌≡◌, ℕ, true, List, [], ◌∷◌, Option, Some, None, IsSome, is_some, Result, Ok, refl, sym, ap, subst, ◌∙◌, ok_or}
+use Rattle.assise_inode_table.proofs.Common.{list_any, false≢true, TreeError, NoEnt, Tree, file, dir, Entries, same_name, find, at, names_of, ◌>>=◌, at_step}
+use Rattle.assise_inode_table.proofs.Common.{Path, then_ok, Content, regular, directory, Links, Values, children, reach, link_of, Shape, folder, shape_of}
+use Rattle.assise_inode_table.proofs.Common.{shape_of_tree, shown_in, SpellsFrom}
 use Rattle.std.specs.FinMap as map
-use Rattle.std.proofs.lemmas.Bool.{false≢true}
-use Rattle.assise_names.specs.declared.reply.TreeError.{TreeError}
-use Rattle.assise_names.specs.declared.reply.TreeError.TheVariants.{NoEnt}
-use Rattle.assise_seq_tree.specs.Tree.{Tree, file, dir, Entries, same_name, find, at, names_of}
-use Rattle.assise_seq_tree.specs.Answer.{◌>>=◌}
-use Rattle.assise_seq_tree.proofs.TreePut.{at_step}
-use Rattle.assise_seq_tree.proofs.Moves.{Path}
-use Rattle.assise_seq_tree.proofs.Checks.{then_ok}
-use Rattle.assise_inode_table.specs.Contents.{Content, regular, directory, Links, Values}
-use Rattle.assise_inode_table.specs.Reach.{children, reach, link_of, Shape, folder, shape_of, shape_of_tree, shown_in}
-use Rattle.assise_inode_table.specs.Spelled.{SpellsFrom}
 use Rattle.assise_inode_table.proofs.DirectoryNames.{is_some-find}
 use Rattle.assise_inode_table.proofs.PathReach.{once_child, Away}
 use Rattle.assise_inode_table.proofs.TreeShows.{shown_here, shown_dir, shown_below}
@@ -68,7 +58,8 @@ child v r t name k s e = go t refl (sym (ap shape_of l.is) ∙ shape_here v r t 
     go (file bytes) is f = cc
     go (dir es) is f =
         let names : map.keys l.links ≡ names_of es = cc in
-        let there = some_is (find name es) (is_some-find name es ∙ ap (list_any (same_name name)) (sym names) ∙ sym (map.contains_key-keys l.links name) ∙ ap is_some l.got) in
+        let there = some_is (find name es) (is_some-find name es ∙ ap (list_any (same_name name)) (sym names) ∙ sym (map.contains_key-keys l.links name)
+        ∙ ap is_some l.got) in
         record { entries = es; subtree = there.0; is = is; found = there.1; spells = below es there.0 is there.1 }
 
 -- ---- a path

@@ -1,23 +1,12 @@
 -- The calls that take an entry out agree with the tree: unlink and rmdir.
-use Rattle.std.proofs.Common.{◌≡◌, ℕ, arith, false, ◌==◌, List, [], ◌∷◌, ◌++◌, length, Result, Ok, refl, sym, subst, ◌∙◌, inl, inr}
-use Rattle.std.proofs.lemmas.Bool.{cases_Bool, eq-eqb, ne_eqb, eqb-true, eqb-false}
-use Rattle.std.proofs.lemmas.List.{nil_from_length}
+use Rattle.assise_inode_table.proofs.Common.{◌≡◌, ℕ, arith, false, ◌==◌, List, [], ◌∷◌, ◌++◌, length, Result, Ok, refl, sym, subst, ◌∙◌, inl, inr, cases_Bool}
+use Rattle.assise_inode_table.proofs.Common.{eq-eqb, ne_eqb, eqb-true, eqb-false, nil_from_length, Reply, Done, Error, TreeError, IsDir, NotDir, NotEmpty}
+use Rattle.assise_inode_table.proofs.Common.{Invalid, Effect, Unlink, Free, Tree, without, ◌>>=◌, parent_of, last_name, file_at, entries_at, reply_and_tree}
+use Rattle.assise_inode_table.proofs.Common.{unlink_answer, rmdir_answer, Path, parent_and_last, Content, regular, directory, Values, after, Interaction}
+use Rattle.assise_inode_table.proofs.Common.{finish, then_or_error, as_regular, as_links, without_links, walk_to_entry, unlink_call, rmdir_call, children}
+use Rattle.assise_inode_table.proofs.Common.{Spells}
 use Rattle.std.specs.FinMap as map
-use Rattle.assise_names.specs.declared.reply.Reply.{Reply}
-use Rattle.assise_names.specs.declared.reply.Reply.TheVariants.{Done, Error}
-use Rattle.assise_names.specs.declared.reply.TreeError.{TreeError}
-use Rattle.assise_names.specs.declared.reply.TreeError.TheVariants.{IsDir, NotDir, NotEmpty, Invalid}
-use Rattle.assise_record.specs.declared.effect.Effect.{Effect}
-use Rattle.assise_record.specs.declared.effect.Effect.TheVariants.{Unlink, Free}
-use Rattle.assise_seq_tree.specs.Tree.{Tree, without}
-use Rattle.assise_seq_tree.specs.Answer.{◌>>=◌, parent_of, last_name, file_at, entries_at, vacant as empty, reply_and_tree, unlink_answer, rmdir_answer}
-use Rattle.assise_seq_tree.proofs.Moves.{Path, parent_and_last}
-use Rattle.assise_inode_table.specs.Contents.{Content, regular, directory, Values}
-use Rattle.assise_inode_table.specs.Effects.{after}
-use Rattle.assise_inode_table.specs.Interaction.{Interaction, finish}
-use Rattle.assise_inode_table.specs.Calls.{then_or_error, as_regular, as_links, without_links, walk_to_entry, unlink_call, rmdir_call}
-use Rattle.assise_inode_table.specs.Reach.{children}
-use Rattle.assise_inode_table.specs.Spelled.{Spells}
+use Rattle.assise_seq_tree.specs.Answer.{vacant as empty}
 use Rattle.assise_inode_table.proofs.CallsAgree.{Agrees, agrees, agrees_quietly}
 use Rattle.assise_inode_table.proofs.EntryFreed.{freed}
 use Rattle.assise_inode_table.proofs.Leaves.{LeadsNowhere, file_nowhere, vacant_nowhere}
@@ -66,13 +55,15 @@ module _ (v : Values) (t : Tree) (p : Path) (name : List ℕ) (fresh : ℕ) (s :
     where
       file_goes : (f : FindsFile v t (p ++ name ∷ [])) (h : HasEntry v p name f.inode) → Agrees v fresh (settled v (walk_to_entry p name take_file)) unlinked
       file_goes f h =
-          agrees v fresh _ _ Done (taken_out h.parent name f.inode) (without t (p ++ name ∷ [])) (walk_finds_entry v p name f.inode (regular f.bytes) take_file h f.holds) (rw f.there refl)
+          agrees v fresh _ _ Done (taken_out h.parent name f.inode) (without t (p ++ name ∷ []))
+          (walk_finds_entry v p name f.inode (regular f.bytes) take_file h f.holds) (rw f.there refl)
           (λ n. entry_gone f.inode h (file_nowhere v f.inode f.bytes f.holds))
 
       go : Meets v t (p ++ name ∷ []) → Agrees v fresh (settled v (walk_to_entry p name take_file)) unlinked
       go (nothing e f a) = agrees_quietly v t fresh _ _ (Error e) s (walk_fails_entry v p name e take_file f) (rw a refl)
       go (a_file f) = file_goes f (entry_at v p name f.inode f.reached)
-      go (a_directory d) = agrees_quietly v t fresh _ _ (Error IsDir) s (walk_finds_entry v p name d.inode (directory d.links) take_file (entry_at v p name d.inode d.reached) d.holds) (rw d.there refl)
+      go (a_directory d) = agrees_quietly v t fresh _ _ (Error IsDir) s
+          (walk_finds_entry v p name d.inode (directory d.links) take_file (entry_at v p name d.inode d.reached) d.holds) (rw d.there refl)
 
   -- ---- rmdir
 
@@ -86,7 +77,8 @@ module _ (v : Values) (t : Tree) (p : Path) (name : List ℕ) (fresh : ℕ) (s :
   unfolding take_directory removed
   rmdir_below = go (meets v t (p ++ name ∷ []) s)
     where
-      directory_goes : (d : FindsDirectory v t (p ++ name ∷ [])) (h : HasEntry v p name d.inode) → Agrees v fresh (settled v (walk_to_entry p name take_directory)) removed
+      directory_goes : (d : FindsDirectory v t (p ++ name ∷ [])) (h : HasEntry v p name d.inode) →
+          Agrees v fresh (settled v (walk_to_entry p name take_directory)) removed
       directory_goes d h =
           let ends = walk_finds_entry v p name d.inode (directory d.links) take_directory h d.holds in
           let many = same_count d.entries d.links d.names in
@@ -99,7 +91,8 @@ module _ (v : Values) (t : Tree) (p : Path) (name : List ℕ) (fresh : ℕ) (s :
 
       go : Meets v t (p ++ name ∷ []) → Agrees v fresh (settled v (walk_to_entry p name take_directory)) removed
       go (nothing e f a) = agrees_quietly v t fresh _ _ (Error e) s (walk_fails_entry v p name e take_directory f) (rw a refl)
-      go (a_file f) = agrees_quietly v t fresh _ _ (Error NotDir) s (walk_finds_entry v p name f.inode (regular f.bytes) take_directory (entry_at v p name f.inode f.reached) f.holds) (rw f.there refl)
+      go (a_file f) = agrees_quietly v t fresh _ _ (Error NotDir) s
+          (walk_finds_entry v p name f.inode (regular f.bytes) take_directory (entry_at v p name f.inode f.reached) f.holds) (rw f.there refl)
       go (a_directory d) = directory_goes d (entry_at v p name d.inode d.reached)
 
 -- ---- the root has no entry

@@ -1,33 +1,23 @@
 -- A rename over inodes agrees with a rename of the tree.
-use Rattle.std.proofs.Common.{◌≡◌, ◌≢◌, ℕ, Bool, false, cond, ◌==◌, ◌||◌, nat_le, List, [], ◌∷◌, ◌++◌, length, Option, Some, None, is_some, Result, Ok, Err, refl, ap, sym, subst, ◌∙◌, inl, inr}
-use Rattle.std.specs.Prelude.{ok_or, if◌then◌else◌}
-use Rattle.std.proofs.lemmas.Bool.{cases_Bool, eqb-true, or_parts}
-use Rattle.std.proofs.lemmas.List.{append_assoc, append-nil, nil_from_length}
+use Rattle.assise_inode_table.proofs.Common.{◌≡◌, ◌≢◌, ℕ, Bool, false, cond, ◌==◌, ◌||◌, nat_le, List, [], ◌∷◌, ◌++◌, length, Option, Some, None, is_some}
+use Rattle.assise_inode_table.proofs.Common.{Result, Ok, Err, refl, ap, sym, subst, ◌∙◌, inl, inr, ok_or, cases_Bool, eqb-true, or_parts, nil_from_length}
+use Rattle.assise_inode_table.proofs.Common.{is_proper_prefix, same_path, Reply, Done, Error, TreeError, NoEnt, NotDir, Invalid, DirFull, Effect, Unlink, Free}
+use Rattle.assise_inode_table.proofs.Common.{Tree, file, dir, Entries, find, names_of, at, put, without, ◌>>=◌, parent_of, last_name, as_directory, entries_at}
+use Rattle.assise_inode_table.proofs.Common.{may_receive, tree_may_replace, reply_and_tree, tree_after_rename, rename_answer, Path, Disjoint, same_is}
+use Rattle.assise_inode_table.proofs.Common.{not_begins, Content, regular, directory, Links, Values, after, finish, then_or_error, content_may_replace}
+use Rattle.assise_inode_table.proofs.Common.{without_links, move_effects, move_to, receive, replace_target, room_beside, walk_to_entry, rename_call, children}
+use Rattle.assise_inode_table.proofs.Common.{reach, link_of, Spells}
+use Rattle.std.specs.Prelude.{if◌then◌else◌}
+use Rattle.std.proofs.lemmas.List.{append_assoc, append-nil}
 use Rattle.std.specs.FinMap as map
-use Rattle.assise_names.specs.Path.{is_proper_prefix, same_path}
-use Rattle.assise_names.specs.declared.reply.Reply.{Reply}
-use Rattle.assise_names.specs.declared.reply.Reply.TheVariants.{Done, Error}
-use Rattle.assise_names.specs.declared.reply.TreeError.{TreeError}
-use Rattle.assise_names.specs.declared.reply.TreeError.TheVariants.{NoEnt, NotDir, Invalid, DirFull}
-use Rattle.assise_record.specs.declared.effect.Effect.{Effect}
-use Rattle.assise_record.specs.declared.effect.Effect.TheVariants.{Unlink, Free}
-use Rattle.assise_seq_tree.specs.Tree.{Tree, file, dir, Entries, find, names_of, at, put, without}
-use Rattle.assise_seq_tree.specs.Answer.{◌>>=◌, parent_of, last_name, as_directory, entries_at, may_receive, may_replace as tree_may_replace, reply_and_tree, tree_after_rename, rename_answer}
-use Rattle.assise_seq_tree.proofs.Moves.{Path, Disjoint}
 use Rattle.assise_seq_tree.proofs.Paths.{disjoint_from}
-use Rattle.assise_seq_tree.proofs.Checks.{same_is, not_begins}
 use Rattle.assise_seq_tree.proofs.MovedTreeRoom.{entry_there}
-use Rattle.assise_inode_table.specs.Contents.{Content, regular, directory, Links, Values}
-use Rattle.assise_inode_table.specs.Effects.{after}
-use Rattle.assise_inode_table.specs.Interaction.{finish}
-use Rattle.assise_inode_table.specs.Calls.{then_or_error, content_may_replace, without_links, move_effects, move_to, receive, replace_target, room_beside, walk_to_entry, rename_call}
-use Rattle.assise_inode_table.specs.Reach.{children, reach, link_of}
-use Rattle.assise_inode_table.specs.Spelled.{Spells}
 use Rattle.assise_inode_table.proofs.CallsAgree.{Agrees, agrees, agrees_quietly}
 use Rattle.assise_inode_table.proofs.EntryReplaced.{displaced_spells}
 use Rattle.assise_inode_table.proofs.Prefixes.{past, past-Some}
 use Rattle.assise_inode_table.proofs.Leaves.{LeadsNowhere, ends, file_nowhere, vacant_nowhere}
-use Rattle.assise_inode_table.proofs.WalkMeets.{settled, walk_fails, walk_to_file, walk_to_directory, Meets, nothing, a_file, a_directory, FindsDirectory, meets, same_count}
+use Rattle.assise_inode_table.proofs.WalkMeets.{settled, walk_fails, walk_to_file, walk_to_directory, Meets, nothing, a_file, a_directory, FindsDirectory}
+use Rattle.assise_inode_table.proofs.WalkMeets.{meets, same_count}
 use Rattle.assise_inode_table.proofs.MeetingEntries.{HasEntry, entry_at, walk_finds_entry, walk_fails_entry}
 use Rattle.assise_inode_table.proofs.EntryMoved.{moved_spells}
 use Rattle.assise_inode_table.proofs.DirectoryNames.{same_found}
@@ -62,7 +52,8 @@ replaced_nowhere v g (directory ks) (directory links) holds may = vacant_nowhere
 
 -- ---- a rename of paths that have a last name, of which the first is no proper prefix of the second
 
-module _ (v : Values) (t : Tree) (p q : Path) (fresh : ℕ) (s : Spells v t) (from_whole : p ≡ parent_of p ++ last_name p ∷ []) (to_whole : q ≡ parent_of q ++ last_name q ∷ [])
+module _ (v : Values) (t : Tree) (p q : Path) (fresh : ℕ) (s : Spells v t) (from_whole : p ≡ parent_of p ++ last_name p ∷ [])
+    (to_whole : q ≡ parent_of q ++ last_name q ∷ [])
     (ring : is_proper_prefix p q ≡ false) where
   abbrev stays : Bool
   stays = same_path (parent_of p) (parent_of q)
@@ -91,7 +82,8 @@ module _ (v : Values) (t : Tree) (p q : Path) (fresh : ℕ) (s : Spells v t) (fr
           (to_whole ∙ ap (λ x. x ++ last_name q ∷ []) (past-Some p (parent_of q) rest is) ∙ append_assoc p rest (last_name q ∷ [])))
 
   -- ---- inode i with its content c, the entry of p, spells the tree m there
-  module _ (i : ℕ) (c : Content) (m : Tree) (h : HasEntry v (parent_of p) (last_name p) i) (holds : v i ≡ Some c) (reached : reach (children v) 0 p ≡ Ok i) (there : at t p ≡ Ok m)
+  module _ (i : ℕ) (c : Content) (m : Tree) (h : HasEntry v (parent_of p) (last_name p) i) (holds : v i ≡ Some c) (reached : reach (children v) 0 p ≡ Ok i)
+      (there : at t p ≡ Ok m)
       (kind : SameKind c m) where
     module _ (d : FindsDirectory v t (parent_of q)) (other : same_path p q ≡ false) where
       abbrev moves : List Effect
@@ -111,10 +103,12 @@ module _ (v : Values) (t : Tree) (p q : Path) (fresh : ℕ) (s : Spells v t) (fr
       placed none =
           subst (λ x. Spells (after v moves) (put (without t x) q m)) (sym from_whole)
           (subst (λ y. Spells (after v moves) (put (without t (parent_of p ++ last_name p ∷ [])) y m)) (sym to_whole)
-          (moved_spells v t m h.parent d.inode i (parent_of p) (parent_of q) (last_name p) (last_name q) h.links d.links s h.reached h.holds h.present (ap (at t) (sym from_whole) ∙ there)
+          (moved_spells v t m h.parent d.inode i (parent_of p) (parent_of q) (last_name p) (last_name q) h.links d.links s h.reached h.holds h.present
+          (ap (at t) (sym from_whole) ∙ there)
           d.reached d.holds none (outside other)))
 
-      received_new : map.get d.links (last_name q) ≡ None → (r : Result (Unit {0}) TreeError) → room_beside stays d.links ≡ r → may_receive m stays d.entries None ≡ r →
+      received_new : map.get d.links (last_name q) ≡ None → (r : Result (Unit {0}) TreeError) → room_beside stays d.links ≡ r →
+          may_receive m stays d.entries None ≡ r →
           Agrees v fresh (settled v (then_or_error r (λ _. finish Done moves))) (answer_by (Ok m) r)
       received_new none (Ok x) is too = agrees v fresh _ _ Done moves moved_tree refl (answered (Ok x) refl) (λ n. placed none)
       received_new none (Err e) is too = agrees_quietly v t fresh _ _ (Error e) s refl (refused (Err e) e refl)
@@ -158,7 +152,8 @@ module _ (v : Values) (t : Tree) (p q : Path) (fresh : ℕ) (s : Spells v t) (fr
         not_below : LeadsNowhere (children v) g → (rest : Path) → p ≡ q ++ rest → ⊥
         not_below nowhere rest e =
             let way : reach (children v) g rest ≡ Ok i =
-            sym (reach-append (children v) 0 (parent_of q ++ last_name q ∷ []) rest g goal_reached) ∙ ap (λ x. reach (children v) 0 (x ++ rest)) (sym to_whole) ∙ ap (reach (children v) 0) (sym e) ∙ reached in
+            sym (reach-append (children v) 0 (parent_of q ++ last_name q ∷ []) rest g goal_reached) ∙ ap (λ x. reach (children v) 0 (x ++ rest)) (sym to_whole)
+            ∙ ap (reach (children v) 0) (sym e) ∙ reached in
             let none : rest ≡ [] = ends (children v) g nowhere rest i way in
             differ other (e ∙ ap (λ x. q ++ x) none ∙ append-nil q)
 
@@ -166,22 +161,27 @@ module _ (v : Values) (t : Tree) (p q : Path) (fresh : ℕ) (s : Spells v t) (fr
         displaced nowhere =
             let a : Disjoint p q = disjoint_from p q (not_below nowhere) (no_ring other) in
             let b : Disjoint q p = disjoint_from q p (no_ring other) (not_below nowhere) in
-            let c : Disjoint (parent_of p ++ last_name p ∷ []) (parent_of q ++ last_name q ∷ []) = subst (λ x. Disjoint x (parent_of q ++ last_name q ∷ [])) from_whole (subst (Disjoint p) to_whole a) in
-            let e : Disjoint (parent_of q ++ last_name q ∷ []) (parent_of p ++ last_name p ∷ []) = subst (λ x. Disjoint x (parent_of p ++ last_name p ∷ [])) to_whole (subst (Disjoint q) from_whole b) in
+            let c : Disjoint (parent_of p ++ last_name p ∷ []) (parent_of q ++ last_name q ∷ []) = subst (λ x. Disjoint x (parent_of q ++ last_name q ∷ []))
+            from_whole (subst (Disjoint p) to_whole a) in
+            let e : Disjoint (parent_of q ++ last_name q ∷ []) (parent_of p ++ last_name p ∷ []) = subst (λ x. Disjoint x (parent_of p ++ last_name p ∷ []))
+            to_whole (subst (Disjoint q) from_whole b) in
             subst (λ x. Spells (after v replacing) (put (without t x) q m)) (sym from_whole)
             (subst (λ y. Spells (after v replacing) (put (without t (parent_of p ++ last_name p ∷ [])) y m)) (sym to_whole)
-            (displaced_spells v t m h.parent d.inode i g (parent_of p) (parent_of q) (last_name p) (last_name q) h.links d.links s h.reached h.holds h.present (ap (at t) (sym from_whole) ∙ there)
+            (displaced_spells v t m h.parent d.inode i g (parent_of p) (parent_of q) (last_name p) (last_name q) h.links d.links s h.reached h.holds h.present
+            (ap (at t) (sym from_whole) ∙ there)
             d.reached d.holds target nowhere c e (outside other)))
 
         replaced_by : (r : Result (Unit {0}) TreeError) → content_may_replace c seen.content ≡ r → tree_may_replace m u ≡ r →
             Agrees v fresh (settled v (then_or_error r (λ _. finish Done replacing))) (answer_by (Ok m) r)
-        replaced_by (Ok x) is too = agrees v fresh _ _ Done replacing moved_tree refl (answered (Ok x) refl) (λ n. displaced (replaced_nowhere v g c seen.content seen.is is))
+        replaced_by (Ok x) is too = agrees v fresh _ _ Done replacing moved_tree refl (answered (Ok x) refl)
+            (λ n. displaced (replaced_nowhere v g c seen.content seen.is is))
         replaced_by (Err e) is too = agrees_quietly v t fresh _ _ (Error e) s refl (refused (Err e) e refl)
 
         received_over : Agrees v fresh (settled v (replace_target c d.inode (last_name q) moves g)) (answer_by (Ok m) (may_receive m stays d.entries (Some u)))
         received_over =
             let same = same_replacing c seen.content m u kind seen.alike in
-            let at_target : settled v (replace_target c d.inode (last_name q) moves g) ≡ settled v (then_or_error (content_may_replace c seen.content) (λ _. finish Done replacing)) =
+            let at_target : settled v (replace_target c d.inode (last_name q) moves g)
+            ≡ settled v (then_or_error (content_may_replace c seen.content) (λ _. finish Done replacing)) =
             ap (λ o. settled v (then_or_error (ok_or o NoEnt) (λ x. then_or_error (content_may_replace c x) (λ _. finish Done replacing)))) seen.is in
             subst (λ o. Agrees v fresh o (answer_by (Ok m) (tree_may_replace m u))) (sym at_target)
             (subst (λ r. Agrees v fresh (settled v (then_or_error (content_may_replace c seen.content) (λ _. finish Done replacing))) (answer_by (Ok m) r)) same
@@ -199,19 +199,26 @@ module _ (v : Values) (t : Tree) (p q : Path) (fresh : ℕ) (s : Spells v t) (fr
     goes : Agrees v fresh (settled v (move_to p q h.parent i c)) (answer_by (Ok m) (entries_at t (parent_of q) >>= entered m))
     goes = go (meets v t (parent_of q) s)
       where
-        into : (d : FindsDirectory v t (parent_of q)) → Agrees v fresh (settled v (move_to p q h.parent i c)) (answer_by (Ok m) (entries_at t (parent_of q) >>= entered m))
+        into : (d : FindsDirectory v t (parent_of q)) → Agrees v fresh (settled v (move_to p q h.parent i c))
+            (answer_by (Ok m) (entries_at t (parent_of q) >>= entered m))
         into d =
             let way = walk_to_directory v t (parent_of q) _ d in
             elim (cases_Bool (same_path p q)) [
               | inl same ↦ agrees_quietly v t fresh _ _ Done s (way ∙ rw same refl) (rw (d.there, same) refl)
               | inr other ↦
-                  let done = received d other (map.get d.links (last_name q)) (find (last_name q) d.entries) refl refl (same_found d.entries d.links d.names (last_name q)) in
-                  let ends : settled v (move_to p q h.parent i c) ≡ settled v (receive c stays d.inode d.links (last_name q) (move_effects h.parent (last_name p) d.inode (last_name q) i) (map.get d.links (last_name q))) =
+                  let done = received d other (map.get d.links (last_name q)) (find (last_name q) d.entries) refl refl
+                  (same_found d.entries d.links d.names (last_name q)) in
+                  let ends : settled v (move_to p q h.parent i c)
+                  ≡ settled v (receive c stays d.inode d.links (last_name q) (move_effects h.parent (last_name p) d.inode (last_name q) i)
+                  (map.get d.links (last_name q))) =
                   way ∙ rw other refl in
                   let inside : (entries_at t (parent_of q) >>= entered m) ≡ may_receive m stays d.entries (find (last_name q) d.entries) =
-                  ap (λ o. (o >>= as_directory) >>= entered m) d.there ∙ ap (λ b. cond b (Ok tt) (may_receive m stays d.entries (find (last_name q) d.entries))) other in
+                  ap (λ o. (o >>= as_directory) >>= entered m) d.there ∙ ap (λ b. cond b (Ok tt) (may_receive m stays d.entries (find (last_name q) d.entries)))
+                  other in
                   subst (λ o. Agrees v fresh o (answer_by (Ok m) (entries_at t (parent_of q) >>= entered m))) (sym ends)
-                  (subst (λ r. Agrees v fresh (settled v (receive c stays d.inode d.links (last_name q) (move_effects h.parent (last_name p) d.inode (last_name q) i) (map.get d.links (last_name q)))) (answer_by (Ok m) r)) (sym inside) done)
+                  (subst (λ r. Agrees v fresh (settled v
+                  (receive c stays d.inode d.links (last_name q) (move_effects h.parent (last_name p) d.inode (last_name q) i)
+                  (map.get d.links (last_name q)))) (answer_by (Ok m) r)) (sym inside) done)
             ]
 
         go : Meets v t (parent_of q) → Agrees v fresh (settled v (move_to p q h.parent i c)) (answer_by (Ok m) (entries_at t (parent_of q) >>= entered m))
@@ -229,16 +236,20 @@ module _ (v : Values) (t : Tree) (p q : Path) (fresh : ℕ) (s : Spells v t) (fr
       path : {A : Type 0} (f : Path → A) → f p ≡ f (parent_of p ++ last_name p ∷ [])
       path f = ap f from_whole
 
-      into : (i : ℕ) (c : Content) (m : Tree) → reach (children v) 0 (parent_of p ++ last_name p ∷ []) ≡ Ok i → v i ≡ Some c → at t (parent_of p ++ last_name p ∷ []) ≡ Ok m → SameKind c m →
+      into : (i : ℕ) (c : Content) (m : Tree) → reach (children v) 0 (parent_of p ++ last_name p ∷ []) ≡ Ok i → v i ≡ Some c →
+          at t (parent_of p ++ last_name p ∷ []) ≡ Ok m → SameKind c m →
           Agrees v fresh (settled v (walk_to_entry (parent_of p) (last_name p) (move_to p q))) (answer_by (at t p) checked)
       into i c m reached holds there kind =
           let h : HasEntry v (parent_of p) (last_name p) i = entry_at v (parent_of p) (last_name p) i reached in
           let at_path : at t p ≡ Ok m = path (at t) ∙ there in
           let done = goes i c m h holds (path (reach (children v) 0) ∙ reached) at_path kind in
-          subst (λ o. Agrees v fresh o (answer_by (at t p) checked)) (sym (walk_finds_entry v (parent_of p) (last_name p) i c (move_to p q) h holds)) (rw at_path done)
+          subst (λ o. Agrees v fresh o (answer_by (at t p) checked)) (sym (walk_finds_entry v (parent_of p) (last_name p) i c (move_to p q) h holds))
+          (rw at_path done)
 
-      go : Meets v t (parent_of p ++ last_name p ∷ []) → Agrees v fresh (settled v (walk_to_entry (parent_of p) (last_name p) (move_to p q))) (answer_by (at t p) checked)
-      go (nothing e f a) = agrees_quietly v t fresh _ _ (Error e) s (walk_fails_entry v (parent_of p) (last_name p) e (move_to p q) f) (let none : at t p ≡ Err e = path (at t) ∙ a in rw none refl)
+      go : Meets v t (parent_of p ++ last_name p ∷ []) → Agrees v fresh (settled v (walk_to_entry (parent_of p) (last_name p) (move_to p q)))
+          (answer_by (at t p) checked)
+      go (nothing e f a) = agrees_quietly v t fresh _ _ (Error e) s (walk_fails_entry v (parent_of p) (last_name p) e (move_to p q) f)
+          (let none : at t p ≡ Err e = path (at t) ∙ a in rw none refl)
       go (a_file f) = into f.inode (regular f.bytes) (file f.bytes) f.reached f.holds f.there (files f.bytes refl refl)
       go (a_directory d) = into d.inode (directory d.links) (dir d.entries) d.reached d.holds d.there (directories d.links d.entries refl refl d.names)
 
@@ -247,7 +258,8 @@ rename_agrees v t p q fresh s =
     elim (cases_Bool ((length p == 0) || (length q == 0))) [
       | inl root ↦ agrees_quietly v t fresh (settled v (rename_call p q)) (rename_answer t p q) (Error Invalid) s (rw root refl) (rw root refl)
       | inr deep ↦ elim (cases_Bool (is_proper_prefix p q)) [
-        | inl ring ↦ agrees_quietly v t fresh (settled v (rename_call p q)) (rename_answer t p q) (Error Invalid) s (rw (deep, ring) refl) (rw (deep, ring) refl)
+        | inl ring ↦ agrees_quietly v t fresh (settled v (rename_call p q)) (rename_answer t p q) (Error Invalid) s (rw (deep, ring) refl)
+            (rw (deep, ring) refl)
         | inr free ↦
             let names = or_parts (length p == 0) (length q == 0) deep in
             let below = rename_below v t p q fresh s (whole p names.0) (whole q names.1) free in

@@ -1,14 +1,9 @@
 -- What is spelled is ordered, and one tree.
-use Rattle.std.proofs.Common.{◌≡◌, ℕ, Bool, true, false, cond, List, [], ◌∷◌, Option, Some, None, Result, Ok, Err, refl, sym, ap, subst, ◌∙◌}
+use Rattle.assise_inode_table.proofs.Common.{◌≡◌, ℕ, Bool, true, false, cond, List, [], ◌∷◌, Option, Some, None, Result, Ok, Err, refl, sym, ap, subst, ◌∙◌}
+use Rattle.assise_inode_table.proofs.Common.{TreeError, Tree, file, dir, Entries, no_entries, entry, same_name, find, IsBelow, IsOrdered, AreOrdered, names_of}
+use Rattle.assise_inode_table.proofs.Common.{◌>>=◌, one_name, find_below, find_first, found_later, Path, Content, regular, directory, Values, children, reach}
+use Rattle.assise_inode_table.proofs.Common.{Shape, folder, shape_of, shown_from, shown_in, SpellsFrom}
 use Rattle.std.specs.FinMap as map
-use Rattle.assise_names.specs.declared.reply.TreeError.{TreeError}
-use Rattle.assise_seq_tree.specs.Tree.{Tree, file, dir, Entries, no_entries, entry, same_name, find, IsBelow, IsOrdered, AreOrdered, names_of}
-use Rattle.assise_seq_tree.specs.Answer.{◌>>=◌}
-use Rattle.assise_seq_tree.proofs.Sets.{one_name, find_below, find_first, found_later}
-use Rattle.assise_seq_tree.proofs.Moves.{Path}
-use Rattle.assise_inode_table.specs.Contents.{Content, regular, directory, Values}
-use Rattle.assise_inode_table.specs.Reach.{children, reach, Shape, folder, shape_of, shown_from, shown_in}
-use Rattle.assise_inode_table.specs.Spelled.{SpellsFrom}
 use Rattle.assise_inode_table.proofs.DirectoryNames.{Ascend, names_below, ascend-keys}
 use Rattle.assise_inode_table.proofs.TreeShows.{shown_here, shown_dir, shown_below}
 
@@ -21,7 +16,8 @@ ShowsAscending shown = (p : Path) (names : List (List ℕ)) → shown p ≡ Ok (
 mutual
   ordered_tree : (t : Tree) → ShowsAscending (shown_in t) → IsOrdered t
   ordered_tree (file bytes) h = tt
-  ordered_tree (dir es) h = ordered_entries es (h [] (names_of es) (shown_here (dir es))) (λ q u there p names e. h (q ∷ p) names (shown_dir es q p ∙ ap (shown_below p) there ∙ e))
+  ordered_tree (dir es) h = ordered_entries es (h [] (names_of es) (shown_here (dir es)))
+      (λ q u there p names e. h (q ∷ p) names (shown_dir es q p ∙ ap (shown_below p) there ∙ e))
 
   ordered_entries : (es : Entries) → Ascend (names_of es) → ((q : List ℕ) (u : Tree) → find q es ≡ Some u → ShowsAscending (shown_in u)) → AreOrdered es
   ordered_entries no_entries ascend h = tt

@@ -1,16 +1,10 @@
 -- A tree that stands apart is linked into a directory.
-use Rattle.std.proofs.Common.{◌≡◌, ℕ, Bool, true, false, cond, List, [], ◌∷◌, ◌++◌, Some, is_some, Ok, Err, refl, sym, ap, subst, ◌∙◌, ◌⊎◌, inl, inr}
-use Rattle.std.specs.Prelude.{ok_or}
-use Rattle.std.specs.Cmp.Lexicographic.{nat_list_cmp_total}
+use Rattle.assise_inode_table.proofs.Common.{◌≡◌, ℕ, Bool, true, false, cond, List, [], ◌∷◌, ◌++◌, Some, is_some, Ok, Err, refl, sym, ap, subst, ◌∙◌, ◌⊎◌, inl}
+use Rattle.assise_inode_table.proofs.Common.{inr, ok_or, nat_list_cmp_total, NoEnt, Tree, dir, Entries, same_name, find, put, IsOrdered, AreOrdered, names_of}
+use Rattle.assise_inode_table.proofs.Common.{◌>>=◌, same_itself, one_name, find-set, ordered-set, Path, Links, Values, children, reach, link_of, ReachesOnce}
+use Rattle.assise_inode_table.proofs.Common.{SpellsFrom, ShareNone, AddsLink}
 use Rattle.std.specs.FinMap as map
-use Rattle.assise_names.specs.declared.reply.TreeError.TheVariants.{NoEnt}
-use Rattle.assise_seq_tree.specs.Tree.{Tree, dir, Entries, same_name, find, set, put, IsOrdered, AreOrdered, names_of}
-use Rattle.assise_seq_tree.specs.Answer.{◌>>=◌}
-use Rattle.assise_seq_tree.proofs.Sets.{same_itself, one_name, find-set, ordered-set}
-use Rattle.assise_seq_tree.proofs.Moves.{Path}
-use Rattle.assise_inode_table.specs.Contents.{Links, Values}
-use Rattle.assise_inode_table.specs.Reach.{children, reach, link_of}
-use Rattle.assise_inode_table.specs.Spelled.{ReachesOnce, SpellsFrom, ShareNone, AddsLink}
+use Rattle.assise_seq_tree.specs.Tree.{set}
 use Rattle.assise_inode_table.proofs.PathReach.{reach-append, once_below, Away, away_keeps, same_reach, same_shown}
 use Rattle.assise_inode_table.proofs.TreeShows.{put_entry}
 use Rattle.assise_inode_table.proofs.DirectoryNames.{names_are_keys, same_found}
@@ -19,7 +13,8 @@ use Rattle.assise_inode_table.proofs.ReachedSpelling.{Directory, directory_at}
 use Rattle.assise_inode_table.proofs.EntryRelinked.{Relinks, relinked, relinked_shows}
 use Rattle.assise_inode_table.proofs.InodeRegrown.{IsOwn, regrown, inside, still_reached}
 
-links_more : (v w : Values) (d : ℕ) (name : List ℕ) (i : ℕ) (links : Links) → AddsLink v w d name i links → Relinks v w d name links (map.insert links name i) (Some i)
+links_more : (v w : Values) (d : ℕ) (name : List ℕ) (i : ℕ) (links : Links) → AddsLink v w d name i links → Relinks v w d name links (map.insert links name i)
+    (Some i)
 links_more v w d name i links a = record { old = a.before; now = a.after; gets = λ x. map.get-insert nat_list_cmp_total links name i x; others = a.others }
 
 names_more : (es : Entries) (links : Links) (name : List ℕ) (u : Tree) (i : ℕ) → AreOrdered es → IsOrdered u → names_of es ≡ map.keys links
@@ -81,7 +76,8 @@ module _ (v w : Values) (r d i : ℕ) (t u : Tree) (p : Path) (name : List ℕ) 
 
   spells_here : SpellsFrom w d (dir (set name u place.entries))
   spells_here = record {
-    shows = relinked_shows v w d name links (map.insert links name i) (Some i) change once_here place.entries (set name u place.entries) (Some u) place.spells.shows
+    shows = relinked_shows v w d name links (map.insert links name i) (Some i) change once_here place.entries (set name u place.entries) (Some u)
+        place.spells.shows
         (λ x. find-set x name u place.entries) (names_more place.entries links name u i ordered_here (spelled_is_ordered v i u held) place.names)
         (λ q. same_shown v w q i (away_keeps v w d i a.others far) ∙ held.shows q);
     once = once_after;
@@ -114,7 +110,8 @@ module _ (v w : Values) (r d i : ℕ) (t u : Tree) (p : Path) (name : List ℕ) 
       go false f = e
 
   pub old_reached : (j : ℕ) (q : Path) → reach (children v) r q ≡ Ok j → (b : Path) × (reach (children w) r b ≡ Ok j)
-  old_reached j q e = still_reached v w r d t (dir place.entries) (dir (set name u place.entries)) p s parent place.place a.others spells_here own j q e (still_below j)
+  old_reached j q e = still_reached v w r d t (dir place.entries) (dir (set name u place.entries)) p s parent place.place a.others spells_here own j q e
+      (still_below j)
 
   pub held_reached : (j : ℕ) (q : Path) → reach (children v) i q ≡ Ok j → (b : Path) × (reach (children w) r b ≡ Ok j)
   held_reached j q e = (

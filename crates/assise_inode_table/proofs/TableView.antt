@@ -1,15 +1,10 @@
 -- A map of inodes, of which an effect changes one.
-use Rattle.std.proofs.Common.{◌≡◌, ℕ, List, Option, Some, None, IsSome, Result, Ok, Err, OnErr, option_map, cond, nat_eq, refl, sym, ap, subst, ◌∙◌}
+use Rattle.assise_inode_table.proofs.Common.{◌≡◌, ℕ, List, Option, Some, None, IsSome, Result, Ok, Err, OnErr, cond, nat_eq, refl, sym, ap, subst, ◌∙◌}
+use Rattle.assise_inode_table.proofs.Common.{nat_cmp_total, lookup, exact_unsigned, Effect, NewFile, NewDir, Write, SetLen, Link, Unlink, Free, touched_by}
+use Rattle.assise_inode_table.proofs.Common.{Content, InodeMap, changed, with_value, applied}
+use Rattle.std.proofs.Common.{option_map}
 use Rattle.std.specs.Ordering.{nat_cmp}
-use Rattle.std.specs.Cmp.{nat_cmp_total}
-use Rattle.std.specs.Map.{lookup}
-use Rattle.std.proofs.lemmas.Map.Lookups.{exact_unsigned}
 use Rattle.std.specs.FinMap as map
-use Rattle.assise_record.specs.declared.effect.Effect.{Effect}
-use Rattle.assise_record.specs.declared.effect.Effect.TheVariants.{NewFile, NewDir, Write, SetLen, Link, Unlink, Free}
-use Rattle.assise_record.specs.Touched.{touched_by}
-use Rattle.assise_inode_table.specs.Contents.{Content, InodeMap}
-use Rattle.assise_inode_table.specs.Effects.{changed, with_value, applied}
 use Rattle.assise_inode_table.proofs.MapView.{remove-absent, get-numbers, insert-numbers}
 
 -- what a look-up in the table found is what the map has

@@ -1,15 +1,9 @@
 -- What a tree shows once something is put into it or taken out.
-use Rattle.std.proofs.Common.{◌≡◌, ℕ, Bool, true, false, cond, List, [], ◌∷◌, ◌++◌, Option, Some, None, Result, Ok, Err, refl, sym, ap, subst, ◌∙◌}
-use Rattle.std.specs.Prelude.{unwrap_or}
-use Rattle.std.specs.Option.{option_map_or}
-use Rattle.assise_names.specs.declared.reply.TreeError.{TreeError}
-use Rattle.assise_names.specs.declared.reply.TreeError.TheVariants.{NoEnt}
-use Rattle.assise_seq_tree.specs.Tree.{Tree, file, dir, Entries, no_entries, entry, same_name, find, replace, set, remove, at, put, without, names_of}
-use Rattle.assise_seq_tree.specs.Answer.{◌>>=◌}
-use Rattle.assise_seq_tree.proofs.TreePut.{put_step, at_step}
-use Rattle.assise_seq_tree.proofs.Sets.{one_name}
-use Rattle.assise_seq_tree.proofs.Moves.{Path, find_replace_there}
-use Rattle.assise_inode_table.specs.Reach.{Shape, folder, shape_of_tree, shown_in}
+use Rattle.assise_inode_table.proofs.Common.{◌≡◌, ℕ, Bool, true, false, cond, List, [], ◌∷◌, ◌++◌, Option, Some, None, Result, Ok, Err, refl, sym, ap, subst}
+use Rattle.assise_inode_table.proofs.Common.{◌∙◌, unwrap_or, option_map_or, TreeError, NoEnt, Tree, file, dir, Entries, no_entries, entry, same_name, find}
+use Rattle.assise_inode_table.proofs.Common.{replace, remove, at, put, without, names_of, ◌>>=◌, put_step, at_step, one_name, Path, find_replace_there, Shape}
+use Rattle.assise_inode_table.proofs.Common.{folder, shape_of_tree, shown_in}
+use Rattle.assise_seq_tree.specs.Tree.{set}
 use Rattle.assise_inode_table.proofs.Prefixes.{past}
 
 -- ---- one step
@@ -73,9 +67,11 @@ replaced_child name p es c y there ih [] =
 replaced_child name p es c y there ih (x ∷ q) =
     shown_dir (replace name (put c p y) es) x q ∙ ap (shown_below q) (find_replace_there x name (put c p y) c es there) ∙ turn (same_name x name) refl
   where
-    turn : (b : Bool) → same_name x name ≡ b → shown_below q (cond b (Some (put c p y)) (find x es)) ≡ option_map_or (λ rest. shown_in y rest) (cond b (past p q) None) (shown_in (dir es) (x ∷ q))
+    turn : (b : Bool) → same_name x name ≡ b → shown_below q (cond b (Some (put c p y)) (find x es)) ≡ option_map_or (λ rest. shown_in y rest)
+        (cond b (past p q) None) (shown_in (dir es) (x ∷ q))
     turn true e =
-        ih q ∙ ap (option_map_or (λ rest. shown_in y rest) (past p q)) (sym (shown_dir es x q ∙ ap (shown_below q) (ap (λ n. find n es) (one_name x name e) ∙ there)))
+        ih q ∙ ap (option_map_or (λ rest. shown_in y rest) (past p q))
+        (sym (shown_dir es x q ∙ ap (shown_below q) (ap (λ n. find n es) (one_name x name e) ∙ there)))
     turn false e = sym (shown_dir es x q)
 
 pub shown-put : (p : Path) (t found y : Tree) → at t p ≡ Ok found → (q : Path) → shown_in (put t p y) q ≡ replaced p t y q

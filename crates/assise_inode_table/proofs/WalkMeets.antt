@@ -1,19 +1,9 @@
 -- What a walk meets over inodes that spell a tree is what stands in the tree.
-use Rattle.std.proofs.Common.{◌≡◌, ℕ, List, [], ◌∷◌, length, Option, Some, None, Result, Ok, Err, refl, ap, sym, ◌∙◌, arith}
-use Rattle.std.specs.Prelude.{ok_or}
+use Rattle.assise_inode_table.proofs.Common.{◌≡◌, ℕ, List, [], ◌∷◌, length, Option, Some, None, Result, Ok, Err, refl, ap, sym, ◌∙◌, arith, ok_or, Reply, Error}
+use Rattle.assise_inode_table.proofs.Common.{TreeError, NoEnt, Effect, Tree, file, dir, Entries, no_entries, entry, count, at, names_of, ◌>>=◌, Content}
+use Rattle.assise_inode_table.proofs.Common.{regular, directory, Links, Values, Interaction, reply_of, effects_of, then_or_error, walk_from, walk, link_of}
+use Rattle.assise_inode_table.proofs.Common.{children, reach, shape_of, shape_of_tree, Spells}
 use Rattle.std.specs.FinMap as map
-use Rattle.assise_names.specs.declared.reply.Reply.{Reply}
-use Rattle.assise_names.specs.declared.reply.Reply.TheVariants.{Error}
-use Rattle.assise_names.specs.declared.reply.TreeError.{TreeError}
-use Rattle.assise_names.specs.declared.reply.TreeError.TheVariants.{NoEnt}
-use Rattle.assise_record.specs.declared.effect.Effect.{Effect}
-use Rattle.assise_seq_tree.specs.Tree.{Tree, file, dir, Entries, no_entries, entry, count, at, names_of}
-use Rattle.assise_seq_tree.specs.Answer.{◌>>=◌}
-use Rattle.assise_inode_table.specs.Contents.{Content, regular, directory, Links, Values}
-use Rattle.assise_inode_table.specs.Interaction.{Interaction, reply_of, effects_of}
-use Rattle.assise_inode_table.specs.Calls.{then_or_error, walk_from, walk}
-use Rattle.assise_inode_table.specs.Reach.{link_of, children, reach, shape_of, shape_of_tree}
-use Rattle.assise_inode_table.specs.Spelled.{Spells}
 
 -- ---- how a walk ends
 
@@ -24,23 +14,29 @@ settled v x = (reply_of v x, effects_of v x)
 abbrev pub found : Values → ℕ → List (List ℕ) → Result (ℕ × Content) TreeError
 found v i p = reach (children v) i p >>= λ j. ok_or (v j) NoEnt >>= λ c. Ok (j, c)
 
-walk_ends : (v : Values) (i : ℕ) (p : List (List ℕ)) (next : ℕ → Content → Interaction) → settled v (walk_from i p next) ≡ settled v (then_or_error (found v i p) (λ f. next f.0 f.1))
+walk_ends : (v : Values) (i : ℕ) (p : List (List ℕ)) (next : ℕ → Content → Interaction) → settled v (walk_from i p next)
+    ≡ settled v (then_or_error (found v i p) (λ f. next f.0 f.1))
 walk_ends v i [] next = go (v i)
   where
-    go : (o : Option Content) → settled v (then_or_error (ok_or o NoEnt) (λ c. next i c)) ≡ settled v (then_or_error {A = ℕ × Content} (ok_or o NoEnt >>= λ c. Ok (i, c)) (λ f. next f.0 f.1))
+    go : (o : Option Content) → settled v (then_or_error (ok_or o NoEnt) (λ c. next i c))
+        ≡ settled v (then_or_error {A = ℕ × Content} (ok_or o NoEnt >>= λ c. Ok (i, c)) (λ f. next f.0 f.1))
     go None = refl
     go (Some c) = refl
 walk_ends v i (name ∷ p) next = go (λ j. walk_ends v j p next) (link_of (v i) name)
   where
     go : ((j : ℕ) → settled v (walk_from j p next) ≡ settled v (then_or_error (found v j p) (λ f. next f.0 f.1))) → (r : Result ℕ TreeError) →
-        settled v (then_or_error r (λ j. walk_from j p next)) ≡ settled v (then_or_error {A = ℕ × Content} ((r >>= λ j. reach (children v) j p) >>= λ j. ok_or (v j) NoEnt >>= λ c. Ok (j, c)) (λ f. next f.0 f.1))
+        settled v (then_or_error r (λ j. walk_from j p next))
+        ≡ settled v (then_or_error {A = ℕ × Content} ((r >>= λ j. reach (children v) j p) >>= λ j. ok_or (v j) NoEnt >>= λ c. Ok (j, c))
+        (λ f. next f.0 f.1))
     go ends (Ok j) = ends j
     go ends (Err e) = refl
 
-pub walk_fails : (v : Values) (p : List (List ℕ)) (next : ℕ → Content → Interaction) (e : TreeError) → found v 0 p ≡ Err e → settled v (walk p next) ≡ (Error e, [])
+pub walk_fails : (v : Values) (p : List (List ℕ)) (next : ℕ → Content → Interaction) (e : TreeError) → found v 0 p ≡ Err e →
+    settled v (walk p next) ≡ (Error e, [])
 walk_fails v p next e f = walk_ends v 0 p next ∙ ap (λ r. settled v (then_or_error r (λ f. next f.0 f.1))) f
 
-pub walk_finds : (v : Values) (p : List (List ℕ)) (next : ℕ → Content → Interaction) (j : ℕ) (c : Content) → found v 0 p ≡ Ok (j, c) → settled v (walk p next) ≡ settled v (next j c)
+pub walk_finds : (v : Values) (p : List (List ℕ)) (next : ℕ → Content → Interaction) (j : ℕ) (c : Content) → found v 0 p ≡ Ok (j, c) →
+    settled v (walk p next) ≡ settled v (next j c)
 walk_finds v p next j c f = walk_ends v 0 p next ∙ ap (λ r. settled v (then_or_error r (λ f. next f.0 f.1))) f
 
 -- ---- what it finds
@@ -69,7 +65,8 @@ pub data Meets (v : Values) (t : Tree) (p : List (List ℕ)) : Type 0 where
 pub found_there : (v : Values) (p : List (List ℕ)) (j : ℕ) (c : Content) → reach (children v) 0 p ≡ Ok j → v j ≡ Some c → found v 0 p ≡ Ok (j, c)
 found_there v p j c r h = ap (λ o. o >>= λ j. ok_or (v j) NoEnt >>= λ c. Ok (j, c)) r ∙ ap (λ o. ok_or o NoEnt >>= λ c. Ok (j, c)) h
 
-meets_at : (v : Values) (t : Tree) (p : List (List ℕ)) (j : ℕ) → reach (children v) 0 p ≡ Ok j → (o : Option Content) → v j ≡ o → (a : Result Tree TreeError) → at t p ≡ a →
+meets_at : (v : Values) (t : Tree) (p : List (List ℕ)) (j : ℕ) → reach (children v) 0 p ≡ Ok j → (o : Option Content) → v j ≡ o → (a : Result Tree TreeError) →
+    at t p ≡ a →
     shape_of o ≡ (a >>= λ u. Ok (shape_of_tree u)) → Meets v t p
 meets_at v t p j r None h (Err e) is link =
     let one : NoEnt ≡ e = cc in
@@ -98,10 +95,12 @@ meets v t p s = meets_by v t p (reach (children v) 0 p) refl (at t p) refl (s.tr
 
 -- ---- the walk to what it finds
 
-pub walk_to_file : (v : Values) (t : Tree) (p : List (List ℕ)) (next : ℕ → Content → Interaction) (f : FindsFile v t p) → settled v (walk p next) ≡ settled v (next f.inode (regular f.bytes))
+pub walk_to_file : (v : Values) (t : Tree) (p : List (List ℕ)) (next : ℕ → Content → Interaction) (f : FindsFile v t p) →
+    settled v (walk p next) ≡ settled v (next f.inode (regular f.bytes))
 walk_to_file v t p next f = walk_finds v p next f.inode (regular f.bytes) (found_there v p f.inode (regular f.bytes) f.reached f.holds)
 
-pub walk_to_directory : (v : Values) (t : Tree) (p : List (List ℕ)) (next : ℕ → Content → Interaction) (d : FindsDirectory v t p) → settled v (walk p next) ≡ settled v (next d.inode (directory d.links))
+pub walk_to_directory : (v : Values) (t : Tree) (p : List (List ℕ)) (next : ℕ → Content → Interaction) (d : FindsDirectory v t p) →
+    settled v (walk p next) ≡ settled v (next d.inode (directory d.links))
 walk_to_directory v t p next d = walk_finds v p next d.inode (directory d.links) (found_there v p d.inode (directory d.links) d.reached d.holds)
 
 -- ---- names of a directory

@@ -1,16 +1,8 @@
 -- The effects of a call can be made all or none.
-use Rattle.std.proofs.Common.{ℕ, ◌==◌, List, [], ◌∷◌, length, refl, inl, inr}
-use Rattle.std.proofs.lemmas.Bool.{cond_both}
-use Rattle.assise_names.specs.declared.call.Op.{Op}
-use Rattle.assise_names.specs.declared.call.Op.TheVariants.{Create, Mkdir, Read, Write as WriteCall, Truncate, Rename, Unlink as UnlinkCall, Rmdir, List as ListCall, Stat, Fsync, Dsync}
-use Rattle.assise_names.specs.declared.reply.Reply.{Reply}
-use Rattle.assise_record.specs.declared.effect.Effect.{Effect}
-use Rattle.assise_record.specs.declared.effect.Effect.TheVariants.{Write, Link, Unlink, Free}
-use Rattle.assise_seq_tree.specs.Answer.{last_name}
-use Rattle.assise_inode_table.specs.Calls.{step}
-use Rattle.assise_inode_table.specs.Contents.{Values}
+use Rattle.assise_inode_table.proofs.Common.{ℕ, ◌==◌, List, [], ◌∷◌, length, refl, inl, inr, cond_both, Op, Create, Mkdir, Read, WriteCall, Truncate, Rename}
+use Rattle.assise_inode_table.proofs.Common.{UnlinkCall, Rmdir, ListCall, Stat, Fsync, Dsync, Reply, Effect, Write, Link, Unlink, Free, last_name, step, Values}
+use Rattle.assise_inode_table.proofs.Common.{CanBeMadeWhole}
 use Rattle.assise_inode_table.proofs.CallEnds.{HoldsWhereDone, call_ends}
-use Rattle.assise_inode_table.specs.Whole.{CanBeMadeWhole}
 
 abbrev IsWhole : Reply → List Effect → Type 0
 IsWhole reply es = CanBeMadeWhole es
@@ -25,7 +17,14 @@ whole_where_done (Truncate p size) fresh = λ i. inr (inl tt)
 whole_where_done (Rename p q) fresh = (
   inr (inl tt),
   λ d e i. inr (inr (record { before = Unlink d (last_name p) ∷ []; last = Link e (last_name q) i; are = refl; take_away = (tt, tt); links = refl })),
-  λ d e i g. inr (inr (record { before = Unlink e (last_name q) ∷ Free g ∷ Unlink d (last_name p) ∷ []; last = Link e (last_name q) i; are = refl; take_away = (tt, (tt, (tt, tt))); links = refl })),
+  λ d e i g. inr (inr (record {
+    before = Unlink e (last_name q) ∷ Free g ∷ Unlink d (last_name p) ∷ [];
+    last = Link e (last_name q) i;
+    are = refl;
+    take_away =
+        (tt, (tt, (tt, tt)));
+    links = refl;
+  })),
 )
 whole_where_done (UnlinkCall p) fresh = λ d i. inr (inl (tt, tt))
 whole_where_done (Rmdir p) fresh = λ d i. inr (inl (tt, tt))

@@ -1,26 +1,18 @@
 -- The calls that change the bytes of a file agree with the tree: write and truncate.
-use Rattle.std.proofs.Common.{ℕ, if◌then◌else◌, nat_le, ◌==◌, List, [], ◌∷◌, length, refl, sym, ◌∙◌, inl, inr}
-use Rattle.std.proofs.lemmas.Bool.{cases_Bool, eq-eqb, ne_eqb}
-use Rattle.assise_names.specs.declared.reply.Reply.TheVariants.{Done, Error}
-use Rattle.assise_names.specs.declared.reply.TreeError.TheVariants.{IsDir, TooBig}
-use Rattle.assise_record.specs.declared.effect.Effect.TheVariants.{Write, SetLen}
-use Rattle.assise_seq_tree.specs.Contents.{overwritten, is_within, resized}
-use Rattle.assise_seq_tree.specs.Tree.{Tree, file, put}
-use Rattle.assise_seq_tree.specs.Answer.{tree_after_write, write_answer, truncate_answer}
-use Rattle.assise_seq_tree.proofs.Moves.{Path}
-use Rattle.assise_inode_table.specs.Contents.{Values}
-use Rattle.assise_inode_table.specs.Effects.{after}
-use Rattle.assise_inode_table.specs.Interaction.{finish}
-use Rattle.assise_inode_table.specs.Calls.{then_or_error, as_regular, write_effects, write_call, truncate_call}
-use Rattle.assise_inode_table.specs.Spelled.{Spells}
+use Rattle.assise_inode_table.proofs.Common.{ℕ, if◌then◌else◌, nat_le, ◌==◌, List, [], ◌∷◌, length, refl, sym, ◌∙◌, inl, inr, cases_Bool, eq-eqb, ne_eqb, Done}
+use Rattle.assise_inode_table.proofs.Common.{Error, IsDir, TooBig, Write, SetLen, overwritten, is_within, resized, Tree, file, put, tree_after_write}
+use Rattle.assise_inode_table.proofs.Common.{write_answer, truncate_answer, Path, Values, after, finish, then_or_error, as_regular, write_effects, write_call}
+use Rattle.assise_inode_table.proofs.Common.{truncate_call, Spells}
 use Rattle.assise_inode_table.proofs.CallsAgree.{Agrees, agrees, agrees_quietly}
 use Rattle.assise_inode_table.proofs.FileRewritten.{file_rewritten}
 use Rattle.assise_inode_table.proofs.WalkMeets.{settled, walk_fails, walk_to_file, walk_to_directory, Meets, nothing, a_file, a_directory, FindsFile, meets}
 
 module _ (v : Values) (t : Tree) (p : Path) (offset : ℕ) (new : List ℕ) (fresh : ℕ) (s : Spells v t) where
-  written : (f : FindsFile v t p) → Spells (after v (Write f.inode (record { offset = offset; bytes = new }) ∷ [])) (put t p (file (overwritten f.bytes offset new)))
+  written : (f : FindsFile v t p) → Spells (after v (Write f.inode (record { offset = offset; bytes = new }) ∷ []))
+      (put t p (file (overwritten f.bytes offset new)))
   written f =
-      file_rewritten v (after v (Write f.inode (record { offset = offset; bytes = new }) ∷ [])) t p f.inode f.bytes (overwritten f.bytes offset new) s f.reached f.holds
+      file_rewritten v (after v (Write f.inode (record { offset = offset; bytes = new }) ∷ [])) t p f.inode f.bytes (overwritten f.bytes offset new) s f.reached
+      f.holds
       (rw (eq-eqb f.inode f.inode refl, f.holds) refl) (λ j differs. rw (ne_eqb f.inode j (λ e. differs (sym e))) refl)
 
   write_spells : (f : FindsFile v t p) → Spells (after v (write_effects f.inode offset new)) (tree_after_write t p offset new f.bytes)
@@ -32,9 +24,11 @@ module _ (v : Values) (t : Tree) (p : Path) (offset : ℕ) (new : List ℕ) (fre
 
   write_file : (f : FindsFile v t p) → Agrees v fresh (settled v (write_call p offset new)) (write_answer t p offset new)
   write_file f =
-      let ends = walk_to_file v t p (λ i c. then_or_error (as_regular c) (λ _. if is_within offset new then finish Done (write_effects i offset new) else finish (Error TooBig) [])) f in
+      let ends = walk_to_file v t p
+      (λ i c. then_or_error (as_regular c) (λ _. if is_within offset new then finish Done (write_effects i offset new) else finish (Error TooBig) [])) f in
       elim (cases_Bool (is_within offset new)) [
-        | inl fits ↦ agrees v fresh _ _ Done (write_effects f.inode offset new) (tree_after_write t p offset new f.bytes) (ends ∙ rw fits refl) (rw (f.there, fits) refl) (λ n. write_spells f)
+        | inl fits ↦ agrees v fresh _ _ Done (write_effects f.inode offset new) (tree_after_write t p offset new f.bytes) (ends ∙ rw fits refl)
+            (rw (f.there, fits) refl) (λ n. write_spells f)
         | inr big ↦ agrees_quietly v t fresh _ _ (Error TooBig) s (ends ∙ rw big refl) (rw (f.there, big) refl)
       ]
 
@@ -54,9 +48,11 @@ module _ (v : Values) (t : Tree) (p : Path) (size fresh : ℕ) (s : Spells v t) 
 
   truncate_file : (f : FindsFile v t p) → Agrees v fresh (settled v (truncate_call p size)) (truncate_answer t p size)
   truncate_file f =
-      let ends = walk_to_file v t p (λ i c. then_or_error (as_regular c) (λ _. if nat_le size 1048576 then finish Done (SetLen i size ∷ []) else finish (Error TooBig) [])) f in
+      let ends = walk_to_file v t p
+      (λ i c. then_or_error (as_regular c) (λ _. if nat_le size 1048576 then finish Done (SetLen i size ∷ []) else finish (Error TooBig) [])) f in
       elim (cases_Bool (nat_le size 1048576)) [
-        | inl fits ↦ agrees v fresh _ _ Done (SetLen f.inode size ∷ []) (put t p (file (resized f.bytes size))) (ends ∙ rw fits refl) (rw (f.there, fits) refl) (λ n. cut_or_filled f)
+        | inl fits ↦ agrees v fresh _ _ Done (SetLen f.inode size ∷ []) (put t p (file (resized f.bytes size))) (ends ∙ rw fits refl) (rw (f.there, fits) refl)
+            (λ n. cut_or_filled f)
         | inr big ↦ agrees_quietly v t fresh _ _ (Error TooBig) s (ends ∙ rw big refl) (rw (f.there, big) refl)
       ]
 

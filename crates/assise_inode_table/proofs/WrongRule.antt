@@ -1,13 +1,8 @@
 -- An unlink of another name doesn't make a link of no account.
-use Rattle.std.proofs.Common.{◌≡◌, Bool, true, false, List, [], ◌∷◌, Option, Some, None, is_some, ap, sym, ◌∙◌}
-use Rattle.std.proofs.lemmas.Bool.{false≢true}
+use Rattle.assise_inode_table.proofs.Common.{◌≡◌, Bool, true, false, List, [], ◌∷◌, Option, Some, None, is_some, ap, sym, ◌∙◌, false≢true, slice_cmp}
+use Rattle.assise_inode_table.proofs.Common.{nat_list_cmp_total, Effect, Link, Unlink, Content, Links, regular, directory, value_after, SameNetEffect}
 use Rattle.std.specs.FinMap as map
 use Rattle.std.specs.Ordering.{nat_cmp}
-use Rattle.std.specs.Cmp.Lexicographic.{slice_cmp, nat_list_cmp_total}
-use Rattle.assise_record.specs.declared.effect.Effect.{Effect}
-use Rattle.assise_record.specs.declared.effect.Effect.TheVariants.{Link, Unlink}
-use Rattle.assise_inode_table.specs.Contents.{Content, Links, regular, directory}
-use Rattle.assise_inode_table.specs.Effects.{value_after, SameNetEffect}
 use Rattle.assise_inode_table.specs.WrongRule.{wrongly_coalesced}
 
 -- a link of the name a, and an unlink of the name b
@@ -25,7 +20,8 @@ none = map.empty
 right : has_a (value_after 0 (Some (directory none)) both) ≡ true
 unfolding has_a both
 right =
-    ap is_some (map.get-remove nat_list_cmp_total (map.insert none (97 ∷ []) 5) (98 ∷ []) (97 ∷ []) ∙ map.get-insert nat_list_cmp_total none (97 ∷ []) 5 (97 ∷ []))
+    ap is_some (map.get-remove nat_list_cmp_total (map.insert none (97 ∷ []) 5) (98 ∷ []) (97 ∷ []) ∙ map.get-insert nat_list_cmp_total none (97 ∷ []) 5
+    (97 ∷ []))
 
 wrong : has_a (value_after 0 (Some (directory none)) (wrongly_coalesced both)) ≡ false
 unfolding has_a both none

@@ -1,8 +1,8 @@
 -- What led to a state leads to one behind it.
-use Rattle.std.proofs.Common.{◌≡◌, Option, Some, None, subst, sym}
-use Rattle.assise_keeper.specs.Rule.{IsLed}
+use Rattle.assise_keeper.proofs.Common.{◌≡◌, Option, Some, None, subst, sym, IsLed}
 
-pub led_further : {S : Type 0} (leads : S → S → Type 0) (onward : (s t u : S) → leads s t → leads t u → leads s u) (n : Option S) (s t : S) → leads s t → IsLed leads n (Some s) → IsLed leads n (Some t)
+pub led_further : {S : Type 0} (leads : S → S → Type 0) (onward : (s t u : S) → leads s t → leads t u → leads s u) (n : Option S) (s t : S) → leads s t →
+    IsLed leads n (Some s) → IsLed leads n (Some t)
 led_further leads onward None s t step led = tt
 led_further leads onward (Some a) s t step led = onward a s t led step
 

@@ -1,3 +1,4 @@
+mod Common
 pub mod PassAdds
 pub mod Rights
 pub mod ClientOwners

@@ -1,15 +1,11 @@
 -- What a pass that adds only what it may leaves to the others.
-use Rattle.std.proofs.Common.{◌≡◌, ◌≢◌, ℕ, ◌+◌, ◌<◌, ◌⊎◌, List, [], ◌∷◌, ◌++◌, length, drop, sym, refl, ap, ◌∙◌, subst, inl, inr, ⊎_elim, Option, Some, ne_eqb, eq-eqb, arith, append_assoc, append-nil}
+use Rattle.assise_keeper.proofs.Common.{◌≡◌, ◌≢◌, ℕ, ◌+◌, ◌<◌, ◌⊎◌, List, [], ◌∷◌, ◌++◌, length, drop, sym, refl, ap, ◌∙◌, subst, inl, inr, ⊎_elim, Option}
+use Rattle.assise_keeper.proofs.Common.{Some, ne_eqb, eq-eqb, arith, append_assoc, append-nil, length-append, EntryValue, opens, calls, crashes, fails, returns}
+use Rattle.assise_keeper.proofs.Common.{is_opening_of, Opens, Never, openings, openings_of, calls_by, Extends, client_after, MayAddAll, ExtendsByOne}
 use Rattle.std.specs.Prelude.{filter}
 use Rattle.std.proofs.lemmas.List.Elements.{filter-append}
-use Rattle.std.proofs.Common.{length-append}
-use Rattle.assise_history.specs.Entries.{EntryValue, opens, calls, crashes, fails, returns}
 use Rattle.assise_history.specs.Legal.{is_call_of, is_opening}
-use Rattle.assise_history.specs.Opened.{is_opening_of}
 use Rattle.assise_history.specs.declared.call.Call.{Call}
-use Rattle.assise_keeper.specs.declared.view.Opens.{Opens}
-use Rattle.assise_keeper.specs.declared.view.Opens.TheVariants.{Never}
-use Rattle.assise_keeper.specs.Clients.{openings, openings_of, calls_by, Extends, client_after, MayAddAll, ExtendsByOne}
 
 module _ (o : Opens) where
   pub client_stays : (d : ℕ) (xs : List EntryValue) → MayAddAll (Some d) o xs → client_after (Some d) xs ≡ Some d
@@ -67,7 +63,8 @@ openings-append d h xs = ap length (filter-append (is_opening_of d) h xs) ∙ le
 
 -- what was opened in a prefix was opened
 pub opened-in : (d : ℕ) (h prefix : List EntryValue) → Extends h prefix → 0 < openings d prefix → 0 < openings d h
-opened-in d h prefix s some_opening = let both : openings d h ≡ openings d prefix + openings d s.0 = ap (openings d) s.1 ∙ openings-append d prefix s.0 in omega arith
+opened-in d h prefix s some_opening =
+    let both : openings d h ≡ openings d prefix + openings d s.0 = ap (openings d) s.1 ∙ openings-append d prefix s.0 in omega arith
 
 pub extends-further : (h prefix xs : List EntryValue) → Extends h prefix → Extends (h ++ xs) prefix
 extends-further h prefix xs s = (s.0 ++ xs, ap (λ z. z ++ xs) s.1 ∙ append_assoc prefix s.0 xs)
@@ -84,7 +81,8 @@ nothing_more [] ys e = e
 nothing_more (x ∷ xs) ys e = nothing_more xs ys (cc)
 
 -- a call that is added to what was taken extends by one what was seen
-pub extends_by_one : (c : ℕ) (x : Call) (old taken : List EntryValue) → x.client ≡ c → Extends taken old → calls_by c taken ≡ calls_by c old → ExtendsByOne c old (taken ++ calls x ∷ []) (calls x)
+pub extends_by_one : (c : ℕ) (x : Call) (old taken : List EntryValue) → x.client ≡ c → Extends taken old → calls_by c taken ≡ calls_by c old →
+    ExtendsByOne c old (taken ++ calls x ∷ []) (calls x)
 extends_by_one c x old taken own extends same =
     let one : calls_by c (calls x ∷ []) ≡ calls x ∷ [] = rw (eq-eqb c x.client (sym own)) refl in
     record {

@@ -1,10 +1,6 @@
 -- Who may open clients before and after a step.
-use Rattle.std.proofs.Common.{◌≡◌, ℕ, List, [], Option, sym, refl, ap, ◌∙◌}
-use Rattle.assise_history.specs.Entries.{EntryValue}
-use Rattle.assise_keeper.specs.declared.view.Opens.{Opens}
-use Rattle.assise_keeper.specs.declared.view.Opens.TheVariants.{Never, Alone, AmongOthers}
-use Rattle.assise_keeper.specs.Clients.{openings_of, MayAddAll, MayOpenClients}
-use Rattle.assise_keeper.specs.Rule.{Opener, alone, anyone, HasRight, Owner}
+use Rattle.assise_keeper.proofs.Common.{◌≡◌, ℕ, List, [], Option, sym, refl, ap, ◌∙◌, EntryValue, Opens, Never, Alone, AmongOthers, openings_of, MayAddAll}
+use Rattle.assise_keeper.proofs.Common.{MayOpenClients, Opener, alone, anyone, HasRight, Owner}
 use Rattle.assise_keeper.proofs.PassAdds.{no_openings}
 
 -- the half that may open alone
@@ -43,7 +39,8 @@ shares Alone may was from to has = record { who = anyone; first = refl; second =
 shares AmongOthers may was from to has = record { who = was; first = has; second = has; others = λ at p other h. h }
 
 -- where another half may open alone, no opening is added
-pub adds_none : (who : Opener) (from at : Owner) (o : Opens) (c : Option ℕ) (xs : List EntryValue) → HasRight who from o → MayAddAll c o xs → (at ≡ from → ⊥) → who ≡ alone at → openings_of xs ≡ []
+pub adds_none : (who : Opener) (from at : Owner) (o : Opens) (c : Option ℕ) (xs : List EntryValue) → HasRight who from o → MayAddAll c o xs → (at ≡ from → ⊥) →
+    who ≡ alone at → openings_of xs ≡ []
 adds_none who from at Never c xs has own other is = no_openings c xs own
 adds_none who from at Alone c xs has own other is = absurd (other (ap (lone at) (sym is ∙ has)))
 adds_none who from at AmongOthers c xs has own other is = absurd (let e : alone at ≡ anyone = sym is ∙ has in (cc))

@@ -1,14 +1,10 @@
 -- A loop that asks one after another.
-use Rattle.std.proofs.Common.{◌≡◌, ℕ, zero, suc, ◌+◌, ◌<◌, Bool, true, false, cond, List, [], ◌∷◌, ◌++◌, length, take, get_or, Option, inl, inr, filter, sym, refl, ap, subst, ◌∙◌, arith, append-nil}
+use Rattle.assise_lease_table.proofs.Common.{◌≡◌, ℕ, zero, suc, ◌+◌, ◌<◌, Bool, true, false, cond, List, [], ◌∷◌, ◌++◌, length, take, get_or, Option, inl, inr}
+use Rattle.assise_lease_table.proofs.Common.{filter, sym, refl, ap, subst, ◌∙◌, arith, append-nil, map_push, Read, Lease, Asked, Among, is_to_ask, holders}
+use Rattle.assise_lease_table.proofs.Common.{IsAnswer, AnswerAll}
 use Rattle.std.proofs.lemmas.Grind.{take_at_read}
 use Rattle.std.proofs.lemmas.List.Elements.{filter-append}
-use Rattle.std.proofs.lemmas.List.{map_push}
 use Rattle.assise_private_log.specs.NumberedLog.{NumberedLog}
-use Rattle.assise_names.specs.declared.mode.Mode.TheVariants.{Read}
-use Rattle.assise_lease_table.specs.declared.lease.Lease.{Lease}
-use Rattle.assise_lease_table.specs.declared.lease.Asked.{Asked}
-use Rattle.assise_lease_table.specs.Leases.{Among, is_to_ask, holders}
-use Rattle.assise_lease_table.specs.Answers.{IsAnswer, AnswerAll}
 use Rattle.assise_lease_table.proofs.Elements.{among_push}
 
 pub among_at : {X : Type 0} (xs : List X) (i : ℕ) (d : X) → i < length xs → Among xs (get_or xs i d)
@@ -20,14 +16,16 @@ among_at (x ∷ xs) (suc i) d h = inr (among_at xs i d (omega arith))
 abbrev pub no_lease : Lease
 no_lease = record { holder = 0; mode = Read; revoked = false }
 
-module _ {C : Type 0} (answers : C → NumberedLog → ℕ → ℕ → Type 0) (revoker_of : ℕ → Option C) (view_of : ℕ → Option NumberedLog) (inode : ℕ) (choice : Lease → Bool) where
+module _ {C : Type 0} (answers : C → NumberedLog → ℕ → ℕ → Type 0) (revoker_of : ℕ → Option C) (view_of : ℕ → Option NumberedLog) (inode : ℕ)
+    (choice : Lease → Bool) where
   abbrev pub Each : List Asked → Type 0
   Each asked = (a : Asked) → Among asked a → IsAnswer answers revoker_of view_of inode a
 
   pub answered_none : AnswerAll answers revoker_of view_of inode choice [] []
   answered_none = record { who = refl; each = λ a none. absurd none }
 
-  pub asked_more : (xs : List Lease) (i : ℕ) (d : Lease) (asked : List Asked) (a : Asked) → i < length xs → AnswerAll answers revoker_of view_of inode choice (take i xs) asked
+  pub asked_more : (xs : List Lease) (i : ℕ) (d : Lease) (asked : List Asked) (a : Asked) → i < length xs → AnswerAll answers revoker_of view_of inode choice
+      (take i xs) asked
       → is_to_ask choice (get_or xs i d) ≡ true → a.client ≡ (get_or xs i d).holder → IsAnswer answers revoker_of view_of inode a
       → AnswerAll answers revoker_of view_of inode choice (take (i + 1) xs) (asked ++ a ∷ [])
   asked_more xs i d asked a h so_far chosen mine answer = record {
@@ -35,10 +33,12 @@ module _ {C : Type 0} (answers : C → NumberedLog → ℕ → ℕ → Type 0) (
         ap holders (ap (filter (is_to_ask choice)) (take_at_read xs i d h).1 ∙ filter-append (is_to_ask choice) (take i xs) (get_or xs i d ∷ [])
         ∙ ap (λ b. filter (is_to_ask choice) (take i xs) ++ cond b (get_or xs i d ∷ []) []) chosen)
         ∙ map_push (λ (z : Lease). z.holder) (filter (is_to_ask choice) (take i xs)) (get_or xs i d));
-    each = λ b in_b. elim (among_push asked a b in_b) [ inl before ↦ so_far.each b before | inr last ↦ subst (IsAnswer answers revoker_of view_of inode) (sym last) answer ];
+    each = λ b in_b. elim (among_push asked a b in_b)
+        [ inl before ↦ so_far.each b before | inr last ↦ subst (IsAnswer answers revoker_of view_of inode) (sym last) answer ];
   }
 
-  pub asked_same : (xs : List Lease) (i : ℕ) (d : Lease) (asked : List Asked) → i < length xs → AnswerAll answers revoker_of view_of inode choice (take i xs) asked
+  pub asked_same : (xs : List Lease) (i : ℕ) (d : Lease) (asked : List Asked) → i < length xs → AnswerAll answers revoker_of view_of inode choice (take i xs)
+      asked
       → is_to_ask choice (get_or xs i d) ≡ false
       → AnswerAll answers revoker_of view_of inode choice (take (i + 1) xs) asked
   asked_same xs i d asked h so_far passed = record {

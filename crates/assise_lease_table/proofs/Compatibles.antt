@@ -1,12 +1,9 @@
 -- Which changes keep leases compatible.
-use Rattle.std.proofs.Common.{◌≡◌, ◌≢◌, ℕ, ◌==◌, Bool, true, false, not, ◌&&◌, List, [], ◌∷◌, ◌++◌, inl, inr, filter, map, sym, refl, ap, ◌∙◌, ne_eqb}
-use Rattle.std.specs.List.{list_all, list_any}
-use Rattle.std.proofs.lemmas.Bool.{cond_both, false_from_ne_true, and_parts, and_from, and_left, not-true, not_from_false, eqb-true, eqb-false}
-use Rattle.assise_names.specs.declared.mode.Mode.{Mode}
-use Rattle.assise_names.specs.declared.mode.Mode.TheVariants.{Read, Write}
-use Rattle.assise_lease_table.specs.declared.lease.Lease.{Lease}
+use Rattle.assise_lease_table.proofs.Common.{◌≡◌, ◌≢◌, ℕ, ◌==◌, Bool, true, false, not, ◌&&◌, List, [], ◌∷◌, ◌++◌, inl, inr, filter, map, sym, refl, ap, ◌∙◌}
+use Rattle.assise_lease_table.proofs.Common.{ne_eqb, list_all, list_any, cond_both, false_from_ne_true, and_parts, and_from, and_left, not-true, not_from_false}
+use Rattle.assise_lease_table.proofs.Common.{eqb-true, eqb-false, Mode, Read, Write, Lease, is_own_unasked, is_rival, Among, stand_together, compatible, IsFree}
+use Rattle.assise_lease_table.proofs.Common.{raise, raise_unopposed, raised_if, without_holder, with_lease}
 use Rattle.assise_lease_table.specs.Modes.{against, stronger}
-use Rattle.assise_lease_table.specs.Leases.{is_own_unasked, is_rival, Among, stand_together, compatible, IsFree, raise, raise_unopposed, raised_if, without_holder, with_lease}
 use Rattle.assise_lease_table.proofs.Elements.{not_both, none_among, all_among, among_all, among_filter, among_map, among_push}
 pub use Rattle.std.proofs.lemmas.Bool.{eqb-false as differ}
 
@@ -53,7 +50,8 @@ not_against (l ∷ ls) c a b in_a in_b other =
         | inr rest_b ↦ ap (λ (z : Lease). against z.mode b.mode) head_a ∙ (from_together l b (all_among (stand_together l) ls parts.0 b rest_b)).1
       ]
       | inr rest_a ↦ elim in_b [
-        | inl head_b ↦ ap (λ (z : Lease). against a.mode z.mode) head_b ∙ (against_swap a.mode l.mode ∙ (from_together l a (all_among (stand_together l) ls parts.0 a rest_a)).1)
+        | inl head_b ↦ ap (λ (z : Lease). against a.mode z.mode) head_b
+            ∙ (against_swap a.mode l.mode ∙ (from_together l a (all_among (stand_together l) ls parts.0 a rest_a)).1)
         | inr rest_b ↦ not_against ls parts.1 a b rest_a rest_b other
       ]
     ]
@@ -80,14 +78,16 @@ module _ (f : Lease → Lease) (keeps : (l : Lease) → ((f l).holder ≡ l.hold
   map_compatible [] = refl
   map_compatible (l ∷ ls) = λ i. all_together_same l ls i && map_compatible ls i
 
-pub push_compatible : (ls : List Lease) (x : Lease) → compatible ls ≡ true → ((l : Lease) → Among ls l → (l.holder ≢ x.holder) × (against l.mode x.mode ≡ false)) → compatible (ls ++ x ∷ []) ≡ true
+pub push_compatible : (ls : List Lease) (x : Lease) → compatible ls ≡ true →
+    ((l : Lease) → Among ls l → (l.holder ≢ x.holder) × (against l.mode x.mode ≡ false)) → compatible (ls ++ x ∷ []) ≡ true
 push_compatible [] x c h = refl
 push_compatible (l ∷ ls) x c h =
     let parts = and_parts (list_all (stand_together l) ls) (compatible ls) c in
     and_from (list_all (stand_together l) (ls ++ x ∷ [])) (compatible (ls ++ x ∷ []))
     (among_all (stand_together l) (ls ++ x ∷ []) (λ k a. elim (among_push ls x k a) [
       | inl before ↦ all_among (stand_together l) ls parts.0 k before
-      | inr last ↦ let head = h l (inl refl) in to_together l k (λ e. head.0 (e ∙ ap (λ (z : Lease). z.holder) last)) (ap (λ (z : Lease). against l.mode z.mode) last ∙ head.1)
+      | inr last ↦ let head = h l (inl refl) in
+          to_together l k (λ e. head.0 (e ∙ ap (λ (z : Lease). z.holder) last)) (ap (λ (z : Lease). against l.mode z.mode) last ∙ head.1)
     ]))
     (push_compatible ls x parts.1 (λ k a. h k (inr a)))
 
@@ -111,7 +111,8 @@ pub stronger_against : (o m x : Mode) → against o x ≡ false → against m x 
 stronger_against Read m x a b = b
 stronger_against Write m x a b = a
 
-raised_against : (b : Bool) (mode : Mode) (l : Lease) (x : Mode) → against l.mode x ≡ false → (b ≡ true → against mode x ≡ false) → against (raised_if b mode l).mode x ≡ false
+raised_against : (b : Bool) (mode : Mode) (l : Lease) (x : Mode) → against l.mode x ≡ false → (b ≡ true → against mode x ≡ false) →
+    against (raised_if b mode l).mode x ≡ false
 raised_against true mode l x none free = stronger_against l.mode mode x none (free refl)
 raised_against false mode l x none free = none
 
@@ -129,7 +130,8 @@ module _ (h : ℕ) (mode : Mode) where
   not_own : (l : Lease) → l.holder ≢ h → is_own_unasked h l ≡ false
   not_own l other = and_left (l.holder == h) (not l.revoked) (ne_eqb l.holder h other)
 
-  raised_together : (a b : Lease) → (a.holder ≢ h → against mode a.mode ≡ false) → (b.holder ≢ h → against mode b.mode ≡ false) → stand_together a b ≡ true → stand_together (raised_now a) (raised_now b) ≡ true
+  raised_together : (a b : Lease) → (a.holder ≢ h → against mode a.mode ≡ false) → (b.holder ≢ h → against mode b.mode ≡ false) → stand_together a b ≡ true →
+      stand_together (raised_now a) (raised_now b) ≡ true
   raised_together a b free_a free_b e =
       let parts = from_together a b e in
       let first : against (raised_now a).mode b.mode ≡ false =
@@ -150,7 +152,8 @@ module _ (h : ℕ) (mode : Mode) where
       and_from (list_all (stand_together (raised_now l)) (raise h mode ls)) (compatible (raise h mode ls))
       (among_all (stand_together (raised_now l)) (raise h mode ls) (λ k a.
       let was = among_map raised_now ls k a in
-      ap (stand_together (raised_now l)) was.2 ∙ raised_together l was.0 (λ other. free l (inl refl) other) (λ other. free was.0 (inr was.1) other) (all_among (stand_together l) ls parts.0 was.0 was.1)))
+      ap (stand_together (raised_now l)) was.2 ∙ raised_together l was.0 (λ other. free l (inl refl) other) (λ other. free was.0 (inr was.1) other)
+      (all_among (stand_together l) ls parts.0 was.0 was.1)))
       (raise_compatible ls parts.1 (λ k a other. free k (inr a) other))
 
   pub raise_unopposed_compatible : (ls : List Lease) → compatible ls ≡ true → compatible (raise_unopposed h mode ls) ≡ true

@@ -1,8 +1,6 @@
 -- What is true of the elements of a list that is filtered, mapped or tested.
-use Rattle.std.proofs.Common.{◌≡◌, Bool, true, false, cond, List, [], ◌∷◌, ◌++◌, ◌⊎◌, inl, inr, filter, map, sym, refl, ap, ◌∙◌, true≢false}
-use Rattle.std.specs.List.{list_any, list_all}
-use Rattle.std.proofs.lemmas.Bool.{cases_Bool, and_parts, and_from, or_left, or_right, or_cases}
-use Rattle.assise_lease_table.specs.Leases.{Among}
+use Rattle.assise_lease_table.proofs.Common.{◌≡◌, Bool, true, false, cond, List, [], ◌∷◌, ◌++◌, ◌⊎◌, inl, inr, filter, map, sym, refl, ap, ◌∙◌, true≢false}
+use Rattle.assise_lease_table.proofs.Common.{list_any, list_all, cases_Bool, and_parts, and_from, or_left, or_right, or_cases, Among}
 pub use Rattle.std.proofs.lemmas.Bool.{and_parts as both_true, not-true as not_true}
 
 pub not_both : {P : Type 0} (b : Bool) → b ≡ true → b ≡ false → P

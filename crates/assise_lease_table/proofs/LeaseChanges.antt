@@ -1,11 +1,8 @@
 -- What is true of each inode's leases stays true where one inode's leases change, or where all change alike.
-use Rattle.std.proofs.Common.{◌≡◌, ℕ, Bool, true, not, List, inl, inr, sym, refl, ap, subst, ◌∙◌}
+use Rattle.assise_lease_table.proofs.Common.{◌≡◌, ℕ, Bool, true, not, List, inl, inr, sym, refl, ap, subst, ◌∙◌, Mode, Lease, Becomes, SameLeases, Among}
+use Rattle.assise_lease_table.proofs.Common.{compatible, leave_out, with_lease, new_lease, revoke, revoked_if, is_own, IsFree}
 use mathlib.Core.Logic.{dite}
 use native.Mathlib.Decide.{ℕ_discrete}
-use Rattle.assise_names.specs.declared.mode.Mode.{Mode}
-use Rattle.assise_lease_table.specs.declared.lease.Lease.{Lease}
-use Rattle.assise_lease_table.specs.LeaseMaps.{Becomes, SameLeases}
-use Rattle.assise_lease_table.specs.Leases.{Among, compatible, leave_out, with_lease, new_lease, revoke, revoked_if, is_own, IsFree}
 use Rattle.assise_lease_table.proofs.Elements.{among_filter, among_map, among_push}
 use Rattle.assise_lease_table.proofs.Compatibles.{filter_compatible, map_compatible, with_compatible}
 
@@ -26,7 +23,8 @@ module _ (P : List Lease → Type 0) where
   pub same_each : {old new : LeasesOf} → SameLeases old new → OfEach P old → OfEach P new
   same_each same all i = subst P (sym (same i)) (all i)
 
-  pub all_each : (old : LeasesOf) {new : LeasesOf} (f : List Lease → List Lease) → ((i : ℕ) → new i ≡ f (old i)) → ((ls : List Lease) → P ls → P (f ls)) → OfEach P old → OfEach P new
+  pub all_each : (old : LeasesOf) {new : LeasesOf} (f : List Lease → List Lease) → ((i : ℕ) → new i ≡ f (old i)) → ((ls : List Lease) → P ls → P (f ls)) →
+      OfEach P old → OfEach P new
   all_each old f is keeps all i = subst P (sym (is i)) (keeps (old i) (all i))
 
 abbrev pub Fits : List Lease → Type 0

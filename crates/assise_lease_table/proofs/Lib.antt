@@ -1,3 +1,4 @@
+mod Common
 pub mod Elements
 pub mod Compatibles
 pub mod AskLoop

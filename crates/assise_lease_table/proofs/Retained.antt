@@ -1,12 +1,8 @@
 -- What `retain` leaves of a map whose entries have leases, where it changes the leases of each alike.
-use Rattle.std.proofs.Common.{◌≡◌, ℕ, Bool, true, false, true≢false, inl, inr, eq-eqb, cond, List, [], ◌∷◌, Option, None, Some, nat_eq, sym, refl, ap, subst, ◌∙◌}
-use Rattle.std.specs.List.{IsDistinct, AllByRecursion, list_any}
-use Rattle.std.specs.Map.{lookup, keys_of, values_of}
+use Rattle.assise_lease_table.proofs.Common.{◌≡◌, ℕ, Bool, true, false, true≢false, inl, inr, eq-eqb, cond, List, [], ◌∷◌, Option, None, Some, nat_eq, sym}
+use Rattle.assise_lease_table.proofs.Common.{refl, ap, subst, ◌∙◌, IsDistinct, AllByRecursion, list_any, lookup, keys_of, values_of, cond_both, or_cases}
+use Rattle.assise_lease_table.proofs.Common.{or_parts, eqb-true, Lease, revoke, leases_in, is_none_or, is_any}
 use Rattle.std.specs.Map.Calls.{RetainsPairs}
-use Rattle.std.proofs.lemmas.Bool.{cond_both, or_cases, or_parts, eqb-true}
-use Rattle.assise_lease_table.specs.declared.lease.Lease.{Lease}
-use Rattle.assise_lease_table.specs.Leases.{revoke}
-use Rattle.assise_lease_table.specs.Lists.{leases_in, is_none_or, is_any}
 
 pub revoke_any : (choice : Lease → Bool) (ls : List Lease) → is_any (revoke choice ls) ≡ is_any ls
 revoke_any choice [] = refl
@@ -46,28 +42,33 @@ middle follows said = (said.0, follows said.1, said.2)
 -- each entry is kept, and has a lease where it had one
 module _ {V F : Type 0} (any : V → Bool) (T : F → ℕ → V → Bool → V → F → Type 0) (f : F)
     (says : (k : ℕ) (v : V) (b : Bool) (w : V) (f' : F) → T f k v b w f' → (b ≡ true) × (any w ≡ any v) × (f' ≡ f)) where
-  pub held_after : (es kept : List (ℕ × V)) → RetainsPairs T f es kept → (i : ℕ) → is_none_or any (lookup (nat_eq i) kept) ≡ is_none_or any (lookup (nat_eq i) es)
+  pub held_after : (es kept : List (ℕ × V)) → RetainsPairs T f es kept → (i : ℕ) → is_none_or any (lookup (nat_eq i) kept)
+      ≡ is_none_or any (lookup (nat_eq i) es)
   held_after = seen_after (is_none_or any) T (λ b. b) refl f says
 
 -- no entry behind a key has it too
-pub absent : {V : Type 0} (i k : ℕ) (es : List (ℕ × V)) → nat_eq i k ≡ true → AllByRecursion (λ y. nat_eq k y ≡ false) (keys_of es) → lookup (nat_eq i) es ≡ None
+pub absent : {V : Type 0} (i k : ℕ) (es : List (ℕ × V)) → nat_eq i k ≡ true → AllByRecursion (λ y. nat_eq k y ≡ false) (keys_of es) →
+    lookup (nat_eq i) es ≡ None
 absent i k [] same all = refl
 absent i k (e ∷ es) same all =
     ap (λ z. cond (nat_eq z e.0) (Some e.1) (lookup (nat_eq i) es)) (eqb-true i k same) ∙ ap (λ b. cond b (Some e.1) (lookup (nat_eq i) es)) all.0
     ∙ absent i k es same all.1
 
 -- each entry is kept that has a lease then
-module _ {V F : Type 0} (leases : V → List Lease) (any : V → Bool) (empty : (v : V) → any v ≡ false → leases v ≡ []) (T : F → ℕ → V → Bool → V → F → Type 0) (g : List Lease → List Lease) (none : g [] ≡ []) (f : F)
+module _ {V F : Type 0} (leases : V → List Lease) (any : V → Bool) (empty : (v : V) → any v ≡ false → leases v ≡ []) (T : F → ℕ → V → Bool → V → F → Type 0)
+    (g : List Lease → List Lease) (none : g [] ≡ []) (f : F)
     (says : (k : ℕ) (v : V) (b : Bool) (w : V) (f' : F) → T f k v b w f' → (b ≡ any w) × (leases w ≡ g (leases v)) × (f' ≡ f)) where
   kept_head : (b m : Bool) (i k : ℕ) (v w : V) (rest : List (ℕ × V)) (old : Option V) → nat_eq i k ≡ m → b ≡ any w → leases w ≡ g (leases v)
       → leases_in leases (lookup (nat_eq i) rest) ≡ g (leases_in leases old) → (m ≡ true → old ≡ None)
       → leases_in leases (lookup (nat_eq i) (cond b ((k, w) ∷ rest) rest)) ≡ g (leases_in leases (cond m (Some v) old))
   kept_head true true i k v w rest old at at_any written more gone = ap (λ z. leases_in leases (cond z (Some w) (lookup (nat_eq i) rest))) at ∙ written
   kept_head true false i k v w rest old at at_any written more gone = ap (λ z. leases_in leases (cond z (Some w) (lookup (nat_eq i) rest))) at ∙ more
-  kept_head false true i k v w rest old at at_any written more gone = more ∙ ap (λ o. g (leases_in leases o)) (gone refl) ∙ none ∙ sym (empty w (sym at_any)) ∙ written
+  kept_head false true i k v w rest old at at_any written more gone =
+      more ∙ ap (λ o. g (leases_in leases o)) (gone refl) ∙ none ∙ sym (empty w (sym at_any)) ∙ written
   kept_head false false i k v w rest old at at_any written more gone = more
 
-  pub kept_after : (es kept : List (ℕ × V)) → IsDistinct nat_eq (keys_of es) → RetainsPairs T f es kept → (i : ℕ) → leases_in leases (lookup (nat_eq i) kept) ≡ g (leases_in leases (lookup (nat_eq i) es))
+  pub kept_after : (es kept : List (ℕ × V)) → IsDistinct nat_eq (keys_of es) → RetainsPairs T f es kept → (i : ℕ) → leases_in leases (lookup (nat_eq i) kept)
+      ≡ g (leases_in leases (lookup (nat_eq i) es))
   unfolding IsDistinct
   kept_after [] kept distinct r i = ap (λ z. leases_in leases (lookup (nat_eq i) z)) r ∙ sym none
   kept_after (e ∷ es) kept distinct r i =
@@ -76,7 +77,8 @@ module _ {V F : Type 0} (leases : V → List Lease) (any : V → Bool) (empty : 
       ap (λ z. leases_in leases (lookup (nat_eq i) z)) r.6
       ∙ kept_head r.0 (nat_eq i e.0) i e.0 e.1 r.1 r.3 (lookup (nat_eq i) es) refl a.0 a.1 more (λ same. absent i e.0 es same distinct.0)
 
-  all_head : (b m : Bool) (w : V) (i k : ℕ) (rest : List (ℕ × V)) → nat_eq i k ≡ m → b ≡ any w → is_none_or any (lookup (nat_eq i) rest) ≡ true → is_none_or any (lookup (nat_eq i) (cond b ((k, w) ∷ rest) rest)) ≡ true
+  all_head : (b m : Bool) (w : V) (i k : ℕ) (rest : List (ℕ × V)) → nat_eq i k ≡ m → b ≡ any w → is_none_or any (lookup (nat_eq i) rest) ≡ true →
+      is_none_or any (lookup (nat_eq i) (cond b ((k, w) ∷ rest) rest)) ≡ true
   all_head true true w i k rest at at_any more = ap (λ z. is_none_or any (cond z (Some w) (lookup (nat_eq i) rest))) at ∙ sym at_any
   all_head true false w i k rest at at_any more = ap (λ z. is_none_or any (cond z (Some w) (lookup (nat_eq i) rest))) at ∙ more
   all_head false m w i k rest at at_any more = more
@@ -99,7 +101,8 @@ module _ {V : Type 0} (leases : V → List Lease) (choice : Lease → Bool) wher
   none_at (x ∷ xs) e i = let parts = or_parts (list_any choice (leases x.1)) (AnyIn xs) e in
       cond_both (nat_eq i x.0) (Some x.1) (lookup (nat_eq i) xs) (λ o. list_any choice (leases_in leases o) ≡ false) (λ _. parts.0) (λ _. none_at xs parts.1 i)
 
-  pub some_at : (es : List (ℕ × V)) → IsDistinct nat_eq (keys_of es) → AnyIn es ≡ true → (i : ℕ) × (list_any choice (leases_in leases (lookup (nat_eq i) es)) ≡ true)
+  pub some_at : (es : List (ℕ × V)) → IsDistinct nat_eq (keys_of es) → AnyIn es ≡ true →
+      (i : ℕ) × (list_any choice (leases_in leases (lookup (nat_eq i) es)) ≡ true)
   unfolding IsDistinct
   some_at [] distinct e = cc
   some_at (x ∷ xs) distinct e = elim (or_cases (list_any choice (leases x.1)) (AnyIn xs) e) [

@@ -1,11 +1,8 @@
 -- Where a list has a place for one more lease.
-use Rattle.std.proofs.Common.{◌≡◌, ℕ, ◌<◌, ◌≤◌, suc, Bool, true, false, cond, not, List, [], ◌∷◌, Option, Some, is_some, inl, inr, filter, length, sym, refl, ap, subst, ◌∙◌, arith}
-use Rattle.smallvec.specs.SmallVec.{SmallVec, small_vec_len, HasRoomFor}
-use Rattle.assise_lease_table.specs.declared.lease.Lease.{Lease}
+use Rattle.assise_lease_table.proofs.Common.{◌≡◌, ℕ, ◌<◌, ◌≤◌, suc, Bool, true, false, cond, not, List, [], ◌∷◌, Option, Some, is_some, inl, inr, filter}
+use Rattle.assise_lease_table.proofs.Common.{length, sym, refl, ap, subst, ◌∙◌, arith, SmallVec, small_vec_len, HasRoomFor, Lease, HasPlace, HasPlaceIn}
+use Rattle.assise_lease_table.proofs.Common.{lease_of, leave_out, without_holder, is_own}
 use Rattle.assise_lease_table.specs.declared.lease_map.LeaseMap.{LeaseMap}
-use Rattle.assise_lease_table.specs.LeaseMaps.{HasPlace}
-use Rattle.assise_lease_table.specs.Lists.{HasPlaceIn}
-use Rattle.assise_lease_table.specs.Leases.{lease_of, leave_out, without_holder, is_own}
 
 kept_or_not : (b : Bool) (l : Lease) (ls : List Lease) (n : ℕ) → length ls ≤ n → length (cond b (l ∷ ls) ls) ≤ suc n
 kept_or_not true l ls n h = omega (arith, h)
@@ -26,7 +23,8 @@ shorter h [] e = cc
 shorter h (l ∷ ls) e = shorter_at (is_own h l) l (without_holder h ls) ls (lease_of ls h) (not_longer (is_own h) ls) (shorter h ls) e
 
 -- a list without the holder's lease has a place for it
-pub place_without : (h : ℕ) (v w : SmallVec Lease) → small_vec_len v ≤ v.capacity → HasPlaceIn h v → w.items ≡ without_holder h v.items → small_vec_len w ≤ small_vec_len v → w.capacity ≡ v.capacity → HasRoomFor w 1
+pub place_without : (h : ℕ) (v w : SmallVec Lease) → small_vec_len v ≤ v.capacity → HasPlaceIn h v → w.items ≡ without_holder h v.items →
+    small_vec_len w ≤ small_vec_len v → w.capacity ≡ v.capacity → HasRoomFor w 1
 place_without h v w fits place items len capacity = elim place [
   | inl own ↦ let less = shorter h v.items own in let short = ap length items in omega (arith, less, short, fits, capacity)
   | inr room ↦ omega (arith, room, len, capacity)
@@ -38,7 +36,8 @@ place_in m h o v place is = subst (HasPlace m h) is place
 
 swapped : (a b : Bool) (l : Lease) (xs ys zs : List Lease) (p q : Lease → Bool) → p l ≡ a → q l ≡ b → filter p ys ≡ zs → filter q xs ≡ zs
     → filter p (cond b (l ∷ ys) ys) ≡ filter q (cond a (l ∷ xs) xs)
-swapped true true l xs ys zs p q pa qb left right = ap (λ c. cond c (l ∷ filter p ys) (filter p ys)) pa ∙ ap (λ z. l ∷ z) (left ∙ sym right) ∙ sym (ap (λ c. cond c (l ∷ filter q xs) (filter q xs)) qb)
+swapped true true l xs ys zs p q pa qb left right =
+    ap (λ c. cond c (l ∷ filter p ys) (filter p ys)) pa ∙ ap (λ z. l ∷ z) (left ∙ sym right) ∙ sym (ap (λ c. cond c (l ∷ filter q xs) (filter q xs)) qb)
 swapped true false l xs ys zs p q pa qb left right = left ∙ sym right ∙ sym (ap (λ c. cond c (l ∷ filter q xs) (filter q xs)) qb)
 swapped false true l xs ys zs p q pa qb left right = ap (λ c. cond c (l ∷ filter p ys) (filter p ys)) pa ∙ left ∙ sym right
 swapped false false l xs ys zs p q pa qb left right = left ∙ sym right

@@ -1,14 +1,10 @@
 -- The chosen leases that aren't revoked, of one inode and of all.
-use Rattle.std.proofs.Common.{◌≡◌, ℕ, ◌==◌, Bool, true, false, cond, not, ◌&&◌, ◌||◌, List, [], ◌∷◌, ◌++◌, Option, Some, None, nat_eq, sym, refl, ap, ◌∙◌, eq-eqb, append-nil}
+use Rattle.assise_lease_table.proofs.Common.{◌≡◌, ℕ, ◌==◌, Bool, true, false, cond, not, ◌&&◌, ◌||◌, List, [], ◌∷◌, ◌++◌, Option, Some, None, nat_eq, sym, refl}
+use Rattle.assise_lease_table.proofs.Common.{ap, ◌∙◌, eq-eqb, append-nil, IsDistinct, list_any, list_all, lookup, keys_of, and_parts, and_from, cond_both}
+use Rattle.assise_lease_table.proofs.Common.{not-true, not_from_false, eqb-true, and_right, eqb-false, is_of, is_asked, are_once, are_uncut, asked_at}
+use Rattle.assise_lease_table.proofs.Common.{stand_together, compatible, is_own, is_to_ask, leases_in, Asked, Lease}
 use Rattle.std.proofs.lemmas.List.Folds.{list_all-append, list_any-append}
-use Rattle.std.specs.List.{IsDistinct, list_any, list_all}
-use Rattle.std.specs.Map.{lookup, keys_of}
-use Rattle.std.proofs.lemmas.Bool.{and_parts, and_from, cond_both, not-true, not_from_false, eqb-true, and_right, ne_eqb, eqb-false}
-use Rattle.assise_lease_table.specs.Cuts.{is_of, is_asked, are_once, are_uncut, asked_at}
-use Rattle.assise_lease_table.specs.Leases.{stand_together, compatible, is_own, is_to_ask}
-use Rattle.assise_lease_table.specs.Lists.{leases_in}
-use Rattle.assise_lease_table.specs.declared.lease.Asked.{Asked}
-use Rattle.assise_lease_table.specs.declared.lease.Lease.{Lease}
+use Rattle.std.proofs.lemmas.Bool.{ne_eqb}
 use Rattle.assise_lease_table.proofs.Retained.{absent}
 
 turned : (a b : ℕ) (m : Bool) → nat_eq a b ≡ m → (b == a) ≡ m
@@ -38,7 +34,8 @@ module _ {V : Type 0} (leases : V → List Lease) (choice : Lease → Bool) wher
 
   -- ---- which they are
 
-  same_step : (t o : Bool) (a : Asked) (more_of : List Asked) (c i : ℕ) (rest : Bool) → is_of c i a ≡ o → is_asked more_of c i ≡ rest → is_asked (cond t (a ∷ more_of) more_of) c i ≡ ((o && t) || rest)
+  same_step : (t o : Bool) (a : Asked) (more_of : List Asked) (c i : ℕ) (rest : Bool) → is_of c i a ≡ o → is_asked more_of c i ≡ rest →
+      is_asked (cond t (a ∷ more_of) more_of) c i ≡ ((o && t) || rest)
   same_step true true a more_of c i rest e f = λ k. e k || f k
   same_step true false a more_of c i rest e f = λ k. e k || f k
   same_step false true a more_of c i rest e f = f
@@ -64,7 +61,8 @@ module _ {V : Type 0} (leases : V → List Lease) (choice : Lease → Bool) wher
       same_step (is_to_ask choice l) false (answer_at j l) (asked_at choice j ls) c i false
       (and_right (l.holder == c) (j == i) other) (asked_elsewhere j i c other ls)
 
-  which_step : (m : Bool) (i c : ℕ) (j : ℕ) (v : V) (rest : Option V) (more_of : List Asked) → nat_eq i j ≡ m → (m ≡ true → rest ≡ None) → is_asked more_of c i ≡ list_any (wanted c) (leases_in leases rest)
+  which_step : (m : Bool) (i c : ℕ) (j : ℕ) (v : V) (rest : Option V) (more_of : List Asked) → nat_eq i j ≡ m → (m ≡ true → rest ≡ None) →
+      is_asked more_of c i ≡ list_any (wanted c) (leases_in leases rest)
       → is_asked (asked_at choice j (leases v) ++ more_of) c i ≡ list_any (wanted c) (leases_in leases (cond m (Some v) rest))
   which_step true i c j v rest more_of at gone more =
       list_any-append (is_of c i) (asked_at choice j (leases v)) more_of
@@ -75,7 +73,8 @@ module _ {V : Type 0} (leases : V → List Lease) (choice : Lease → Bool) wher
       ∙ ap (λ b. b || is_asked more_of c i) (asked_elsewhere j i c (turned i j false at) (leases v))
       ∙ more
 
-  pub which_in : (es : List (ℕ × V)) → IsDistinct nat_eq (keys_of es) → (c i : ℕ) → is_asked (unasked_in es) c i ≡ list_any (wanted c) (leases_in leases (lookup (nat_eq i) es))
+  pub which_in : (es : List (ℕ × V)) → IsDistinct nat_eq (keys_of es) → (c i : ℕ) → is_asked (unasked_in es) c i
+      ≡ list_any (wanted c) (leases_in leases (lookup (nat_eq i) es))
   unfolding IsDistinct
   which_in [] distinct c i = refl
   which_in (e ∷ es) distinct c i =
@@ -97,7 +96,9 @@ module _ {V : Type 0} (leases : V → List Lease) (choice : Lease → Bool) wher
       cond_both (is_to_ask choice l) (answer_at j l ∷ behind) behind (λ xs. are_once xs ≡ true)
       (λ _. and_from (not (is_asked behind l.holder j)) (are_once behind) new (once_at j ls parts.1)) (λ _. once_at j ls parts.1)
 
-  both_step : (t : Bool) (a : Asked) (more_of bs : List Asked) → is_asked bs a.client a.inode ≡ false → (are_once more_of ≡ true → are_once (more_of ++ bs) ≡ true) → are_once (cond t (a ∷ more_of) more_of) ≡ true → are_once (cond t (a ∷ more_of) more_of ++ bs) ≡ true
+  both_step : (t : Bool) (a : Asked) (more_of bs : List Asked) → is_asked bs a.client a.inode ≡ false →
+      (are_once more_of ≡ true → are_once (more_of ++ bs) ≡ true) → are_once (cond t (a ∷ more_of) more_of) ≡ true →
+      are_once (cond t (a ∷ more_of) more_of ++ bs) ≡ true
   both_step true a more_of bs new more once =
       let parts = and_parts (not (is_asked more_of a.client a.inode)) (are_once more_of) once in
       and_from (not (is_asked (more_of ++ bs) a.client a.inode)) (are_once (more_of ++ bs))
@@ -108,14 +109,17 @@ module _ {V : Type 0} (leases : V → List Lease) (choice : Lease → Bool) wher
   both_step false a more_of bs new more once = more once
 
   -- where the others are of other inodes
-  once_both : (j : ℕ) (bs : List Asked) → ((c : ℕ) → is_asked bs c j ≡ false) → are_once bs ≡ true → (ls : List Lease) → are_once (asked_at choice j ls) ≡ true → are_once (asked_at choice j ls ++ bs) ≡ true
+  once_both : (j : ℕ) (bs : List Asked) → ((c : ℕ) → is_asked bs c j ≡ false) → are_once bs ≡ true → (ls : List Lease) → are_once (asked_at choice j ls)
+      ≡ true → are_once (asked_at choice j ls ++ bs) ≡ true
   once_both j bs new rest [] once = rest
-  once_both j bs new rest (l ∷ ls) once = both_step (is_to_ask choice l) (answer_at j l) (asked_at choice j ls) bs (new l.holder) (once_both j bs new rest ls) once
+  once_both j bs new rest (l ∷ ls) once =
+      both_step (is_to_ask choice l) (answer_at j l) (asked_at choice j ls) bs (new l.holder) (once_both j bs new rest ls) once
 
   abbrev pub FitEach : List (ℕ × V) → Type 0
   FitEach es = (i : ℕ) → compatible (leases_in leases (lookup (nat_eq i) es)) ≡ true
 
-  fits_rest : (m : Bool) (v : V) (rest : Option V) → (m ≡ true → rest ≡ None) → compatible (leases_in leases (cond m (Some v) rest)) ≡ true → compatible (leases_in leases rest) ≡ true
+  fits_rest : (m : Bool) (v : V) (rest : Option V) → (m ≡ true → rest ≡ None) → compatible (leases_in leases (cond m (Some v) rest)) ≡ true →
+      compatible (leases_in leases rest) ≡ true
   fits_rest true v rest gone fits = ap (λ o. compatible (leases_in leases o)) (gone refl)
   fits_rest false v rest gone fits = fits
 
@@ -123,9 +127,11 @@ module _ {V : Type 0} (leases : V → List Lease) (choice : Lease → Bool) wher
   unfolding IsDistinct
   once_in [] distinct fits = refl
   once_in (e ∷ es) distinct fits =
-      once_both e.0 (unasked_in es) (λ c. which_in es distinct.1 c e.0 ∙ ap (λ o. list_any (wanted c) (leases_in leases o)) (absent e.0 e.0 es (eq-eqb e.0 e.0 refl) distinct.0))
+      once_both e.0 (unasked_in es)
+      (λ c. which_in es distinct.1 c e.0 ∙ ap (λ o. list_any (wanted c) (leases_in leases o)) (absent e.0 e.0 es (eq-eqb e.0 e.0 refl) distinct.0))
       (once_in es distinct.1 (λ i. fits_rest (nat_eq i e.0) e.1 (lookup (nat_eq i) es) (λ same. absent i e.0 es same distinct.0) (fits i)))
-      (leases e.1) (once_at e.0 (leases e.1) (ap (λ b. compatible (leases_in leases (cond b (Some e.1) (lookup (nat_eq e.0) es)))) (sym (eq-eqb e.0 e.0 refl)) ∙ fits e.0))
+      (leases e.1) (once_at e.0 (leases e.1) (ap (λ b. compatible (leases_in leases (cond b (Some e.1) (lookup (nat_eq e.0) es)))) (sym (eq-eqb e.0 e.0 refl))
+      ∙ fits e.0))
 
   -- ---- nobody answered
 

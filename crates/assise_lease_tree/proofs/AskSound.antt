@@ -1,16 +1,10 @@
 -- What is asked for keeps both levels sound.
-use Rattle.std.proofs.Common.{◌≡◌, ◌≢◌, ℕ, ◌==◌, ◌&&◌, ◌||◌, Bool, true, false, cond, not, List, [], ◌∷◌, Option, Some, None, ◌⊎◌, inl, inr, sym, refl, ap, subst, ◌∙◌}
-use Rattle.std.specs.List.{list_any}
-use Rattle.std.proofs.lemmas.Bool.{cases_Bool, cond_both, and_parts, and_from, or_right, not-true, not_from_false, ne_eqb, eqb-false}
-use Rattle.assise_names.specs.declared.mode.Mode.{Mode}
-use Rattle.assise_lease_table.specs.declared.lease.Lease.{Lease}
-use Rattle.assise_lease_table.specs.Modes.{against, strong}
-use Rattle.assise_lease_table.specs.Leases.{Among, lease_of, is_own_unasked, is_rival, revoked_if, revoke, leave_out, raise, raise_unopposed, raised_if}
-use Rattle.assise_lease_table.proofs.Elements.{not_both, any_among, among_any, filter_among, among_filter, map_among, among_map}
-use Rattle.assise_lease_table.proofs.Compatibles.{raise_unopposed_compatible}
-use Rattle.assise_lease_table.specs.Leases.{compatible}
-use Rattle.assise_lease_table.proofs.LeaseChanges.{leave_out_fits, revoke_fits}
-use Rattle.assise_lease_tree.specs.Levels.{Homes, lives, is_busy, carries, Under, AskedBelow, in_way, is_revoked, is_free, gives_up, nodes_asked, rivals_asked}
+use Rattle.assise_lease_tree.proofs.Common.{◌≡◌, ◌≢◌, ℕ, ◌==◌, ◌&&◌, ◌||◌, Bool, true, false, cond, not, List, [], ◌∷◌, Option, Some, None, ◌⊎◌, inl, inr, sym}
+use Rattle.assise_lease_tree.proofs.Common.{refl, ap, subst, ◌∙◌, list_any, cases_Bool, cond_both, and_parts, and_from, or_right, not-true, not_from_false}
+use Rattle.assise_lease_tree.proofs.Common.{ne_eqb, eqb-false, Mode, Lease, against, strong, Among, lease_of, is_own_unasked, is_rival, revoked_if, revoke}
+use Rattle.assise_lease_tree.proofs.Common.{leave_out, raise, raise_unopposed, raised_if, not_both, any_among, among_any, filter_among, among_filter, map_among}
+use Rattle.assise_lease_tree.proofs.Common.{among_map, raise_unopposed_compatible, compatible, leave_out_fits, revoke_fits, Homes, lives, is_busy, carries}
+use Rattle.assise_lease_tree.proofs.Common.{Under, AskedBelow, in_way, is_revoked, is_free, gives_up, nodes_asked, rivals_asked}
 use Rattle.assise_lease_tree.proofs.ClientHomes.{carrier, not_given_up, lives_at, one_home, lease_among, stronger_left, busy_from, busy_some}
 
 pub cond_right : (b x : Bool) → x ≡ true → cond b true x ≡ true
@@ -54,7 +48,8 @@ module _ (home : Homes) (cs : List Lease) (n : ℕ) (mode : Mode) where
   raise_below : (ns : List Lease) → AskedBelow home cs ns → AskedBelow home cs (raise n mode ns)
   raise_below ns below k a revoked =
       let was = among_map raised_now ns k a in
-      let goal_at : Lease → Type 0 = λ (z : Lease). (is_busy home cs z.holder ≡ true) × ((l : Lease) → Among cs l → lives home l.holder z.holder ≡ true → l.revoked ≡ true) in
+      let goal_at : Lease → Type 0 = λ (z : Lease). (is_busy home cs z.holder ≡ true)
+      × ((l : Lease) → Among cs l → lives home l.holder z.holder ≡ true → l.revoked ≡ true) in
       subst goal_at (sym was.2) (below was.0 was.1 (sym (ap (λ (z : Lease). z.revoked) was.2) ∙ revoked))
 
   raised_under : (ns : List Lease) → Under home cs ns → Under home cs (raise_unopposed n mode ns)
@@ -102,7 +97,8 @@ module _ (home : Homes) (cs ns : List Lease) (c n : ℕ) (mode : Mode) (at_home 
       (revoke_fits (is_rival n mode) (leave_out (gives_up home cs n mode) ns) (leave_out_fits (gives_up home cs n mode) ns fits))
 
   -- a rival of the node stands in the way of all its clients
-  rival_in_way : (k : Lease) → Among ns k → is_rival n mode k ≡ true → (l : Lease) → Among cs l → lives home l.holder k.holder ≡ true → in_way home ns c n mode l ≡ true
+  rival_in_way : (k : Lease) → Among ns k → is_rival n mode k ≡ true → (l : Lease) → Among cs l → lives home l.holder k.holder ≡ true →
+      in_way home ns c n mode l ≡ true
   unfolding in_way
   rival_in_way k in_k rival l in_l there =
       let away : k.holder ≢ n = eqb-false k.holder n (not-true (k.holder == n) (and_parts (not (k.holder == n)) (against mode k.mode) rival).0) in
@@ -116,7 +112,8 @@ module _ (home : Homes) (cs ns : List Lease) (c n : ℕ) (mode : Mode) (at_home 
   rivals_below k a revoked =
       let was = among_map (λ z. revoked_if (is_rival n mode z) z) (leave_out (gives_up home cs n mode) ns) k a in
       let old = among_filter (λ z. not (gives_up home cs n mode z)) ns was.0 was.1 in
-      let goal_at : Lease → Type 0 = λ (z : Lease). (is_busy home (revoke (in_way home ns c n mode) cs) z.holder ≡ true) × ((l : Lease) → Among (revoke (in_way home ns c n mode) cs) l → lives home l.holder z.holder ≡ true → l.revoked ≡ true) in
+      let goal_at : Lease → Type 0 = λ (z : Lease). (is_busy home (revoke (in_way home ns c n mode) cs) z.holder ≡ true)
+      × ((l : Lease) → Among (revoke (in_way home ns c n mode) cs) l → lives home l.holder z.holder ≡ true → l.revoked ≡ true) in
       subst goal_at (sym was.2) (elim (cond_cases (is_rival n mode was.0) was.0.revoked (sym (ap (λ (z : Lease). z.revoked) was.2) ∙ revoked)) [
         | inl rival ↦
             let busy : is_busy home cs was.0.holder ≡ true = elim (cases_Bool (is_busy home cs was.0.holder)) [
@@ -129,7 +126,8 @@ module _ (home : Homes) (cs ns : List Lease) (c n : ℕ) (mode : Mode) (at_home 
               λ l in_l there.
                   let before = among_map revoked_now cs l in_l in
                   ap (λ (z : Lease). z.revoked) before.2
-                  ∙ way_revoked before.0 (rival_in_way was.0 old.0 rival before.0 before.1 (sym (ap (λ (z : Lease). lives home z.holder was.0.holder) before.2) ∙ there)),
+                  ∙ way_revoked before.0 (rival_in_way was.0 old.0 rival before.0 before.1
+                  (sym (ap (λ (z : Lease). lives home z.holder was.0.holder) before.2) ∙ there)),
             )
         | inr already ↦
             let held = below was.0 old.0 already in (
@@ -137,7 +135,8 @@ module _ (home : Homes) (cs ns : List Lease) (c n : ℕ) (mode : Mode) (at_home 
               λ l in_l there.
                   let before = among_map revoked_now cs l in_l in
                   ap (λ (z : Lease). z.revoked) before.2
-                  ∙ cond_right (in_way home ns c n mode before.0) before.0.revoked (held.1 before.0 before.1 (sym (ap (λ (z : Lease). lives home z.holder was.0.holder) before.2) ∙ there)),
+                  ∙ cond_right (in_way home ns c n mode before.0) before.0.revoked
+                  (held.1 before.0 before.1 (sym (ap (λ (z : Lease). lives home z.holder was.0.holder) before.2) ∙ there)),
             )
       ])
 

@@ -1,17 +1,9 @@
 -- What a call makes of the two levels, from what it makes of one inode.
-use Rattle.std.specs.Prelude.{Result, Ok, Err, IsOk, OnOk, OnErr}
-use Rattle.std.proofs.Common.{◌≡◌, ◌≢◌, ℕ, true, false, List, Option, Some, None, is_some, sym, refl, ap, ◌∙◌}
-use mathlib.Core.Logic.{dite}
-use native.Mathlib.Decide.{ℕ_discrete}
-use Rattle.std.specs.List.{list_any}
-use Rattle.assise_names.specs.declared.mode.Mode.{Mode}
-use Rattle.assise_lease_table.specs.declared.lease.Lease.{Lease}
-use Rattle.assise_lease_table.specs.LeaseMaps.{Becomes, SameLeases}
-use Rattle.assise_lease_table.specs.Leases.{Among, lease_of, serves, new_lease, revoke}
-use Rattle.assise_lease_tree.specs.Levels.{lives, is_node, in_way, raised_mode, clients_granted, nodes_granted, nodes_asked}
+use Rattle.assise_lease_tree.proofs.Common.{Result, Ok, Err, IsOk, OnOk, OnErr, ◌≡◌, ◌≢◌, ℕ, true, false, List, Option, Some, None, is_some, sym, refl, ap, ◌∙◌}
+use Rattle.assise_lease_tree.proofs.Common.{dite, ℕ_discrete, list_any, Mode, Lease, Becomes, SameLeases, Among, lease_of, serves, new_lease, revoke, lives}
+use Rattle.assise_lease_tree.proofs.Common.{is_node, in_way, raised_mode, clients_granted, nodes_granted, nodes_asked, levels_of, TwoLevels, LevelsInvariant}
+use Rattle.assise_lease_tree.proofs.Common.{is_free_for, IsGranted, IsAskedFor}
 use Rattle.assise_lease_tree.specs.declared.lease_tree.LeaseTreeOf.{LeaseTreeOf}
-use Rattle.assise_lease_tree.specs.Trees.{levels_of}
-use Rattle.assise_lease_tree.specs.TwoLevels.{TwoLevels, LevelsInvariant, is_free_for, IsGranted, IsAskedFor}
 use Rattle.assise_lease_tree.proofs.ClientHomes.{carrier, strong_raised, lease_among, lease_found, one_home, lives_at}
 use Rattle.assise_lease_tree.proofs.Lookups.{with_own, with_other}
 use Rattle.assise_lease_tree.proofs.AskSound.{some_revoked}
@@ -34,7 +26,8 @@ has_lease None e = cc
 has_lease (Some l) e = (l, refl)
 
 -- where a client has a lease of the inode, its node has one
-pub node_has : (t : TwoLevels) → LevelsInvariant t → (c n inode : ℕ) → t.home c ≡ Some n → is_some (lease_of (t.clients inode) c) ≡ true → is_some (lease_of (t.nodes inode) n) ≡ true
+pub node_has : (t : TwoLevels) → LevelsInvariant t → (c n inode : ℕ) → t.home c ≡ Some n → is_some (lease_of (t.clients inode) c) ≡ true →
+    is_some (lease_of (t.nodes inode) n) ≡ true
 node_has t lawful c n inode at_home e =
     let own = has_lease (lease_of (t.clients inode) c) e in
     let is = lease_among (t.clients inode) c own.0 own.1 in
@@ -70,7 +63,8 @@ module _ (old : TwoLevels) (lawful : LevelsInvariant old) (c n inode : ℕ) (mod
   abbrev then_levels : TwoLevels
   then_levels = record { home = old.home; clients = clients; nodes = nodes }
 
-  module _ (clients_are : Becomes old.clients clients inode (clients_granted c mode cs)) (nodes_are : Becomes old.nodes nodes inode (nodes_granted old.home cs n mode ns)) where
+  module _ (clients_are : Becomes old.clients clients inode (clients_granted c mode cs))
+      (nodes_are : Becomes old.nodes nodes inode (nodes_granted old.home cs n mode ns)) where
     own_now : lease_of (clients inode) c ≡ Some (new_lease c (raised_mode mode (lease_of cs c)))
     unfolding clients_granted
     own_now = ap (λ ls. lease_of ls c) clients_are.here ∙ with_own (new_lease c (raised_mode mode (lease_of cs c))) cs
@@ -102,10 +96,15 @@ module _ (old : TwoLevels) (lawful : LevelsInvariant old) (c n inode : ℕ) (mod
       }
 
 -- what a grant leaves is lawful, whether there was room or not
-pub grant_keeps : {T E : Type 0} (r : Result T E) (old : TwoLevels) → LevelsInvariant old → (c n inode : ℕ) (mode : Mode) (clients nodes : LeasesOf) → old.home c ≡ Some n → is_free_for old c n inode mode ≡ true
-    → OnOk r (Becomes old.clients clients inode (clients_granted c mode (old.clients inode))) → OnOk r (Becomes old.nodes nodes inode (nodes_granted old.home (old.clients inode) n mode (old.nodes inode)))
-    → OnErr r (SameLeases old.clients clients) → OnErr r (SameLeases old.nodes nodes) → LevelsInvariant (record { home = old.home; clients = clients; nodes = nodes })
+pub grant_keeps : {T E : Type 0} (r : Result T E) (old : TwoLevels) → LevelsInvariant old → (c n inode : ℕ) (mode : Mode) (clients nodes : LeasesOf) →
+    old.home c ≡ Some n → is_free_for old c n inode mode ≡ true
+    → OnOk r (Becomes old.clients clients inode (clients_granted c mode (old.clients inode))) →
+    OnOk r (Becomes old.nodes nodes inode (nodes_granted old.home (old.clients inode) n mode (old.nodes inode)))
+    → OnErr r (SameLeases old.clients clients) → OnErr r (SameLeases old.nodes nodes) →
+    LevelsInvariant (record { home = old.home; clients = clients; nodes = nodes })
 grant_keeps (Ok x) old lawful c n inode mode clients nodes at_home free granted_c granted_n same_c same_n =
-    granted_lawful old lawful (record { home = old.home; clients = clients; nodes = nodes }) c n inode mode at_home free (is_granted old lawful c n inode mode clients nodes granted_c granted_n)
+    granted_lawful old lawful (record { home = old.home; clients = clients; nodes = nodes }) c n inode mode at_home free
+    (is_granted old lawful c n inode mode clients nodes granted_c granted_n)
 grant_keeps (Err e) old lawful c n inode mode clients nodes at_home free granted_c granted_n same_c same_n =
-    same_lawful {old = old} {new = (record { home = old.home; clients = clients; nodes = nodes })} (record { home = λ d. refl; clients = same_c; nodes = same_n }) lawful
+    same_lawful {old = old} {new = (record { home = old.home; clients = clients; nodes = nodes })}
+    (record { home = λ d. refl; clients = same_c; nodes = same_n }) lawful

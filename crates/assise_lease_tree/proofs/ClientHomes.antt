@@ -1,15 +1,9 @@
 -- Clients, their nodes and modes.
-use Rattle.std.proofs.Common.{◌≡◌, ℕ, ◌==◌, Bool, true, false, cond, not, List, [], ◌∷◌, Option, Some, None, ◌⊎◌, inl, inr, sym, refl, ap, ◌∙◌, eq-eqb}
-use Rattle.std.specs.List.{list_any}
-use Rattle.std.proofs.lemmas.Bool.{eqb-true, and_parts, not-true, false_from_ne_true}
-use Rattle.assise_names.specs.declared.mode.Mode.{Mode}
+use Rattle.assise_lease_tree.proofs.Common.{◌≡◌, ℕ, ◌==◌, Bool, true, false, cond, not, List, [], ◌∷◌, Option, Some, None, ◌⊎◌, inl, inr, sym, refl, ap, ◌∙◌}
+use Rattle.assise_lease_tree.proofs.Common.{eq-eqb, list_any, eqb-true, and_parts, not-true, false_from_ne_true, Mode, Lease, against, strong, stronger, Among}
+use Rattle.assise_lease_tree.proofs.Common.{lease_of, compatible, is_rival, not_both, any_among, among_any, one_lease, Homes, is_node, lives, raised_mode}
+use Rattle.assise_lease_tree.proofs.Common.{is_busy, carries, gives_up}
 use Rattle.assise_names.specs.declared.mode.Mode.TheVariants.{Read, Write}
-use Rattle.assise_lease_table.specs.declared.lease.Lease.{Lease}
-use Rattle.assise_lease_table.specs.Modes.{against, strong, stronger}
-use Rattle.assise_lease_table.specs.Leases.{Among, lease_of, compatible, is_rival}
-use Rattle.assise_lease_table.proofs.Elements.{not_both, any_among, among_any}
-use Rattle.assise_lease_table.proofs.Compatibles.{one_lease}
-use Rattle.assise_lease_tree.specs.Levels.{Homes, is_node, lives, raised_mode, is_busy, carries, gives_up}
 
 node_of : (o : Option ℕ) (n : ℕ) → is_node o n ≡ true → o ≡ Some n
 node_of None n e = cc

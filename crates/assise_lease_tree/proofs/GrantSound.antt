@@ -1,17 +1,12 @@
 -- What is granted keeps both levels sound.
-use Rattle.std.proofs.Common.{◌≡◌, ◌≢◌, ℕ, ◌==◌, ◌&&◌, true, false, not, List, Option, Some, None, inl, inr, sym, refl, ap, subst, ◌∙◌, true≢false}
-use mathlib.Core.Logic.{dite}
-use native.Mathlib.Decide.{ℕ_discrete}
-use Rattle.std.specs.List.{list_any}
-use Rattle.std.proofs.lemmas.Bool.{cases_Bool, false_from_ne_true, and_from, or_left, or_right, not-true, not_from_false, ne_eqb, eqb-false}
-use Rattle.assise_names.specs.declared.mode.Mode.{Mode}
-use Rattle.assise_lease_table.specs.declared.lease.Lease.{Lease}
-use Rattle.assise_lease_table.specs.Modes.{against, strong, stronger}
-use Rattle.assise_lease_table.specs.Leases.{Among, lease_of, compatible, IsFree, is_rival, leave_out, without_holder, new_lease}
-use Rattle.assise_lease_table.proofs.Elements.{not_both, among_any, none_among, filter_among, among_filter, among_prefix, among_last, among_push}
-use Rattle.assise_lease_table.proofs.Compatibles.{not_against, stronger_against, with_compatible, filter_compatible}
-use Rattle.assise_lease_tree.specs.Levels.{Homes, lives, is_busy, carries, Under, AskedBelow, in_way, raised_mode, gives_up, clients_granted, nodes_granted}
-use Rattle.assise_lease_tree.proofs.ClientHomes.{carrier, not_given_up, lives_at, one_home, weaker_against, stronger_left, stronger_both, strong_raised, lease_among, lease_found, busy_from, busy_some}
+use Rattle.assise_lease_tree.proofs.Common.{◌≡◌, ◌≢◌, ℕ, ◌==◌, ◌&&◌, true, false, not, List, Option, Some, None, inl, inr, sym, refl, ap, subst, ◌∙◌}
+use Rattle.assise_lease_tree.proofs.Common.{true≢false, dite, ℕ_discrete, list_any, cases_Bool, false_from_ne_true, and_from, or_left, or_right, not-true}
+use Rattle.assise_lease_tree.proofs.Common.{not_from_false, ne_eqb, eqb-false, Mode, Lease, against, strong, stronger, Among, lease_of, compatible, IsFree}
+use Rattle.assise_lease_tree.proofs.Common.{is_rival, leave_out, without_holder, new_lease, not_both, among_any, none_among, filter_among, among_filter}
+use Rattle.assise_lease_tree.proofs.Common.{among_prefix, among_last, among_push, not_against, stronger_against, with_compatible, filter_compatible, Homes}
+use Rattle.assise_lease_tree.proofs.Common.{lives, is_busy, carries, Under, AskedBelow, in_way, raised_mode, gives_up, clients_granted, nodes_granted}
+use Rattle.assise_lease_tree.proofs.ClientHomes.{carrier, not_given_up, lives_at, one_home, weaker_against, stronger_left, stronger_both, strong_raised}
+use Rattle.assise_lease_tree.proofs.ClientHomes.{lease_among, lease_found, busy_from, busy_some}
 
 module _ (home : Homes) (cs ns : List Lease) (c n : ℕ) (mode : Mode) (at_home : home c ≡ Some n)
     (fits_c : compatible cs ≡ true) (fits_n : compatible ns ≡ true) (under : Under home cs ns) (asked : AskedBelow home cs ns)
@@ -27,7 +22,8 @@ module _ (home : Homes) (cs ns : List Lease) (c n : ℕ) (mode : Mode) (at_home 
       (and_from (lives home l.holder k.holder) (is_rival n mode k) below rival))))
       (none_among (in_way home ns c n mode) cs nobody l in_l)
 
-  not_rival : (l : Lease) → Among cs l → (k : Lease) → Among ns k → lives home l.holder k.holder ≡ true → l.holder ≢ c → k.holder ≢ n → against mode k.mode ≡ false
+  not_rival : (l : Lease) → Among cs l → (k : Lease) → Among ns k → lives home l.holder k.holder ≡ true → l.holder ≢ c → k.holder ≢ n →
+      against mode k.mode ≡ false
   not_rival l in_l k in_k below other away = false_from_ne_true (against mode k.mode) (λ is.
       no_rival l in_l k in_k below (and_from (not (k.holder == n)) (against mode k.mode) (not_from_false (k.holder == n) (ne_eqb k.holder n away)) is) other)
 
@@ -46,7 +42,8 @@ module _ (home : Homes) (cs ns : List Lease) (c n : ℕ) (mode : Mode) (at_home 
       (λ here. local_not_against l in_l (subst (λ z. lives home l.holder z ≡ true) here k.2) other)
       (λ away. weaker_against mode k.0.mode l.mode k.3 (not_rival l in_l k.0 k.1 k.2 other away))
 
-  raised_free : (ls : List Lease) → compatible ls ≡ true → (h : ℕ) (o : Option Lease) → lease_of ls h ≡ o → (l : Lease) → Among ls l → l.holder ≢ h → against mode l.mode ≡ false → against (raised_mode mode o) l.mode ≡ false
+  raised_free : (ls : List Lease) → compatible ls ≡ true → (h : ℕ) (o : Option Lease) → lease_of ls h ≡ o → (l : Lease) → Among ls l → l.holder ≢ h →
+      against mode l.mode ≡ false → against (raised_mode mode o) l.mode ≡ false
   raised_free ls fits h None is l a other free = free
   raised_free ls fits h (Some o) is l a other free =
       let own = lease_among ls h o is in
@@ -84,7 +81,8 @@ module _ (home : Homes) (cs ns : List Lease) (c n : ℕ) (mode : Mode) (at_home 
 
   pub node_granted_compatible : compatible (nodes_granted home cs n mode ns) ≡ true
   unfolding nodes_granted
-  node_granted_compatible = with_compatible (leave_out (gives_up home cs n mode) ns) (new_lease n (raised_mode mode (lease_of ns n))) given_up_compatible node_free
+  node_granted_compatible = with_compatible (leave_out (gives_up home cs n mode) ns) (new_lease n (raised_mode mode (lease_of ns n))) given_up_compatible
+      node_free
 
   abbrev new_client : Lease
   new_client = new_lease c (raised_mode mode (lease_of cs c))
@@ -101,7 +99,8 @@ module _ (home : Homes) (cs ns : List Lease) (c n : ℕ) (mode : Mode) (at_home 
       let own = lease_among cs c o is in
       let k = carrier home ns o (under o own.0) in
       let here : k.0.holder ≡ n = one_home home c k.0.holder n (ap (λ z. lives home z k.0.holder) (sym own.1) ∙ k.2) (lives_at home c n at_home) in
-      subst (λ z. strong (raised_mode mode z) (stronger o.mode mode) ≡ true) (sym (lease_found ns fits_n n k.0 k.1 here)) (stronger_both k.0.mode o.mode mode k.3)
+      subst (λ z. strong (raised_mode mode z) (stronger o.mode mode) ≡ true) (sym (lease_found ns fits_n n k.0 k.1 here))
+      (stronger_both k.0.mode o.mode mode k.3)
 
   pub granted_under : Under home (clients_granted c mode cs) (nodes_granted home cs n mode ns)
   unfolding clients_granted nodes_granted

@@ -1,11 +1,7 @@
 -- Which leases are listed where a test looks at holders alone.
-use Rattle.std.proofs.Common.{◌≡◌, ℕ, ◌==◌, Bool, true, false, cond, not, ◌&&◌, ◌||◌, List, [], ◌∷◌, Option, Some, sym, refl, ap, ◌∙◌}
-use Rattle.std.specs.List.{list_any, list_all}
-use Rattle.std.proofs.lemmas.Bool.{and_parts, eqb-true}
-use Rattle.assise_lease_table.specs.Cuts.{is_unasked}
-use Rattle.assise_lease_table.specs.Leases.{stand_together, compatible, is_own, is_to_ask, lease_of}
-use Rattle.assise_lease_table.specs.declared.lease.Lease.{Lease}
-use Rattle.assise_lease_table.proofs.Unasked.{others, not_wanted}
+use Rattle.assise_lease_tree.proofs.Common.{◌≡◌, ℕ, ◌==◌, Bool, true, false, cond, not, ◌&&◌, ◌||◌, List, [], ◌∷◌, Option, Some, sym, refl, ap, ◌∙◌, list_any}
+use Rattle.assise_lease_tree.proofs.Common.{list_all, and_parts, eqb-true, is_unasked, stand_together, compatible, is_own, is_to_ask, lease_of, Lease, others}
+use Rattle.assise_lease_tree.proofs.Common.{not_wanted}
 
 module _ (by : ℕ → Bool) where
   abbrev chosen : ℕ → Lease → Bool
@@ -29,7 +25,8 @@ module _ (by : ℕ → Bool) where
   alone false true rest e = e
   alone false false rest e = e
 
-  left_step : (b : Bool) (l : Lease) (c : ℕ) (found : Option Lease) (rest : Bool) → (b ≡ true → (l.holder ≡ c) × (rest ≡ false)) → rest ≡ (by c && is_unasked found)
+  left_step : (b : Bool) (l : Lease) (c : ℕ) (found : Option Lease) (rest : Bool) → (b ≡ true → (l.holder ≡ c) × (rest ≡ false)) →
+      rest ≡ (by c && is_unasked found)
       → ((b && (not l.revoked && by l.holder)) || rest) ≡ (by c && is_unasked (cond b (Some l) found))
   left_step true l c found rest here more = let is = here refl in alone (not l.revoked) (by l.holder) rest is.1 ∙ ap (λ z. by z && not l.revoked) is.0
   left_step false l c found rest here more = more

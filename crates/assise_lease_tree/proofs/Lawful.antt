@@ -1,12 +1,6 @@
 -- What is lawful inode by inode.
-use Rattle.std.proofs.Common.{◌≡◌, ℕ, true, List, sym, refl, ap, subst, ◌∙◌}
-use mathlib.Core.Logic.{dite}
-use native.Mathlib.Decide.{ℕ_discrete}
-use Rattle.assise_lease_table.specs.declared.lease.Lease.{Lease}
-use Rattle.assise_lease_table.specs.LeaseMaps.{Becomes}
-use Rattle.assise_lease_table.specs.Leases.{compatible}
-use Rattle.assise_lease_tree.specs.Levels.{Homes, Under, AskedBelow}
-use Rattle.assise_lease_tree.specs.TwoLevels.{TwoLevels, LevelsInvariant, SameLevels, nobody}
+use Rattle.assise_lease_tree.proofs.Common.{◌≡◌, ℕ, true, List, sym, refl, ap, subst, ◌∙◌, dite, ℕ_discrete, Lease, Becomes, compatible, Homes, Under}
+use Rattle.assise_lease_tree.proofs.Common.{AskedBelow, TwoLevels, LevelsInvariant, SameLevels, nobody}
 
 -- the leases of one inode are lawful
 pub record LawfulAt (home : Homes) (cs ns : List Lease) : Type 0 where
@@ -27,12 +21,14 @@ same_at {home} {later} {cs} {ds} {ns} {ms} homes clients nodes l =
     subst (λ h. LawfulAt h ds ms) (sym homes_are) (subst (λ ls. LawfulAt home ls ms) (sym clients) (subst (λ ls. LawfulAt home cs ls) (sym nodes) l))
 
 -- where each inode's leases are known
-pub each_lawful : {home : Homes} (new : TwoLevels) (cs ns : ℕ → List Lease) → ((c : ℕ) → new.home c ≡ home c) → ((i : ℕ) → new.clients i ≡ cs i) → ((i : ℕ) → new.nodes i ≡ ns i)
+pub each_lawful : {home : Homes} (new : TwoLevels) (cs ns : ℕ → List Lease) → ((c : ℕ) → new.home c ≡ home c) → ((i : ℕ) → new.clients i ≡ cs i) →
+    ((i : ℕ) → new.nodes i ≡ ns i)
     → ((i : ℕ) → LawfulAt home (cs i) (ns i)) → LevelsInvariant new
 each_lawful new cs ns homes clients nodes h = from_each new (λ i. same_at homes (clients i) (nodes i) (h i))
 
 -- where the leases of one inode change
-pub becomes_lawful : (old new : TwoLevels) {inode : ℕ} {cs ns : List Lease} → ((c : ℕ) → new.home c ≡ old.home c) → Becomes old.clients new.clients inode cs → Becomes old.nodes new.nodes inode ns
+pub becomes_lawful : (old new : TwoLevels) {inode : ℕ} {cs ns : List Lease} → ((c : ℕ) → new.home c ≡ old.home c) → Becomes old.clients new.clients inode cs →
+    Becomes old.nodes new.nodes inode ns
     → LawfulAt old.home cs ns → LevelsInvariant old → LevelsInvariant new
 becomes_lawful old new {inode} {cs} {ns} homes clients nodes here lawful = from_each new (λ i. dite (ℕ_discrete i inode)
     (λ e. same_at homes (ap new.clients e ∙ clients.here) (ap new.nodes e ∙ nodes.here) here)

@@ -1,3 +1,4 @@
+mod Common
 pub mod ClientHomes
 mod GrantSound
 mod AskSound

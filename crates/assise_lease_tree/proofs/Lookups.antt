@@ -1,8 +1,6 @@
 -- What a look-up finds once a lease is put or taken away.
-use Rattle.std.proofs.Common.{◌≡◌, ◌≢◌, ℕ, ◌==◌, Bool, true, false, cond, not, List, [], ◌∷◌, ◌++◌, Option, Some, None, sym, refl, ap, ◌∙◌, eq-eqb}
-use Rattle.std.proofs.lemmas.Bool.{eqb-true, ne_eqb}
-use Rattle.assise_lease_table.specs.declared.lease.Lease.{Lease}
-use Rattle.assise_lease_table.specs.Leases.{lease_of, without_holder, with_lease}
+use Rattle.assise_lease_tree.proofs.Common.{◌≡◌, ◌≢◌, ℕ, ◌==◌, Bool, true, false, cond, not, List, [], ◌∷◌, ◌++◌, Option, Some, None, sym, refl, ap, ◌∙◌}
+use Rattle.assise_lease_tree.proofs.Common.{eq-eqb, eqb-true, ne_eqb, Lease, lease_of, without_holder, with_lease}
 
 none_at : (b : Bool) (l : Lease) (o : Option Lease) → cond b (Some l) o ≡ None → (b ≡ false) × (o ≡ None)
 none_at true l o e = cc
@@ -18,7 +16,8 @@ push_other : (ls : List Lease) (x : Lease) (h : ℕ) → (x.holder == h) ≡ fal
 push_other [] x h e = ap (λ b. cond b (Some x) None) e
 push_other (l ∷ ls) x h e = ap (λ o. cond (l.holder == h) (Some l) o) (push_other ls x h e)
 
-own_step : (l : Lease) (ls : List Lease) (h : ℕ) (b : Bool) → (l.holder == h) ≡ b → lease_of (without_holder h ls) h ≡ None → lease_of (cond (not b) (l ∷ without_holder h ls) (without_holder h ls)) h ≡ None
+own_step : (l : Lease) (ls : List Lease) (h : ℕ) (b : Bool) → (l.holder == h) ≡ b → lease_of (without_holder h ls) h ≡ None →
+    lease_of (cond (not b) (l ∷ without_holder h ls) (without_holder h ls)) h ≡ None
 own_step l ls h true e rest = rest
 own_step l ls h false e rest = ap (λ b. cond b (Some l) (lease_of (without_holder h ls) h)) e ∙ rest
 

@@ -1,15 +1,10 @@
 -- What is released, revoked or taken in keeps both levels sound.
-use Rattle.std.proofs.Common.{◌≡◌, ◌≢◌, ℕ, ◌==◌, ◌&&◌, Bool, true, false, cond, not, List, Some, None, ◌⊎◌, inl, inr, sym, refl, ap, subst, ◌∙◌}
-use mathlib.Core.Logic.{dite}
-use native.Mathlib.Decide.{ℕ_discrete}
-use Rattle.std.specs.List.{list_any}
-use Rattle.std.proofs.lemmas.Bool.{and_parts, and_from, not-true, not_from_false, ne_eqb, eqb-false}
+use Rattle.assise_lease_tree.proofs.Common.{◌≡◌, ◌≢◌, ℕ, ◌==◌, ◌&&◌, Bool, true, false, cond, not, List, Some, None, ◌⊎◌, inl, inr, sym, refl, ap, subst, ◌∙◌}
+use Rattle.assise_lease_tree.proofs.Common.{dite, ℕ_discrete, list_any, and_parts, and_from, not-true, not_from_false, ne_eqb, eqb-false, Lease, strong, Among}
+use Rattle.assise_lease_tree.proofs.Common.{lease_of, compatible, revoked_if, without_holder, revoke, not_both, any_among, among_any, filter_among}
+use Rattle.assise_lease_tree.proofs.Common.{among_filter, map_among, among_map, Homes, is_node, lives, is_busy, carries, Under, AskedBelow, is_revoked}
+use Rattle.assise_lease_tree.proofs.Common.{nodes_released}
 use Rattle.std.proofs.lemmas.Option.{none-some}
-use Rattle.assise_lease_table.specs.declared.lease.Lease.{Lease}
-use Rattle.assise_lease_table.specs.Modes.{strong}
-use Rattle.assise_lease_table.specs.Leases.{Among, lease_of, compatible, revoked_if, without_holder, revoke}
-use Rattle.assise_lease_table.proofs.Elements.{not_both, any_among, among_any, filter_among, among_filter, map_among, among_map}
-use Rattle.assise_lease_tree.specs.Levels.{Homes, is_node, lives, is_busy, carries, Under, AskedBelow, is_revoked, nodes_released}
 use Rattle.assise_lease_tree.proofs.ClientHomes.{carrier, home_of, lives_at, one_home, lease_found, busy_from, busy_some}
 use Rattle.assise_lease_tree.proofs.AskSound.{cond_right}
 
@@ -25,7 +20,8 @@ module _ (home : Homes) (cs ns : List Lease) (fits_n : compatible ns ≡ true) (
     abbrev left : List Lease
     left = without_holder c cs
 
-    under_left : (ks : List Lease) → ((k : Lease) → Among ns k → (l : Lease) → Among left l → lives home l.holder k.holder ≡ true → Among ks k) → Under home left ks
+    under_left : (ks : List Lease) → ((k : Lease) → Among ns k → (l : Lease) → Among left l → lives home l.holder k.holder ≡ true → Among ks k) →
+        Under home left ks
     under_left ks keeps l a =
         let was = of_without c cs l a in
         let k = carrier home ns l (under l was.0) in
@@ -38,7 +34,9 @@ module _ (home : Homes) (cs ns : List Lease) (fits_n : compatible ns ≡ true) (
         let old = asked k a revoked in
         let l = busy_some home cs k.holder old.0 in (
           elim which [
-            | inl away ↦ busy_from home left k.holder l.0 (in_without c cs l.0 l.1 (λ same. away (one_home home c k.holder n (ap (λ z. lives home z k.holder) (sym same) ∙ l.2) (lives_at home c n at_home)))) l.2
+            | inl away ↦ busy_from home left k.holder l.0
+                (in_without c cs l.0 l.1
+                (λ same. away (one_home home c k.holder n (ap (λ z. lives home z k.holder) (sym same) ∙ l.2) (lives_at home c n at_home)))) l.2
             | inr busy ↦ busy
           ],
           λ x in_x there. old.1 x (of_without c cs x in_x).0 there,
@@ -88,7 +86,8 @@ module _ (home : Homes) (cs ns : List Lease) (fits_n : compatible ns ≡ true) (
           busy_from home (revoke choice cs) k.holder (revoked_now l.0) (map_among revoked_now cs l.0 l.1) l.2,
           λ x in_x there.
               let was = among_map revoked_now cs x in_x in
-              ap (λ (z : Lease). z.revoked) was.2 ∙ cond_right (choice was.0) was.0.revoked (old.1 was.0 was.1 (sym (ap (λ (z : Lease). lives home z.holder k.holder) was.2) ∙ there)),
+              ap (λ (z : Lease). z.revoked) was.2
+              ∙ cond_right (choice was.0) was.0.revoked (old.1 was.0 was.1 (sym (ap (λ (z : Lease). lives home z.holder k.holder) was.2) ∙ there)),
         )
 
   -- all leases of a node go, below which nobody holds

@@ -1,29 +1,26 @@
 -- What each call does keeps the two levels lawful, and lists of calls do.
-use Rattle.std.proofs.Common.{◌≡◌, ℕ, ◌&&◌, Bool, true, false, not, List, [], ◌∷◌, Some, None, inl, inr, refl}
-use Rattle.std.specs.List.{list_any}
-use Rattle.std.proofs.lemmas.Bool.{and_parts, cond_both, not-true}
-use Rattle.assise_names.specs.declared.mode.Mode.{Mode}
-use Rattle.assise_lease_table.specs.declared.lease.Lease.{Lease}
-use Rattle.assise_lease_table.specs.LeaseMaps.{SameLeases}
-use Rattle.assise_lease_table.specs.Leases.{compatible, lease_of, without_holder, revoke, is_own}
-use Rattle.assise_lease_table.proofs.LeaseChanges.{leave_out_fits, revoke_fits}
+use Rattle.assise_lease_tree.proofs.Common.{◌≡◌, ℕ, ◌&&◌, Bool, true, false, not, List, [], ◌∷◌, Some, None, inl, inr, refl, list_any, and_parts, cond_both}
+use Rattle.assise_lease_tree.proofs.Common.{not-true, Mode, Lease, SameLeases, compatible, lease_of, without_holder, revoke, is_own, leave_out_fits}
+use Rattle.assise_lease_tree.proofs.Common.{revoke_fits, Homes, in_way, is_revoked, is_free, is_busy, TwoLevels, nobody, LevelsInvariant, EnrolsAt, is_free_for}
+use Rattle.assise_lease_tree.proofs.Common.{IsGranted, IsAskedFor, ReleasesLease, IsRevoked, IsIdle, IsFreed}
 use Rattle.assise_lease_tree.specs.LeaseCalls.{LeaseCall, LeaseCallDoes, AllLeaseCalls}
 use Rattle.assise_lease_tree.specs.LeaseCalls.LeaseCall.{enrol, acquire, release, revoke_all, free_node}
-use Rattle.assise_lease_tree.specs.Levels.{Homes, in_way, is_revoked, is_free, is_busy}
-use Rattle.assise_lease_tree.specs.TwoLevels.{TwoLevels, nobody, LevelsInvariant, EnrolsAt, is_free_for, IsGranted, IsAskedFor, ReleasesLease, IsRevoked, IsIdle, IsFreed}
 use Rattle.assise_lease_tree.proofs.GrantSound.{client_granted_compatible, node_granted_compatible, granted_under, granted_asked}
 use Rattle.assise_lease_tree.proofs.AskSound.{asked_under, asked_asked, nodes_asked_compatible}
-use Rattle.assise_lease_tree.proofs.ReleaseSound.{released_under, released_asked, revoked_under, revoked_asked, freed_under, freed_asked, enrolled_under, enrolled_asked}
+use Rattle.assise_lease_tree.proofs.ReleaseSound.{released_under, released_asked, revoked_under, revoked_asked, freed_under, freed_asked, enrolled_under}
+use Rattle.assise_lease_tree.proofs.ReleaseSound.{enrolled_asked}
 use Rattle.assise_lease_tree.proofs.Lawful.{lawful_at, each_lawful, becomes_lawful, same_lawful, nobody_lawful}
 
 -- who is granted has nobody in the way
-pub nobody_in_way : (home : Homes) (cs ns : List Lease) (c n : ℕ) (mode : Mode) → is_free home cs ns c n mode ≡ true → list_any (in_way home ns c n mode) cs ≡ false
+pub nobody_in_way : (home : Homes) (cs ns : List Lease) (c n : ℕ) (mode : Mode) → is_free home cs ns c n mode ≡ true → list_any (in_way home ns c n mode) cs
+    ≡ false
 nobody_in_way home cs ns c n mode free =
     not-true (list_any (in_way home ns c n mode) cs)
     (and_parts (not (list_any (in_way home ns c n mode) cs)) (not (is_revoked (lease_of cs c)) && not (is_revoked (lease_of ns n))) free).0
 
 module _ (old : TwoLevels) (lawful : LevelsInvariant old) where
-  pub granted_lawful : (new : TwoLevels) (c n inode : ℕ) (mode : Mode) → old.home c ≡ Some n → is_free_for old c n inode mode ≡ true → IsGranted old new c n inode mode → LevelsInvariant new
+  pub granted_lawful : (new : TwoLevels) (c n inode : ℕ) (mode : Mode) → old.home c ≡ Some n → is_free_for old c n inode mode ≡ true →
+      IsGranted old new c n inode mode → LevelsInvariant new
   granted_lawful new c n inode mode at_home free g =
       let l = lawful_at lawful inode in
       let cs = old.clients inode in
@@ -61,7 +58,8 @@ module _ (old : TwoLevels) (lawful : LevelsInvariant old) where
         asked = released_asked old.home cs ns l.fits_n l.under l.asked c n at_home;
       }) lawful
 
-  pub all_revoked_lawful : (new : TwoLevels) (choice : Lease → Bool) → ((c : ℕ) → new.home c ≡ old.home c) → ((i : ℕ) → new.clients i ≡ revoke choice (old.clients i)) → SameLeases old.nodes new.nodes → LevelsInvariant new
+  pub all_revoked_lawful : (new : TwoLevels) (choice : Lease → Bool) → ((c : ℕ) → new.home c ≡ old.home c) →
+      ((i : ℕ) → new.clients i ≡ revoke choice (old.clients i)) → SameLeases old.nodes new.nodes → LevelsInvariant new
   all_revoked_lawful new choice homes clients nodes = each_lawful new (λ i. revoke choice (old.clients i)) old.nodes homes clients nodes (λ i.
       let l = lawful_at lawful i in
       record {

@@ -1,39 +1,30 @@
 -- Why a cluster refuses what its clients ask, in the words of its history.
-use Rattle.std.proofs.Common.{◌≡◌, ◌≢◌, ℕ, ◌≤◌, arith, Bool, true, false, Option, Some, None, refl, sym, ◌∙◌, subst}
-use Rattle.std.specs.Prelude.{not, nat_le, Result, Ok, Err, IfErr}
+use Rattle.assise_libfs.proofs.Common.{◌≡◌, ◌≢◌, ℕ, ◌≤◌, arith, Bool, true, false, Option, Some, None, refl, sym, ◌∙◌, subst, not, nat_le, IfErr, ∥∥₁_elim}
+use Rattle.assise_libfs.proofs.Common.{∥∥₁_map, Op, Durability, Reply, Refusal, BadClient, BadNode, ClientGone, InodesSpent, LogFull, NodeDown, OutOfMemory}
+use Rattle.assise_libfs.proofs.Common.{TooLarge, opens, IsDown, IsOpenedOn, MayCall, clients_opened, durability_of, is_failure_of, next_opened, opened_within}
+use Rattle.assise_libfs.proofs.Common.{fits_in, Answer, not_yet, opened, refused, replied, opening_answer, IsCutOff, MakesInode, MayRefuseTry, WritesTooMuch}
+use Rattle.assise_libfs.proofs.Common.{HasCrashed, HasLostNode}
+use Rattle.std.specs.Prelude.{Result, Ok, Err}
 use Rattle.std.specs.List.{list_any}
 use Rattle.std.specs.Coded.{Coded-set, coded_ℕ}
-use Rattle.std.proofs.Math.Logic.{∥∥₁_elim, ∥∥₁_map}
 use Rattle.std.proofs.lemmas.Bool.{and_from, and_parts, le-leb, leb-true, not-false, not-true}
 use Rattle.std.proofs.lemmas.Bool.Decides.{nat_tests}
 use Rattle.assise_model_events.proofs.Faultless.{first_none}
-use Rattle.assise_names.specs.declared.call.Op.{Op}
 use Rattle.assise_names.specs.declared.call.Op.TheVariants.{Create, Mkdir, Write, Fsync, Dsync}
-use Rattle.assise_names.specs.declared.durability.Durability.{Durability}
 use Rattle.assise_names.specs.declared.durability.Durability.TheVariants.{Pessimistic, Optimistic}
-use Rattle.assise_names.specs.declared.reply.Reply.{Reply}
-use Rattle.assise_names.specs.declared.refusal.Refusal.{Refusal}
-use Rattle.assise_names.specs.declared.refusal.Refusal.TheVariants.{BadClient, BadNode, ClientGone, InodesSpent, LogFull, NodeDown, OutOfMemory, TooLarge}
 use Rattle.assise_names.specs.declared.limits.TheConstants.{MOST_CLIENTS}
-use Rattle.assise_history.specs.Entries.{opens}
-use Rattle.assise_history.specs.Legal.{IsDown, IsOpenedOn, MayCall, clients_opened, durability_of, is_failure_of}
-use Rattle.assise_history.proofs.ClientCounts.{next_opened, opened_within}
-use Rattle.assise_history.proofs.Legality.{fits_in}
 use Rattle.assise_inode_table.specs.Numbers.{makes_inode}
 use Rattle.assise_inode_table.proofs.CallEnds.{makes_own}
 use Rattle.assise_manager.specs.Standings.{Standing, full, down, returning, standing_of}
 use Rattle.assise_model_world.specs.World.{IsClient, view}
 use Rattle.assise_model_history.specs.Numbered.{made_in}
-use Rattle.assise_model_events.specs.ClientEvents.{Opening, Calling, Noting, Syncing, call_of_client, is_answered, is_awaited, is_full, is_noted, is_opened, is_refused, is_replicating, is_spent, is_synced, lacks_memory, last_world}
+use Rattle.assise_model_events.specs.ClientEvents.{Opening, Calling, Noting, Syncing, call_of_client, is_answered, is_awaited, is_full, is_noted, is_opened}
+use Rattle.assise_model_events.specs.ClientEvents.{is_refused, is_replicating, is_spent, is_synced, lacks_memory, last_world}
 use Rattle.assise_model_events.specs.Dsyncs.{Coalescing, is_coalesced, is_refused, is_synced, lacks_memory}
-use Rattle.assise_model_events.specs.Events.{Answer, not_yet, opened, refused, replied}
 use Rattle.assise_model_events.specs.Faults.{client_fault, fault_if, is_client, is_too_large, or_else, unless_full}
 use Rattle.assise_model_events.specs.Happenings.{Dsyncing, Fsyncing, Trying}
 use Rattle.assise_model_events.specs.Machine.{Machine, MachineInvariant}
 use Rattle.assise_model_events.proofs.Rejoined.{stands_is_node}
-use Rattle.assise_machine_calls.specs.Answers.{opening_answer}
-use Rattle.assise_libfs.specs.Calling.{IsCutOff, MakesInode, MayRefuseTry, WritesTooMuch}
-use Rattle.assise_libfs.specs.Lives.{HasCrashed, HasLostNode}
 use Rattle.assise_libfs.specs.Opening.{MayRefuseOpen}
 
 -- ---- the faults of a client
@@ -44,14 +35,16 @@ data ClientFault (known crashed lives : Bool) (r : Refusal) : Type 0 where
   is_gone : known ≡ true → crashed ≡ true → r ≡ ClientGone → ClientFault known crashed lives r
   is_cut_off : known ≡ true → crashed ≡ false → lives ≡ false → r ≡ NodeDown → ClientFault known crashed lives r
 
-which_fault : (b k l : Bool) (r : Refusal) → or_else (fault_if (not b) BadClient) (or_else (fault_if k ClientGone) (fault_if (not l) NodeDown)) ≡ Some r → ClientFault b k l r
+which_fault : (b k l : Bool) (r : Refusal) → or_else (fault_if (not b) BadClient) (or_else (fault_if k ClientGone) (fault_if (not l) NodeDown)) ≡ Some r →
+    ClientFault b k l r
 which_fault false k l r e = is_bad refl (let x : Some BadClient ≡ Some r = e in cc)
 which_fault true true l r e = is_gone refl refl (let x : Some ClientGone ≡ Some r = e in cc)
 which_fault true false false r e = is_cut_off refl refl refl (let x : Some NodeDown ≡ Some r = e in cc)
 which_fault true false true r e = absurd (cc)
 
 -- the client is known, hasn't crashed, and its node hasn't failed
-no_client_fault : (b k l : Bool) → or_else (fault_if (not b) BadClient) (or_else (fault_if k ClientGone) (fault_if (not l) NodeDown)) ≡ None → (b ≡ true) × ((k ≡ false) × (l ≡ true))
+no_client_fault : (b k l : Bool) → or_else (fault_if (not b) BadClient) (or_else (fault_if k ClientGone) (fault_if (not l) NodeDown)) ≡ None →
+    (b ≡ true) × ((k ≡ false) × (l ≡ true))
 no_client_fault false k l e = absurd (let x : Some BadClient ≡ None = e in cc)
 no_client_fault true true l e = absurd (let x : Some ClientGone ≡ None = e in cc)
 no_client_fault true false false e = absurd (let x : Some NodeDown ≡ None = e in cc)
@@ -151,7 +144,8 @@ module _ (m : Machine) (holds : ∥ MachineInvariant m ∥₁) where
       (∥∥₁_map holds (λ h. may_call m h c (first_none (client_fault m c) _ s.tried.fine)))
   calling_refused m' c op a r (lacks_memory reply granted e s k) is = subst (MayRefuseTry c op m.history) (sym (same_refusal OutOfMemory r a e is)) tt
   calling_refused m' c op a r (is_refused q fault e same) is =
-      subst (MayRefuseTry c op m.history) (sym (same_refusal q r a e is)) (faulty_call c op q (which_call_fault (client_fault m c) (is_too_large op) op q refl fault))
+      subst (MayRefuseTry c op m.history) (sym (same_refusal q r a e is))
+      (faulty_call c op q (which_call_fault (client_fault m c) (is_too_large op) op q refl fault))
 
   syncing_refused : (m' : Machine) (c : ℕ) (op : Op) (a : Answer) (r : Refusal) → Syncing m c op a m' → a ≡ refused r → MayRefuseTry c op m.history r
   syncing_refused m' c op a r (is_synced reply fine e h) is = absurd (let x : replied reply ≡ refused r = sym e ∙ is in cc)
@@ -162,7 +156,8 @@ module _ (m : Machine) (holds : ∥ MachineInvariant m ∥₁) where
   noting_refused : (m' : Machine) (c : ℕ) (a : Answer) (r : Refusal) → Noting m c a m' → a ≡ refused r → MayRefuseTry c Fsync m.history r
   noting_refused m' c a r (is_noted reply fine e h) is = absurd (let x : replied reply ≡ refused r = sym e ∙ is in cc)
   noting_refused m' c a r (lacks_memory fine e same) is = subst (MayRefuseTry c Fsync m.history) (sym (same_refusal OutOfMemory r a e is)) tt
-  noting_refused m' c a r (is_refused q fault e same) is = subst (MayRefuseTry c Fsync m.history) (sym (same_refusal q r a e is)) (faulty_client c Fsync q fault)
+  noting_refused m' c a r (is_refused q fault e same) is =
+      subst (MayRefuseTry c Fsync m.history) (sym (same_refusal q r a e is)) (faulty_client c Fsync q fault)
 
   fsyncing_refused : (m' : Machine) (u : Durability) (c : ℕ) (a : Answer) (r : Refusal) → Fsyncing u m c a m' → a ≡ refused r → MayRefuseTry c Fsync m.history r
   fsyncing_refused m' Pessimistic c a r h is = syncing_refused m' c Fsync a r h is
@@ -172,7 +167,8 @@ module _ (m : Machine) (holds : ∥ MachineInvariant m ∥₁) where
   coalescing_refused m' c a r (is_synced reply fine e h) is = absurd (let x : replied reply ≡ refused r = sym e ∙ is in cc)
   coalescing_refused m' c a r (is_coalesced fine e h) is = absurd (let x : not_yet ≡ refused r = sym e ∙ is in cc)
   coalescing_refused m' c a r (lacks_memory fine e same) is = subst (MayRefuseTry c Dsync m.history) (sym (same_refusal OutOfMemory r a e is)) tt
-  coalescing_refused m' c a r (is_refused q fault e same) is = subst (MayRefuseTry c Dsync m.history) (sym (same_refusal q r a e is)) (faulty_client c Dsync q fault)
+  coalescing_refused m' c a r (is_refused q fault e same) is =
+      subst (MayRefuseTry c Dsync m.history) (sym (same_refusal q r a e is)) (faulty_client c Dsync q fault)
 
   dsyncing_refused : (m' : Machine) (u : Durability) (c : ℕ) (a : Answer) (r : Refusal) → Dsyncing u m c a m' → a ≡ refused r → MayRefuseTry c Dsync m.history r
   dsyncing_refused m' Pessimistic c a r h is = syncing_refused m' c Dsync a r h is
@@ -214,9 +210,11 @@ module _ (m : Machine) (holds : ∥ MachineInvariant m ∥₁) (n : ℕ) (u : Du
   pub opening_refused : (m' : Machine) (a : Answer) (r : Refusal) → Opening m n u a m' → a ≡ refused r → MayRefuseOpen n m.history r
   opening_refused m' a r (is_opened fine e o) is = absurd (let x : opened _ ≡ refused r = sym e ∙ is in cc)
   opening_refused m' a r (is_refused q fault e same) is =
-      subst (MayRefuseOpen n m.history) (sym (same_refusal q r a e is)) (faulty_open q (which_open_fault (standing_of m.members.nodes n) (nat_le MOST_CLIENTS m.world.clients) q fault))
+      subst (MayRefuseOpen n m.history) (sym (same_refusal q r a e is))
+      (faulty_open q (which_open_fault (standing_of m.members.nodes n) (nat_le MOST_CLIENTS m.world.clients) q fault))
   opening_refused m' a r (lacks_memory fine e same) is = subst (MayRefuseOpen n m.history) (sym (same_refusal OutOfMemory r a e is)) tt
 
-  pub opened_or_refused : {C : Type 0} (m' : Machine) (result : Result ℕ (Refusal × C)) → Opening m n u (opening_answer result) m' → IfErr result (λ back. MayRefuseOpen n m.history back.0)
+  pub opened_or_refused : {C : Type 0} (m' : Machine) (result : Result ℕ (Refusal × C)) → Opening m n u (opening_answer result) m' →
+      IfErr result (λ back. MayRefuseOpen n m.history back.0)
   opened_or_refused m' (Ok client) h = tt
   opened_or_refused m' (Err back) h = opening_refused m' (refused back.0) back.0 h refl

@@ -1,3 +1,4 @@
+mod Common
 pub mod Faults
 pub mod Openings
 pub mod Refused

@@ -1,12 +1,5 @@
 -- Why the call of a client that was opened is refused.
-use Rattle.std.proofs.Common.{ℕ, List}
-use Rattle.std.proofs.Math.Logic.{∥∥₁_elim}
-use Rattle.assise_names.specs.declared.call.Op.{Op}
-use Rattle.assise_names.specs.declared.refusal.Refusal.{Refusal}
-use Rattle.assise_names.specs.declared.refusal.Refusal.TheVariants.{OutOfMemory, Busy, BadClient}
-use Rattle.assise_history.specs.Entries.{EntryValue}
-use Rattle.assise_libfs.specs.Calling.{MayRefuse, MayRefuseTry}
-use Rattle.assise_history.specs.Legal.{IsOpenedOn}
+use Rattle.assise_libfs.proofs.Common.{ℕ, List, ∥∥₁_elim, Op, Refusal, OutOfMemory, Busy, BadClient, EntryValue, MayRefuse, MayRefuseTry, IsOpenedOn}
 
 pub refused-opened : (c n : ℕ) (op : Op) (h : List EntryValue) (r : Refusal) → ∥ IsOpenedOn h c n ∥₁ → MayRefuseTry c op h r → MayRefuse c op h r
 refused-opened c n op h OutOfMemory o f = tt

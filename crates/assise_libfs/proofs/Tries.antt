@@ -1,21 +1,11 @@
 -- What follows from what tries and calls make of what their caller has seen.
-use Rattle.std.proofs.Common.{◌≡◌, ℕ, ◌+◌, ◌≤◌, List, [], ◌∷◌, ◌++◌, length, sym, refl, ap, ◌∙◌, subst, arith, append_assoc, append-nil, add-zero, length-append, Option, Some, Result, Ok, Err}
-use Rattle.std.specs.Prelude.{IfOk}
+use Rattle.assise_libfs.proofs.Common.{◌≡◌, ℕ, ◌+◌, ◌≤◌, List, [], ◌∷◌, ◌++◌, length, sym, refl, ap, ◌∙◌, subst, arith, append_assoc, append-nil, add-zero}
+use Rattle.assise_libfs.proofs.Common.{length-append, Option, Some, Result, Ok, Err, IfOk, ∥∥₁_elim, fits_in, prefix_in, Op, Durability, Refusal, Reply}
+use Rattle.assise_libfs.proofs.Common.{EntryValue, opens, calls, IsLegal, IsOpenedOn, calls_made, clients_opened, early, next_opened, calls_by, Extends}
+use Rattle.assise_libfs.proofs.Common.{ExtendsByOne, calls-append, told_call, ExtendsByOthers, SeesTry, answers}
 use Rattle.std.proofs.Math.Bridge.{le_prop}
 use Rattle.std.proofs.lemmas.List.{append_cancel_left}
-use Rattle.std.proofs.Math.Logic.{∥∥₁_elim}
-use Rattle.assise_history.proofs.Legality.{fits_in, prefix_in}
-use Rattle.assise_names.specs.declared.call.Op.{Op}
-use Rattle.assise_names.specs.declared.durability.Durability.{Durability}
-use Rattle.assise_names.specs.declared.refusal.Refusal.{Refusal}
-use Rattle.assise_names.specs.declared.reply.Reply.{Reply}
-use Rattle.assise_history.specs.Entries.{EntryValue, opens, calls}
-use Rattle.assise_history.specs.Legal.{IsLegal, IsOpenedOn, calls_made, clients_opened}
-use Rattle.assise_history.proofs.ClientCounts.{early, next_opened}
 use Rattle.assise_history.proofs.LivesOneMore.{made-still}
-use Rattle.assise_keeper.specs.Clients.{calls_by, Extends, ExtendsByOne}
-use Rattle.assise_keeper.proofs.PassAdds.{calls-append}
-use Rattle.assise_libfs.specs.Calling.{told_call, ExtendsByOthers, SeesTry, answers}
 
 -- what was taken extends by others what was seen
 pub by_others : (c : ℕ) (old taken : List EntryValue) → Extends taken old → calls_by c taken ≡ calls_by c old → ExtendsByOthers c old taken
@@ -41,20 +31,24 @@ told_same : (c : ℕ) (a b : List EntryValue) (op : Op) (reply : Reply) → call
 told_same c a b op reply same = ap (λ (k : ℕ). calls (record { client = c; number = k; op = op; reply = reply })) (ap length same)
 
 -- others, and then the call
-pub others_then_one : (c : ℕ) (a b d : List EntryValue) (op : Op) (reply : Reply) → ExtendsByOthers c a b → ExtendsByOne c b d (told_call c b op reply) → ExtendsByOne c a d (told_call c a op reply)
+pub others_then_one : (c : ℕ) (a b d : List EntryValue) (op : Op) (reply : Reply) → ExtendsByOthers c a b → ExtendsByOne c b d (told_call c b op reply) →
+    ExtendsByOne c a d (told_call c a op reply)
 others_then_one c a b d op reply o e = let call = told_same c a b op reply o.same in record {
   between = o.between ++ e.between;
-  split = e.split ∙ (ap (λ z. (z ++ e.between) ++ told_call c b op reply ∷ []) o.split ∙ (ap (λ z. z ++ told_call c b op reply ∷ []) (append_assoc a o.between e.between) ∙ ap (λ z. (a ++ (o.between ++ e.between)) ++ z ∷ []) call));
+  split = e.split ∙ (ap (λ z. (z ++ e.between) ++ told_call c b op reply ∷ []) o.split
+      ∙ (ap (λ z. z ++ told_call c b op reply ∷ []) (append_assoc a o.between e.between) ∙ ap (λ z. (a ++ (o.between ++ e.between)) ++ z ∷ []) call));
   others = calls-append c o.between e.between ∙ (ap (λ z. z ++ calls_by c e.between) o.others ∙ e.others);
   grown = e.grown ∙ (ap (λ z. z ++ told_call c b op reply ∷ []) o.same ∙ ap (λ z. calls_by c a ++ z ∷ []) call);
 }
 
-others_then_own : (c : ℕ) (op : Op) (a b : List EntryValue) (r : Result (Option Reply) Refusal) (e : List EntryValue) → ExtendsByOthers c a b → SeesTry c op b r e → SeesTry c op a r e
+others_then_own : (c : ℕ) (op : Op) (a b : List EntryValue) (r : Result (Option Reply) Refusal) (e : List EntryValue) → ExtendsByOthers c a b →
+    SeesTry c op b r e → SeesTry c op a r e
 others_then_own c op a b (Ok (Some reply)) e o s = others_then_one c a b e op reply o s
 others_then_own c op a b _ e o s = others_then_others c a b e o s
 
 -- others, and then a try
-pub others_then_try : (c d : ℕ) (op : Op) (a b : List EntryValue) (r : Result (Option Reply) Refusal) (e : List EntryValue) → d ≡ c → ExtendsByOthers c a b → SeesTry d op b r e → SeesTry c op a r e
+pub others_then_try : (c d : ℕ) (op : Op) (a b : List EntryValue) (r : Result (Option Reply) Refusal) (e : List EntryValue) → d ≡ c → ExtendsByOthers c a b →
+    SeesTry d op b r e → SeesTry c op a r e
 others_then_try c d op a b r e same o s = others_then_own c op a b r e o (subst (λ z. SeesTry z op b r e) same s)
 
 -- ---- what was seen goes on
@@ -79,7 +73,8 @@ opened-extends c n a d e o = record {
 
 -- ---- counts
 
-pub try-counts : (c : ℕ) (op : Op) (a : List EntryValue) (r : Result (Option Reply) Refusal) (d : List EntryValue) → SeesTry c op a r d → calls_made c d ≡ calls_made c a + answers r
+pub try-counts : (c : ℕ) (op : Op) (a : List EntryValue) (r : Result (Option Reply) Refusal) (d : List EntryValue) → SeesTry c op a r d →
+    calls_made c d ≡ calls_made c a + answers r
 try-counts c op a (Ok (Some reply)) d s = ap length s.grown ∙ length-append (calls_by c a) (told_call c a op reply ∷ [])
 try-counts c op a _ d s = ap length s.same ∙ sym (add-zero (calls_made c a))
 
@@ -95,8 +90,10 @@ none_yet h c n u legal =
     made-still h (opens c n u) c refl ∙ early h (prefix_in (h ++ opens c n u ∷ []) h (opens c n u ∷ []) legal refl) c (omega arith)
 
 -- the client that was opened, if one was, has no calls
-pub none_of_opened : {X : Type 0} (h h' : List EntryValue) (n : ℕ) (u : Durability) (r : Result ℕ X) → IfOk r (λ c. h' ≡ h ++ opens c n u ∷ []) → ∥ IsLegal h' ∥₁ → IfOk r (λ c. calls_made c h' ≡ 0)
+pub none_of_opened : {X : Type 0} (h h' : List EntryValue) (n : ℕ) (u : Durability) (r : Result ℕ X) → IfOk r (λ c. h' ≡ h ++ opens c n u ∷ []) →
+    ∥ IsLegal h' ∥₁ → IfOk r (λ c. calls_made c h' ≡ 0)
 none_of_opened h h' n u (Ok c) e legal =
-    let few : calls_made c h' ≤ 0 = ∥∥₁_elim legal le_prop (λ l. let none = none_yet h c n u (subst IsLegal e l) in let same = ap (calls_made c) e in omega arith) in
+    let few : calls_made c h' ≤ 0 = ∥∥₁_elim legal le_prop (λ l. let none = none_yet h c n u (subst IsLegal e l) in let same = ap (calls_made c) e in
+    omega arith) in
     omega arith
 none_of_opened h h' n u (Err x) e legal = tt

@@ -1,25 +1,23 @@
 -- A ledger with an entry more.
-use Rattle.std.proofs.Common.{◌≡◌, ◌≢◌, ℕ, ◌+◌, ◌≤◌, arith, List, [], ◌∷◌, ◌++◌, refl, sym, ap, subst, ◌∙◌, inl, inr}
+use Rattle.assise_libfs_tests.proofs.Common.{◌≡◌, ◌≢◌, ℕ, ◌+◌, ◌≤◌, arith, List, [], ◌∷◌, ◌++◌, refl, sym, ap, subst, ◌∙◌, inl, inr, Fsync, Done, EntryValue}
+use Rattle.assise_libfs_tests.proofs.Common.{opens, calls, told_call}
 use mathlib.Core.Logic.{dite}
 use native.Mathlib.Decide.{ℕ_discrete}
 use Rattle.std.proofs.Math.Bridge.{le_prop}
 use Rattle.std.proofs.Math.Logic.{∥∥₁_elim, ∥∥₁_map}
-use Rattle.assise_names.specs.declared.call.Op.TheVariants.{Fsync}
 use Rattle.assise_names.specs.declared.durability.Durability.{Durability}
-use Rattle.assise_names.specs.declared.reply.Reply.TheVariants.{Done}
-use Rattle.assise_history.specs.Entries.{EntryValue, opens, calls}
 use Rattle.assise_history.specs.Legal.{IsDown, IsOpenedOn, MayCall, calls_made, clients_opened}
 use Rattle.assise_history.proofs.ClientCounts.{next_opened, opened_within}
 use Rattle.assise_history.proofs.Legality.{fits_in, legal-nil}
 use Rattle.assise_history.proofs.OneMore.{legal-call, legal-open}
 use Rattle.assise_history.proofs.LivesOneMore.{down-last, down-nil, may_call-opened, may_call-push, opened-push, opened-still}
-use Rattle.assise_libfs.specs.Calling.{told_call}
 use Rattle.assise_libfs_tests.specs.Ledgers.{IsLedger}
 
 ledger-nil : IsLedger 0 []
 ledger-nil = record { legal = legal-nil; count = refl; calls = λ c lo hi. absurd (omega arith); up = down-nil }
 
-still_up : (h : List EntryValue) (e : EntryValue) → ((m : ℕ) (losses : _) → e ≢ Rattle.assise_history.specs.Entries.fails m losses) → ((m : ℕ) → IsDown h m → ⊥) → (m : ℕ) → IsDown (h ++ e ∷ []) m → ⊥
+still_up : (h : List EntryValue) (e : EntryValue) → ((m : ℕ) (losses : _) → e ≢ Rattle.assise_history.specs.Entries.fails m losses) →
+    ((m : ℕ) → IsDown h m → ⊥) → (m : ℕ) → IsDown (h ++ e ∷ []) m → ⊥
 still_up h e none up m d = elim (down-last h e m d) [
   | inl failed ↦ none m failed.0 failed.1
   | inr still ↦ up m still.0
@@ -37,7 +35,8 @@ ledger-open n u h k = record {
 
 ledger-call : (n : ℕ) (h : List EntryValue) (c : ℕ) → 1 ≤ c → c ≤ n → IsLedger n h → IsLedger n (h ++ told_call c h Fsync Done ∷ [])
 ledger-call n h c lo hi k = record {
-  legal = legal-call h (record { client = c; number = calls_made c h; op = Fsync; reply = Done }) k.legal (record { ready = k.calls c lo hi; number = refl }) refl;
+  legal = legal-call h (record { client = c; number = calls_made c h; op = Fsync; reply = Done }) k.legal (record { ready = k.calls c lo hi; number = refl })
+      refl;
   count = k.count ∙ sym (opened-still h (told_call c h Fsync Done) refl);
   calls = λ d lo' hi'. may_call-push h (told_call c h Fsync Done) d (k.calls d lo' hi') refl refl;
   up = still_up h (told_call c h Fsync Done) (λ m losses e. cc) k.up;

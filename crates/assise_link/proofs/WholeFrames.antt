@@ -1,8 +1,7 @@
 -- What is read of the whole of a frame's bytes.
-use Rattle.std.proofs.Common.{◌≡◌, ◌∙◌, ℕ, ◌≤◌, List, [], ◌++◌, take, drop, append-nil, ap, sym, subst}
+use Rattle.assise_link.proofs.Common.{◌≡◌, ◌∙◌, ℕ, ◌≤◌, List, [], ◌++◌, take, drop, append-nil, ap, sym, subst, BeginsWith, SpellsFrame}
 use Rattle.std.proofs.lemmas.List.{take-append-drop}
 use Rattle.assise_record.specs.LogFrame.{LogFrame}
-use Rattle.assise_record.specs.Spelling.{BeginsWith, SpellsFrame}
 use Rattle.assise_record.proofs.Unique.{no_more, one_frame}
 use Rattle.assise_record.proofs.Versions.{later_spells}
 

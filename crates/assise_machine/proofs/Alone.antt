@@ -1,26 +1,8 @@
 -- What a full node has alone.
-use Rattle.std.proofs.Common.{◌≡◌, ℕ, List, None, Result, Ok, Err, IfOk, refl, sym, subst}
-use Rattle.std.proofs.Math.Logic.{∥∥₁_elim, ∥∥₁_map}
-use Rattle.std.specs.Coded.{Coded-set, coded_option}
-use Rattle.assise_names.specs.declared.refusal.Refusal.{Refusal}
-use Rattle.assise_seq_tree.specs.Runs.{tree_after_calls}
-use Rattle.assise_seq_tree.specs.Tree.{opening}
-use Rattle.assise_inode_table.specs.Contents.{coded_content}
-use Rattle.assise_inode_table.specs.Spelled.{Spells}
-use Rattle.assise_inode_table.specs.Traces.{ops}
-use Rattle.assise_digest.specs.Region.{alone}
-use Rattle.assise_model_world.specs.World.{Full, alone_at as alone_observed}
-use Rattle.assise_model_history.specs.Traces.{numbered_replicated}
-use Rattle.assise_model_events.specs.Faults.{node_fault}
-use Rattle.assise_model_events.specs.Machine.{MachineInvariant, state_of}
-use Rattle.assise_model_events.proofs.Whatever.{safe}
-use Rattle.assise_machine_state.specs.Observed.{observed, world_of}
-use Rattle.assise_machine_state.specs.NodeValues.{region_in}
-use Rattle.assise_machine_state.specs.Invariant.{ShapeInvariant}
-use Rattle.assise_machine_state.specs.StateValues.{StateValue}
-use Rattle.assise_machine_state.proofs.Fullness.{seen_full}
-use Rattle.assise_machine_state.proofs.ReadObserved.{alone_same}
-use Rattle.assise_machine.specs.Clusters.{AreAcked}
+use Rattle.assise_machine.proofs.Common.{◌≡◌, ℕ, List, None, Result, Ok, Err, IfOk, refl, sym, subst, ∥∥₁_elim, ∥∥₁_map, Coded-set, coded_option, Refusal}
+use Rattle.assise_machine.proofs.Common.{tree_after_calls, opening, coded_content, Spells, ops, alone, Full, alone_observed, numbered_replicated, node_fault}
+use Rattle.assise_machine.proofs.Common.{MachineInvariant, state_of, safe, observed, world_of, region_in, ShapeInvariant, StateValue, seen_full, alone_same}
+use Rattle.assise_machine.proofs.Common.{AreAcked}
 use Rattle.assise_machine.proofs.Frames.{fine_node}
 use Rattle.assise_machine.proofs.SpellingIsProposition.{spells_known}
 
@@ -29,7 +11,8 @@ unfolding observed
 fine_full s n fine = seen_full s n (fine_node s n fine)
 
 -- the region alone gives what is observed
-module _ (s : StateValue) (n : ℕ) (shape : ShapeInvariant s) (holds : ∥ MachineInvariant (observed s) ∥₁) (fine : node_fault (observed s) n ≡ None) (acked : List ℕ) (all : AreAcked (observed s).world acked) where
+module _ (s : StateValue) (n : ℕ) (shape : ShapeInvariant s) (holds : ∥ MachineInvariant (observed s) ∥₁) (fine : node_fault (observed s) n ≡ None)
+    (acked : List ℕ) (all : AreAcked (observed s).world acked) where
   pub same_alone : (i : ℕ) → alone (region_in s.nodes n) acked i ≡ alone_observed (observed s).world n i
   unfolding observed world_of
   same_alone i =

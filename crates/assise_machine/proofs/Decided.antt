@@ -1,16 +1,7 @@
 -- Whether a history is legal can be decided, so that it is legal is known where it holds.
-use Rattle.std.proofs.Common.{◌≡◌, ◌⊎◌, List, [], ◌∷◌, ◌++◌, map, inl, inr, refl}
-use Rattle.std.proofs.Math.Logic.{∥∥₁_elim}
-use Rattle.std.proofs.lemmas.Bool.{both_ways, cases_Bool}
+use Rattle.assise_machine.proofs.Common.{◌≡◌, ◌⊎◌, List, [], ◌∷◌, ◌++◌, map, inl, inr, refl, ∥∥₁_elim, both_ways, cases_Bool, Op, Reply, answer, AreAnswered}
+use Rattle.assise_machine.proofs.Common.{Tree, opening, EntryValue, exchange, kept, Fits, IsLegal}
 use Rattle.assise_names.specs.contracts.reply.ReplyPartialEq.TheImpl.{eq-value}
-use Rattle.assise_names.specs.declared.call.Op.{Op}
-use Rattle.assise_names.specs.declared.reply.Reply.{Reply}
-use Rattle.assise_seq_tree.specs.Answer.{answer}
-use Rattle.assise_seq_tree.specs.Runs.{AreAnswered}
-use Rattle.assise_seq_tree.specs.Tree.{Tree, opening}
-use Rattle.assise_history.specs.Entries.{EntryValue}
-use Rattle.assise_history.specs.Kept.{exchange, kept}
-use Rattle.assise_history.specs.Legal.{Fits, IsLegal}
 use Rattle.assise_history.specs.Summary.{follows, summary}
 use Rattle.assise_history.proofs.SummaryAgrees.{is_allowed, may_follow}
 use Rattle.assise_history.proofs.Legality.{legal-prefix, legal-last, legal-nil, legal-push}

@@ -1,12 +1,6 @@
 -- A delivery of a frame for whose copy there was no memory.
-use Rattle.std.proofs.Common.{◌≡◌, ℕ, ◌⊎◌, inl, inr, Option, Some, None, IfNone, IfSome, refl, ap, ◌∙◌}
-use Rattle.assise_names.specs.declared.refusal.Refusal.{Refusal}
-use Rattle.assise_names.specs.declared.refusal.Refusal.TheVariants.{OutOfMemory, StaleMessage}
-use Rattle.assise_record.specs.LogFrame.{LogFrame}
-use Rattle.assise_model_events.specs.Events.{refused}
-use Rattle.assise_model_events.specs.Faults.{IsTimelyDelivery, delivery_fault}
-use Rattle.assise_model_events.specs.Machine.{Machine}
-use Rattle.assise_model_events.specs.NodeEvents.{Delivering, is_refused, is_stale, lacks_memory}
+use Rattle.assise_machine.proofs.Common.{◌≡◌, ℕ, ◌⊎◌, inl, inr, Option, Some, None, IfNone, IfSome, refl, ap, ◌∙◌, Refusal, OutOfMemory, StaleMessage, LogFrame}
+use Rattle.assise_machine.proofs.Common.{refused, IsTimelyDelivery, delivery_fault, Machine, Delivering, is_refused, is_stale, lacks_memory}
 
 -- what is known of the answer why a frame isn't taken in
 pub record Explains (m : Machine) (f : LogFrame) (n : ℕ) (o : Option Refusal) : Type 0 where
@@ -36,6 +30,7 @@ no_delivery m f n r x =
       | inr none ↦ is_stale none (λ timely. not_none r (x.taken none timely)) (ap refused (x.stale none)) refl
     ]
 
-pub not_delivered : (m : Machine) (f : LogFrame) (n : ℕ) (o : Option Refusal) (r lack : Refusal) → lack ≡ OutOfMemory → Explains m f n o → ((e : Refusal) → o ≡ Some e → r ≡ e) → (o ≡ None → r ≡ lack) → Delivering m f n (refused r) m
+pub not_delivered : (m : Machine) (f : LogFrame) (n : ℕ) (o : Option Refusal) (r lack : Refusal) → lack ≡ OutOfMemory → Explains m f n o →
+    ((e : Refusal) → o ≡ Some e → r ≡ e) → (o ≡ None → r ≡ lack) → Delivering m f n (refused r) m
 not_delivered m f n None r lack is x some none = no_copy m f n r (none refl ∙ is) x
 not_delivered m f n (Some e) r lack is x some none = no_delivery m f n r (let same : r ≡ e = some e refl in rw same x)

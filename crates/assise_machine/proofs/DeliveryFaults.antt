@@ -1,14 +1,8 @@
 -- Why nothing can be delivered to a node, and where it can.
-use Rattle.std.proofs.Common.{◌≡◌, ℕ, ◌<◌, ◌≤◌, nat_le, Bool, true, false, not, ◌&&◌, Option, Some, None, length, refl, sym, ◌∙◌, arith}
-use Rattle.std.proofs.lemmas.Bool.{and_from, and_parts, and_right, cases_Bool, le-leb, leb-true}
-use Rattle.assise_names.specs.declared.refusal.Refusal.{Refusal}
-use Rattle.assise_names.specs.declared.refusal.Refusal.TheVariants.{BadClient, WrongPhase}
-use Rattle.assise_record.specs.LogFrame.{LogFrame}
-use Rattle.assise_manager.specs.Standings.{Standing, standing_of}
-use Rattle.assise_model_events.specs.Faults.{delivery_fault, fault_if, node_fault, or_else, unless_full}
-use Rattle.assise_machine_state.specs.Observed.{is_full_in, observed, stands_full, world_of}
-use Rattle.assise_machine_state.specs.Places.{IsNumber}
-use Rattle.assise_machine_state.specs.StateValues.{StateValue, standings}
+use Rattle.assise_machine.proofs.Common.{◌≡◌, ℕ, ◌<◌, ◌≤◌, nat_le, Bool, true, false, not, ◌&&◌, Option, Some, None, length, refl, sym, ◌∙◌, arith, and_from}
+use Rattle.assise_machine.proofs.Common.{and_parts, and_right, cases_Bool, le-leb, leb-true, Refusal, BadClient, WrongPhase, LogFrame, Standing, standing_of}
+use Rattle.assise_machine.proofs.Common.{delivery_fault, fault_if, node_fault, or_else, unless_full, is_full_in, observed, stands_full, world_of, IsNumber}
+use Rattle.assise_machine.proofs.Common.{StateValue, standings}
 
 -- whether there is a client of number `c`, of `k` in all
 abbrev is_known : ℕ → ℕ → Bool
@@ -16,7 +10,8 @@ is_known c k = nat_le 1 c && nat_le c k
 
 -- the fault, by what is known of the node and of how many clients there are
 fault_is : (s : StateValue) (f : LogFrame) (n : ℕ) →
-    delivery_fault (observed s) f n ≡ or_else (unless_full WrongPhase (standing_of (standings s) n)) (fault_if (not (is_known f.client (length s.clients))) BadClient)
+    delivery_fault (observed s) f n ≡ or_else (unless_full WrongPhase (standing_of (standings s) n))
+    (fault_if (not (is_known f.client (length s.clients))) BadClient)
 unfolding observed world_of
 fault_is s f n = refl
 
@@ -30,10 +25,12 @@ node_refused s f n r same = fault_is s f n ∙ rw (sym (node_is s n) ∙ same) r
 past_last : (c k : ℕ) → k < c → nat_le c k ≡ false
 past_last c k past = grind (arith, cases_Bool, leb-true)
 
-pub no_client : (s : StateValue) (f : LogFrame) (n : ℕ) → node_fault (observed s) n ≡ None → length s.clients < f.client → delivery_fault (observed s) f n ≡ Some BadClient
+pub no_client : (s : StateValue) (f : LogFrame) (n : ℕ) → node_fault (observed s) n ≡ None → length s.clients < f.client → delivery_fault (observed s) f n
+    ≡ Some BadClient
 no_client s f n same past = grind (arith, and_right, past_last, fault_is, node_is)
 
-pub may_deliver : (s : StateValue) (f : LogFrame) (n : ℕ) → node_fault (observed s) n ≡ None → 0 < f.client → f.client ≤ length s.clients → delivery_fault (observed s) f n ≡ None
+pub may_deliver : (s : StateValue) (f : LogFrame) (n : ℕ) → node_fault (observed s) n ≡ None → 0 < f.client → f.client ≤ length s.clients →
+    delivery_fault (observed s) f n ≡ None
 may_deliver s f n same some low = grind (arith, and_from, le-leb, fault_is, node_is)
 
 -- ---- what holds where there is none

@@ -1,38 +1,16 @@
 -- A delivery, as the laws have it.
-use Rattle.std.proofs.Common.{◌≡◌, ◌≢◌, ℕ, Bool, ◌+◌, ◌-◌, ◌^◌, ◌<◌, ◌≤◌, ◌==◌, max, true, false, not, inl, inr, [], length, take, drop, None, refl, ap, sym, subst, ◌∙◌, append-nil, arith}
-use Rattle.std.proofs.Math.Logic.{∥∥₁_elim, ∥∥₁_map}
-use Rattle.std.proofs.Props.{props}
-use Rattle.std.proofs.lemmas.Bool.{and_parts, cases_lt, eqb-true, false_from_ne_true, not-true}
-use Rattle.std.proofs.lemmas.List.{drop_all, length-drop, length-take}
-use Rattle.assise_record.specs.LogFrame.{LogFrame}
-use Rattle.assise_private_log.specs.NumberedLog.{NumberedLog, end as log_end, is_border, records_from}
-use Rattle.assise_private_log.proofs.Borders.{border_first}
-use Rattle.assise_manager.specs.Standings.{full_nodes}
-use Rattle.assise_model_world.specs.Chances.{MayDeliver}
-use Rattle.assise_model_world.specs.Invariant.{IsOrdered}
-use Rattle.assise_model_world.specs.World.{World, end_of_log, records_between}
-use Rattle.assise_model_events.specs.Events.{deliver as deliver_to, received as told}
-use Rattle.assise_model_events.specs.Faults.{IsTimelyDelivery, delivery_fault}
-use Rattle.assise_model_events.specs.Machine.{MachineInvariant}
-use Rattle.assise_model_events.specs.NodeEvents.{Delivering, is_delivered}
-use Rattle.assise_model_events.proofs.EachEvent.{event_keeps}
-use Rattle.assise_machine_state.specs.Changes.{after_delivery}
-use Rattle.assise_machine_state.specs.ClientValues.{client_in}
-use Rattle.assise_machine_state.specs.NodeValues.{HasGroupsOf, HasLog, log_in, with_log_in, with_records}
-use Rattle.assise_machine_state.specs.Observed.{is_full_in, observed, own_node, own_seen, world_of}
-use Rattle.assise_machine_state.specs.Places.{IsNumber}
-use Rattle.assise_machine_state.specs.Invariant.{CutsInvariant, ShapeInvariant}
-use Rattle.assise_machine_state.specs.StateValues.{StateValue, leases_of, standings}
-use Rattle.assise_machine_state.specs.Whole.{machine_of, value_of}
-use Rattle.assise_machine_state.specs.declared.sound.SoundOf.{SoundOf}
-use Rattle.assise_machine_state.proofs.Fullness.{has_log, seen_full}
-use Rattle.assise_machine_state.proofs.Marks.{border_inside, so_many_marks}
-use Rattle.assise_machine_state.proofs.Noted.{still_noted}
+use Rattle.assise_machine.proofs.Common.{◌≡◌, ◌≢◌, ℕ, Bool, ◌+◌, ◌-◌, ◌^◌, ◌<◌, ◌≤◌, ◌==◌, max, true, false, not, inl, inr, [], length, take, drop, None, refl}
+use Rattle.assise_machine.proofs.Common.{ap, sym, subst, ◌∙◌, append-nil, arith, ∥∥₁_elim, ∥∥₁_map, props, and_parts, cases_lt, eqb-true, false_from_ne_true}
+use Rattle.assise_machine.proofs.Common.{not-true, drop_all, length-drop, length-take, LogFrame, NumberedLog, log_end, is_border, records_from, border_first}
+use Rattle.assise_machine.proofs.Common.{full_nodes, MayDeliver, IsOrdered, World, end_of_log, records_between, deliver_to, IsTimelyDelivery, delivery_fault}
+use Rattle.assise_machine.proofs.Common.{MachineInvariant, Delivering, is_delivered, event_keeps, after_delivery, client_in, HasGroupsOf, HasLog, log_in}
+use Rattle.assise_machine.proofs.Common.{with_log_in, with_records, is_full_in, observed, own_node, own_seen, world_of, IsNumber, CutsInvariant, ShapeInvariant}
+use Rattle.assise_machine.proofs.Common.{StateValue, leases_of, standings, machine_of, value_of, SoundOf, has_log, seen_full, border_inside, so_many_marks}
+use Rattle.assise_machine.proofs.Common.{still_noted, log_keeps, level_of, newest}
+use Rattle.assise_model_events.specs.Events.{received as told}
 use Rattle.assise_machine_state.proofs.OwnLogs.{own_log as has_own_log}
 use Rattle.assise_machine_state.proofs.ReceiptObserved.{HasPrefix, delivered_prefix, delivery_shaped, has_prefix, other_areas}
-use Rattle.assise_machine_state.proofs.HotCapacities.{log_keeps}
 use Rattle.assise_machine_state.proofs.RecordsTaken.{none_taken}
-use Rattle.assise_manager.specs.NodeLevels.{level_of, newest}
 use Rattle.assise_machine.specs.Taking.{HasRoomFor, IsNext, IsNextOf, lacking, own_log}
 use Rattle.assise_machine.proofs.DeliveryFaults.{fine_client, fine_full}
 

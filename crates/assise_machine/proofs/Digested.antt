@@ -1,41 +1,21 @@
 -- A node's digest, as the laws have it.
-use Rattle.std.proofs.Common.{◌≡◌, ◌≢◌, ℕ, suc, ◌+◌, ◌-◌, ◌<◌, ◌≤◌, min, true, false, ◌==◌, List, [], ◌∷◌, length, map, take, inl, inr, refl, ap, sym, subst, ◌∙◌, arith}
-use Rattle.std.proofs.Math.Logic.{∥∥₁_elim, ∥∥₁_map}
-use Rattle.std.proofs.Props.{props}
-use Rattle.std.proofs.lemmas.Bool.{cases_Bool, cases_lt, false_from_ne_true}
+use Rattle.assise_machine.proofs.Common.{◌≡◌, ◌≢◌, ℕ, suc, ◌+◌, ◌-◌, ◌<◌, ◌≤◌, min, true, false, ◌==◌, List, [], ◌∷◌, length, map, take, inl, inr, refl, ap}
+use Rattle.assise_machine.proofs.Common.{sym, subst, ◌∙◌, arith, ∥∥₁_elim, ∥∥₁_map, props, cases_Bool, cases_lt, false_from_ne_true, nat_cmp, all_effects}
+use Rattle.assise_machine.proofs.Common.{all_applied, contains, touched, NumberedLog, log_end, is_border, border_end, border_first, whole_here, HasClient}
+use Rattle.assise_machine.proofs.Common.{ReceivedLog, RegionValue, TouchDisjoint, ahead, digested_further, log_at, noted, stale_again, with_written, Membership}
+use Rattle.assise_machine.proofs.Common.{Standing, down, full, full_nodes, returning, MayDigest, Compatible, Guarded, IsOrdered, WorldInvariant, WritesAreHeld}
+use Rattle.assise_machine.proofs.Common.{Full, World, undigested_below, received_by_all, received_by_all-below, received_by_all-border, DigestsNoted}
+use Rattle.assise_machine.proofs.Common.{undigested, HasLog, log_in, region_in, with_digested_in, with_log_in, is_full_in, own_seen, world_of, IsNumber}
+use Rattle.assise_machine.proofs.Common.{item_at, ShapeInvariant, StateValue, standings, has_log, same_first, seen_full, border_inside, so_many_marks}
+use Rattle.assise_machine.proofs.Common.{ahead_first, length-with, EndsWithGroup, NoneListed, digests_some}
 use Rattle.std.specs.FinSet as set
 use Rattle.std.specs.FinSet.{contains-from_list_nat}
-use Rattle.std.specs.Ordering.{nat_cmp}
-use Rattle.assise_record.specs.Records.{all_effects}
-use Rattle.assise_inode_table.specs.Effects.{all_applied, contains, touched}
 use Rattle.assise_private_log.specs.Borders.{whole_count}
-use Rattle.assise_private_log.specs.NumberedLog.{NumberedLog, end as log_end, is_border}
-use Rattle.assise_private_log.proofs.Borders.{border_end, border_first, whole_here}
-use Rattle.assise_digest.specs.Region.{HasClient, ReceivedLog, RegionValue, TouchDisjoint, ahead, digested_further, log_at}
-use Rattle.assise_manager.specs.Changes.{noted, stale_again, with_written}
-use Rattle.assise_manager.specs.Membership.{Membership}
-use Rattle.assise_manager.specs.Standings.{Standing, down, full, full_nodes, returning}
-use Rattle.assise_model_world.specs.Chances.{MayDigest}
-use Rattle.assise_model_world.specs.Invariant.{Compatible, Guarded, IsOrdered, WorldInvariant, WritesAreHeld}
-use Rattle.assise_model_world.specs.World.{Full, World, undigested_below, received_by_all}
 use Rattle.assise_model_world.proofs.DigestKeeps.{digest_sound}
 use Rattle.assise_model_world.proofs.Logs.{contains-drop, contains-take}
-use Rattle.assise_model_world.proofs.WorldObserved.{received_by_all-below, received_by_all-border}
-use Rattle.assise_model_members.specs.Returns.{DigestsNoted}
-use Rattle.assise_model_events.specs.NodeEvents.{undigested}
 use Rattle.assise_manager.proofs.Sets.{union-empty}
-use Rattle.assise_machine_state.specs.NodeValues.{HasLog, log_in, region_in, with_digested_in, with_log_in}
-use Rattle.assise_machine_state.specs.Observed.{is_full_in, own_seen, world_of}
-use Rattle.assise_machine_state.specs.Places.{IsNumber, item_at}
-use Rattle.assise_machine_state.specs.Invariant.{ShapeInvariant}
-use Rattle.assise_machine_state.specs.StateValues.{StateValue, standings}
 use Rattle.assise_machine_state.proofs.DigestSeen.{digest_shaped, noted_prefix}
-use Rattle.assise_machine_state.proofs.Fullness.{has_log, same_first, seen_full}
-use Rattle.assise_machine_state.proofs.Marks.{border_inside, so_many_marks}
-use Rattle.assise_machine_state.proofs.ReadObserved.{ahead_first}
 use Rattle.assise_machine_state.proofs.LogChanges.{log_back, log_here, region_here, region_with}
-use Rattle.assise_machine_state.proofs.ItemSeen.{length-with}
-use Rattle.assise_machine.specs.Digesting.{EndsWithGroup, NoneListed, digests_some}
 use Rattle.assise_machine.proofs.Unlisted.{nothing_noted}
 
 -- ---- nothing is changed where nothing is digested
@@ -81,7 +61,8 @@ none_digested s n c has =
 
 pub digests_as : (s : StateValue) (n c count : ℕ) → HasLog s.nodes n c → (rs : List RegionValue) (m : Membership) (is : List ℕ) →
     rs ≡ with_digested_in s.nodes n c count →
-    m ≡ noted s.members n (set.from_list is) → is ≡ touched (all_effects (take count (ahead (log_in s.nodes n c)))) → record s { nodes = rs; members = m } ≡ digests_some s n c count
+    m ≡ noted s.members n (set.from_list is) → is ≡ touched (all_effects (take count (ahead (log_in s.nodes n c)))) → record s { nodes = rs; members = m }
+    ≡ digests_some s n c count
 unfolding world_of
 digests_as s n c count has rs m is nodes members inodes =
     let so_many : count ≡ (log_in s.nodes n c).digested + count - (log_in s.nodes n c).digested = omega arith in
@@ -115,7 +96,8 @@ pub log_after : (rs : List RegionValue) (n c count : ℕ) → HasLog rs n c → 
 log_after rs n c count has =
     log_here rs n c (all_applied (region_in rs n).inodes (all_effects (take count (ahead (log_in rs n c))))) (digested_further (log_in rs n c) count) has
 
-module _ (s : StateValue) (n c : ℕ) (shape : ShapeInvariant s) (sound : ∥ WorldInvariant (world_of s) ∥₁) (here : is_full_in (standings s) n ≡ true) (client : IsNumber s.clients c) where
+module _ (s : StateValue) (n c : ℕ) (shape : ShapeInvariant s) (sound : ∥ WorldInvariant (world_of s) ∥₁) (here : is_full_in (standings s) n ≡ true)
+    (client : IsNumber s.clients c) where
   abbrev w : World
   w = world_of s
 
@@ -187,7 +169,8 @@ module _ (s : StateValue) (n c : ℕ) (shape : ShapeInvariant s) (sound : ∥ Wo
   none_whole = (let here : w.digested n c + 0 ≡ w.digested n c = omega arith in ap (w.border c) here ∙ order.digested_border)
 
   -- as the code finds it: what is digested ends with a group
-  pub whole_as : (count : ℕ) → count ≤ undigested w n c → (0 < count → is_border (log_in s.nodes n c).log ((log_in s.nodes n c).digested + count) ≡ true) → EndsWithGroup w n c count
+  pub whole_as : (count : ℕ) → count ≤ undigested w n c → (0 < count → is_border (log_in s.nodes n c).log ((log_in s.nodes n c).digested + count) ≡ true) →
+      EndsWithGroup w n c count
   whole_as count few groups =
       elim (cases_lt 0 count) [
         | inl some ↦
@@ -240,7 +223,8 @@ module _ (s : StateValue) (n c : ℕ) (shape : ShapeInvariant s) (sound : ∥ Wo
     pub noted_so : DigestsNoted w s.members n c place inodes (world_of t) t.members
     noted_so =
         noted_prefix s n c place inodes shape first_is client may
-        (λ i. contains-from_list_nat (touched (all_effects (take count (ahead (log_in s.nodes n c))))) i ∙ ap (λ rs. contains (touched (all_effects rs)) i) (sym below_is))
+        (λ i. contains-from_list_nat (touched (all_effects (take count (ahead (log_in s.nodes n c))))) i ∙ ap (λ rs. contains (touched (all_effects rs)) i)
+        (sym below_is))
 
     pub next_shape : ShapeInvariant t
     next_shape = digest_shaped s n c place inodes shape

@@ -1,26 +1,11 @@
 -- A node's digest of one client's records after another's, as the laws have it.
-use Rattle.std.proofs.Common.{◌≡◌, ℕ, zero, suc, ◌+◌, ◌-◌, ◌<◌, ◌≤◌, min, Bool, true, false, take, length, inl, inr, refl, ap, sym, subst, ◌∙◌, arith}
-use Rattle.std.proofs.lemmas.Bool.{both_ways, cases_eq, cases_lt}
-use Rattle.std.proofs.Math.Logic.{∥∥₁_elim}
-use Rattle.std.proofs.Props.{props}
+use Rattle.assise_machine.proofs.Common.{◌≡◌, ℕ, zero, suc, ◌+◌, ◌-◌, ◌<◌, ◌≤◌, min, Bool, true, false, take, length, inl, inr, refl, ap, sym, subst, ◌∙◌}
+use Rattle.assise_machine.proofs.Common.{arith, both_ways, cases_eq, cases_lt, ∥∥₁_elim, props, nat_cmp, all_effects, contains, touched, ahead, WorldInvariant}
+use Rattle.assise_machine.proofs.Common.{World, received_by_all, DigestsNoted, DigestsTo, most_digested, part_of, undigested, undigested_to, hot_capacities}
+use Rattle.assise_machine.proofs.Common.{log_in, is_full_in, world_of, IsNumber, ShapeInvariant, StateValue, standings, full_seen, seen_full, region_keeps}
+use Rattle.assise_machine.proofs.Common.{EndWithGroups, EndsWithGroup, NoneListed, digests_some, digests_to}
 use Rattle.std.specs.FinSet as set
-use Rattle.std.specs.Ordering.{nat_cmp}
-use Rattle.assise_record.specs.Records.{all_effects}
-use Rattle.assise_inode_table.specs.Effects.{contains, touched}
-use Rattle.assise_digest.specs.Region.{ahead}
-use Rattle.assise_model_world.specs.Invariant.{WorldInvariant}
-use Rattle.assise_model_world.specs.World.{World, received_by_all}
-use Rattle.assise_model_members.specs.Returns.{DigestsNoted}
-use Rattle.assise_model_events.specs.NodeEvents.{DigestsTo, most_digested, part_of, undigested, undigested_to}
 use Rattle.assise_model_events.proofs.Digestible.{same_received}
-use Rattle.assise_machine_state.specs.NodeValues.{hot_capacities, log_in}
-use Rattle.assise_machine_state.specs.Observed.{is_full_in, world_of}
-use Rattle.assise_machine_state.specs.Places.{IsNumber}
-use Rattle.assise_machine_state.specs.Invariant.{ShapeInvariant}
-use Rattle.assise_machine_state.specs.StateValues.{StateValue, standings}
-use Rattle.assise_machine_state.proofs.Fullness.{full_seen, seen_full}
-use Rattle.assise_machine_state.proofs.HotCapacities.{region_keeps}
-use Rattle.assise_machine.specs.Digesting.{EndWithGroups, EndsWithGroup, NoneListed, digests_some, digests_to}
 use Rattle.assise_machine.proofs.Digested.{has_here, next_shape, next_sound, none_digested, noted_so}
 use Rattle.assise_machine.proofs.Unlisted.{still_none}
 
@@ -117,7 +102,8 @@ module _ (s : StateValue) (n : ℕ) (shape : ShapeInvariant s) (sound : ∥ Worl
         full = next_noted.digests.full ∙ same.full;
         received = λ c. same_received (world_of t) (world_of u) n (suc m) place next_noted.digests c ∙ same.received c;
         border = λ c k. next_noted.digests.logs.border c k ∙ same.border c k;
-        later = λ c above. next_noted.digests.digested_else n c next_noted.digests.full_node (λ is own. omega (arith, above, own)) ∙ same.later c (omega (arith, above));
+        later = λ c above. next_noted.digests.digested_else n c next_noted.digests.full_node (λ is own. omega (arith, above, own))
+            ∙ same.later c (omega (arith, above));
         shape = next_shape t n (suc m) same.shape same.sound next_here next_client count few_next whole_next;
         sound = next_sound t n (suc m) same.shape same.sound next_here next_client count few_next whole_next;
       }
@@ -132,7 +118,8 @@ module _ (s : StateValue) (n : ℕ) (shape : ShapeInvariant s) (sound : ∥ Worl
       next_same (digests_to s n count m) m (same_to count m (omega (arith, last)) (fewer_whole count m whole))
       (omega (arith, last)) (part_of w n count (suc m)) (omega arith) (whole m (omega arith))
 
-  pub trace_to : (count m : ℕ) → m ≤ length s.clients → EndWithGroups w n count m → DigestsTo n count w w s.members m (world_of (digests_to s n count m)) (digests_to s n count m).members
+  pub trace_to : (count m : ℕ) → m ≤ length s.clients → EndWithGroups w n count m → DigestsTo n count w w s.members m (world_of (digests_to s n count m))
+      (digests_to s n count m).members
   trace_to count zero last whole = (refl, refl)
   trace_to count (suc m) last whole =
       let t : StateValue = digests_to s n count m in
@@ -160,20 +147,24 @@ module _ (s : StateValue) (n : ℕ) (shape : ShapeInvariant s) (sound : ∥ Worl
       let before = enough_same a b m (omega (arith, first)) (omega (arith, second)) in
       (λ i. digests_some (before i) n (suc m) (parts i))
 
-  none_more : (count m : ℕ) → m < length s.clients → EndWithGroups w n count m → part_of w n count (suc m) ≡ 0 → digests_to s n count (suc m) ≡ digests_to s n count m
+  none_more : (count m : ℕ) → m < length s.clients → EndWithGroups w n count m → part_of w n count (suc m) ≡ 0 → digests_to s n count (suc m)
+      ≡ digests_to s n count m
   none_more count m last whole none =
       let t : StateValue = digests_to s n count m in
       let same : StillSame s t n m = same_to count m (omega (arith, last)) whole in
-      ap (digests_some t n (suc m)) none ∙ none_digested t n (suc m) (has_here t n (suc m) same.shape same.sound (next_here t m same last) (next_client t m same last))
+      ap (digests_some t n (suc m)) none
+      ∙ none_digested t n (suc m) (has_here t n (suc m) same.shape same.sound (next_here t m same last) (next_client t m same last))
 
   -- it ended before
-  pub stopped_before : (count m : ℕ) → m < length s.clients → EndWithGroups w n count m → count ≤ undigested_to w n m → digests_to s n count (suc m) ≡ digests_to s n count m
+  pub stopped_before : (count m : ℕ) → m < length s.clients → EndWithGroups w n count m → count ≤ undigested_to w n m → digests_to s n count (suc m)
+      ≡ digests_to s n count m
   stopped_before count m last whole few = none_more count m last whole (omega (arith, few))
 
   -- nothing ends with a group
   nothing_whole : (c : ℕ) → EndsWithGroup w n (suc c) 0
   nothing_whole c =
-      let border : w.border (suc c) (w.digested n (suc c)) ≡ true = ∥∥₁_elim sound (search props) (λ h. (h.coherent.order n (suc c) (seen_full s n here)).digested_border) in
+      let border : w.border (suc c) (w.digested n (suc c)) ≡ true = ∥∥₁_elim sound (search props)
+      (λ h. (h.coherent.order n (suc c) (seen_full s n here)).digested_border) in
       let place : w.digested n (suc c) + 0 ≡ w.digested n (suc c) = omega arith in
       ap (w.border (suc c)) place ∙ border
 
@@ -202,7 +193,8 @@ module _ (s : StateValue) (n : ℕ) (shape : ShapeInvariant s) (sound : ∥ Worl
         | inr before ↦ whole c (omega (arith, low, before))
       ]
 
-  parts_behind : (a b m : ℕ) → a ≡ min most_digested (undigested_to w n m) → b ≤ min (most_digested - a) (undigested w n (suc m)) → EndWithGroups w n a m → EndsWithGroup w n (suc m) b →
+  parts_behind : (a b m : ℕ) → a ≡ min most_digested (undigested_to w n m) → b ≤ min (most_digested - a) (undigested w n (suc m)) → EndWithGroups w n a m →
+      EndsWithGroup w n (suc m) b →
       EndWithGroups w n (a + b) (suc m)
   parts_behind a b m all few whole own c low =
       elim (cases_eq c m) [

@@ -1,17 +1,14 @@
 -- What each event leaves at full nodes, by what it is.
-use Rattle.std.proofs.Common.{◌≡◌, ◌≢◌, ℕ, Some, List, ap, sym, arith}
-use Rattle.assise_history.specs.declared.call.Loss.{Loss}
-use Rattle.assise_history.specs.Legal.{durability_of}
-use Rattle.assise_model_world.specs.World.{Full, undigested_records}
-use Rattle.assise_model_events.specs.Events.{Answer, ClusterEvent, open_client, try_call, try_fsync, outgoing, deliver, digest, release_ready, set_hot, crash, fail, back, refill, join, raise, failed}
-use Rattle.assise_model_events.specs.Happenings.{Happens}
-use Rattle.assise_model_events.specs.Machine.{Machine}
-use Rattle.assise_model_events.specs.MemberEvents.{Failing}
+use Rattle.assise_machine.proofs.Common.{◌≡◌, ◌≢◌, ℕ, Some, List, ap, sym, arith, Loss, durability_of, Full, undigested_records, Answer, ClusterEvent}
+use Rattle.assise_machine.proofs.Common.{open_client, try_call, try_fsync, outgoing, deliver, digest, release_ready, set_hot, crash, fail, back, refill, join}
+use Rattle.assise_machine.proofs.Common.{raise, failed, Happens, Machine, Failing}
 use Rattle.assise_machine.specs.EventNodes.{node_of}
 use Rattle.assise_machine.proofs.KeptPrefixes.{failing_area}
-use Rattle.assise_machine.proofs.Others.{crashing_leaves, delivering_leaves, digesting_leaves, fsyncing_leaves, joining_leaves, leaves_all, opening_leaves, raising_leaves, refilling_leaves, releasing_leaves, returning_leaves, sending_leaves, setting_leaves, trying_leaves}
+use Rattle.assise_machine.proofs.Others.{crashing_leaves, delivering_leaves, digesting_leaves, fsyncing_leaves, joining_leaves, leaves_all, opening_leaves}
+use Rattle.assise_machine.proofs.Others.{raising_leaves, refilling_leaves, releasing_leaves, returning_leaves, sending_leaves, setting_leaves, trying_leaves}
 
-pub event_area : (m m' : Machine) (e : ClusterEvent) (a : Answer) → Happens m e a m' → (j i : ℕ) → Full m.world j → e ≢ digest j → m'.world.area j i ≡ m.world.area j i
+pub event_area : (m m' : Machine) (e : ClusterEvent) (a : Answer) → Happens m e a m' → (j i : ℕ) → Full m.world j → e ≢ digest j →
+    m'.world.area j i ≡ m.world.area j i
 event_area m m' (open_client n u) a s j i there other = (opening_leaves m m' n u a s j there).area i
 event_area m m' (try_call c op) a s j i there other = (trying_leaves m m' c op a s j there).area i
 event_area m m' (try_fsync c) a s j i there other = (fsyncing_leaves m m' (durability_of c m.history) c a s j there).area i
@@ -35,7 +32,8 @@ pub event_ahead : (m m' : Machine) (e : ClusterEvent) (a : Answer) → Happens m
     (j c : ℕ) → Full m.world j → node_of m.world e ≢ Some j → undigested_records m'.world j c ≡ undigested_records m.world j c
 event_ahead m m' (open_client n u) a s none j c there other = (opening_leaves m m' n u a s j there).ahead c
 event_ahead m m' (try_call d op) a s none j c there other = (trying_leaves m m' d op a s j there).ahead (λ here. other (ap Some (sym here))) c
-event_ahead m m' (try_fsync d) a s none j c there other = (fsyncing_leaves m m' (durability_of d m.history) d a s j there).ahead (λ here. other (ap Some (sym here))) c
+event_ahead m m' (try_fsync d) a s none j c there other =
+    (fsyncing_leaves m m' (durability_of d m.history) d a s j there).ahead (λ here. other (ap Some (sym here))) c
 event_ahead m m' (outgoing n) a s none j c there other = (sending_leaves m m' n a s j).ahead c
 event_ahead m m' (deliver f n) a s none j c there other = (delivering_leaves m m' f n a s j there).ahead (λ here. other (ap Some (sym here))) c
 event_ahead m m' (digest n) a s none j c there other = (digesting_leaves m m' n a s j there (λ here. other (ap Some (sym here)))).ahead c

@@ -1,24 +1,13 @@
 -- Lists of events that are served, one after another.
-use Rattle.std.proofs.Common.{◌≡◌, ℕ, ◌+◌, ◌<◌, ◌≤◌, List, [], ◌∷◌, ◌++◌, Option, Some, None, get_or, length, take, refl, ap, sym, subst, ◌∙◌, append_assoc, append-nil, arith}
-use Rattle.std.proofs.lemmas.List.{length-take, take-take, take_all, take_more}
-use Rattle.std.specs.Option.{unwrap_or}
-use Rattle.assise_names.specs.declared.durability.Durability.{Durability}
-use Rattle.assise_names.specs.declared.refusal.Refusal.{Refusal}
-use Rattle.assise_names.specs.declared.refusal.Refusal.TheVariants.{BadClient}
-use Rattle.assise_private_log.specs.NumberedLog.{NumberedLog}
+use Rattle.assise_machine.proofs.Common.{◌≡◌, ℕ, ◌+◌, ◌<◌, ◌≤◌, List, [], ◌∷◌, ◌++◌, Option, Some, None, get_or, length, take, refl, ap, sym, subst, ◌∙◌}
+use Rattle.assise_machine.proofs.Common.{append_assoc, append-nil, arith, length-take, take-take, take_all, take_more, unwrap_or, Durability, Refusal}
+use Rattle.assise_machine.proofs.Common.{BadClient, NumberedLog, Answer, ClusterEvent, all_entries, entries_of, open_client, refused, open_fault, Leads}
+use Rattle.assise_machine.proofs.Common.{MachineInvariant, Machine, state_of, event_keeps, event_leads, event_told, then_leads, IsLasting, Answered, Event}
+use Rattle.assise_machine.proofs.Common.{AllApplied, AllServed, IsApplied, IsServed, Stocked, answer_seen, event_seen, happens, lacks_revoker, stock_after}
+use Rattle.assise_machine.proofs.Common.{stock_left, told}
 use Rattle.assise_model_events.specs.ClientEvents.{is_refused}
-use Rattle.assise_model_events.specs.Events.{Answer, ClusterEvent, all_entries, entries_of, open_client, refused}
-use Rattle.assise_model_events.specs.Faults.{open_fault}
-use Rattle.assise_model_events.specs.Happenings.{Leads}
-use Rattle.assise_model_events.specs.Machine.{MachineInvariant, Machine, state_of}
-use Rattle.assise_model_events.proofs.EachEvent.{event_keeps, event_leads, event_told}
 use Rattle.assise_model_events.proofs.EventTraces.{same_leads, same_told}
-use Rattle.assise_model_events.proofs.Whatever.{then_leads}
-use Rattle.assise_model_history.specs.Traces.{IsLasting}
 use Rattle.assise_model_history.proofs.TracesKeep.{trace_lasts}
-use Rattle.assise_machine.specs.declared.answer.Answer.{Answer as Answered}
-use Rattle.assise_machine.specs.declared.event.Event.{Event}
-use Rattle.assise_machine.specs.Running.{AllApplied, AllServed, IsApplied, IsServed, Stocked, answer_seen, event_seen, happens, lacks_revoker, stock_after, stock_left, told}
 
 -- ---- one event
 
@@ -44,7 +33,8 @@ pub all_told : (k : ℕ) (m m' : Machine) (es : List (ClusterEvent × Answer)) �
 all_told k m m' [] e = ap (λ x. x.history) e ∙ sym (append-nil m.history)
 all_told k m m' ((e, a) ∷ es) (v, (step, rest)) =
     let now : v.history ≡ m.history ++ entries_of m.history e a = served_told k m v e a step in
-    all_told (stock_after k a) v m' es rest ∙ ap (λ h. h ++ all_entries h es) now ∙ append_assoc m.history (entries_of m.history e a) (all_entries (m.history ++ entries_of m.history e a) es)
+    all_told (stock_after k a) v m' es rest ∙ ap (λ h. h ++ all_entries h es) now ∙ append_assoc m.history (entries_of m.history e a)
+    (all_entries (m.history ++ entries_of m.history e a) es)
 
 pub all_lead : (k : ℕ) (m m' : Machine) (es : List (ClusterEvent × Answer)) → MachineInvariant m → AllServed k m es m' → Leads m m'
 all_lead k m m' [] h e = same_leads m m' e
@@ -58,11 +48,13 @@ all_last k m m' es h run =
 
 -- ---- one event more
 
-pub served_more : (k : ℕ) (m v m' : Machine) (es : List (ClusterEvent × Answer)) (e : ClusterEvent) (a : Answer) → AllServed k m es v → IsServed (stock_left k es) v e a m' → AllServed k m (es ++ (e, a) ∷ []) m'
+pub served_more : (k : ℕ) (m v m' : Machine) (es : List (ClusterEvent × Answer)) (e : ClusterEvent) (a : Answer) → AllServed k m es v →
+    IsServed (stock_left k es) v e a m' → AllServed k m (es ++ (e, a) ∷ []) m'
 served_more k m v m' [] e a same h = (m', (subst (λ u. IsServed k u e a m') same h, refl))
 served_more k m v m' ((f, b) ∷ es) e a (u, (first, rest)) h = (u, (first, served_more (stock_after k b) u v m' es e a rest h))
 
-pub applied_more : {C : Type 0} (answers : C → NumberedLog → ℕ → ℕ → Type 0) (s v t : Stocked C) (es : List (ClusterEvent × Answer)) (e : ClusterEvent) (a : Answer) →
+pub applied_more : {C : Type 0} (answers : C → NumberedLog → ℕ → ℕ → Type 0) (s v t : Stocked C) (es : List (ClusterEvent × Answer)) (e : ClusterEvent)
+    (a : Answer) →
     AllApplied answers s es v → IsApplied answers v e a t → AllApplied answers s (es ++ (e, a) ∷ []) t
 applied_more answers s v t [] e a same h = (t, (subst (λ u. IsApplied answers u e a t) same h, refl))
 applied_more answers s v t ((f, b) ∷ es) e a (u, (first, rest)) h = (u, (first, applied_more answers u v t es e a rest h))
@@ -71,7 +63,8 @@ pub left_more : (k : ℕ) (es : List (ClusterEvent × Answer)) (e : ClusterEvent
 left_more k [] e a = refl
 left_more k ((f, b) ∷ es) e a = left_more (stock_after k b) es e a
 
-pub told_more : (es : List Event) (bs : List Answered) (e : Event) (a : Answered) → length es ≡ length bs → told (es ++ e ∷ []) (bs ++ a ∷ []) ≡ told es bs ++ (event_seen e, answer_seen a) ∷ []
+pub told_more : (es : List Event) (bs : List Answered) (e : Event) (a : Answered) → length es ≡ length bs → told (es ++ e ∷ []) (bs ++ a ∷ [])
+    ≡ told es bs ++ (event_seen e, answer_seen a) ∷ []
 told_more [] [] e a same = refl
 told_more [] (b ∷ bs) e a same = cc
 told_more (f ∷ es) [] e a same = cc
@@ -89,16 +82,20 @@ module _ (k j : ℕ) (m v m' : Machine) (es : List Event) (bs cs : List Answered
     told_now =
         let few = length-take i es in
         let same : length (take i es) ≡ length bs = omega (arith, few, count, inside) in
-        (λ t. told (take_more es i e inside t) (grown t)) ∙ told_more (take i es) bs (get_or es i e) a same ∙ ap (λ x. told (take i es) bs ++ (event_seen x, answer_seen a) ∷ []) (sym is)
+        (λ t. told (take_more es i e inside t) (grown t)) ∙ told_more (take i es) bs (get_or es i e) a same
+        ∙ ap (λ x. told (take i es) bs ++ (event_seen x, answer_seen a) ∷ []) (sym is)
 
     pub served_on : AllServed k m (told (take i es) bs) v → IsServed j v (event_seen e) (answer_seen a) m' → AllServed k m (told (take (i + 1) es) cs) m'
     served_on before step =
         subst (λ ts. AllServed k m ts m') (sym told_now)
-        (served_more k m v m' (told (take i es) bs) (event_seen e) (answer_seen a) before (subst (λ q. IsServed q v (event_seen e) (answer_seen a) m') left step))
+        (served_more k m v m' (told (take i es) bs) (event_seen e) (answer_seen a) before
+        (subst (λ q. IsServed q v (event_seen e) (answer_seen a) m') left step))
 
-    pub applied_on : {C : Type 0} (answers : C → NumberedLog → ℕ → ℕ → Type 0) (s u t : Stocked C) → AllApplied answers s (told (take i es) bs) u → IsApplied answers u (event_seen e) (answer_seen a) t →
+    pub applied_on : {C : Type 0} (answers : C → NumberedLog → ℕ → ℕ → Type 0) (s u t : Stocked C) → AllApplied answers s (told (take i es) bs) u →
+        IsApplied answers u (event_seen e) (answer_seen a) t →
         AllApplied answers s (told (take (i + 1) es) cs) t
-    applied_on answers s u t before step = subst (λ ts. AllApplied answers s ts t) (sym told_now) (applied_more answers s u t (told (take i es) bs) (event_seen e) (answer_seen a) before step)
+    applied_on answers s u t before step =
+        subst (λ ts. AllApplied answers s ts t) (sym told_now) (applied_more answers s u t (told (take i es) bs) (event_seen e) (answer_seen a) before step)
 
     pub left_on : stock_after j (answer_seen a) ≡ stock_left k (told (take (i + 1) es) cs)
     left_on =
@@ -120,6 +117,7 @@ told_all k m m' es bs i past run = all_told k m m' (told es bs) (subst (λ xs. A
 
 -- ---- a client is to be opened, and no revoker is left
 
-pub opened_bare : (k : ℕ) (m : Machine) (n : ℕ) (u : Durability) (o : Option Refusal) (r : Refusal) → k ≡ 0 → o ≡ open_fault m n → r ≡ unwrap_or o BadClient → IsServed k m (open_client n u) (refused r) m
+pub opened_bare : (k : ℕ) (m : Machine) (n : ℕ) (u : Durability) (o : Option Refusal) (r : Refusal) → k ≡ 0 → o ≡ open_fault m n → r ≡ unwrap_or o BadClient →
+    IsServed k m (open_client n u) (refused r) m
 opened_bare k m n u None r none is answer = lacks_revoker n u refl none (sym is) (ap refused answer) refl
 opened_bare k m n u (Some e) r none is answer = happens (is_refused r (sym is ∙ ap Some (sym answer)) refl refl)

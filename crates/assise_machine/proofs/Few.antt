@@ -1,11 +1,5 @@
 -- A cluster has few nodes and few clients.
-use Rattle.std.proofs.Common.{◌≤◌, length, subst}
-use Rattle.std.proofs.Math.Bridge.{le_prop}
-use Rattle.std.proofs.Math.Logic.{∥∥₁_elim}
-use Rattle.assise_names.specs.declared.limits.TheConstants.{MOST_CLIENTS, MOST_NODES}
-use Rattle.assise_machine_state.specs.Observed.{observed}
-use Rattle.assise_machine.specs.declared.cluster.ClusterOf.{ClusterOf}
-use Rattle.assise_machine.specs.Clusters.{machine}
+use Rattle.assise_machine.proofs.Common.{◌≤◌, length, subst, le_prop, ∥∥₁_elim, MOST_CLIENTS, MOST_NODES, observed, ClusterOf, machine}
 
 pub few_clients : {C : Type 0} (cluster : ClusterOf C) → (machine cluster).world.clients ≤ MOST_CLIENTS
 few_clients cluster = ∥∥₁_elim cluster.sound.invariant.holds le_prop (λ h. h.clients)

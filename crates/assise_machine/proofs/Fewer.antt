@@ -1,9 +1,8 @@
 -- Room for some inodes is room for fewer.
-use Rattle.std.proofs.Common.{◌≡◌, ℕ, ◌+◌, ◌≤◌, nat_le, true, List, [], ◌∷◌, refl, arith, leb-true, le-leb}
-use Rattle.std.proofs.lemmas.Bool.{and_from, and_parts, or_cases, or_left, or_right}
-use Rattle.std.specs.List.{list_all}
+use Rattle.assise_machine.proofs.Common.{◌≡◌, ℕ, ◌+◌, ◌≤◌, nat_le, true, List, [], ◌∷◌, refl, arith, and_from, and_parts, or_cases, or_left, or_right, list_all}
+use Rattle.assise_machine.proofs.Common.{has_room_for}
+use Rattle.std.proofs.Common.{leb-true, le-leb}
 use Rattle.assise_manager.specs.Seen.{has_last_room, has_list_room, has_node_room}
-use Rattle.assise_manager.specs.Whole.{has_room_for}
 use Rattle.assise_manager.specs.declared.members.Members.{Members}
 use Rattle.assise_manager.specs.declared.node.Node.{Node}
 use Rattle.assise_manager.specs.declared.written_list.WrittenList.{WrittenList}
@@ -35,4 +34,5 @@ module _ (few many : ℕ) (fewer : few ≤ many) where
   pub room_for_fewer : (m : Members) (node : ℕ) → has_room_for m node many ≡ true → has_room_for m node few ≡ true
   room_for_fewer m node room =
       let parts = and_parts (has_last_room many m.written.items) (list_all (has_node_room node many) m.nodes.items) room in
-      and_from (has_last_room few m.written.items) (list_all (has_node_room node few) m.nodes.items) (last_room m.written.items parts.0) (all_room node m.nodes.items parts.1)
+      and_from (has_last_room few m.written.items) (list_all (has_node_room node few) m.nodes.items) (last_room m.written.items parts.0)
+      (all_room node m.nodes.items parts.1)

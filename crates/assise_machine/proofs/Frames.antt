@@ -1,33 +1,13 @@
 -- What a node sends of a client's log, as the laws have it.
-use Rattle.std.proofs.Common.{append-nil, subst, length-append, ◌≡◌, ℕ, zero, suc, ◌-◌, ◌<◌, ◌≤◌, ◌==◌, min, Bool, true, List, [], ◌∷◌, ◌++◌, filter, length, nat_le, nat_lt, Option, Some, None, inl, inr, refl, ap, sym, ◌∙◌, arith, eq-eqb}
-use Rattle.std.specs.Option.{option_to_list}
-use Rattle.std.proofs.Math.Logic.{∥∥₁_elim}
-use Rattle.std.proofs.Props.{props}
-use Rattle.std.proofs.lemmas.Bool.{cases_Bool, cases_eq, or_cases, or_left, or_right}
-use Rattle.assise_names.specs.declared.refusal.Refusal.TheVariants.{WrongPhase}
-use Rattle.assise_names.specs.declared.limits.TheConstants.{MOST_CLIENTS}
-use Rattle.assise_record.specs.LogFrame.{LogFrame}
-use Rattle.assise_private_log.specs.NumberedLog.{end as log_end, is_border}
-use Rattle.assise_chain.specs.Chains.{behind, chain, first_of_all}
-use Rattle.assise_record.specs.LogRecord.{LogRecord}
-use Rattle.assise_manager.specs.NodeLevels.{level_of, sends_marks}
+use Rattle.assise_machine.proofs.Common.{append-nil, subst, length-append, ◌≡◌, ℕ, zero, suc, ◌-◌, ◌<◌, ◌≤◌, ◌==◌, min, Bool, true, List, [], ◌∷◌, ◌++◌, filter}
+use Rattle.assise_machine.proofs.Common.{length, nat_le, nat_lt, Option, Some, None, inl, inr, refl, ap, sym, ◌∙◌, arith, eq-eqb, option_to_list, ∥∥₁_elim}
+use Rattle.assise_machine.proofs.Common.{props, cases_Bool, cases_eq, or_cases, or_left, or_right, WrongPhase, MOST_CLIENTS, LogFrame, log_end, is_border}
+use Rattle.assise_machine.proofs.Common.{behind, chain, first_of_all, LogRecord, level_of, sends_marks, contains, Standing, full_nodes, standing_of}
+use Rattle.assise_machine.proofs.Common.{contains-filter, node_fault, unless_full, MachineInvariant, Machine, for_node, frame_for, frames_to, border_marks}
+use Rattle.assise_machine.proofs.Common.{next_node, node_log, client_in, HasLog, log_in, is_full_in, observed, own_seen, stands_full, world_of, IsNumber}
+use Rattle.assise_machine.proofs.Common.{ShapeInvariant, StateValue, standings, less_one, has_log, same_first, seen_full, listed_is_full}
 use Rattle.assise_chain.specs.Messages.{frame_of, message_of}
-use Rattle.assise_inode_table.specs.Effects.{contains}
 use Rattle.assise_inode_table.proofs.EffectValues.{contains-append}
-use Rattle.assise_manager.specs.Standings.{Standing, full_nodes, standing_of}
-use Rattle.assise_model_world.proofs.FailureKeeps.{contains-filter}
-use Rattle.assise_model_events.specs.Faults.{node_fault, unless_full}
-use Rattle.assise_model_events.specs.Machine.{MachineInvariant, Machine}
-use Rattle.assise_model_events.specs.NodeEvents.{for_node, frame_for, frames_to, border_marks, next_node, node_log}
-use Rattle.assise_machine_state.specs.ClientValues.{client_in}
-use Rattle.assise_machine_state.specs.NodeValues.{HasLog, log_in}
-use Rattle.assise_machine_state.specs.Observed.{is_full_in, observed, own_seen, stands_full, world_of}
-use Rattle.assise_machine_state.specs.Places.{IsNumber}
-use Rattle.assise_machine_state.specs.Invariant.{ShapeInvariant}
-use Rattle.assise_machine_state.specs.StateValues.{StateValue, standings}
-use Rattle.assise_machine_state.proofs.ItemSeen.{less_one}
-use Rattle.assise_machine_state.proofs.Fullness.{has_log, same_first, seen_full}
-use Rattle.assise_machine_state.proofs.Standings.{listed_is_full}
 
 -- ---- a node at which nothing is wrong is full
 
@@ -53,7 +33,8 @@ behind_there (m ∷ ns) n k is =
 
 chain_there : (ns : List ℕ) (head k : ℕ) → contains (chain ns head) k ≡ true → contains ns k ≡ true
 chain_there ns head k there =
-    elim (or_cases (contains (filter (nat_le head) ns) k) (contains (filter (λ n. nat_lt n head) ns) k) (sym (contains-append (filter (nat_le head) ns) (filter (λ n. nat_lt n head) ns) k) ∙ there)) [
+    elim (or_cases (contains (filter (nat_le head) ns) k) (contains (filter (λ n. nat_lt n head) ns) k)
+    (sym (contains-append (filter (nat_le head) ns) (filter (λ n. nat_lt n head) ns) k) ∙ there)) [
       | inl above ↦ contains-filter (nat_le head) ns k above
       | inr below ↦ contains-filter (λ n. nat_lt n head) ns k below
     ]
@@ -133,7 +114,8 @@ module _ (m : Machine) (n c : ℕ) {frames more : List (LogFrame × ℕ)} (one :
 -- ---- there is something to send
 
 -- a frame without records isn't sent
-pub nothing_sent : (k : ℕ) (marked : Bool) (epoch c first : ℕ) (rs : List LogRecord) (last : List Bool) → for_node k (frame_of marked epoch c first rs last) ≡ [] → rs ≡ []
+pub nothing_sent : (k : ℕ) (marked : Bool) (epoch c first : ℕ) (rs : List LogRecord) (last : List Bool) → for_node k (frame_of marked epoch c first rs last)
+    ≡ [] → rs ≡ []
 nothing_sent k marked epoch c first rs last none = grind arith
 
 -- where a frame is sent it is one
@@ -151,7 +133,8 @@ some_frames m n c (suc k) client low some =
     let both = length-append (frames_to m n k) (frame_for m n (suc k) (next_node m n (suc k))) in
     elim (cases_eq c (suc k)) [
       | inl last ↦
-          let here : 0 < length (frame_for m n (suc k) (next_node m n (suc k))) = subst (λ d. 0 < length (frame_for m n d (next_node m n d))) last (some_long (frame_for m n c (next_node m n c)) some) in
+          let here : 0 < length (frame_for m n (suc k) (next_node m n (suc k))) = subst (λ d. 0 < length (frame_for m n d (next_node m n d))) last
+          (some_long (frame_for m n c (next_node m n c)) some) in
           omega (arith, both, here)
       | inr before ↦
           let below : c ≤ k = omega (arith, low, before) in

@@ -1,24 +1,8 @@
 -- How many inodes may be hot at a node is another number, or stays: the invariant between events stays.
-use Rattle.std.specs.Prelude.{⊤}
-use Rattle.std.proofs.Common.{◌≡◌, ℕ, List, None, Result, Ok, Err, OnErr, OnOk, IsOkUnless, refl, ap, sym, subst}
-use Rattle.std.proofs.Math.Logic.{∥∥₁_map}
-use Rattle.assise_names.specs.declared.refusal.Refusal.{Refusal}
-use Rattle.assise_names.specs.declared.refusal.Refusal.TheVariants.{OutOfMemory}
-use Rattle.assise_digest.specs.Region.{RegionValue}
-use Rattle.assise_model_events.specs.Events.{hot_set, refused}
-use Rattle.assise_model_events.specs.Faults.{node_fault}
-use Rattle.assise_model_events.specs.Machine.{MachineInvariant}
-use Rattle.assise_model_events.specs.NodeEvents.{SettingHot, is_set, lacks_memory}
-use Rattle.assise_model_events.proofs.EachEvent.{hot_holds}
-use Rattle.assise_machine_state.specs.Changes.{after_hot}
-use Rattle.assise_machine_state.specs.NodeValues.{with_hot_in}
-use Rattle.assise_machine_state.specs.Observed.{observed}
-use Rattle.assise_machine_state.specs.Places.{IsNumber}
-use Rattle.assise_machine_state.specs.Invariant.{CutsInvariant, ShapeInvariant}
-use Rattle.assise_machine_state.specs.StateValues.{StateValue}
-use Rattle.assise_machine_state.proofs.Fullness.{full_number}
+use Rattle.assise_machine.proofs.Common.{⊤, ◌≡◌, ℕ, List, None, Result, Ok, Err, OnErr, OnOk, IsOkUnless, refl, ap, sym, subst, ∥∥₁_map, Refusal, OutOfMemory}
+use Rattle.assise_machine.proofs.Common.{RegionValue, hot_set, refused, node_fault, MachineInvariant, SettingHot, is_set, lacks_memory, hot_holds, after_hot}
+use Rattle.assise_machine.proofs.Common.{with_hot_in, observed, IsNumber, CutsInvariant, ShapeInvariant, StateValue, full_number, setting_answer}
 use Rattle.assise_machine_state.proofs.HotSeen.{machine_set, notes_kept, shape_kept}
-use Rattle.assise_machine.specs.Answers.{setting_answer}
 use Rattle.assise_machine.proofs.Frames.{fine_node}
 
 -- what is to be shown of the state then
@@ -35,7 +19,8 @@ module _ (s : StateValue) (n capacity : ℕ) (shape : ShapeInvariant s) (fine : 
   is_set_now : SettingHot (observed s) n capacity hot_set (observed (after_hot s n capacity))
   is_set_now = is_set fine refl (machine_set s n capacity)
 
-  pub sets : ∥ MachineInvariant (observed s) ∥₁ → CutsInvariant s → (r : Result ⊤ Refusal) (rs : List RegionValue) → OnOk r (rs ≡ with_hot_in s.nodes n capacity) → OnErr r (rs ≡ s.nodes)
+  pub sets : ∥ MachineInvariant (observed s) ∥₁ → CutsInvariant s → (r : Result ⊤ Refusal) (rs : List RegionValue) →
+      OnOk r (rs ≡ with_hot_in s.nodes n capacity) → OnErr r (rs ≡ s.nodes)
       → IsOkUnless r OutOfMemory → Sets s n capacity r (record s { nodes = rs })
   sets holds noted (Ok u) rs set kept only =
       let same : record s { nodes = rs } ≡ after_hot s n capacity = ap (λ x. record s { nodes = x }) set in

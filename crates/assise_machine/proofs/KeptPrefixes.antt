@@ -1,21 +1,10 @@
 -- What a failure leaves at the other full nodes.
-use Rattle.std.proofs.Common.{◌≡◌, ◌≢◌, inl, inr, ℕ, ◌+◌, ◌-◌, ◌≤◌, Some, true, drop, take, length, List, ap, sym, subst, ◌∙◌, arith}
-use Rattle.std.proofs.lemmas.Bool.{and_parts, cases_Bool, cases_eq, eqb-true}
-use Rattle.std.proofs.lemmas.List.{drop-take, length-take, take_all}
-use Rattle.assise_history.specs.declared.call.Loss.{Loss}
-use Rattle.assise_inode_table.specs.Effects.{contains}
-use Rattle.assise_manager.specs.Changes.{donor_of, is_returning}
-use Rattle.assise_manager.specs.Standings.{full, standing_of}
-use Rattle.assise_model_world.specs.NodeSteps.{kept_at_failure}
-use Rattle.assise_model_world.specs.Invariant.{WorldInvariant}
-use Rattle.assise_model_world.specs.World.{World, Full, undigested_records, undigested_below, end_of_log, records_between}
-use Rattle.assise_model_world.proofs.FailureKeeps.{kept_low}
+use Rattle.assise_machine.proofs.Common.{◌≡◌, ◌≢◌, inl, inr, ℕ, ◌+◌, ◌-◌, ◌≤◌, Some, true, drop, take, length, List, ap, sym, subst, ◌∙◌, arith, and_parts}
+use Rattle.assise_machine.proofs.Common.{cases_Bool, cases_eq, eqb-true, drop-take, length-take, take_all, Loss, contains, donor_of, is_returning, full}
+use Rattle.assise_machine.proofs.Common.{standing_of, kept_at_failure, WorldInvariant, World, Full, undigested_records, undigested_below, end_of_log}
+use Rattle.assise_machine.proofs.Common.{records_between, kept_low, Answer, failed, MachineInvariant, Machine, Failing, IsFailed, full_after}
 use Rattle.assise_model_world.proofs.Views.{ahead_between}
-use Rattle.assise_model_events.specs.Events.{Answer, failed}
-use Rattle.assise_model_events.specs.Machine.{MachineInvariant, Machine}
 use Rattle.assise_model_events.specs.MemberEvents as member
-use Rattle.assise_model_events.specs.MemberEvents.{Failing, IsFailed}
-use Rattle.assise_model_events.proofs.LeaseSteps.{full_after}
 use Rattle.assise_machine.proofs.Others.{dropped_ahead, leaves_all, leaves_nodes}
 
 -- ---- areas
@@ -47,7 +36,8 @@ failing_area m m' n a s j i there = grind (arith, failed_area, leaves_all)
 -- ---- records that are not digested
 
 -- what is kept of a log, from what was digested on
-prefix_ahead : (w v : World) (j c k : ℕ) → v.digested j c ≡ w.digested j c → v.first c ≡ w.first c → v.log j c ≡ take (k - w.first c) (w.log j c) → w.first c ≤ w.digested j c → w.digested j c ≤ k →
+prefix_ahead : (w v : World) (j c k : ℕ) → v.digested j c ≡ w.digested j c → v.first c ≡ w.first c → v.log j c ≡ take (k - w.first c) (w.log j c) →
+    w.first c ≤ w.digested j c → w.digested j c ≤ k →
     undigested_records v j c ≡ undigested_below w j c k
 unfolding undigested_records undigested_below
 prefix_ahead w v j c k digested first log begun kept =
@@ -56,7 +46,8 @@ prefix_ahead w v j c k digested first log begun kept =
     ∙ ap (λ n. drop (w.digested j c - w.first c) (take n (w.log j c))) parts
     ∙ drop-take (w.digested j c - w.first c) (k - w.digested j c) (w.log j c)
 
-failed_ahead : (m m' : Machine) (n j c : ℕ) → WorldInvariant m.world → IsFailed m n m' → Full m.world j → j ≢ n → undigested_records m'.world j c ≡ undigested_below m.world j c (kept_at_failure m.world n c)
+failed_ahead : (m m' : Machine) (n j c : ℕ) → WorldInvariant m.world → IsFailed m n m' → Full m.world j → j ≢ n → undigested_records m'.world j c
+    ≡ undigested_below m.world j c (kept_at_failure m.world n c)
 failed_ahead m m' n j c s e there other =
     let order = s.coherent.order j c there in
     let kept = kept_low m.world n c in
@@ -90,7 +81,8 @@ kept_whole : (w : World) (n c : ℕ) → (w.lives c ≡ true → w.home c ≢ n)
 unfolding kept_at_failure
 kept_whole w n c away = grind (arith, cases_Bool, and_parts, eqb-true)
 
-kept_ahead : (w : World) (n j c : ℕ) → WorldInvariant w → Full w j → (w.lives c ≡ true → w.home c ≢ n) → undigested_below w j c (kept_at_failure w n c) ≡ undigested_records w j c
+kept_ahead : (w : World) (n j c : ℕ) → WorldInvariant w → Full w j → (w.lives c ≡ true → w.home c ≢ n) → undigested_below w j c (kept_at_failure w n c)
+    ≡ undigested_records w j c
 kept_ahead w n j c s there away = ap (undigested_below w j c) (kept_whole w n c away) ∙ ahead_to_end w j c s there
 
 -- ---- a failure
@@ -108,7 +100,8 @@ failing_ahead m m' n losses h (member.is_failed_again fine is e) j c there other
 failing_ahead m m' n losses h (member.lacks_memory fine is same) j c there other = cc
 failing_ahead m m' n losses h (member.is_refused r fault is same) j c there other = cc
 
-pub failing_elsewhere : (m m' : Machine) (n : ℕ) (a : Answer) → MachineInvariant m → Failing m n a m' → (j c : ℕ) → Full m.world j → j ≢ n → m.world.home c ≢ n →
+pub failing_elsewhere : (m m' : Machine) (n : ℕ) (a : Answer) → MachineInvariant m → Failing m n a m' → (j c : ℕ) → Full m.world j → j ≢ n →
+    m.world.home c ≢ n →
     undigested_records m'.world j c ≡ undigested_records m.world j c
 failing_elsewhere m m' n a h (member.is_failed fine is e) j c there other away =
     failed_ahead m m' n j c h.sound e there other ∙ kept_ahead m.world n j c h.sound there (λ lives. away)

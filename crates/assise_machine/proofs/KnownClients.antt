@@ -1,19 +1,13 @@
 -- What is known of a client is what the history says.
-use Rattle.std.proofs.Common.{◌≡◌, ℕ, Bool, not, ◌∷◌, ◌++◌, ap, sym, ◌∙◌, arith}
-use Rattle.std.specs.List.{list_any}
-use Rattle.assise_history.specs.Entries.{opens}
-use Rattle.assise_history.specs.Legal.{is_failure_of}
-use Rattle.assise_model_world.specs.World.{IsClient}
-use Rattle.assise_model_events.specs.Machine.{MachineInvariant}
-use Rattle.assise_machine_state.specs.ClientValues.{ClientValue, client_in}
-use Rattle.assise_machine_state.specs.Observed.{observed, world_of}
-use Rattle.assise_machine_state.specs.StateValues.{StateValue}
+use Rattle.assise_machine.proofs.Common.{◌≡◌, ℕ, Bool, not, ◌∷◌, ◌++◌, ap, sym, ◌∙◌, arith, list_any, opens, is_failure_of, IsClient, MachineInvariant}
+use Rattle.assise_machine.proofs.Common.{ClientValue, client_in, observed, world_of, StateValue}
 use Rattle.assise_machine.specs.KnownClients.{IsKnownClient}
 
 same_not : (a b : Bool) → not a ≡ not b → a ≡ b
 same_not a b same = grind arith
 
-pub known_client : (s : StateValue) (c : ℕ) (x : ClientValue) → IsClient (observed s).world c → x ≡ client_in s.clients c → MachineInvariant (observed s) → IsKnownClient (observed s).history c x
+pub known_client : (s : StateValue) (c : ℕ) (x : ClientValue) → IsClient (observed s).world c → x ≡ client_in s.clients c → MachineInvariant (observed s) →
+    IsKnownClient (observed s).history c x
 unfolding observed world_of
 known_client s c x client is h =
     let same : client_in s.clients c ≡ x = sym is in

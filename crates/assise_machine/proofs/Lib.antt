@@ -1,3 +1,4 @@
+mod Common
 pub mod DeliveryFaults
 pub mod LogAgrees
 pub mod SpellingIsProposition

@@ -1,12 +1,8 @@
 -- A log goes on with some records.
-use Rattle.std.proofs.Common.{◌≡◌, ℕ, zero, suc, ◌+◌, ◌-◌, ◌≤◌, List, [], ◌∷◌, length, take, drop, slice_get, Some, None, refl, ap, sym, subst, ◌∙◌, arith}
-use Rattle.std.proofs.lemmas.Bool.{cases_Bool, ltb-true}
-use Rattle.std.proofs.lemmas.List.{length-drop, take_all}
+use Rattle.assise_machine.proofs.Common.{◌≡◌, ℕ, zero, suc, ◌+◌, ◌-◌, ◌≤◌, List, [], ◌∷◌, length, take, drop, slice_get, Some, None, refl, ap, sym, subst, ◌∙◌}
+use Rattle.assise_machine.proofs.Common.{arith, cases_Bool, ltb-true, length-drop, take_all, drop-cons, LogRecord, AreWhole, NumberedLog, record_at}
+use Rattle.assise_machine.proofs.Common.{records_from}
 use Rattle.std.proofs.lemmas.Option.{get_or_from_slice_get, slice_get_within}
-use Rattle.std.proofs.Math.Seq.{drop-cons}
-use Rattle.assise_record.specs.LogRecord.{LogRecord}
-use Rattle.assise_digest.specs.Region.{AreWhole}
-use Rattle.assise_private_log.specs.NumberedLog.{NumberedLog, record_at, records_from}
 
 drop_here : (xs : List LogRecord) (i : ℕ) (x : LogRecord) → slice_get xs i ≡ Some x → drop i xs ≡ x ∷ drop (suc i) xs
 drop_here xs i x is = drop-cons xs i x (slice_get_within xs i x is) ∙ ap (λ y. y ∷ drop (suc i) xs) (get_or_from_slice_get xs i x x is)
@@ -69,7 +65,8 @@ whole_part l from count whole = whole_prefix (records_from l from) count (whole_
 
 -- what a log goes on with can be made whole, as what it has can
 pub whole_new : (l : NumberedLog) (from skipped : ℕ) (rs : List LogRecord) → AreWhole l.records →
-    take (length (take (length rs - skipped) (drop skipped rs))) (records_from l from) ≡ take (length rs - skipped) (drop skipped rs) → AreWhole (drop skipped rs)
+    take (length (take (length rs - skipped) (drop skipped rs))) (records_from l from) ≡ take (length rs - skipped) (drop skipped rs) →
+    AreWhole (drop skipped rs)
 whole_new l from skipped rs whole all =
     let left = length-drop skipped rs in
     let new_is : take (length rs - skipped) (drop skipped rs) ≡ drop skipped rs = take_all (length rs - skipped) (drop skipped rs) (omega (arith, left)) in

@@ -1,22 +1,12 @@
 -- The clients that events opened, and what they store.
-use Rattle.std.proofs.Common.{◌≡◌, ◌≢◌, ◌⊎◌, inl, inr, ℕ, suc, ◌+◌, ◌<◌, ◌≤◌, Option, List, [], ◌∷◌, ◌++◌, Contains, get_or, length, take, refl, ap, sym, subst, ◌∙◌, append_assoc, append-nil, arith}
-use Rattle.std.proofs.Math.Logic.{∥∥₁_elim}
-use Rattle.std.specs.Option.{option_to_list}
-use Rattle.std.proofs.lemmas.List.{take_all}
+use Rattle.assise_machine.proofs.Common.{◌≡◌, ◌≢◌, ◌⊎◌, inl, inr, ℕ, suc, ◌+◌, ◌<◌, ◌≤◌, Option, List, [], ◌∷◌, ◌++◌, Contains, get_or, length, take, refl, ap}
+use Rattle.assise_machine.proofs.Common.{sym, subst, ◌∙◌, append_assoc, append-nil, arith, ∥∥₁_elim, option_to_list, take_all, Op, Fsync, Dsync, Durability}
+use Rattle.assise_machine.proofs.Common.{clients_opened, durability_of, Calling, Crashing, Noting, Opening, Syncing, Coalescing, Answer, ClusterEvent}
+use Rattle.assise_machine.proofs.Common.{open_client, try_call, try_fsync, crash, opened, entries_of, Dsyncing, Fsyncing, Happens, Trying, MachineInvariant}
+use Rattle.assise_machine.proofs.Common.{Machine, Answered, Event, AllServed, IsServed, all_opened, answer_seen, event_seen, last_first, opened_of, stock_after}
+use Rattle.assise_machine.proofs.Common.{stock_left, told}
 use Rattle.std.proofs.lemmas.List.Elements.{Contains-append_cases, Contains-append_left, Contains-append_right, Contains-push, Contains-push_cases}
-use Rattle.assise_names.specs.declared.call.Op.{Op}
-use Rattle.assise_names.specs.declared.call.Op.TheVariants.{Fsync, Dsync}
-use Rattle.assise_names.specs.declared.durability.Durability.{Durability}
-use Rattle.assise_history.specs.Legal.{clients_opened, durability_of}
 use Rattle.assise_history.proofs.ClientCounts.{opened_append}
-use Rattle.assise_model_events.specs.ClientEvents.{Calling, Crashing, Noting, Opening, Syncing}
-use Rattle.assise_model_events.specs.Dsyncs.{Coalescing}
-use Rattle.assise_model_events.specs.Events.{Answer, ClusterEvent, open_client, try_call, try_fsync, crash, opened, entries_of}
-use Rattle.assise_model_events.specs.Happenings.{Dsyncing, Fsyncing, Happens, Trying}
-use Rattle.assise_model_events.specs.Machine.{MachineInvariant, Machine}
-use Rattle.assise_machine.specs.declared.answer.Answer.{Answer as Answered}
-use Rattle.assise_machine.specs.declared.event.Event.{Event}
-use Rattle.assise_machine.specs.Running.{AllServed, IsServed, all_opened, answer_seen, event_seen, last_first, opened_of, stock_after, stock_left, told}
 use Rattle.assise_machine.proofs.EventLists.{served_keeps, served_told, told_now}
 
 -- ---- an answer
@@ -112,7 +102,8 @@ all_grow k m m' ((e, a) ∷ es) h (v, (step, rest)) =
     omega (arith, first, then)
 
 -- those that were opened so far have no higher numbers than there are clients
-opened_low : (k : ℕ) (m m' : Machine) (es : List (ClusterEvent × Answer)) → MachineInvariant m → AllServed k m es m' → (c : ℕ) → Contains (all_opened es) c → c ≤ m'.world.clients
+opened_low : (k : ℕ) (m m' : Machine) (es : List (ClusterEvent × Answer)) → MachineInvariant m → AllServed k m es m' → (c : ℕ) → Contains (all_opened es) c →
+    c ≤ m'.world.clients
 opened_low k m m' [] h same c here = absurd (in_none c here)
 opened_low k m m' ((e, a) ∷ es) h (v, (step, rest)) c here =
     let still = served_keeps k m v e a h step in
@@ -126,7 +117,8 @@ opened_low k m m' ((e, a) ∷ es) h (v, (step, rest)) c here =
     ]
 
 -- who is opened next is none of them
-pub opened_new : (k j : ℕ) (m v m' : Machine) (es : List (ClusterEvent × Answer)) (e : ClusterEvent) (a : Answer) → MachineInvariant m → AllServed k m es v → IsServed j v e a m' →
+pub opened_new : (k j : ℕ) (m v m' : Machine) (es : List (ClusterEvent × Answer)) (e : ClusterEvent) (a : Answer) → MachineInvariant m → AllServed k m es v →
+    IsServed j v e a m' →
     (c : ℕ) → Contains (all_opened es) c → a ≢ opened c
 opened_new k j m v m' es e a h run step c here is =
     let next = (served_next j v m' e c (subst (λ b. IsServed j v e b m') is step)).next in
@@ -148,7 +140,8 @@ module _ {C : Type 0} where
   same_stored : (f g : ℕ → Option C) (cs : List ℕ) → ((c : ℕ) → Contains cs c → g c ≡ f c) → last_first g cs ≡ last_first f cs
   same_stored f g [] same = refl
   same_stored f g (c ∷ cs) same =
-      (λ i. same_stored f g cs (λ d here. same d (Contains-append_right (c ∷ []) cs d here)) i ++ option_to_list (same c (Contains-append_left (c ∷ []) cs c (Contains-push [] c)) i))
+      (λ i. same_stored f g cs (λ d here. same d (Contains-append_right (c ∷ []) cs d here)) i ++ option_to_list
+      (same c (Contains-append_left (c ∷ []) cs c (Contains-push [] c)) i))
 
   -- one answer more: what went from the stock is what the clients store that were opened
   pub gets_on : (f g : ℕ → Option C) (xs ys zs : List C) (cs : List ℕ) (a : Answer) → xs ≡ ys ++ last_first f cs →
@@ -189,6 +182,7 @@ opened_now k j m v m' es bs cs i e a count inside is grown stock =
     ap all_opened (told_now k j m v m' es bs cs i e a count inside is grown stock) ∙ opened_more (told (take i es) bs) (event_seen e) (answer_seen a)
 
 -- who is opened next is none of them, whatever proof there is that the first state holds
-pub opened_anew : (k j : ℕ) (m v m' : Machine) (es : List (ClusterEvent × Answer)) (e : ClusterEvent) (a : Answer) → ∥ MachineInvariant m ∥₁ → AllServed k m es v → IsServed j v e a m' →
+pub opened_anew : (k j : ℕ) (m v m' : Machine) (es : List (ClusterEvent × Answer)) (e : ClusterEvent) (a : Answer) → ∥ MachineInvariant m ∥₁ →
+    AllServed k m es v → IsServed j v e a m' →
     (c : ℕ) → Contains (all_opened es) c → a ≢ opened c
 opened_anew k j m v m' es e a holds run step c here is = ∥∥₁_elim holds (λ x y. absurd x) (λ h. opened_new k j m v m' es e a h run step c here is)

@@ -1,33 +1,17 @@
 -- What happens at one node leaves what other full nodes have.
-use Rattle.std.proofs.Common.{inl, inr, ◌≡◌, ◌≢◌, ℕ, zero, suc, ◌+◌, ◌-◌, drop, List, [], ◌∷◌, refl, ap, sym, subst, ◌∙◌, arith}
-use Rattle.std.proofs.lemmas.Bool.{cases_eq}
-use Rattle.std.proofs.lemmas.List.{drop-drop}
-use Rattle.assise_names.specs.declared.call.Op.{Op}
-use Rattle.assise_names.specs.declared.call.Op.TheVariants.{Fsync, Dsync}
-use Rattle.assise_names.specs.declared.durability.Durability.{Durability}
+use Rattle.assise_machine.proofs.Common.{inl, inr, ◌≡◌, ◌≢◌, ℕ, zero, suc, ◌+◌, ◌-◌, drop, List, [], ◌∷◌, refl, ap, sym, subst, ◌∙◌, arith, cases_eq, drop-drop}
+use Rattle.assise_machine.proofs.Common.{Op, Fsync, Dsync, Durability, Reply, durability_of, LogFrame, NumberedCall, Membership, Digests, Drops, World, Full}
+use Rattle.assise_machine.proofs.Common.{undigested_records, digested_by_all, digested_by_all-below, Calling, Crashing, Gets, Granted, IsTried, KeepsGranted}
+use Rattle.assise_machine.proofs.Common.{Noting, Opening, Syncing, call_of_client, last_world, Coalescing, Answer, Dsyncing, Fsyncing, Trying, Machine, Joining}
+use Rattle.assise_machine.proofs.Common.{Raising, Refilling, Returning, Delivering, Digesting, DigestsTo, Gone, LetsGo, Releasing, Sending, SettingHot}
+use Rattle.assise_machine.proofs.Common.{world_after, clients_after, full_after, logs_after, nodes_after}
 use Rattle.assise_names.specs.declared.durability.Durability.TheVariants.{Pessimistic, Optimistic}
-use Rattle.assise_names.specs.declared.reply.Reply.{Reply}
-use Rattle.assise_history.specs.Legal.{durability_of}
-use Rattle.assise_record.specs.LogFrame.{LogFrame}
-use Rattle.assise_inode_table.specs.Traces.{NumberedCall}
-use Rattle.assise_manager.specs.Membership.{Membership}
 use Rattle.assise_model_world.specs.ClientSteps.{MakesCall}
-use Rattle.assise_model_world.specs.NodeSteps.{Digests, Drops}
 use Rattle.assise_model_world.specs.Staying.{SameLogs, SameClients, SameNode, SameNodes}
-use Rattle.assise_model_world.specs.World.{World, Full, undigested_records, digested_by_all}
-use Rattle.assise_model_world.proofs.WorldObserved.{digested_by_all-below}
 use Rattle.assise_model_leases.specs.Leases.{Leases}
 use Rattle.assise_model_events.specs.ClientEvents as client
-use Rattle.assise_model_events.specs.ClientEvents.{Calling, Crashing, Gets, Granted, IsTried, KeepsGranted, Noting, Opening, Syncing, call_of_client, last_world}
 use Rattle.assise_model_events.specs.Dsyncs as dsync
-use Rattle.assise_model_events.specs.Dsyncs.{Coalescing}
-use Rattle.assise_model_events.specs.Events.{Answer}
-use Rattle.assise_model_events.specs.Happenings.{Dsyncing, Fsyncing, Trying}
-use Rattle.assise_model_events.specs.Machine.{Machine}
-use Rattle.assise_model_events.specs.MemberEvents.{Joining, Raising, Refilling, Returning}
 use Rattle.assise_model_events.specs.NodeEvents as node
-use Rattle.assise_model_events.specs.NodeEvents.{Delivering, Digesting, DigestsTo, Gone, LetsGo, Releasing, Sending, SettingHot, world_after}
-use Rattle.assise_model_events.proofs.LeaseSteps.{clients_after, full_after, logs_after, nodes_after}
 
 -- ---- what one node has
 
@@ -36,7 +20,8 @@ pub record Leaves (w w' : World) (j : ℕ) : Type 0 where
   pub area : (i : ℕ) → w'.area j i ≡ w.area j i
   pub ahead : (c : ℕ) → undigested_records w' j c ≡ undigested_records w j c
 
-ahead_as : (w w' : World) (j c : ℕ) → w'.digested j c ≡ w.digested j c → w'.first c ≡ w.first c → w'.log j c ≡ w.log j c → undigested_records w' j c ≡ undigested_records w j c
+ahead_as : (w w' : World) (j c : ℕ) → w'.digested j c ≡ w.digested j c → w'.first c ≡ w.first c → w'.log j c ≡ w.log j c → undigested_records w' j c
+    ≡ undigested_records w j c
 unfolding undigested_records
 ahead_as w w' j c digested first log = λ i. drop (digested i - first i) (log i)
 
@@ -165,12 +150,14 @@ syncing_leaves : (m m' : Machine) (c : ℕ) (op : Op) (a : Answer) → Syncing m
 syncing_leaves m m' c op a (client.is_synced reply fine is e) j there =
     made_leaves m.world e.between m'.world (call_of_client m.world c op reply) j
     (record { logs = e.raises.logs; clients = e.raises.clients; nodes = e.raises.nodes }) e.call.call there
-syncing_leaves m m' c op a (client.is_replicating fine is e) j there = leaves_else m.world m'.world c j (leaves_nodes m.world m'.world j e.raises.logs e.raises.nodes there)
+syncing_leaves m m' c op a (client.is_replicating fine is e) j there =
+    leaves_else m.world m'.world c j (leaves_nodes m.world m'.world j e.raises.logs e.raises.nodes there)
 syncing_leaves m m' c op a (client.lacks_memory fine all is same) j there = leaves_else m.world m'.world c j (leaves_all m m' j same)
 syncing_leaves m m' c op a (client.is_refused r fault is same) j there = leaves_else m.world m'.world c j (leaves_all m m' j same)
 
 noting_leaves : (m m' : Machine) (c : ℕ) (a : Answer) → Noting m c a m' → (j : ℕ) → Full m.world j → LeavesElse m.world m'.world c j
-noting_leaves m m' c a (client.is_noted reply fine is e) j there = made_leaves m.world m.world m'.world (call_of_client m.world c Fsync reply) j (all_rest m.world) e.call.call there
+noting_leaves m m' c a (client.is_noted reply fine is e) j there =
+    made_leaves m.world m.world m'.world (call_of_client m.world c Fsync reply) j (all_rest m.world) e.call.call there
 noting_leaves m m' c a (client.lacks_memory fine is same) j there = leaves_else m.world m'.world c j (leaves_all m m' j same)
 noting_leaves m m' c a (client.is_refused r fault is same) j there = leaves_else m.world m'.world c j (leaves_all m m' j same)
 
@@ -209,7 +196,8 @@ pub record LeavesBeside (w w' : World) (n j : ℕ) : Type 0 where
 leaves_beside : (w w' : World) (n j : ℕ) → Leaves w w' j → LeavesBeside w w' n j
 leaves_beside w w' n j e = record { area = e.area; ahead = λ other. e.ahead }
 
-pub delivering_leaves : (m m' : Machine) (f : LogFrame) (n : ℕ) (a : Answer) → Delivering m f n a m' → (j : ℕ) → Full m.world j → LeavesBeside m.world m'.world n j
+pub delivering_leaves : (m m' : Machine) (f : LogFrame) (n : ℕ) (a : Answer) → Delivering m f n a m' → (j : ℕ) → Full m.world j →
+    LeavesBeside m.world m'.world n j
 delivering_leaves m m' f n a s j there = grind (arith, ahead_as, leaves_beside, leaves_all)
 
 -- ---- a digest

@@ -1,13 +1,7 @@
 -- A node is full exactly where nothing is in the way of its events.
-use Rattle.std.proofs.Common.{◌≡◌, ℕ, Option, None, Result, Ok, sym, ◌∙◌, arith}
-use Rattle.assise_names.specs.declared.refusal.Refusal.{Refusal}
-use Rattle.assise_names.specs.declared.refusal.Refusal.TheVariants.{WrongPhase}
-use Rattle.assise_manager.specs.declared.phase.Phase.{Phase}
+use Rattle.assise_machine.proofs.Common.{◌≡◌, ℕ, Option, None, Result, Ok, sym, ◌∙◌, arith, Refusal, WrongPhase, Phase, Standing, phase_of, standing_of}
+use Rattle.assise_machine.proofs.Common.{node_fault, unless_full, observed, StateValue}
 use Rattle.assise_manager.specs.declared.phase.Phase.TheVariants.{Full}
-use Rattle.assise_manager.specs.Standings.{Standing, phase_of, standing_of}
-use Rattle.assise_model_events.specs.Faults.{node_fault, unless_full}
-use Rattle.assise_machine_state.specs.Observed.{observed}
-use Rattle.assise_machine_state.specs.StateValues.{StateValue}
 
 full_fine : (o : Option Standing) → phase_of o ≡ Ok Full → unless_full WrongPhase o ≡ None
 full_fine o is = grind arith
@@ -15,10 +9,12 @@ full_fine o is = grind arith
 fine_full : (o : Option Standing) → unless_full WrongPhase o ≡ None → phase_of o ≡ Ok Full
 fine_full o is = grind arith
 
-pub full_has_no_fault : (s : StateValue) (n : ℕ) (r : Result Phase Refusal) → r ≡ phase_of (standing_of s.members.nodes n) → r ≡ Ok Full → node_fault (observed s) n ≡ None
+pub full_has_no_fault : (s : StateValue) (n : ℕ) (r : Result Phase Refusal) → r ≡ phase_of (standing_of s.members.nodes n) → r ≡ Ok Full →
+    node_fault (observed s) n ≡ None
 unfolding observed
 full_has_no_fault s n r is there = full_fine (standing_of s.members.nodes n) (sym is ∙ there)
 
-pub no_fault_is_full : (s : StateValue) (n : ℕ) (r : Result Phase Refusal) → r ≡ phase_of (standing_of s.members.nodes n) → node_fault (observed s) n ≡ None → r ≡ Ok Full
+pub no_fault_is_full : (s : StateValue) (n : ℕ) (r : Result Phase Refusal) → r ≡ phase_of (standing_of s.members.nodes n) → node_fault (observed s) n ≡ None →
+    r ≡ Ok Full
 unfolding observed
 no_fault_is_full s n r is fine = is ∙ fine_full (standing_of s.members.nodes n) fine

@@ -1,21 +1,10 @@
 -- A node that is raised: the invariant between events stays.
-use Rattle.std.specs.Prelude.{⊤}
-use Rattle.std.proofs.Common.{◌≡◌, ℕ, None, Some, Option, Result, Ok, Err, IsSome, true, false, true≢false, OnErr, OnOk, ◌↔◌, IsOk, refl, ap, sym, subst, ◌∙◌, append-nil, arith}
-use Rattle.std.proofs.Math.Logic.{∥∥₁_map}
-use Rattle.assise_names.specs.declared.refusal.Refusal.{Refusal}
-use Rattle.assise_manager.specs.Changes.{raise_fault, raised as with_raised}
-use Rattle.assise_manager.specs.declared.phase.Phase.{Phase}
-use Rattle.assise_manager.specs.Membership.{Membership}
-use Rattle.assise_manager.specs.Standings.{Standing, phase_of, standing_of}
-use Rattle.assise_model_events.specs.Events.{raised}
-use Rattle.assise_model_events.specs.Machine.{MachineInvariant}
-use Rattle.assise_model_events.specs.MemberEvents.{IsRaised, Raising, is_raised, is_refused}
+use Rattle.assise_machine.proofs.Common.{⊤, ◌≡◌, ℕ, None, Some, Option, Result, Ok, Err, IsSome, true, false, true≢false, OnErr, OnOk, ◌↔◌, IsOk, refl, ap, sym}
+use Rattle.assise_machine.proofs.Common.{subst, ◌∙◌, append-nil, arith, ∥∥₁_map, Refusal, raise_fault, with_raised, Phase, Membership, Standing, phase_of}
+use Rattle.assise_machine.proofs.Common.{standing_of, raised, MachineInvariant, IsRaised, Raising, is_raised, log_in, region_in, observed, own_seen, world_of}
+use Rattle.assise_machine.proofs.Common.{CutsInvariant, ShapeInvariant, StateValue, leases_of, raising_answer}
+use Rattle.assise_model_events.specs.MemberEvents.{is_refused}
 use Rattle.assise_model_events.proofs.Raised.{raise_holds}
-use Rattle.assise_machine_state.specs.NodeValues.{log_in, region_in}
-use Rattle.assise_machine_state.specs.Observed.{observed, own_seen, world_of}
-use Rattle.assise_machine_state.specs.Invariant.{CutsInvariant, ShapeInvariant}
-use Rattle.assise_machine_state.specs.StateValues.{StateValue, leases_of}
-use Rattle.assise_machine.specs.Answers.{raising_answer}
 
 -- what is to be shown of the state then
 pub record Raises (s : StateValue) (n : ℕ) (r : Result ⊤ Refusal) (t : StateValue) : Type 0 where
@@ -78,8 +67,13 @@ module _ (s : StateValue) (n : ℕ) where
   abbrev There : Type 0
   There = IsSome (standing_of (observed s).members.nodes n)
 
-  pub node_there : (r : Result Phase Refusal) (p : Phase) → r ≡ phase_of (standing_of s.members.nodes n) → r ≡ Ok p → (true ≡ true → There) × (There → true ≡ true)
+  pub node_there : (r : Result Phase Refusal) (p : Phase) → r ≡ phase_of (standing_of s.members.nodes n) → r ≡ Ok p →
+      (true ≡ true → There) × (There → true ≡ true)
   node_there r p is ok = (λ _. subst (λ m. IsSome (standing_of m.nodes n)) (sym members_as) (some_phase (standing_of s.members.nodes n) r p is ok), λ _. refl)
 
-  pub node_none : (r : Result Phase Refusal) (e : Refusal) → r ≡ phase_of (standing_of s.members.nodes n) → r ≡ Err e → (false ≡ true → There) × (There → false ≡ true)
-  node_none r e is err = (λ is. cc, λ some. absurd (no_phase (standing_of s.members.nodes n) r e is err (subst (λ m. IsSome (standing_of m.nodes n)) members_as some)))
+  pub node_none : (r : Result Phase Refusal) (e : Refusal) → r ≡ phase_of (standing_of s.members.nodes n) → r ≡ Err e →
+      (false ≡ true → There) × (There → false ≡ true)
+  node_none r e is err = (
+    λ is. cc,
+    λ some. absurd (no_phase (standing_of s.members.nodes n) r e is err (subst (λ m. IsSome (standing_of m.nodes n)) members_as some)),
+  )

@@ -1,50 +1,21 @@
 -- The invariant between events, in the words of the headline.
-use Rattle.std.proofs.Common.{◌≡◌, ℕ, zero, suc, ◌<◌, ◌≤◌, nat_lt, true, false, None, if◌then◌else◌, List, [], ◌∷◌, filter, get_or, length, map, slice_index_or, inl, inr, refl, ap, sym, subst, ◌∙◌, arith}
-use Rattle.std.proofs.Math.Bridge.{le_prop}
-use Rattle.std.proofs.Math.Logic.{∥∥₁_elim, ∥∥₁_map}
-use Rattle.std.proofs.Props.{props}
-use Rattle.std.proofs.lemmas.Bool.{cases_Bool, cases_lt}
-use Rattle.std.proofs.lemmas.List.{get_or_append_left, get_or_push, length_push}
-use Rattle.std.specs.Coded.{Coded, Coded-set, Unit-prop, codes, ×_prop}
-use Rattle.assise_names.specs.declared.call.Op.{Op}
-use Rattle.assise_names.specs.declared.refusal.Refusal.TheVariants.{WrongPhase}
-use Rattle.assise_names.specs.declared.reply.Reply.{Reply}
-use Rattle.assise_seq_tree.specs.Answer.{answer}
-use Rattle.assise_seq_tree.specs.Runs.{AreAnswered, tree_after_calls}
-use Rattle.assise_seq_tree.specs.Tree.{Tree, opening}
+use Rattle.assise_machine.proofs.Common.{◌≡◌, ℕ, zero, suc, ◌<◌, ◌≤◌, nat_lt, true, false, None, if◌then◌else◌, List, [], ◌∷◌, filter, get_or, length, map}
+use Rattle.assise_machine.proofs.Common.{slice_index_or, inl, inr, refl, ap, sym, subst, ◌∙◌, arith, le_prop, ∥∥₁_elim, ∥∥₁_map, props, cases_Bool, cases_lt}
+use Rattle.assise_machine.proofs.Common.{get_or_append_left, get_or_push, length_push, Coded, Coded-set, Unit-prop, codes, ×_prop, Op, WrongPhase, Reply}
+use Rattle.assise_machine.proofs.Common.{answer, AreAnswered, tree_after_calls, Tree, opening, EntryValue, IsRun, exchange, tree_after, IsDown, IsPastSyncs}
+use Rattle.assise_machine.proofs.Common.{calls_made, clients_opened, contains, touched, Spells, Each, NumberedCall, below, exchanges, ops, alone, fulls}
+use Rattle.assise_machine.proofs.Common.{lowest_full, full_nodes, Full, alone_observed, first_undigested, first_unreplicated, received_by_all, steps, IsLasting}
+use Rattle.assise_machine.proofs.Common.{numbered_replicated, MachineInvariant, begun_as, state_of, node_fault, unless_full, handed_over_replicated, safe}
+use Rattle.assise_machine.proofs.Common.{region_in, observed, world_of, IsNumber, ShapeInvariant, StateValue, leases_of, standings, machine_of, value_of}
+use Rattle.assise_machine.proofs.Common.{full_number, full_seen, seen_full, alone_same, lowest_listed, stands_so, ClusterOf, IsUp, acked_to, call_from}
+use Rattle.assise_machine.proofs.Common.{first_acked, history_of, kept_below, least_end, regions_of, replicated_calls, replicated_to}
 use Rattle.assise_history.specs.declared.call.Call.{Call}
-use Rattle.assise_history.specs.Entries.{EntryValue}
-use Rattle.assise_history.specs.Kept.{IsRun, exchange, tree_after}
-use Rattle.assise_history.specs.Legal.{IsDown, IsPastSyncs, calls_made, clients_opened}
-use Rattle.assise_inode_table.specs.Effects.{contains, touched}
 use Rattle.assise_inode_table.specs.Interaction.{Step}
-use Rattle.assise_inode_table.specs.Spelled.{Spells}
-use Rattle.assise_inode_table.specs.Traces.{Each, NumberedCall, below, exchanges, ops}
 use Rattle.assise_inode_table.proofs.PairwiseLists.{each-map}
-use Rattle.assise_digest.specs.Region.{alone}
-use Rattle.assise_manager.specs.Changes.{fulls}
-use Rattle.assise_manager.specs.Membership.{lowest_full}
-use Rattle.assise_manager.specs.Standings.{full_nodes}
-use Rattle.assise_model_world.specs.World.{Full, alone_at as alone_observed, first_undigested, first_unreplicated, received_by_all, steps}
 use Rattle.assise_model_world.proofs.RegionAlone.{answered_at, first_undigested-below}
-use Rattle.assise_model_history.specs.Traces.{IsLasting, numbered_replicated}
 use Rattle.assise_model_history.specs.Numbered.{kept_numbered, plain_call}
 use Rattle.assise_model_history.proofs.NumberedCalls.{kept_plain}
-use Rattle.assise_model_events.specs.Machine.{MachineInvariant, begun_as, state_of}
-use Rattle.assise_model_events.specs.Faults.{node_fault, unless_full}
-use Rattle.assise_model_events.proofs.Whatever.{handed_over_replicated, safe}
-use Rattle.assise_machine_state.specs.NodeValues.{region_in}
-use Rattle.assise_machine_state.specs.Observed.{observed, world_of}
-use Rattle.assise_machine_state.specs.Places.{IsNumber}
-use Rattle.assise_machine_state.specs.Invariant.{ShapeInvariant}
-use Rattle.assise_machine_state.specs.StateValues.{StateValue, leases_of, standings}
-use Rattle.assise_machine_state.specs.Whole.{machine_of, value_of}
-use Rattle.assise_machine_state.proofs.Fullness.{full_number, full_seen, seen_full}
-use Rattle.assise_machine_state.proofs.ReadObserved.{alone_same}
-use Rattle.assise_machine_state.proofs.Standings.{lowest_listed, stands_so}
-use Rattle.assise_machine.specs.declared.cluster.ClusterOf.{ClusterOf}
 use Rattle.assise_machine.specs.HandedOver.{AreReplicated, has_write_lease, kept_steps}
-use Rattle.assise_machine.specs.Headline.{IsUp, acked_to, call_from, first_acked, history_of, kept_below, least_end, regions_of, replicated_calls, replicated_to}
 use Rattle.assise_machine.proofs.Alone.{fine_full}
 use Rattle.assise_machine.proofs.ReplicatedUpTo.{least_is, replicated_is}
 use Rattle.assise_machine.proofs.SpellingIsProposition.{spells_known}
@@ -67,7 +38,8 @@ plain_below : (b : ℕ → ℕ) (xs : List NumberedCall) → filter (λ x. nat_l
 plain_below b [] = refl
 plain_below b (x ∷ xs) =
     let rest : filter (λ y. nat_lt y.number (b y.client)) (map plain_call xs) ≡ map plain_call (filter (below b) xs) = plain_below b xs in
-    elim (below b x) as (λ t. (if t then plain_call x ∷ filter (λ y. nat_lt y.number (b y.client)) (map plain_call xs) else filter (λ y. nat_lt y.number (b y.client)) (map plain_call xs))
+    elim (below b x) as (λ t. (if t then plain_call x ∷ filter (λ y. nat_lt y.number (b y.client)) (map plain_call xs) else filter
+    (λ y. nat_lt y.number (b y.client)) (map plain_call xs))
     ≡ map plain_call (if t then x ∷ filter (below b) xs else filter (below b) xs)) [
       | true ↦ ap (λ ys. plain_call x ∷ ys) rest
       | false ↦ rest
@@ -88,13 +60,15 @@ plain_ops (x ∷ xs) = ap (λ ys. x.op ∷ ys) (plain_ops xs)
 
 pub first_length : {C : Type 0} (cluster : ClusterOf C) (m : ℕ) → length (first_acked cluster m) ≡ m
 first_length cluster zero = refl
-first_length cluster (suc m) = (let more = length_push (first_acked cluster m) (acked_to cluster (suc m)) in let rest = first_length cluster m in omega (arith, more, rest))
+first_length cluster (suc m) =
+    (let more = length_push (first_acked cluster m) (acked_to cluster (suc m)) in let rest = first_length cluster m in omega (arith, more, rest))
 
 pub first_at : {C : Type 0} (cluster : ClusterOf C) (m c : ℕ) → c < m → get_or (first_acked cluster m) c 0 ≡ acked_to cluster (suc c)
 first_at cluster zero c low = absurd (omega (arith, low))
 first_at cluster (suc m) c low =
     elim (cases_lt c m) [
-      | inl below ↦ get_or_append_left (first_acked cluster m) (acked_to cluster (suc m) ∷ []) 0 c (omega (arith, below, first_length cluster m)) ∙ first_at cluster m c below
+      | inl below ↦ get_or_append_left (first_acked cluster m) (acked_to cluster (suc m) ∷ []) 0 c (omega (arith, below, first_length cluster m))
+          ∙ first_at cluster m c below
       | inr here ↦
           let same : m ≡ c = omega (arith, low, here) in
           get_or_push (first_acked cluster m) (acked_to cluster (suc m)) 0 c (first_length cluster m ∙ same) ∙ ap (λ k. acked_to cluster (suc k)) same
@@ -204,13 +178,22 @@ module _ {C : Type 0} (cluster : ClusterOf C) where
   pub full_is_up : (n : ℕ) → Full (observed value).world n → IsUp cluster n
   full_is_up n full =
       let there : IsNumber value.nodes n = full_there value cluster.sound.invariant.shape some_there cluster.sound.invariant.holds n full in
-      record { least = there.some; most = there.there; up = λ down. up_known value cluster.sound.invariant.shape some_there cluster.sound.invariant.holds n full down }
+      record {
+        least = there.some;
+        most = there.there;
+        up = λ down. up_known value cluster.sound.invariant.shape some_there cluster.sound.invariant.holds n full
+            down;
+      }
 
   pub up_is_full : (n : ℕ) → IsUp cluster n → Full (observed value).world n
   up_is_full n up = full_known value cluster.sound.invariant.shape some_there cluster.sound.invariant.holds n up.least up.most up.up
 
   pub one_is_up : (n : ℕ) × IsUp cluster n
-  one_is_up = (lowest_full (standings value), full_is_up (lowest_full (standings value)) (some_full value cluster.sound.invariant.shape some_there cluster.sound.invariant.holds))
+  one_is_up = (
+    lowest_full (standings value),
+    full_is_up (lowest_full (standings value))
+        (some_full value cluster.sound.invariant.shape some_there cluster.sound.invariant.holds),
+  )
 
   pub fine_is_up : (n : ℕ) → node_fault (observed value) n ≡ None → IsUp cluster n
   fine_is_up n fine = full_is_up n (fine_full value n fine)
@@ -249,7 +232,8 @@ as_many : (n : ℕ) → length (fulls n) ≡ n
 as_many zero = refl
 as_many (suc n) = ap suc (as_many n)
 
-pub begun_so : {C : Type 0} (cluster : ClusterOf C) (nodes limit hot : ℕ) → machine_of cluster.sound.state ≡ begun_as nodes limit hot → (history_of cluster ≡ []) × (length (regions_of cluster) ≡ nodes)
+pub begun_so : {C : Type 0} (cluster : ClusterOf C) (nodes limit hot : ℕ) → machine_of cluster.sound.state ≡ begun_as nodes limit hot →
+    (history_of cluster ≡ []) × (length (regions_of cluster) ≡ nodes)
 unfolding observed
 begun_so cluster nodes limit hot is = (ap (λ m. m.history) is, cluster.sound.invariant.shape.nodes ∙ ap (λ m. length m.members.nodes) is ∙ as_many nodes)
 

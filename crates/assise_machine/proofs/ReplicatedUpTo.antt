@@ -1,28 +1,12 @@
 -- What the headline says of regions is what the laws observe: which records are replicated, and which calls are replicated.
-use Rattle.std.proofs.Common.{◌≡◌, ◌⊎◌, ℕ, zero, suc, ◌-◌, ◌<◌, ◌≤◌, min, nat_le, true, false, if◌then◌else◌, List, [], ◌∷◌, drop, get_or, length, take, inl, inr, refl, ap, sym, subst, ◌∙◌, arith}
-use Rattle.std.proofs.lemmas.Bool.{cases_Bool, cases_lt, le-leb, leb-true}
-use Rattle.std.proofs.Math.Seq.{drop-nil, take-nil}
-use Rattle.assise_history.specs.Legal.{calls_made}
-use Rattle.assise_record.specs.LogRecord.{LogRecord}
-use Rattle.assise_record.specs.Records.{call_of}
-use Rattle.assise_private_log.specs.NumberedLog.{end as log_end, records_from}
-use Rattle.assise_digest.specs.Region.{RegionValue, no_log}
-use Rattle.assise_manager.specs.Membership.{lowest_full}
-use Rattle.assise_manager.specs.Standings.{full_nodes}
-use Rattle.assise_model_world.specs.Invariant.{WorldInvariant}
-use Rattle.assise_model_world.specs.World.{Full, World, call_at, end_of_log, first_unreplicated, received_by_all}
+use Rattle.assise_machine.proofs.Common.{◌≡◌, ◌⊎◌, ℕ, zero, suc, ◌-◌, ◌<◌, ◌≤◌, min, nat_le, true, false, if◌then◌else◌, List, [], ◌∷◌, drop, get_or, length}
+use Rattle.assise_machine.proofs.Common.{take, inl, inr, refl, ap, sym, subst, ◌∙◌, arith, cases_Bool, cases_lt, le-leb, leb-true, drop-nil, take-nil}
+use Rattle.assise_machine.proofs.Common.{calls_made, LogRecord, call_of, log_end, records_from, RegionValue, no_log, lowest_full, full_nodes, WorldInvariant}
+use Rattle.assise_machine.proofs.Common.{Full, World, call_at, end_of_log, first_unreplicated, received_by_all, least_of-above, least_of-end}
+use Rattle.assise_machine.proofs.Common.{received_by_all-below, client_in, no_client, log_in, no_region, region_in, is_full_in, world_of, IsNumber, item_at}
+use Rattle.assise_machine.proofs.Common.{ShapeInvariant, StateValue, standings, full_number, full_seen, same_first, seen_full, seen_nothing, seen_past}
+use Rattle.assise_machine.proofs.Common.{lowest_listed, call_from, first_call, least_end, received_log}
 use Rattle.assise_model_world.proofs.Replicated.{log_of_home, log_of_left}
-use Rattle.assise_model_world.proofs.WorldObserved.{least_of-above, least_of-end, received_by_all-below}
-use Rattle.assise_machine_state.specs.ClientValues.{client_in, no_client}
-use Rattle.assise_machine_state.specs.NodeValues.{log_in, no_region, region_in}
-use Rattle.assise_machine_state.specs.Observed.{is_full_in, world_of}
-use Rattle.assise_machine_state.specs.Places.{IsNumber, item_at}
-use Rattle.assise_machine_state.specs.Invariant.{ShapeInvariant}
-use Rattle.assise_machine_state.specs.StateValues.{StateValue, standings}
-use Rattle.assise_machine_state.proofs.Fullness.{full_number, full_seen, same_first, seen_full}
-use Rattle.assise_machine_state.proofs.ItemSeen.{seen_nothing, seen_past}
-use Rattle.assise_machine_state.proofs.Standings.{lowest_listed}
-use Rattle.assise_machine.specs.Headline.{call_from, first_call, least_end, received_log}
 
 -- ---- the least place
 
@@ -41,7 +25,8 @@ least_end-below c none [] m k low has = absurd (omega (arith, low))
 least_end-below c none (r ∷ rs) m zero low has = rw has (omega arith)
 least_end-below c none (r ∷ rs) m (suc k) low has =
     let rest : least_end c rs m ≤ log_end (received_log (get_or rs k none) c) = least_end-below c none rs m k (omega (arith, low)) has in
-    elim (nat_le c (length r.logs)) as (λ b. (if b then min (log_end (received_log r c)) (least_end c rs m) else least_end c rs m) ≤ log_end (received_log (get_or rs k none) c)) [
+    elim (nat_le c (length r.logs))
+    as (λ b. (if b then min (log_end (received_log r c)) (least_end c rs m) else least_end c rs m) ≤ log_end (received_log (get_or rs k none) c)) [
       | true ↦ omega (arith, rest)
       | false ↦ rest
     ]
@@ -72,7 +57,8 @@ prefix_found (r ∷ rs) zero (suc t) next = refl
 prefix_found (r ∷ rs) (suc d) zero next = refl
 prefix_found (r ∷ rs) (suc d) (suc t) next = prefix_found rs d t next
 
-prefix_either : (xs : List LogRecord) (d t next : ℕ) → (first_call (drop d (take t xs)) next ≡ call_of xs d next) ⊎ (first_call (drop d (take t xs)) next ≡ next)
+prefix_either : (xs : List LogRecord) (d t next : ℕ) → (first_call (drop d (take t xs)) next ≡ call_of xs d next)
+    ⊎ (first_call (drop d (take t xs)) next ≡ next)
 prefix_either [] d t next = inr (rw (take-nil t, drop-nil d) refl)
 prefix_either (r ∷ rs) zero zero next = inr refl
 prefix_either (r ∷ rs) zero (suc t) next = inl refl
@@ -104,7 +90,8 @@ module _ (c place : ℕ) (xs : List LogRecord) (d next : ℕ) (none : RegionValu
       ]
 
   -- where one node has all of them
-  call_found : (rs : List RegionValue) (k : ℕ) → k < length rs → All rs → records_from (received_log (get_or rs k none) c) place ≡ drop d xs → call_from c place rs next ≡ call_of xs d next
+  call_found : (rs : List RegionValue) (k : ℕ) → k < length rs → All rs → records_from (received_log (get_or rs k none) c) place ≡ drop d xs →
+      call_from c place rs next ≡ call_of xs d next
   call_found [] k low each own = absurd (omega (arith, low))
   call_found (r ∷ rs) zero low each own =
       let here : HasPrefix r = each zero (omega arith) in
@@ -119,7 +106,8 @@ module _ (c place : ℕ) (xs : List LogRecord) (d next : ℕ) (none : RegionValu
 
 -- ---- as the laws observe it
 
-module _ (s : StateValue) (shape : ShapeInvariant s) (some : 0 < length (full_nodes (standings s))) (sound : WorldInvariant (world_of s)) (counted : (c : ℕ) → (world_of s).next c ≡ calls_made c s.history) where
+module _ (s : StateValue) (shape : ShapeInvariant s) (some : 0 < length (full_nodes (standings s))) (sound : WorldInvariant (world_of s))
+    (counted : (c : ℕ) → (world_of s).next c ≡ calls_made c s.history) where
   abbrev w : World
   w = world_of s
 
@@ -187,7 +175,8 @@ module _ (s : StateValue) (shape : ShapeInvariant s) (some : 0 < length (full_no
   below_full : (n c : ℕ) → IsNumber s.clients c → Full w n → least_end c s.nodes (next c) ≤ w.received n c
   below_full n c client full =
       let p : IsPlace n = place_of n full in
-      let low : least_end c s.nodes (next c) ≤ log_end (received_log (region_at p.place) c) = least_end-below c no_region s.nodes (next c) p.place p.inside (has_it p.place c client p.full) in
+      let low : least_end c s.nodes (next c) ≤ log_end (received_log (region_at p.place) c) = least_end-below c no_region s.nodes (next c) p.place p.inside
+      (has_it p.place c client p.full) in
       subst (λ k. least_end c s.nodes (next c) ≤ w.received k c) (sym p.is) (subst (λ k. least_end c s.nodes (next c) ≤ k) (sym (received_there p.place c)) low)
 
   received-above : (c k : ℕ) → k ≤ end_of_log w c → ((n : ℕ) → Full w n → k ≤ w.received n c) → k ≤ received_by_all w c
@@ -203,7 +192,8 @@ module _ (s : StateValue) (shape : ShapeInvariant s) (some : 0 < length (full_no
       let n : ℕ = lowest_full (standings s) in
       let known : w.received n c ≤ end_of_log w c = (sound.coherent.order n c one_full).known in
       let there : least_end c s.nodes (next c) ≤ w.received n c = below_full n c client one_full in
-      let high : least_end c s.nodes (next c) ≤ received_by_all w c = received-above c (least_end c s.nodes (next c)) (omega (arith, known, there)) (λ k full. below_full k c client full) in
+      let high : least_end c s.nodes (next c) ≤ received_by_all w c = received-above c (least_end c s.nodes (next c)) (omega (arith, known, there))
+      (λ k full. below_full k c client full) in
       let low : received_by_all w c ≤ least_end c s.nodes (next c) =
       least_end-above c no_region s.nodes (next c) (received_by_all w c) (omega (arith, received-end c, few c)) (λ j inside has. low_at j c client has) in
       omega (arith, high, low)

@@ -1,13 +1,9 @@
 -- That inodes spell a tree is a mere proposition: a path leads to each inode, and no other does.
-use Rattle.std.proofs.Common.{◌≡◌, ℕ, List, Ok}
-use Rattle.std.proofs.Math.Logic.{∥∥₁_elim}
+use Rattle.assise_machine.proofs.Common.{◌≡◌, ℕ, List, Ok, ∥∥₁_elim, Coded, Coded-set, codes, coded_list, coded_result, coded_ℕ, Tree, Values, ReachesOnce}
+use Rattle.assise_machine.proofs.Common.{Spells}
 use Rattle.std.proofs.Math.Path.{PathP, to_path_p}
-use Rattle.std.specs.Coded.{Coded, Coded-set, codes, coded_list, coded_result, coded_ℕ}
 use Rattle.assise_names.specs.declared.reply.TreeError.{TreeError}
-use Rattle.assise_seq_tree.specs.Tree.{Tree}
-use Rattle.assise_inode_table.specs.Contents.{Values}
 use Rattle.assise_inode_table.specs.Reach.{Shape, children, reach}
-use Rattle.assise_inode_table.specs.Spelled.{ReachesOnce, Spells}
 
 -- ---- what a path shows is a set
 

@@ -1,12 +1,8 @@
 -- The entries that the headline tells events by are those of the laws.
-use Rattle.std.proofs.Common.{rules, ◌≡◌, List, [], ◌∷◌, ◌++◌, append-nil, append_assoc, ap, sym, ◌∙◌}
-use Rattle.assise_history.specs.Entries.{EntryValue}
-use Rattle.assise_model_events.specs.Events.{all_entries, entries_of}
+use Rattle.assise_machine.proofs.Common.{rules, ◌≡◌, List, [], ◌∷◌, ◌++◌, append-nil, append_assoc, ap, sym, ◌∙◌, EntryValue, all_entries, entries_of, Event}
+use Rattle.assise_machine.proofs.Common.{entry_of, history_after, answer_seen, event_seen, told}
 use Rattle.assise_machine.specs.declared.answer.Answer.{Answer}
-use Rattle.assise_machine.specs.declared.event.Event.{Event}
 use Rattle.assise_machine.specs.declared.event.Event.TheVariants.{Open}
-use Rattle.assise_machine.specs.Headline.{entry_of, history_after}
-use Rattle.assise_machine.specs.Running.{answer_seen, event_seen, told}
 
 same_entry : (h : List EntryValue) (e : Event) (a : Answer) → entry_of h e a ≡ entries_of h (event_seen e) (answer_seen a)
 same_entry h (Open n u) a = search rules

@@ -1,12 +1,7 @@
 -- The inodes that the first records of a list touch.
-use Rattle.std.proofs.Common.{◌≡◌, ℕ, ◌≤◌, List, ◌++◌, length, drop, take, ap, sym, ◌∙◌, arith}
-use Rattle.std.proofs.Math.Seq.{take-append_seam}
-use Rattle.std.proofs.lemmas.List.{length-take, take-append-drop, take-map, take-take}
-use Rattle.assise_record.specs.LogRecord.{LogRecord}
-use Rattle.assise_record.specs.Touched.{touched_by}
-use Rattle.assise_record.specs.Records.{all_effects}
+use Rattle.assise_machine.proofs.Common.{◌≡◌, ℕ, ◌≤◌, List, ◌++◌, length, drop, take, ap, sym, ◌∙◌, arith, take-append_seam, length-take, take-append-drop}
+use Rattle.assise_machine.proofs.Common.{take-map, take-take, LogRecord, touched_by, all_effects, touched}
 use Rattle.assise_record.proofs.Records.{all_effects-append}
-use Rattle.assise_inode_table.specs.Effects.{touched}
 
 -- of a prefix of a prefix
 
@@ -22,7 +17,8 @@ prefix_effects rs k n low =
     rw parts (take-append_seam first rest)
 
 -- the inodes of the first records are the first of the inodes
-pub prefix_touched : (rs : List LogRecord) (k n : ℕ) → k ≤ n → take (length (all_effects (take k rs))) (touched (all_effects (take n rs))) ≡ touched (all_effects (take k rs))
+pub prefix_touched : (rs : List LogRecord) (k n : ℕ) → k ≤ n → take (length (all_effects (take k rs))) (touched (all_effects (take n rs)))
+    ≡ touched (all_effects (take k rs))
 prefix_touched rs k n low = take-map touched_by (length (all_effects (take k rs))) (all_effects (take n rs)) ∙ ap touched (prefix_effects rs k n low)
 
 -- and they are no more than all

@@ -1,14 +1,9 @@
 -- Where all nodes are full nothing is noted.
-use Rattle.std.proofs.Common.{◌≡◌, ℕ, ◌≤◌, true, List, [], ◌∷◌, length, map, refl, ap, sym, ◌∙◌, arith}
+use Rattle.assise_machine.proofs.Common.{◌≡◌, ℕ, ◌≤◌, true, List, [], ◌∷◌, length, map, refl, ap, sym, ◌∙◌, arith, list_all, nat_cmp, noted, stale_again}
+use Rattle.assise_machine.proofs.Common.{with_written, Membership, Standing, down, full, full_nodes, is_full, returning, NoneListed}
 use Rattle.std.specs.FinSet as set
-use Rattle.std.specs.List.{list_all}
-use Rattle.std.specs.Ordering.{nat_cmp}
-use Rattle.assise_manager.specs.Changes.{noted, stale_again, with_written}
-use Rattle.assise_manager.specs.Membership.{Membership}
-use Rattle.assise_manager.specs.Standings.{Standing, down, full, full_nodes, is_full, returning}
 use Rattle.assise_manager.proofs.Lawful.{length_with_written, stale_full}
 use Rattle.assise_manager.proofs.Nodes.{all_full_map, count_all_full, few_full}
-use Rattle.assise_machine.specs.Digesting.{NoneListed}
 
 -- ---- what is noted then
 

@@ -1,27 +1,12 @@
 -- A digest as a whole, as the laws have it, and the invariant after it.
-use Rattle.std.proofs.Common.{◌≡◌, ℕ, ◌<◌, Bool, true, length, None, append-nil, refl, ap, sym, subst, ◌∙◌, arith}
-use Rattle.std.proofs.Math.Logic.{∥∥₁_elim, ∥∥₁_map}
-use Rattle.std.proofs.Props.{props}
-use Rattle.assise_names.specs.declared.refusal.Refusal.TheVariants.{OutOfMemory}
+use Rattle.assise_machine.proofs.Common.{◌≡◌, ℕ, ◌<◌, Bool, true, length, None, append-nil, refl, ap, sym, subst, ◌∙◌, arith, ∥∥₁_elim, ∥∥₁_map, props}
+use Rattle.assise_machine.proofs.Common.{OutOfMemory, WorldInvariant, digest, digested, refused, node_fault, MachineInvariant, DigestsTo, Digesting}
+use Rattle.assise_machine.proofs.Common.{undigested_to, is_digested, event_keeps, drops_to, client_in, cut_of, is_full_in, observed, world_of, CutsInvariant}
+use Rattle.assise_machine.proofs.Common.{ShapeInvariant, StateValue, leases_of, standings, machine_of, value_of, SoundOf, still_noted, sound_so, NoneListed}
+use Rattle.assise_machine.proofs.Common.{digests_to}
 use Rattle.assise_lease_table.specs.Leases.{lease_of}
 use Rattle.assise_lease_tree.specs.Levels.{is_revoked}
-use Rattle.assise_model_world.specs.Invariant.{WorldInvariant}
-use Rattle.assise_model_events.specs.Events.{digest, digested, refused}
-use Rattle.assise_model_events.specs.Faults.{node_fault}
-use Rattle.assise_model_events.specs.Machine.{MachineInvariant}
-use Rattle.assise_model_events.specs.NodeEvents.{DigestsTo, Digesting, undigested_to}
-use Rattle.assise_model_events.specs.NodeEvents.Digesting.{is_digested, lacks_memory}
-use Rattle.assise_model_events.proofs.EachEvent.{event_keeps}
-use Rattle.assise_machine_state.specs.Changes.{drops_to}
-use Rattle.assise_machine_state.specs.ClientValues.{client_in, cut_of}
-use Rattle.assise_machine_state.specs.Observed.{is_full_in, observed, world_of}
-use Rattle.assise_machine_state.specs.Invariant.{CutsInvariant, ShapeInvariant}
-use Rattle.assise_machine_state.specs.StateValues.{StateValue, leases_of, standings}
-use Rattle.assise_machine_state.specs.Whole.{machine_of, value_of}
-use Rattle.assise_machine_state.specs.declared.sound.SoundOf.{SoundOf}
-use Rattle.assise_machine_state.proofs.Noted.{still_noted}
-use Rattle.assise_machine_failures.proofs.TakenDown.{sound_so}
-use Rattle.assise_machine.specs.Digesting.{NoneListed, digests_to}
+use Rattle.assise_model_events.specs.NodeEvents.Digesting.{lacks_memory}
 use Rattle.assise_machine.proofs.DigestedTo.{GoesTo, StillSame, none_to, same_as, trace_to}
 use Rattle.assise_machine_state.proofs.Dropped.{StillDropping, all_dropped, same_dropping}
 use Rattle.assise_machine.proofs.Frames.{fine_node}

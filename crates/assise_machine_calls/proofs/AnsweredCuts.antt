@@ -1,21 +1,9 @@
 -- The cuts of the leases that a call revoked are answers of their holders' revokers.
-use Rattle.std.proofs.Common.{◌≡◌, ℕ, true, not, ◌&&◌, Option, ap, sym, subst, ◌∙◌}
-use Rattle.std.proofs.lemmas.Bool.{and_parts, not-true, true≢false}
-use Rattle.assise_names.specs.declared.call.Op.{Op}
-use Rattle.assise_names.specs.declared.call.Op.TheVariants.{Dsync, Fsync}
-use Rattle.assise_names.specs.declared.durability.Durability.{Durability}
-use Rattle.assise_names.specs.declared.durability.Durability.TheVariants.{Pessimistic, Optimistic}
-use Rattle.assise_private_log.specs.NumberedLog.{NumberedLog}
-use Rattle.assise_lease_table.specs.Answers.{IsRaisedAnswer}
-use Rattle.assise_lease_table.specs.Tables.{SameRevokers}
-use Rattle.assise_lease_tree.specs.Levels.{is_revoked}
-use Rattle.assise_model_leases.specs.Leases.{Leases, client_lease}
-use Rattle.assise_model_events.specs.ClientEvents.{Syncing, is_noted, is_refused, is_replicating, is_synced, lacks_memory}
-use Rattle.assise_model_events.specs.Dsyncs.{is_coalesced, is_refused, is_synced, lacks_memory}
-use Rattle.assise_model_events.specs.Events.{Answer}
-use Rattle.assise_model_events.specs.Happenings.{Dsyncing, Fsyncing}
-use Rattle.assise_model_events.specs.Machine.{Machine}
-use Rattle.assise_machine_calls.specs.Asked.{CutsAreAnswers, clients_log}
+use Rattle.assise_machine_calls.proofs.Common.{◌≡◌, ℕ, true, not, ◌&&◌, Option, ap, sym, subst, ◌∙◌, and_parts, not-true, true≢false, Op, Dsync, Fsync}
+use Rattle.assise_machine_calls.proofs.Common.{Durability, Pessimistic, Optimistic, NumberedLog, IsRaisedAnswer, SameRevokers, is_revoked, Leases, client_lease}
+use Rattle.assise_machine_calls.proofs.Common.{Syncing, is_noted, is_refused, is_replicating, is_synced, lacks_memory, is_coalesced, Answer, Dsyncing, Fsyncing}
+use Rattle.assise_machine_calls.proofs.Common.{Machine, CutsAreAnswers, clients_log}
+use Rattle.assise_model_events.specs.Dsyncs.{is_refused, is_synced, lacks_memory}
 
 -- the same leases are revoked
 abbrev pub KeepsRevoked : Leases → Leases → Type 0
@@ -50,14 +38,17 @@ module _ {C : Type 0} (answers : C → NumberedLog → ℕ → ℕ → Type 0) w
       absurd (true≢false (sym parts.1 ∙ same c i ∙ not-true (is_revoked (client_lease m.leases c i)) parts.0))
 
   -- or it is once leases were got
-  pub revoked_later : (stored kept : ℕ → Option C) (m v m' : Machine) → KeepsRevoked m.leases v.leases → ((c : ℕ) → clients_log v c ≡ clients_log m c) → SameRevokers stored kept →
+  pub revoked_later : (stored kept : ℕ → Option C) (m v m' : Machine) → KeepsRevoked m.leases v.leases → ((c : ℕ) → clients_log v c ≡ clients_log m c) →
+      SameRevokers stored kept →
       CutsAreAnswers answers kept v m' → CutsAreAnswers answers stored m m'
   revoked_later stored kept m v m' same logs stays cuts c i fresh =
       let found = cuts c i (subst (λ b. (not b && is_revoked (client_lease m'.leases c i)) ≡ true) (sym (same c i)) fresh) in
       (found.0, sym (stays c) ∙ found.1, subst (λ l. IsRaisedAnswer answers found.0 l i (m'.leases.cut c i)) (logs c) found.2)
 
-  pub dsync_revokes_nothing : (stored : ℕ → Option C) (m m' : Machine) (c : ℕ) (u : Durability) (a : Answer) → Dsyncing u m c a m' → CutsAreAnswers answers stored m m'
+  pub dsync_revokes_nothing : (stored : ℕ → Option C) (m m' : Machine) (c : ℕ) (u : Durability) (a : Answer) → Dsyncing u m c a m' →
+      CutsAreAnswers answers stored m m'
   dsync_revokes_nothing stored m m' c u a e = nothing_revoked stored m m' (λ d i. ap (λ l. is_revoked (client_lease l d i)) (dsync_leases m m' c u a e))
 
-  pub fsync_revokes_nothing : (stored : ℕ → Option C) (m m' : Machine) (c : ℕ) (u : Durability) (a : Answer) → Fsyncing u m c a m' → CutsAreAnswers answers stored m m'
+  pub fsync_revokes_nothing : (stored : ℕ → Option C) (m m' : Machine) (c : ℕ) (u : Durability) (a : Answer) → Fsyncing u m c a m' →
+      CutsAreAnswers answers stored m m'
   fsync_revokes_nothing stored m m' c u a e = nothing_revoked stored m m' (λ d i. ap (λ l. is_revoked (client_lease l d i)) (fsync_leases m m' c u a e))

@@ -1,55 +1,20 @@
 -- What a call that has its leases changes of the state is what the laws mean by it.
-use Rattle.std.proofs.Common.{◌≡◌, ◌≢◌, ◌⊎◌, ℕ, ◌+◌, ◌<◌, ◌≤◌, ◌==◌, ◌&&◌, not, Bool, true, false, List, [], ◌∷◌, ◌++◌, length, Option, None, Some, Result, Err, inl, inr, refl, ap, sym, subst, ◌∙◌, arith, eq-eqb}
-use Rattle.std.specs.List.{list_any}
-use Rattle.std.proofs.Math.Logic.{∥∥₁_elim}
-use Rattle.std.proofs.Props.{props}
-use Rattle.std.proofs.lemmas.Bool.{and_cases, and_parts, both_ways, eqb-true, or_cases}
-use Rattle.assise_names.specs.declared.call.Op.{Op}
-use Rattle.assise_names.specs.declared.mode.Mode.{Mode}
-use Rattle.assise_names.specs.declared.mode.Mode.TheVariants.{Read, Write}
-use Rattle.assise_names.specs.declared.refusal.Refusal.{Refusal}
-use Rattle.assise_names.specs.declared.refusal.Refusal.TheVariants.{InodesSpent, LogFull, OutOfMemory, TooLarge}
-use Rattle.assise_names.specs.declared.reply.Reply.TheVariants.{Done}
-use Rattle.assise_history.specs.Entries.{EntryValue, calls}
-use Rattle.assise_record.specs.declared.effect.Effect.{Effect}
-use Rattle.assise_record.specs.Records.{has_some}
-use Rattle.assise_inode_table.specs.Effects.{contains, makes, touched}
-use Rattle.assise_inode_table.specs.Interaction.{Step}
-use Rattle.assise_inode_table.specs.Numbers.{inode_number}
-use Rattle.assise_inode_table.specs.Traces.{NumberedCall}
+use Rattle.assise_machine_calls.proofs.Common.{◌≡◌, ◌≢◌, ◌⊎◌, ℕ, ◌+◌, ◌<◌, ◌≤◌, ◌==◌, ◌&&◌, not, Bool, true, false, List, [], ◌∷◌, ◌++◌, length, Option, None}
+use Rattle.assise_machine_calls.proofs.Common.{Some, Result, Err, inl, inr, refl, ap, sym, subst, ◌∙◌, arith, eq-eqb, list_any, ∥∥₁_elim, props, and_cases}
+use Rattle.assise_machine_calls.proofs.Common.{and_parts, both_ways, eqb-true, or_cases, Op, Mode, Read, Write, Refusal, InodesSpent, LogFull, OutOfMemory}
+use Rattle.assise_machine_calls.proofs.Common.{TooLarge, Done, EntryValue, calls, Effect, has_some, contains, makes, touched, Step, inode_number, NumberedCall}
+use Rattle.assise_machine_calls.proofs.Common.{Lease, serves, strong, log_end, LogHasRoom, ReceivedLog, RegionValue, MakesCall, is_for_writing, World}
+use Rattle.assise_machine_calls.proofs.Common.{call_makes_inode, end_of_log, step_at_home, client_lease, is_held, is_written, records_below, Calling}
+use Rattle.assise_machine_calls.proofs.Common.{HasServingLeases, call_of_client, is_answered, Answer, refused, replied, call_fault, client_fault, fault_if}
+use Rattle.assise_machine_calls.proofs.Common.{is_too_large, or_else, MachineInvariant, state_of, client_runs, first_none, after_call, ClientValue, client_in}
+use Rattle.assise_machine_calls.proofs.Common.{with_call, with_client, HasLog, log_in, with_call_in, observed, own_seen, world_of, IsNumber, CutsInvariant}
+use Rattle.assise_machine_calls.proofs.Common.{ShapeInvariant, StateValue, leases_of, standings, call_areas, call_seen, call_shaped, lives_unfailed, call_keeps}
+use Rattle.assise_machine_calls.proofs.Common.{call_noted, home_log, own_of_unfailed, turn_answer, IsReady, next_call, room_fault}
 use Rattle.assise_inode_table.proofs.EffectValues.{contains-append}
-use Rattle.assise_lease_table.specs.declared.lease.Lease.{Lease}
-use Rattle.assise_lease_table.specs.Leases.{serves}
-use Rattle.assise_lease_table.specs.Modes.{strong}
-use Rattle.assise_private_log.specs.NumberedLog.{end as log_end}
-use Rattle.assise_digest.specs.Region.{LogHasRoom, ReceivedLog, RegionValue}
 use Rattle.assise_model_world.specs.Chances.{MayMakeCall}
-use Rattle.assise_model_world.specs.ClientSteps.{MakesCall, is_for_writing}
-use Rattle.assise_model_world.specs.World.{World, call_makes_inode, end_of_log, step_at_home}
-use Rattle.assise_model_leases.specs.Leases.{client_lease, is_held, is_written}
-use Rattle.assise_model_history.proofs.NumberBounds.{records_below}
-use Rattle.assise_model_events.specs.ClientEvents.{Calling, HasServingLeases, call_of_client, is_answered}
-use Rattle.assise_model_events.specs.Events.{Answer, refused, replied}
-use Rattle.assise_model_events.specs.Faults.{call_fault, client_fault, fault_if, is_too_large, or_else}
-use Rattle.assise_model_events.specs.Machine.{MachineInvariant, state_of}
 use Rattle.assise_model_events.proofs.Answerable.{is_tried}
-use Rattle.assise_model_events.proofs.Faultless.{client_runs, first_none}
 use Rattle.assise_model_events.proofs.LackAnswerable.{full_can, memory_can, spent_can}
-use Rattle.assise_machine_state.specs.Changes.{after_call}
-use Rattle.assise_machine_state.specs.ClientValues.{ClientValue, client_in, with_call, with_client}
-use Rattle.assise_machine_state.specs.NodeValues.{HasLog, log_in, with_call_in}
-use Rattle.assise_machine_state.specs.Observed.{observed, own_seen, world_of}
-use Rattle.assise_machine_state.specs.Places.{IsNumber}
-use Rattle.assise_machine_state.specs.Invariant.{CutsInvariant, ShapeInvariant}
-use Rattle.assise_machine_state.specs.StateValues.{StateValue, leases_of, standings}
-use Rattle.assise_machine_state.proofs.CallObserved.{call_areas, call_seen, call_shaped}
-use Rattle.assise_machine_state.proofs.Fullness.{lives_unfailed}
-use Rattle.assise_machine_state.proofs.HotCapacities.{call_keeps}
-use Rattle.assise_machine_state.proofs.Noted.{call_noted}
-use Rattle.assise_machine_state.proofs.OwnLogs.{home_log, own_of_unfailed}
-use Rattle.assise_machine_calls.specs.Answers.{turn_answer}
 use Rattle.assise_machine_calls.specs.declared.turn.Turn.{Turn}
-use Rattle.assise_machine_calls.specs.Leasing.{IsReady, next_call, room_fault}
 use Rattle.assise_machine_calls.proofs.SyncChanges.{call_leases, few_made, fine_number, made_counted, next_counted, next_low}
 
 -- ---- leases that serve
@@ -93,7 +58,8 @@ below_where b k most not_both low holds =
 abbrev pub room_fault_of : StateValue → ℕ → List Effect → Option Refusal
 room_fault_of s c es = room_fault (client_in s.clients c) c (log_in s.nodes (client_in s.clients c).home c) es
 
-pub fault_is : (s : StateValue) (c : ℕ) (es fs : List Effect) (told fault : Option Refusal) → fs ≡ es → told ≡ room_fault_of s c fs → told ≡ fault → room_fault_of s c es ≡ fault
+pub fault_is : (s : StateValue) (c : ℕ) (es fs : List Effect) (told fault : Option Refusal) → fs ≡ es → told ≡ room_fault_of s c fs → told ≡ fault →
+    room_fault_of s c es ≡ fault
 fault_is s c es fs told fault same is_told is = ap (room_fault_of s c) (sym same) ∙ sym is_told ∙ is
 
 -- an event with its answer, and the state after it
@@ -103,8 +69,10 @@ pub record Commits (s : StateValue) (c : ℕ) (op : Op) (a : Answer) (s' : State
   pub noted : CutsInvariant s'
 
 -- there was no memory, and all stayed
-pub lacking_given : (s : StateValue) (c : ℕ) (op : Op) (result : Result Turn Refusal) (r : Refusal) (rs : List RegionValue) (h : List EntryValue) → call_fault (observed s) c op ≡ None →
-    result ≡ Err r → r ≡ OutOfMemory → rs ≡ s.nodes → h ≡ s.history → Calling (observed s) c op (turn_answer result) (observed (record s { nodes = rs; history = h }))
+pub lacking_given : (s : StateValue) (c : ℕ) (op : Op) (result : Result Turn Refusal) (r : Refusal) (rs : List RegionValue) (h : List EntryValue) →
+    call_fault (observed s) c op ≡ None →
+    result ≡ Err r → r ≡ OutOfMemory → rs ≡ s.nodes → h ≡ s.history →
+    Calling (observed s) c op (turn_answer result) (observed (record s { nodes = rs; history = h }))
 lacking_given s c op result r rs h fine is memory nodes history =
     let answer : refused OutOfMemory ≡ turn_answer result = sym (ap turn_answer is ∙ ap refused memory) in
     subst (λ v. Calling (observed s) c op (turn_answer result) (observed v)) (λ i. record s { nodes = sym nodes i; history = sym history i })
@@ -225,7 +193,8 @@ module _ (s : StateValue) (c : ℕ) (op : Op) (shape : ShapeInvariant s) (fine :
       made_below : spent ≡ false → call_makes_inode old next ≡ true → old.made c < 1048576
       made_below unspent makes_one =
           let low : (client_in s.clients c).made < 1048576 =
-          below_where (list_any (makes (inode_number c (client_in s.clients c).made)) t.effects) (client_in s.clients c).made 1048576 unspent call_made (makes_is ∙ makes_one) in
+          below_where (list_any (makes (inode_number c (client_in s.clients c).made)) t.effects) (client_in s.clients c).made 1048576 unspent call_made
+          (makes_is ∙ makes_one) in
           subst (λ k. k < 1048576) (sym made_is) low
 
       -- it is refused
@@ -312,9 +281,12 @@ module _ (s : StateValue) (c : ℕ) (op : Op) (shape : ShapeInvariant s) (fine :
         then_shaped : ShapeInvariant then
         then_shaped = call_shaped s made_call shape may.lives
 
-        pub answered_given : CutsInvariant s → (n number : ℕ) (makes_one : Bool) (e : EntryValue) (rs : List RegionValue) (ds : List ClientValue) (g h : List EntryValue) → n ≡ home → number ≡ (client_in s.clients c).next →
-            makes_one ≡ list_any (makes (inode_number c (client_in s.clients c).made)) t.effects → e ≡ calls (record { client = c; number = number; op = op; reply = t.reply }) →
-            rs ≡ with_call_in s.nodes n c number t.effects → ds ≡ with_client s.clients c (with_call makes_one (client_in s.clients c)) → g ≡ s.history → h ≡ g ++ e ∷ [] →
+        pub answered_given : CutsInvariant s → (n number : ℕ) (makes_one : Bool) (e : EntryValue) (rs : List RegionValue) (ds : List ClientValue)
+            (g h : List EntryValue) → n ≡ home → number ≡ (client_in s.clients c).next →
+            makes_one ≡ list_any (makes (inode_number c (client_in s.clients c).made)) t.effects →
+            e ≡ calls (record { client = c; number = number; op = op; reply = t.reply }) →
+            rs ≡ with_call_in s.nodes n c number t.effects → ds ≡ with_client s.clients c (with_call makes_one (client_in s.clients c)) → g ≡ s.history →
+            h ≡ g ++ e ∷ [] →
             Commits s c op (replied t.reply) (record s { nodes = rs; clients = ds; history = h })
         answered_given noted n number makes_one e rs ds g h home_is number_is makes_one_is entry nodes_are clients_are history_was history_is =
             let numbered : number ≡ old.next c = number_is ∙ sym next_is in
@@ -323,11 +295,13 @@ module _ (s : StateValue) (c : ℕ) (op : Op) (shape : ShapeInvariant s) (fine :
             ∙ ap (λ m. with_call_in s.nodes m c number t.effects) home_is
             ∙ ap (λ k. with_call_in s.nodes (client_in s.clients c).home c k t.effects) numbered
             ∙ ap (λ es. with_call_in s.nodes (client_in s.clients c).home c (old.next c) es) effects_are in
-            let clients_now : ds ≡ then.clients = clients_are ∙ ap (λ b. with_client s.clients c (with_call b (client_in s.clients c))) (makes_one_is ∙ makes_is) in
+            let clients_now : ds ≡ then.clients = clients_are ∙ ap (λ b. with_client s.clients c (with_call b (client_in s.clients c)))
+            (makes_one_is ∙ makes_is) in
             let told : h ≡ then.history =
             history_is ∙ ap (λ es. es ++ e ∷ []) history_was
             ∙ ap (λ f. s.history ++ f ∷ []) (entry ∙ ap (λ k. calls (record { client = c; number = k; op = op; reply = t.reply })) numbered) in
-            let now : then ≡ record s { nodes = rs; clients = ds; history = h } = λ i. record s { nodes = sym nodes_now i; clients = sym clients_now i; history = sym told i } in
+            let now : then ≡ record s { nodes = rs; clients = ds; history = h } =
+            λ i. record s { nodes = sym nodes_now i; clients = sym clients_now i; history = sym told i } in
             record {
               happens = subst (λ v. Calling (observed s) c op (replied t.reply) (observed v)) now answered;
               shape = subst ShapeInvariant now then_shaped;

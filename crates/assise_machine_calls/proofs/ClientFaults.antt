@@ -1,13 +1,7 @@
 -- Which fault of a client stands, by what is known of it.
-use Rattle.std.proofs.Common.{◌≡◌, ℕ, ◌<◌, ◌≤◌, nat_le, Bool, true, false, not, length, Option, Some, None, refl, ◌∙◌, arith}
-use Rattle.std.proofs.lemmas.Bool.{le-leb, lt-leb}
-use Rattle.assise_names.specs.declared.refusal.Refusal.{Refusal}
-use Rattle.assise_names.specs.declared.refusal.Refusal.TheVariants.{BadClient, ClientGone, NodeDown}
-use Rattle.assise_model_events.specs.Faults.{client_fault, fault_if, or_else}
-use Rattle.assise_machine_state.specs.ClientValues.{ClientValue, client_in}
-use Rattle.assise_machine_state.specs.Observed.{observed, world_of}
-use Rattle.assise_machine_state.specs.Places.{IsNumber}
-use Rattle.assise_machine_state.specs.StateValues.{StateValue}
+use Rattle.assise_machine_calls.proofs.Common.{◌≡◌, ℕ, ◌<◌, ◌≤◌, nat_le, Bool, true, false, not, length, Option, Some, None, refl, ◌∙◌, arith, le-leb, lt-leb}
+use Rattle.assise_machine_calls.proofs.Common.{Refusal, BadClient, ClientGone, NodeDown, client_fault, fault_if, or_else, ClientValue, client_in, observed}
+use Rattle.assise_machine_calls.proofs.Common.{world_of, IsNumber, StateValue}
 use Rattle.std.proofs.Math.Bool.{and-false}
 
 -- ---- there is no such client
@@ -38,8 +32,10 @@ fault_is s c there =
 pub gone_fault : (s : StateValue) (c : ℕ) → IsNumber s.clients c → (client_in s.clients c).crashed ≡ true → client_fault (observed s) c ≡ Some ClientGone
 gone_fault s c there crashed = fault_is s c there ∙ rw crashed refl
 
-pub down_fault : (s : StateValue) (c : ℕ) → IsNumber s.clients c → (client_in s.clients c).crashed ≡ false → (client_in s.clients c).failed ≡ true → client_fault (observed s) c ≡ Some NodeDown
+pub down_fault : (s : StateValue) (c : ℕ) → IsNumber s.clients c → (client_in s.clients c).crashed ≡ false → (client_in s.clients c).failed ≡ true →
+    client_fault (observed s) c ≡ Some NodeDown
 down_fault s c there running failed = fault_is s c there ∙ rw (running, failed) refl
 
-pub no_fault : (s : StateValue) (c : ℕ) → IsNumber s.clients c → (client_in s.clients c).crashed ≡ false → (client_in s.clients c).failed ≡ false → client_fault (observed s) c ≡ None
+pub no_fault : (s : StateValue) (c : ℕ) → IsNumber s.clients c → (client_in s.clients c).crashed ≡ false → (client_in s.clients c).failed ≡ false →
+    client_fault (observed s) c ≡ None
 no_fault s c there running lives = fault_is s c there ∙ rw (running, lives) refl

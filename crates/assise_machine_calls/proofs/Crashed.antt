@@ -1,24 +1,9 @@
 -- A client that crashed, as the laws have it.
-use Rattle.std.proofs.Common.{◌≡◌, ℕ, ◌==◌, List, [], ◌∷◌, ◌++◌, None, refl, sym, subst}
-use Rattle.std.proofs.Math.Logic.{∥∥₁_map}
-use Rattle.assise_history.specs.Entries.{EntryValue, crashes}
-use Rattle.assise_lease_table.specs.declared.lease.Asked.{Asked}
-use Rattle.assise_lease_tree.specs.TwoLevels.{IsRevoked, TwoLevels}
-use Rattle.assise_model_world.specs.World.{end_of_log}
-use Rattle.assise_model_events.specs.ClientEvents.{Crashing, is_crashed}
-use Rattle.assise_model_events.specs.Events.{crash as crash_event, crashed}
-use Rattle.assise_model_events.specs.Faults.{client_fault}
-use Rattle.assise_model_events.specs.Machine.{MachineInvariant}
-use Rattle.assise_model_events.proofs.EachEvent.{event_keeps}
-use Rattle.assise_model_events.proofs.Faultless.{client_runs}
-use Rattle.assise_machine_state.specs.Changes.{after_crash}
-use Rattle.assise_machine_state.specs.ClientValues.{ClientValue, client_in, crashed_at, with_client}
-use Rattle.assise_machine_state.specs.Observed.{observed, world_of}
-use Rattle.assise_machine_state.specs.Invariant.{AreLeft, CutsInvariant, ShapeInvariant}
-use Rattle.assise_machine_state.specs.StateValues.{StateValue}
+use Rattle.assise_machine_calls.proofs.Common.{◌≡◌, ℕ, ◌==◌, List, [], ◌∷◌, ◌++◌, None, refl, sym, subst, ∥∥₁_map, EntryValue, crashes, Asked, IsRevoked}
+use Rattle.assise_machine_calls.proofs.Common.{TwoLevels, end_of_log, Crashing, is_crashed, crash_event, crashed, client_fault, MachineInvariant, event_keeps}
+use Rattle.assise_machine_calls.proofs.Common.{client_runs, after_crash, ClientValue, client_in, crashed_at, with_client, observed, world_of, AreLeft}
+use Rattle.assise_machine_calls.proofs.Common.{CutsInvariant, ShapeInvariant, StateValue, crash_noted, noted_known, areas_stay}
 use Rattle.assise_machine_state.proofs.CrashObserved.{crash_seen, crash_shaped}
-use Rattle.assise_machine_state.proofs.Noted.{crash_noted, noted_known}
-use Rattle.assise_machine_state.proofs.ShapedClients.{areas_stay}
 
 -- the event, with the invariant after it
 pub record Gives (s : StateValue) (c : ℕ) (s' : StateValue) : Type 0 where

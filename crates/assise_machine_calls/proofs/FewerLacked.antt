@@ -1,8 +1,6 @@
 -- With each lease that a call gets it lacks fewer.
-use Rattle.std.proofs.Common.{◌≡◌, ℕ, suc, ◌<◌, ◌≤◌, true, if◌then◌else◌, List, [], ◌∷◌, Some, None, inl, inr, subst, sym, arith}
-use Rattle.std.proofs.lemmas.Bool.{cases_Bool}
-use Rattle.assise_names.specs.declared.mode.Mode.{Mode}
-use Rattle.assise_inode_plan.specs.Leased.{LeaseView, first_missing}
+use Rattle.assise_machine_calls.proofs.Common.{◌≡◌, ℕ, suc, ◌<◌, ◌≤◌, true, if◌then◌else◌, List, [], ◌∷◌, Some, None, inl, inr, subst, sym, arith, cases_Bool}
+use Rattle.assise_machine_calls.proofs.Common.{Mode, LeaseView, first_missing}
 
 -- how many of them aren't leased so
 abbrev pub unserved : LeaseView → List (ℕ × Mode) → ℕ
@@ -26,7 +24,8 @@ not_more old new (w ∷ ws) grows =
           ]
     ]
 
-pub fewer : (old new : LeaseView) (ws : List (ℕ × Mode)) (w : ℕ × Mode) → Grows old new → first_missing old ws ≡ Some w → new w.0 w.1 ≡ true → unserved new ws < unserved old ws
+pub fewer : (old new : LeaseView) (ws : List (ℕ × Mode)) (w : ℕ × Mode) → Grows old new → first_missing old ws ≡ Some w → new w.0 w.1 ≡ true →
+    unserved new ws < unserved old ws
 fewer old new [] w grows missing got = absurd (let none : None ≡ Some w = missing in cc)
 fewer old new (v ∷ vs) w grows missing got =
     elim (cases_Bool (old v.0 v.1)) [

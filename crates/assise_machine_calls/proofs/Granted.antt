@@ -1,20 +1,9 @@
 -- A call that gets a lease and goes on from there has got it first.
-use Rattle.std.proofs.Common.{◌≡◌, ℕ, ◌<◌, true, List, ◌∷◌, length, None, Some, refl, ap, sym, subst, ◌∙◌}
-use Rattle.assise_names.specs.declared.call.Op.{Op}
-use Rattle.assise_names.specs.declared.mode.Mode.{Mode}
+use Rattle.assise_machine_calls.proofs.Common.{◌≡◌, ℕ, ◌<◌, true, List, ◌∷◌, length, None, Some, refl, ap, sym, subst, ◌∙◌, Op, Mode, contains, inode_number}
+use Rattle.assise_machine_calls.proofs.Common.{NumberedCall, World, Grants, Leases, OtherAreasStay, Calling, Gets, Granted, IsAnswered, IsAwaited, IsFull}
+use Rattle.assise_machine_calls.proofs.Common.{IsMissing, IsSpent, IsTried, KeepsGranted, call_of_client, is_answered, is_awaited, is_full, is_refused}
+use Rattle.assise_machine_calls.proofs.Common.{is_spent, lacks_memory, Answer, call_fault, Machine, next_call}
 use Rattle.assise_names.specs.declared.reply.Reply.{Reply}
-use Rattle.assise_inode_table.specs.Effects.{contains}
-use Rattle.assise_inode_table.specs.Numbers.{inode_number}
-use Rattle.assise_inode_table.specs.Traces.{NumberedCall}
-use Rattle.assise_model_world.specs.World.{World}
-use Rattle.assise_model_leases.specs.Handing.{Grants}
-use Rattle.assise_model_leases.specs.Leases.{Leases}
-use Rattle.assise_model_members.specs.Returns.{OtherAreasStay}
-use Rattle.assise_model_events.specs.ClientEvents.{Calling, Gets, Granted, IsAnswered, IsAwaited, IsFull, IsMissing, IsSpent, IsTried, KeepsGranted, call_of_client, is_answered, is_awaited, is_full, is_refused, is_spent, lacks_memory}
-use Rattle.assise_model_events.specs.Events.{Answer}
-use Rattle.assise_model_events.specs.Faults.{call_fault}
-use Rattle.assise_model_events.specs.Machine.{Machine}
-use Rattle.assise_machine_calls.specs.Leasing.{next_call}
 
 -- the machine with other leases, and all that is seen of them
 abbrev pub with_leases : Machine → World → Leases → Machine
@@ -45,7 +34,8 @@ module _ (m : Machine) (w : World) (l : Leases) (c : ℕ) (op : Op) (i : ℕ) (m
   others_stay u stay k j away = stay k j (λ full. away (subst (λ ns. contains ns k ≡ true) grants.holds.nodes.full full)) ∙ others k j away
 
   keeps_first : (m' : Machine) (gs : List Granted) → KeepsGranted then gs m' → KeepsGranted m (granted ∷ gs) m'
-  keeps_first m' gs e = record { world = e.world; leases = e.leases; members = e.members; adds = record { history = e.adds.history; limit = e.adds.limit; hot = e.adds.hot } }
+  keeps_first m' gs e = record
+      { world = e.world; leases = e.leases; members = e.members; adds = record { history = e.adds.history; limit = e.adds.limit; hot = e.adds.hot } }
 
   answered_first : (m' : Machine) (reply : Reply) (gs : List Granted) → IsAnswered then (before reply) gs m' → IsAnswered m (before reply) (granted ∷ gs) m'
   answered_first m' reply gs e = record {
@@ -69,7 +59,8 @@ module _ (m : Machine) (w : World) (l : Leases) (c : ℕ) (op : Op) (i : ℕ) (m
   }
 
   spent_first : (reply : Reply) (gs : List Granted) → IsSpent then (before reply) gs → IsSpent m (before reply) (granted ∷ gs)
-  spent_first reply gs e = record { tried = tried_first reply gs e.tried.gets; served = e.served; makes = e.makes; made = sym (grants.holds.logs.made c) ∙ e.made }
+  spent_first reply gs e = record
+      { tried = tried_first reply gs e.tried.gets; served = e.served; makes = e.makes; made = sym (grants.holds.logs.made c) ∙ e.made }
 
   full_first : (reply : Reply) (gs : List Granted) → IsFull then (before reply) gs → IsFull m (before reply) (granted ∷ gs)
   full_first reply gs e = record {
@@ -84,10 +75,14 @@ module _ (m : Machine) (w : World) (l : Leases) (c : ℕ) (op : Op) (i : ℕ) (m
   still_fine = rw (grants.holds.clients.clients, grants.holds.clients.crashed c, grants.holds.clients.lives c) fine
 
   pub granted_first : (a : Answer) (m' : Machine) → Calling then c op a m' → Calling m c op a m'
-  granted_first a m' (is_answered reply gs is e) = is_answered reply (granted ∷ gs) is (answered_first m' reply gs (subst (λ x. IsAnswered then x gs m') (same_call reply) e))
-  granted_first a m' (is_awaited reply gs is e) = is_awaited reply (granted ∷ gs) is (awaited_first m' reply gs (subst (λ x. IsAwaited then x gs m') (same_call reply) e))
-  granted_first a m' (is_spent reply gs is e keeps) = is_spent reply (granted ∷ gs) is (spent_first reply gs (subst (λ x. IsSpent then x gs) (same_call reply) e)) (keeps_first m' gs keeps)
-  granted_first a m' (is_full reply gs is e keeps) = is_full reply (granted ∷ gs) is (full_first reply gs (subst (λ x. IsFull then x gs) (same_call reply) e)) (keeps_first m' gs keeps)
+  granted_first a m' (is_answered reply gs is e) =
+      is_answered reply (granted ∷ gs) is (answered_first m' reply gs (subst (λ x. IsAnswered then x gs m') (same_call reply) e))
+  granted_first a m' (is_awaited reply gs is e) =
+      is_awaited reply (granted ∷ gs) is (awaited_first m' reply gs (subst (λ x. IsAwaited then x gs m') (same_call reply) e))
+  granted_first a m' (is_spent reply gs is e keeps) =
+      is_spent reply (granted ∷ gs) is (spent_first reply gs (subst (λ x. IsSpent then x gs) (same_call reply) e)) (keeps_first m' gs keeps)
+  granted_first a m' (is_full reply gs is e keeps) =
+      is_full reply (granted ∷ gs) is (full_first reply gs (subst (λ x. IsFull then x gs) (same_call reply) e)) (keeps_first m' gs keeps)
   granted_first a m' (lacks_memory reply gs is e keeps) =
       lacks_memory reply (granted ∷ gs) is (tried_first reply gs (subst (λ x. IsTried then x gs) (same_call reply) e).gets) (keeps_first m' gs keeps)
   granted_first a m' (is_refused r fault is same) = absurd (let none : None ≡ Some r = sym still_fine ∙ fault in cc)

@@ -1,33 +1,17 @@
 -- What an optimistic client's dsync changes of the state is what the laws mean by it.
-use Rattle.std.proofs.Common.{◌≡◌, ℕ, ◌<◌, ◌≤◌, List, length, None, true, false, refl, ap, sym, subst, ◌∙◌, arith, append-nil}
-use Rattle.std.proofs.Math.Logic.{∥∥₁_elim, ∥∥₁_map}
-use Rattle.std.proofs.Props.{props}
-use Rattle.assise_names.specs.declared.call.Op.TheVariants.{Dsync}
+use Rattle.assise_machine_calls.proofs.Common.{◌≡◌, ℕ, ◌<◌, ◌≤◌, List, length, None, true, false, refl, ap, sym, subst, ◌∙◌, arith, append-nil, ∥∥₁_elim}
+use Rattle.assise_machine_calls.proofs.Common.{∥∥₁_map, props, Dsync, IsNumberedLog, log_end, records_from, RegionValue, regrouped_from, full_nodes, end_of_log}
+use Rattle.assise_machine_calls.proofs.Common.{received_by_all, Syncing, is_refused, is_replicating, is_synced, lacks_memory, Coalescing, coalesced_from}
+use Rattle.assise_machine_calls.proofs.Common.{is_coalesced, Answer, not_yet, client_fault, MachineInvariant, Machine, after_coalescing, after_regrouping}
+use Rattle.assise_machine_calls.proofs.Common.{ClientValue, client_in, cut_of, with_client, with_goal, HasLog, log_in, with_log_in, is_full_in, observed}
+use Rattle.assise_machine_calls.proofs.Common.{own_seen, world_of, IsNumber, CutsInvariant, ShapeInvariant, StateValue, leases_of, standings, has_log}
+use Rattle.assise_machine_calls.proofs.Common.{home_full, lives_unfailed, seen_full, log_keeps, own_end, own_of_unfailed, client_same}
 use Rattle.assise_record.specs.Groups.{AllHaveEffects}
-use Rattle.assise_private_log.specs.NumberedLog.{IsNumberedLog, end as log_end, records_from}
-use Rattle.assise_digest.specs.Region.{RegionValue, regrouped_from}
-use Rattle.assise_manager.specs.Standings.{full_nodes}
 use Rattle.assise_model_world.specs.Invariant.{WorldInvariant}
-use Rattle.assise_model_world.specs.World.{end_of_log, received_by_all}
-use Rattle.assise_model_events.specs.ClientEvents.{Syncing, is_refused, is_replicating, is_synced, lacks_memory}
-use Rattle.assise_model_events.specs.Dsyncs.{Coalescing, coalesced_from, is_coalesced, is_refused, is_synced, lacks_memory}
-use Rattle.assise_model_events.specs.Events.{Answer, not_yet}
-use Rattle.assise_model_events.specs.Faults.{client_fault}
-use Rattle.assise_model_events.specs.Machine.{MachineInvariant, Machine}
+use Rattle.assise_model_events.specs.Dsyncs.{is_refused, is_synced, lacks_memory}
 use Rattle.assise_model_events.proofs.DsyncKeeps.{coalesced_holds}
 use Rattle.assise_model_events.proofs.Regroupable.{coalesced_high}
-use Rattle.assise_machine_state.specs.Changes.{after_coalescing, after_regrouping}
-use Rattle.assise_machine_state.specs.ClientValues.{ClientValue, client_in, cut_of, with_client, with_goal}
-use Rattle.assise_machine_state.specs.NodeValues.{HasLog, log_in, with_log_in}
-use Rattle.assise_machine_state.specs.Observed.{is_full_in, observed, own_seen, world_of}
-use Rattle.assise_machine_state.specs.Places.{IsNumber}
-use Rattle.assise_machine_state.specs.Invariant.{CutsInvariant, ShapeInvariant}
-use Rattle.assise_machine_state.specs.StateValues.{StateValue, leases_of, standings}
 use Rattle.assise_machine_state.proofs.CoalescingSeen.{coalesced_groups, coalesced_none, coalesced_shape, coalescing_areas, coalescing_noted, regrouped_shape}
-use Rattle.assise_machine_state.proofs.Fullness.{has_log, home_full, lives_unfailed, seen_full}
-use Rattle.assise_machine_state.proofs.HotCapacities.{log_keeps}
-use Rattle.assise_machine_state.proofs.OwnLogs.{own_end, own_of_unfailed}
-use Rattle.assise_machine_state.proofs.ItemSeen.{client_same}
 use Rattle.assise_machine_calls.proofs.SyncChanges.{Gives, fine_lives, fine_number}
 
 -- a sync that all full nodes have all for coalesces nothing
@@ -40,7 +24,8 @@ as_coalescing m m' c a all (is_refused r fault is same) = is_refused r fault is 
 abbrev pub CoalescesTo : StateValue → ℕ → Answer → StateValue → Type 0
 CoalescesTo s c a s' = Coalescing (observed s) c a (observed s')
 
-pub lacking_seen : (s : StateValue) (c : ℕ) → received_by_all (observed s).world c < end_of_log (observed s).world c → received_by_all (world_of s) c < end_of_log (world_of s) c
+pub lacking_seen : (s : StateValue) (c : ℕ) → received_by_all (observed s).world c < end_of_log (observed s).world c →
+    received_by_all (world_of s) c < end_of_log (world_of s) c
 unfolding observed
 lacking_seen s c less = less
 
@@ -85,7 +70,8 @@ module _ (s : StateValue) (c : ℕ) (shape : ShapeInvariant s) (fine : client_fa
 
       pub from_digested : (log_in s.nodes home c).digested ≤ from
       from_digested =
-          let known : (world_of s).digested home c ≤ received_by_all (world_of s) c = ∥∥₁_elim sound (search props) (λ h. (h.coherent.order home c (seen_full s home full_home)).replicated) in
+          let known : (world_of s).digested home c ≤ received_by_all (world_of s) c = ∥∥₁_elim sound (search props)
+          (λ h. (h.coherent.order home c (seen_full s home full_home)).replicated) in
           omega (arith, known, from_is, digested_is)
 
       module _ (law : IsNumberedLog (log_in s.nodes home c).log) where
@@ -105,9 +91,11 @@ module _ (s : StateValue) (c : ℕ) (shape : ShapeInvariant s) (fine : client_fa
             ∙ ap (λ n. with_log_in s.nodes n c (regrouped_from (log_in s.nodes n c) start)) home_is
 
         pub still_log : (nodes : List RegionValue) → nodes ≡ with_log_in s.nodes home c (regrouped_from (log_in s.nodes home c) from) → HasLog nodes home c
-        still_log nodes is = subst (λ rs. HasLog rs home c) (sym (nodes_same nodes is)) (has_log t home c (regrouped_shape s c shape sound lives own_law) full_home there)
+        still_log nodes is = subst (λ rs. HasLog rs home c) (sym (nodes_same nodes is))
+            (has_log t home c (regrouped_shape s c shape sound lives own_law) full_home there)
 
-        end_then : (nodes : List RegionValue) → nodes ≡ t.nodes → 0 < length (full_nodes (standings s)) → end_of_log (world_of t) c ≡ log_end (log_in nodes home c).log
+        end_then : (nodes : List RegionValue) → nodes ≡ t.nodes → 0 < length (full_nodes (standings s)) → end_of_log (world_of t) c
+            ≡ log_end (log_in nodes home c).log
         end_then nodes is some =
             own_end t c (regrouped_shape s c shape sound lives own_law) there some
             ∙ ap (λ n. log_end (log_in t.nodes n c).log) (own_of_unfailed (standings s) (client_in s.clients c) unfailed ∙ sym home_is)
@@ -115,12 +103,18 @@ module _ (s : StateValue) (c : ℕ) (shape : ShapeInvariant s) (fine : client_fa
 
         leases_same : leases_of (after_coalescing s c start) ≡ leases_of s
         unfolding leases_of
-        leases_same = λ i. record { levels = s.levels; cut = λ d j. client_same (λ y. cut_of s.cuts d y j) s.clients c (with_goal (end_of_log (world_of t) c) (client_in s.clients c)) refl d i }
+        leases_same = λ i. record {
+          levels = s.levels;
+          cut = λ d j. client_same (λ y. cut_of s.cuts d y j) s.clients c
+              (with_goal (end_of_log (world_of t) c) (client_in s.clients c)) refl d i;
+        }
 
         there_effects : AllHaveEffects (records_from (log_in s.nodes home c).log from) → AllHaveEffects (records_from (own_seen s c).log start)
-        there_effects some = subst (λ k. AllHaveEffects (records_from (own_seen s c).log k)) from_is (subst (λ x. AllHaveEffects (records_from x.log from)) own_at_home some)
+        there_effects some = subst (λ k. AllHaveEffects (records_from (own_seen s c).log k)) from_is
+            (subst (λ x. AllHaveEffects (records_from x.log from)) own_at_home some)
 
-        coalesced : received_by_all (world_of s) c < end_of_log (world_of s) c → AllHaveEffects (records_from (log_in s.nodes home c).log from) → CoalescesTo s c not_yet (after_coalescing s c start)
+        coalesced : received_by_all (world_of s) c < end_of_log (world_of s) c → AllHaveEffects (records_from (log_in s.nodes home c).log from) →
+            CoalescesTo s c not_yet (after_coalescing s c start)
         unfolding observed
         coalesced lacking some = is_coalesced fine refl (record {
           lacking = lacking;
@@ -131,13 +125,16 @@ module _ (s : StateValue) (c : ℕ) (shape : ShapeInvariant s) (fine : client_fa
           keeps = record { members = refl; others = coalescing_areas s c start };
         })
 
-        pub coalesced_given : CutsInvariant s → received_by_all (world_of s) c < end_of_log (world_of s) c → AllHaveEffects (records_from (log_in s.nodes home c).log from) → 0 < length (full_nodes (standings s)) →
-            (nodes : List RegionValue) (place : ℕ) (cs : List ClientValue) → nodes ≡ with_log_in s.nodes home c (regrouped_from (log_in s.nodes home c) from) → place ≡ log_end (log_in nodes home c).log →
+        pub coalesced_given : CutsInvariant s → received_by_all (world_of s) c < end_of_log (world_of s) c →
+            AllHaveEffects (records_from (log_in s.nodes home c).log from) → 0 < length (full_nodes (standings s)) →
+            (nodes : List RegionValue) (place : ℕ) (cs : List ClientValue) → nodes ≡ with_log_in s.nodes home c (regrouped_from (log_in s.nodes home c) from) →
+            place ≡ log_end (log_in nodes home c).log →
             cs ≡ with_client s.clients c (with_goal place (client_in s.clients c)) → Gives (CoalescesTo s c not_yet) (record s { nodes = nodes; clients = cs })
         coalesced_given noted lacking some full nodes place cs nodes_are place_is clients_are =
             let same : nodes ≡ t.nodes = nodes_same nodes nodes_are in
             let to : place ≡ end_of_log (world_of t) c = place_is ∙ sym (end_then nodes same full) in
-            let clients_same : cs ≡ (after_coalescing s c start).clients = clients_are ∙ ap (λ k. with_client s.clients c (with_goal k (client_in s.clients c))) to in
+            let clients_same : cs ≡ (after_coalescing s c start).clients = clients_are ∙ ap (λ k. with_client s.clients c (with_goal k (client_in s.clients c)))
+            to in
             let happens = coalesced lacking some in
             subst (λ v. Gives (CoalescesTo s c not_yet) v) (λ i. record s { nodes = sym same i; clients = sym clients_same i })
             (record {

@@ -1,16 +1,6 @@
 -- What holds of leases, out of what holds of all.
-use Rattle.std.proofs.Common.{◌≡◌, ℕ, Some}
-use Rattle.std.proofs.Math.Logic.{∥∥₁_elim}
-use Rattle.std.proofs.Props.{props}
-use Rattle.std.specs.Coded.{Coded-set, coded_option, coded_ℕ}
-use Rattle.assise_lease_tree.specs.TwoLevels.{LevelsInvariant}
-use Rattle.assise_model_leases.specs.Leases.{AreHeld, AreLeases}
-use Rattle.assise_model_events.specs.Machine.{MachineInvariant}
-use Rattle.assise_machine_state.specs.ClientValues.{client_in}
-use Rattle.assise_machine_state.specs.Observed.{observed, world_of}
-use Rattle.assise_machine_state.specs.Places.{IsNumber}
-use Rattle.assise_machine_state.specs.StateValues.{StateValue, leases_of}
-use Rattle.assise_machine_state.proofs.Fullness.{number_client}
+use Rattle.assise_machine_calls.proofs.Common.{◌≡◌, ℕ, Some, ∥∥₁_elim, props, Coded-set, coded_option, coded_ℕ, LevelsInvariant, AreHeld, AreLeases}
+use Rattle.assise_machine_calls.proofs.Common.{MachineInvariant, client_in, observed, world_of, IsNumber, StateValue, leases_of, number_client}
 
 module _ (s : StateValue) (holds : ∥ MachineInvariant (observed s) ∥₁) where
   lawful_now : LevelsInvariant (leases_of s).levels

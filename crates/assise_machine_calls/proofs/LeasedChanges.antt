@@ -1,22 +1,10 @@
 -- What a call changes is leased, effect by effect.
-use Rattle.std.proofs.Common.{◌≡◌, ℕ, zero, suc, ◌+◌, ◌<◌, ◌≤◌, true, false, List, [], ◌∷◌, ◌++◌, length, take, slice_index_or, None, Some, refl, ap, sym, subst, ◌∙◌}
-use Rattle.std.proofs.lemmas.List.{take_more}
-use Rattle.assise_names.specs.declared.call.Op.{Op}
-use Rattle.assise_names.specs.declared.mode.Mode.TheVariants.{Write}
-use Rattle.assise_record.specs.declared.effect.Effect.{Effect}
-use Rattle.assise_record.specs.Touched.{touched_by}
-use Rattle.assise_inode_table.specs.Effects.{touched}
-use Rattle.assise_inode_table.specs.Interaction.{Step}
-use Rattle.assise_inode_plan.specs.Leased.{AreLeased, LeaseView, first_missing, for_writing}
+use Rattle.assise_machine_calls.proofs.Common.{◌≡◌, ℕ, zero, suc, ◌+◌, ◌<◌, ◌≤◌, true, false, List, [], ◌∷◌, ◌++◌, length, take, slice_index_or, None, Some}
+use Rattle.assise_machine_calls.proofs.Common.{refl, ap, sym, subst, ◌∙◌, take_more, Op, Write, Effect, touched_by, touched, Step, AreLeased, LeaseView}
+use Rattle.assise_machine_calls.proofs.Common.{first_missing, for_writing, serves, KeepsRevokers, client_lease, Machine, CutsInvariant, ShapeInvariant}
+use Rattle.assise_machine_calls.proofs.Common.{machine_of, value_of, GotLeases}
 use Rattle.assise_inode_plan.proofs.WriteLeases.{LooksAt, all_leased, effect_lacks}
-use Rattle.assise_lease_table.specs.Leases.{serves}
-use Rattle.assise_lease_tree.specs.Trees.{KeepsRevokers}
-use Rattle.assise_model_leases.specs.Leases.{client_lease}
-use Rattle.assise_model_events.specs.Machine.{Machine}
 use Rattle.assise_machine_state.specs.declared.state.StateOf.{StateOf}
-use Rattle.assise_machine_state.specs.Invariant.{CutsInvariant, ShapeInvariant}
-use Rattle.assise_machine_state.specs.Whole.{machine_of, value_of}
-use Rattle.assise_machine_calls.specs.Leasing.{GotLeases}
 
 -- what the first k effects change is leased
 abbrev pub LeasedBefore : LeaseView → List Effect → ℕ → Type 0

@@ -1,3 +1,4 @@
+mod Common
 pub mod OpenFaults
 pub mod Opened
 pub mod ClientFaults

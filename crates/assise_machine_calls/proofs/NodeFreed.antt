@@ -1,21 +1,8 @@
 -- Nodes that aren't full and whose clients hold nothing give up their leases.
-use Rattle.std.proofs.Common.{◌≡◌, ℕ, ◌-◌, ◌≤◌, true, false, List, [], ◌∷◌, ◌++◌, None, inl, inr, refl, ap, sym, subst, ◌∙◌, arith}
-use Rattle.std.proofs.lemmas.Bool.{both_ways, cases_eq}
-use Rattle.assise_lease_table.specs.declared.lease.Lease.{Lease}
-use Rattle.assise_lease_table.specs.Leases.{lease_of, without_holder}
-use Rattle.assise_lease_tree.specs.Levels.{is_busy, is_revoked}
-use Rattle.assise_lease_tree.specs.TwoLevels.{IsFreed, IsIdle, TwoLevels}
-use Rattle.assise_lease_tree.proofs.Lookups.{without_other, without_own}
-use Rattle.assise_model_world.specs.World.{Full, World}
-use Rattle.assise_model_leases.specs.Leases.{Leases}
-use Rattle.assise_model_events.specs.NodeEvents.{Freed, Frees, leases_freed}
-use Rattle.assise_machine_state.specs.Changes.{after_leases}
-use Rattle.assise_machine_state.specs.Observed.{is_full_in, own_seen, world_of}
-use Rattle.assise_machine_state.specs.Invariant.{CutsInvariant}
-use Rattle.assise_machine_state.specs.StateValues.{StateValue, leases_of, standings}
-use Rattle.assise_machine_state.proofs.Fullness.{full_seen, seen_full}
-use Rattle.assise_machine_state.proofs.Noted.{leases_noted}
-use Rattle.assise_machine_calls.specs.Releasing.{FreesAmong}
+use Rattle.assise_machine_calls.proofs.Common.{◌≡◌, ℕ, ◌-◌, ◌≤◌, true, false, List, [], ◌∷◌, ◌++◌, None, inl, inr, refl, ap, sym, subst, ◌∙◌, arith, both_ways}
+use Rattle.assise_machine_calls.proofs.Common.{cases_eq, Lease, lease_of, without_holder, is_busy, is_revoked, IsFreed, IsIdle, TwoLevels, without_other}
+use Rattle.assise_machine_calls.proofs.Common.{without_own, Full, World, Leases, Freed, Frees, leases_freed, after_leases, is_full_in, own_seen, world_of}
+use Rattle.assise_machine_calls.proofs.Common.{CutsInvariant, StateValue, leases_of, standings, full_seen, seen_full, leases_noted, FreesAmong}
 
 -- ---- one node
 
@@ -59,7 +46,8 @@ module _ (s : StateValue) (n : ℕ) (levels : TwoLevels) (freed : IsFreed s.leve
     freed = record { node = n; leases = leases_of (after_leases s levels) } ∷ [];
     frees = (record { away = λ full. both_ways (is_full_in (standings s) n) away (full_seen s n full); idle = idle; freed = freed; cuts = λ d i. refl }, tt);
     all = λ k low high out rests i. (let is : k ≡ n = omega (arith, low, high) in
-        ap (λ ls. lease_of ls k) (freed.nodes i) ∙ subst (λ j. lease_of (without_holder n (s.levels.nodes i)) j ≡ None) (sym is) (without_own (s.levels.nodes i) n));
+        ap (λ ls. lease_of ls k) (freed.nodes i) ∙ subst (λ j. lease_of (without_holder n (s.levels.nodes i)) j ≡ None) (sym is)
+        (without_own (s.levels.nodes i) n));
     none = λ k i is. ap (λ ls. lease_of ls k) (freed.nodes i) ∙ still_none (s.levels.nodes i) n k is;
     idle = λ k rests i. (λ j. is_busy (λ c. freed.home c j) (freed.clients i j) k) ∙ rests i;
     world = same_world;

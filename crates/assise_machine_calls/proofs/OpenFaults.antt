@@ -1,19 +1,14 @@
 -- Why a client can't be opened, and where it can.
-use Rattle.std.proofs.Common.{◌≡◌, ◌≢◌, ℕ, ◌<◌, ◌≤◌, nat_le, Bool, true, false, Option, Some, None, Ok, Err, length, inl, inr, refl, sym, ◌∙◌, arith}
-use Rattle.std.proofs.lemmas.Bool.{cases_Bool, le-leb, leb-false, leb-true}
-use Rattle.assise_names.specs.declared.refusal.Refusal.{Refusal}
-use Rattle.assise_names.specs.declared.refusal.Refusal.TheVariants.{BadClient, NodeDown}
-use Rattle.assise_names.specs.declared.limits.TheConstants.{MOST_CLIENTS}
-use Rattle.assise_manager.specs.Standings.{Standing, down, full, phase_of, returning, standing_of}
+use Rattle.assise_machine_calls.proofs.Common.{◌≡◌, ◌≢◌, ℕ, ◌<◌, ◌≤◌, nat_le, Bool, true, false, Option, Some, None, Ok, Err, length, inl, inr, refl, sym, ◌∙◌}
+use Rattle.assise_machine_calls.proofs.Common.{arith, cases_Bool, le-leb, leb-false, leb-true, Refusal, BadClient, NodeDown, MOST_CLIENTS, Standing, down, full}
+use Rattle.assise_machine_calls.proofs.Common.{phase_of, returning, standing_of, fault_if, open_fault, or_else, unless_full, is_full_in, observed, stands_full}
+use Rattle.assise_machine_calls.proofs.Common.{world_of, StateValue, standings, away_refused, full_served, none_refused}
 use Rattle.assise_manager.specs.declared.phase.Phase.{Phase}
 use Rattle.assise_manager.specs.declared.phase.Phase.TheVariants.{Full}
-use Rattle.assise_model_events.specs.Faults.{fault_if, open_fault, or_else, unless_full}
-use Rattle.assise_machine_state.specs.Observed.{is_full_in, observed, stands_full, world_of}
-use Rattle.assise_machine_state.specs.StateValues.{StateValue, standings}
-use Rattle.assise_machine_state.proofs.NodesAway.{away_refused, full_served, none_refused}
 
 -- the fault, by what is known of the node and of how many clients there are
-fault_is : (s : StateValue) (n : ℕ) → open_fault (observed s) n ≡ or_else (unless_full NodeDown (standing_of (standings s) n)) (fault_if (nat_le MOST_CLIENTS (length s.clients)) BadClient)
+fault_is : (s : StateValue) (n : ℕ) → open_fault (observed s) n ≡ or_else (unless_full NodeDown (standing_of (standings s) n))
+    (fault_if (nat_le MOST_CLIENTS (length s.clients)) BadClient)
 unfolding observed world_of
 fault_is s n = refl
 
@@ -23,7 +18,8 @@ no_node s n r same = fault_is s n ∙ rw (none_refused NodeDown (standing_of (st
 pub node_away : (s : StateValue) (n : ℕ) (p : Phase) → phase_of (standing_of (standings s) n) ≡ Ok p → p ≢ Full → open_fault (observed s) n ≡ Some NodeDown
 node_away s n p same other = fault_is s n ∙ rw (away_refused NodeDown (standing_of (standings s) n) p same other) refl
 
-pub all_opened : (s : StateValue) (n : ℕ) → phase_of (standing_of (standings s) n) ≡ Ok Full → MOST_CLIENTS ≤ length s.clients → open_fault (observed s) n ≡ Some BadClient
+pub all_opened : (s : StateValue) (n : ℕ) → phase_of (standing_of (standings s) n) ≡ Ok Full → MOST_CLIENTS ≤ length s.clients → open_fault (observed s) n
+    ≡ Some BadClient
 all_opened s n same many = fault_is s n ∙ rw (full_served NodeDown (standing_of (standings s) n) same, le-leb MOST_CLIENTS (length s.clients) many) refl
 
 few_test : (k : ℕ) → k < MOST_CLIENTS → nat_le MOST_CLIENTS k ≡ false
@@ -57,4 +53,5 @@ unfolding is_full_in
 fine_full s n fine = full_then (standing_of (standings s) n) (fault_if (nat_le MOST_CLIENTS (length s.clients)) BadClient) (sym (fault_is s n) ∙ fine)
 
 pub fine_few : (s : StateValue) (n : ℕ) → open_fault (observed s) n ≡ None → length s.clients < MOST_CLIENTS
-fine_few s n fine = leb-false MOST_CLIENTS (length s.clients) (few_then (unless_full NodeDown (standing_of (standings s) n)) (nat_le MOST_CLIENTS (length s.clients)) (sym (fault_is s n) ∙ fine))
+fine_few s n fine = leb-false MOST_CLIENTS (length s.clients)
+    (few_then (unless_full NodeDown (standing_of (standings s) n)) (nat_le MOST_CLIENTS (length s.clients)) (sym (fault_is s n) ∙ fine))

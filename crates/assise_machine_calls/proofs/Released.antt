@@ -1,16 +1,8 @@
 -- Leases that went, and nodes that gave up theirs, are what the laws mean by a release.
-use Rattle.std.proofs.Common.{◌≡◌, ℕ, ◌≤◌, true, List, [], ◌∷◌, length, None, ap, sym, subst, ◌∙◌, append-nil}
-use Rattle.assise_inode_table.specs.Effects.{contains}
-use Rattle.assise_lease_tree.specs.TwoLevels.{IsIdle}
-use Rattle.assise_model_world.specs.World.{World}
-use Rattle.assise_model_leases.specs.Leases.{Leases, client_lease}
-use Rattle.assise_model_events.specs.Events.{released}
-use Rattle.assise_model_events.specs.NodeEvents.{Freed, Frees, Releasing, is_ready, leases_freed}
+use Rattle.assise_machine_calls.proofs.Common.{◌≡◌, ℕ, ◌≤◌, true, List, [], ◌∷◌, length, None, ap, sym, subst, ◌∙◌, append-nil, contains, IsIdle, World, Leases}
+use Rattle.assise_machine_calls.proofs.Common.{client_lease, released, Freed, Frees, Releasing, is_ready, leases_freed, hot_capacities, observed, world_of}
+use Rattle.assise_machine_calls.proofs.Common.{StateValue, leases_of, standings, FreesAmong, LetsSomeGo}
 use Rattle.assise_model_events.specs.NodeEvents.Releasing.{is_released}
-use Rattle.assise_machine_state.specs.NodeValues.{hot_capacities}
-use Rattle.assise_machine_state.specs.Observed.{observed, world_of}
-use Rattle.assise_machine_state.specs.StateValues.{StateValue, leases_of, standings}
-use Rattle.assise_machine_calls.specs.Releasing.{FreesAmong, LetsSomeGo}
 
 frees_in : (w v : World) (l : Leases) (fs : List Freed) → v.full ≡ w.full → Frees w l fs → Frees v l fs
 frees_in w v l [] same frees = frees
@@ -37,6 +29,11 @@ module _ (s t u : StateValue) (many last : ℕ) (e : LetsSomeGo s many t) (f : F
         (subst (λ l. IsIdle l.levels n) (sym e.leases) idle) i;
     world = f.world ∙ e.world;
     leases = f.leases ∙ ap (λ l. leases_freed l f.freed) e.leases;
-    adds = record { history = ap (λ v. v.history) f.rest ∙ ap (λ v. v.history) e.rest ∙ sym (append-nil s.history); limit = ap (λ v. v.limit) f.rest ∙ ap (λ v. v.limit) e.rest; hot = ap (λ v. hot_capacities v.nodes) f.rest ∙ ap (λ v. hot_capacities v.nodes) e.rest };
+    adds = record {
+      history = ap (λ v. v.history) f.rest ∙ ap (λ v. v.history) e.rest ∙ sym (append-nil s.history);
+      limit = ap (λ v. v.limit) f.rest
+          ∙ ap (λ v. v.limit) e.rest;
+      hot = ap (λ v. hot_capacities v.nodes) f.rest ∙ ap (λ v. hot_capacities v.nodes) e.rest;
+    };
     members = ap (λ v. v.members) f.rest ∙ ap (λ v. v.members) e.rest;
   })

@@ -1,39 +1,18 @@
 -- Those who are asked for their leases are lent their own logs, and their revokers answer cuts of these.
-use Rattle.std.proofs.Common.{◌≡◌, ℕ, ◌<◌, ◌≤◌, nat_le, Bool, true, false, not, ◌&&◌, if◌then◌else◌, List, [], ◌∷◌, ◌++◌, filter, length, Option, Some, None, inl, inr, refl, ap, sym, subst, ◌∙◌, arith, append-nil}
-use Rattle.std.proofs.lemmas.Bool.{and_parts, cases_Bool, le-leb, leb-true, true≢false}
-use Rattle.std.proofs.lemmas.List.{length-map}
-use Rattle.assise_names.specs.declared.mode.Mode.{Mode}
-use Rattle.assise_private_log.specs.NumberedLog.{NumberedLog, is_border}
+use Rattle.assise_machine_calls.proofs.Common.{◌≡◌, ℕ, ◌<◌, ◌≤◌, nat_le, Bool, true, false, not, ◌&&◌, if◌then◌else◌, List, [], ◌∷◌, ◌++◌, filter, length}
+use Rattle.assise_machine_calls.proofs.Common.{Option, Some, None, inl, inr, refl, ap, sym, subst, ◌∙◌, arith, append-nil, and_parts, cases_Bool, le-leb}
+use Rattle.assise_machine_calls.proofs.Common.{leb-true, true≢false, length-map, Mode, NumberedLog, is_border, RegionValue, AnswerAll, IsRaisedAnswer}
+use Rattle.assise_machine_calls.proofs.Common.{clients_of, Asked, Lease, Among, holders, is_to_ask, lease_of, in_way, is_revoked, IsAskedFor, TwoLevels}
+use Rattle.assise_machine_calls.proofs.Common.{is_free_for, Standing, full_nodes, AreLeases, is_held, client_fault, MachineInvariant, client_runs, after_asking}
+use Rattle.assise_machine_calls.proofs.Common.{with_goals, ClientValue, client_in, with_client, with_goal, log_in, observed, own_node, own_seen, world_of}
+use Rattle.assise_machine_calls.proofs.Common.{IsNumber, AreAnswers, CutsInvariant, ShapeInvariant, StateValue, leases_of, standings, running_number}
+use Rattle.assise_machine_calls.proofs.Common.{has_own_log, length-with, areas_stay, AsksThem, CutsAreAnswers, clients_log, client_log}
 use Rattle.assise_private_log.specs.Touches.{Covers}
 use Rattle.assise_private_log.proofs.Borders.{next_border}
-use Rattle.assise_digest.specs.Region.{RegionValue}
-use Rattle.assise_lease_table.specs.Answers.{AnswerAll, IsRaisedAnswer, clients_of}
-use Rattle.assise_lease_table.specs.declared.lease.Asked.{Asked}
-use Rattle.assise_lease_table.specs.declared.lease.Lease.{Lease}
-use Rattle.assise_lease_table.specs.Leases.{Among, holders, is_to_ask, lease_of}
 use Rattle.assise_lease_tree.proofs.ClientHomes.{lease_found}
 use Rattle.assise_lease_tree.specs.declared.request.Request.{Request}
-use Rattle.assise_lease_tree.specs.Levels.{in_way, is_revoked}
-use Rattle.assise_lease_tree.specs.TwoLevels.{IsAskedFor, TwoLevels, is_free_for}
-use Rattle.assise_manager.specs.Standings.{Standing, full_nodes}
-use Rattle.assise_model_leases.specs.Leases.{AreLeases, is_held}
-use Rattle.assise_model_events.specs.Faults.{client_fault}
-use Rattle.assise_model_events.specs.Machine.{MachineInvariant}
-use Rattle.assise_model_events.proofs.Faultless.{client_runs}
-use Rattle.assise_machine_state.specs.Changes.{after_asking, with_goals}
-use Rattle.assise_machine_state.specs.ClientValues.{ClientValue, client_in, with_client, with_goal}
-use Rattle.assise_machine_state.specs.NodeValues.{log_in}
-use Rattle.assise_machine_state.specs.Observed.{observed, own_node, own_seen, world_of}
-use Rattle.assise_machine_state.specs.Places.{IsNumber}
-use Rattle.assise_machine_state.specs.Invariant.{AreAnswers, CutsInvariant, ShapeInvariant}
-use Rattle.assise_machine_state.specs.StateValues.{StateValue, leases_of, standings}
 use Rattle.assise_machine_state.proofs.AskingSeen.{asking_noted, asking_seen, asking_shaped, newly_answered}
-use Rattle.assise_machine_state.proofs.Noted.{running_number}
-use Rattle.assise_machine_state.proofs.OwnLogs.{own_log as has_own_log}
-use Rattle.assise_machine_state.proofs.ItemSeen.{length-with}
-use Rattle.assise_machine_state.proofs.ShapedClients.{areas_stay}
 use Rattle.assise_machine_state.proofs.ShapeKept.{own_marked}
-use Rattle.assise_machine_calls.specs.Asked.{AsksThem, CutsAreAnswers, clients_log, client_log}
 use Rattle.assise_machine_calls.proofs.LeaseFacts.{are_leases}
 
 -- ---- own logs
@@ -59,7 +38,8 @@ module _ (rs : List RegionValue) (nodes : List Standing) (cs : List ClientValue)
       ]
 
 -- a client whose lease isn't revoked runs
-pub running_holder : (s : StateValue) (i : ℕ) (l : Lease) → AreLeases (world_of s) (leases_of s) → Among (s.levels.clients i) l → l.revoked ≡ false → IsNumber s.clients l.holder
+pub running_holder : (s : StateValue) (i : ℕ) (l : Lease) → AreLeases (world_of s) (leases_of s) → Among (s.levels.clients i) l → l.revoked ≡ false →
+    IsNumber s.clients l.holder
 unfolding world_of leases_of
 running_holder s i l leases among free =
     let found : lease_of (s.levels.clients i) l.holder ≡ Some l = lease_found (s.levels.clients i) (leases.lawful.clients_compatible i) l.holder l among refl in
@@ -86,14 +66,17 @@ not_longer p (x ∷ xs) =
       | inr left ↦ rw left (omega (arith, rest))
     ]
 
-pub few_asked : (choice : Lease → Bool) (ls : List Lease) (asked : List Asked) → clients_of asked ≡ holders (filter (is_to_ask choice) ls) → length asked ≤ length ls
+pub few_asked : (choice : Lease → Bool) (ls : List Lease) (asked : List Asked) → clients_of asked ≡ holders (filter (is_to_ask choice) ls) →
+    length asked ≤ length ls
 few_asked choice ls asked who =
-    let same : length asked ≡ length (filter (is_to_ask choice) ls) = sym (length-map asked (λ a. a.client)) ∙ ap length who ∙ length-map (filter (is_to_ask choice) ls) (λ l. l.holder) in
+    let same : length asked ≡ length (filter (is_to_ask choice) ls) = sym (length-map asked (λ a. a.client)) ∙ ap length who
+    ∙ length-map (filter (is_to_ask choice) ls) (λ l. l.holder) in
     omega (arith, same, not_longer (is_to_ask choice) ls)
 
 module _ {C : Type 0} (answers : C → NumberedLog → ℕ → ℕ → Type 0) (stored : ℕ → Option C) (s : StateValue) (c i n : ℕ) (mode : Mode) (asked : List Asked)
     (shape : ShapeInvariant s) (some_full : 0 < length (full_nodes (standings s))) (home : n ≡ (client_in s.clients c).home)
-    (all : AnswerAll answers stored (client_log s.nodes (standings s) s.clients) i (in_way s.levels.home (s.levels.nodes i) c n mode) (s.levels.clients i) asked) where
+    (all : AnswerAll answers stored (client_log s.nodes (standings s) s.clients) i (in_way s.levels.home (s.levels.nodes i) c n mode) (s.levels.clients i)
+    asked) where
   pub asked_number : (a : Asked) → Among asked a → IsNumber s.clients a.client
   asked_number a among = (lent_to s.nodes (standings s) s.clients a.client (all.each a among).view (all.each a among).seen).0
 
@@ -111,7 +94,8 @@ module _ {C : Type 0} (answers : C → NumberedLog → ℕ → ℕ → Type 0) (
   at_border a among =
       let answer = all.each a among in
       let known = lent_to s.nodes (standings s) s.clients a.client answer.view answer.seen in
-      let border : is_border answer.view a.cut ≡ true = ap (is_border answer.view) answer.answered.cut_is ∙ (next_border answer.view answer.answered.answer).border in
+      let border : is_border answer.view a.cut ≡ true = ap (is_border answer.view) answer.answered.cut_is
+      ∙ (next_border answer.view answer.answered.answer).border in
       subst (λ l. is_border l a.cut ≡ true) (known.1 ∙ own_is a.client known.0) border
 
   -- what its revoker answered for its own log
@@ -123,7 +107,8 @@ module _ {C : Type 0} (answers : C → NumberedLog → ℕ → ℕ → Type 0) (
       let begins = ap (λ l. l.begins) own ∙ own_marked s shape.marked d in
       λ k. record { first = (own k).first; limit = limit k; records = (own k).records; begins = begins k }
 
-  cut_answered : (a : Asked) → Among asked a → (revoker : C) × (stored a.client ≡ Some revoker) × IsRaisedAnswer answers revoker (clients_log (observed s) a.client) i a.cut
+  cut_answered : (a : Asked) → Among asked a → (revoker : C) × (stored a.client ≡ Some revoker) × IsRaisedAnswer answers revoker
+      (clients_log (observed s) a.client) i a.cut
   cut_answered a among =
       let answer = all.each a among in
       let known = lent_to s.nodes (standings s) s.clients a.client answer.view answer.seen in
@@ -139,8 +124,10 @@ module _ {C : Type 0} (answers : C → NumberedLog → ℕ → ℕ → Type 0) (
 
 -- ---- all of it
 
-module _ (s : StateValue) (c i n : ℕ) (mode : Mode) (levels : TwoLevels) (asked : List Asked) (holds : ∥ MachineInvariant (observed s) ∥₁) (shape : ShapeInvariant s) (noted : CutsInvariant s) (fine : client_fault (observed s) c ≡ None)
-    (home : n ≡ (client_in s.clients c).home) (busy : is_free_for s.levels c n i mode ≡ false) (asks : IsAskedFor s.levels levels c n i mode) (answers : AreAnswers s c i mode asked) where
+module _ (s : StateValue) (c i n : ℕ) (mode : Mode) (levels : TwoLevels) (asked : List Asked) (holds : ∥ MachineInvariant (observed s) ∥₁)
+    (shape : ShapeInvariant s) (noted : CutsInvariant s) (fine : client_fault (observed s) c ≡ None)
+    (home : n ≡ (client_in s.clients c).home) (busy : is_free_for s.levels c n i mode ≡ false) (asks : IsAskedFor s.levels levels c n i mode)
+    (answers : AreAnswers s c i mode asked) where
   abbrev s' : StateValue
   s' = after_asking s levels asked
 
@@ -156,7 +143,8 @@ module _ (s : StateValue) (c i n : ℕ) (mode : Mode) (levels : TwoLevels) (aske
   asks_them =
       let runs = client_runs (observed s) c fine in
       record {
-        asks = asking_seen s c i mode levels asked noted (are_leases s holds) asks_now answers runs.0 runs.1 (subst (λ m. is_free_for s.levels c m i mode ≡ false) home_is busy);
+        asks = asking_seen s c i mode levels asked noted (are_leases s holds) asks_now answers runs.0 runs.1
+            (subst (λ m. is_free_for s.levels c m i mode ≡ false) home_is busy);
         adds = record { history = sym (append-nil s.history); limit = refl; hot = refl };
         keeps = record { members = refl; others = areas_stay s s' refl };
       }
@@ -176,10 +164,14 @@ pub record IsAsked (s : StateValue) (r : Request) (s' : StateValue) : Type 0 whe
 
 -- ---- what the code has
 
-module _ {C : Type 0} (answers : C → NumberedLog → ℕ → ℕ → Type 0) (stored : ℕ → Option C) (s : StateValue) (r : Request) (levels : TwoLevels) (asked : List Asked)
-    (holds : ∥ MachineInvariant (observed s) ∥₁) (shape : ShapeInvariant s) (noted : CutsInvariant s) (some_full : 0 < length (full_nodes (standings s))) (fine : client_fault (observed s) r.client ≡ None)
-    (home : r.node ≡ (client_in s.clients r.client).home) (busy : is_free_for s.levels r.client r.node r.inode r.mode ≡ false) (asks : IsAskedFor s.levels levels r.client r.node r.inode r.mode)
-    (all : AnswerAll answers stored (client_log s.nodes (standings s) s.clients) r.inode (in_way s.levels.home (s.levels.nodes r.inode) r.client r.node r.mode) (s.levels.clients r.inode) asked) where
+module _ {C : Type 0} (answers : C → NumberedLog → ℕ → ℕ → Type 0) (stored : ℕ → Option C) (s : StateValue) (r : Request) (levels : TwoLevels)
+    (asked : List Asked)
+    (holds : ∥ MachineInvariant (observed s) ∥₁) (shape : ShapeInvariant s) (noted : CutsInvariant s) (some_full : 0 < length (full_nodes (standings s)))
+    (fine : client_fault (observed s) r.client ≡ None)
+    (home : r.node ≡ (client_in s.clients r.client).home) (busy : is_free_for s.levels r.client r.node r.inode r.mode ≡ false)
+    (asks : IsAskedFor s.levels levels r.client r.node r.inode r.mode)
+    (all : AnswerAll answers stored (client_log s.nodes (standings s) s.clients) r.inode (in_way s.levels.home (s.levels.nodes r.inode) r.client r.node r.mode)
+    (s.levels.clients r.inode) asked) where
   here : AreAnswers s r.client r.inode r.mode asked
   here = are_answers answers stored s r.client r.inode r.node r.mode asked shape some_full home all
 
@@ -193,8 +185,10 @@ module _ {C : Type 0} (answers : C → NumberedLog → ℕ → ℕ → Type 0) (
       let a = found.1 in
       let got = cut_answered answers stored s r.client r.inode r.node r.mode asked shape some_full home all a.0 a.1 in
       let cut = (leases_of (after_asking s levels asked)).cut in
-      let at_cut : IsRaisedAnswer answers got.0 (clients_log (observed s) a.0.client) r.inode (cut d r.inode) = subst (λ k. IsRaisedAnswer answers got.0 (clients_log (observed s) a.0.client) r.inode k) (sym a.3) got.2 in
-      let of_holder : IsRaisedAnswer answers got.0 (clients_log (observed s) d) r.inode (cut d r.inode) = subst (λ c. IsRaisedAnswer answers got.0 (clients_log (observed s) c) r.inode (cut d r.inode)) a.2 at_cut in (
+      let at_cut : IsRaisedAnswer answers got.0 (clients_log (observed s) a.0.client) r.inode (cut d r.inode) =
+      subst (λ k. IsRaisedAnswer answers got.0 (clients_log (observed s) a.0.client) r.inode k) (sym a.3) got.2 in
+      let of_holder : IsRaisedAnswer answers got.0 (clients_log (observed s) d) r.inode (cut d r.inode) =
+      subst (λ c. IsRaisedAnswer answers got.0 (clients_log (observed s) c) r.inode (cut d r.inode)) a.2 at_cut in (
         got.0,
         subst (λ c. stored c ≡ Some got.0) a.2 got.1,
         subst (λ k. IsRaisedAnswer answers got.0 (clients_log (observed s) d) k (cut d k)) (sym found.0) of_holder,
@@ -207,14 +201,16 @@ module _ {C : Type 0} (answers : C → NumberedLog → ℕ → ℕ → Type 0) (
     noted = asked_noted s r.client r.inode r.node r.mode levels asked holds shape noted fine home busy asks here;
   }
 
-  pub is_asked_in : (cs : List ClientValue) (before cuts rest : List Asked) → rest ≡ asked → before ≡ s.cuts → cs ≡ with_goals rest s.clients → cuts ≡ before ++ rest →
+  pub is_asked_in : (cs : List ClientValue) (before cuts rest : List Asked) → rest ≡ asked → before ≡ s.cuts → cs ≡ with_goals rest s.clients →
+      cuts ≡ before ++ rest →
       IsAsked s r (record s { clients = cs; levels = levels; cuts = cuts })
   is_asked_in cs before cuts rest left kept goals noted_now =
       let clients : with_goals asked s.clients ≡ cs = sym (goals ∙ ap (λ xs. with_goals xs s.clients) left) in
       let list : s.cuts ++ asked ≡ cuts = sym (noted_now ∙ (λ k. kept k ++ left k)) in
       subst (IsAsked s r) (λ k. record s { clients = clients k; levels = levels; cuts = list k }) all_asked
 
-  pub cuts_in : (cs : List ClientValue) (before cuts rest : List Asked) → rest ≡ asked → before ≡ s.cuts → cs ≡ with_goals rest s.clients → cuts ≡ before ++ rest →
+  pub cuts_in : (cs : List ClientValue) (before cuts rest : List Asked) → rest ≡ asked → before ≡ s.cuts → cs ≡ with_goals rest s.clients →
+      cuts ≡ before ++ rest →
       CutsAreAnswers answers stored (observed s) (observed (record s { clients = cs; levels = levels; cuts = cuts }))
   cuts_in cs before cuts rest left kept goals noted_now =
       let clients : with_goals asked s.clients ≡ cs = sym (goals ∙ ap (λ xs. with_goals xs s.clients) left) in

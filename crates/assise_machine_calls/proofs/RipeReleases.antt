@@ -1,27 +1,14 @@
 -- A lease whose answer is ripe goes, and the answer with it.
-use Rattle.std.proofs.Common.{◌≡◌, ◌≢◌, inl, inr, ℕ, zero, suc, ◌+◌, ◌-◌, ◌<◌, ◌≤◌, nat_le, Bool, true, false, not, ◌||◌, ◌==◌, if◌then◌else◌, List, [], ◌∷◌, ◌++◌, length, filter, slice_index_or, take, drop, Some, None, refl, ap, sym, subst, ◌∙◌, arith, eq-eqb, true≢false}
-use Rattle.std.proofs.lemmas.Bool.{and_from, and_parts, cases_Bool, cases_eq, eqb-true, false_from_ne_true, leb-true, not-true, or_left, or_right}
-use Rattle.std.proofs.lemmas.List.{length-append, length-take}
-use Rattle.assise_lease_table.specs.declared.lease.Asked.{Asked}
-use Rattle.assise_lease_table.specs.Leases.{lease_of}
-use Rattle.assise_lease_tree.specs.Levels.{is_revoked}
-use Rattle.assise_lease_tree.specs.TwoLevels.{ReleasesLease, TwoLevels}
-use Rattle.assise_lease_tree.proofs.Lookups.{without_other, without_own}
-use Rattle.assise_model_world.specs.World.{digested_by_all, end_of_log}
-use Rattle.assise_model_leases.specs.Handing.{HoldsAsLeased, ReleasesReady}
-use Rattle.assise_model_leases.specs.Leases.{AreLeases, IsRevokedLease}
+use Rattle.assise_machine_calls.proofs.Common.{◌≡◌, ◌≢◌, inl, inr, ℕ, zero, suc, ◌+◌, ◌-◌, ◌<◌, ◌≤◌, nat_le, Bool, true, false, not, ◌||◌, ◌==◌, if◌then◌else◌}
+use Rattle.assise_machine_calls.proofs.Common.{List, [], ◌∷◌, ◌++◌, length, filter, slice_index_or, take, drop, Some, None, refl, ap, sym, subst, ◌∙◌, arith}
+use Rattle.assise_machine_calls.proofs.Common.{eq-eqb, and_from, and_parts, cases_Bool, cases_eq, eqb-true, false_from_ne_true, leb-true, not-true, or_left}
+use Rattle.assise_machine_calls.proofs.Common.{or_right, length-append, length-take, Asked, lease_of, is_revoked, ReleasesLease, TwoLevels, without_other}
+use Rattle.assise_machine_calls.proofs.Common.{without_own, digested_by_all, end_of_log, HoldsAsLeased, ReleasesReady, AreLeases, IsRevokedLease}
+use Rattle.assise_machine_calls.proofs.Common.{OtherAreasStay, after_letting_go, ClientValue, client_in, cut_once_asked, are_once, cut_in, is_asked, is_of}
+use Rattle.assise_machine_calls.proofs.Common.{observed, own_seen, world_of, IsNumber, CutsInvariant, ShapeInvariant, StateValue, leases_of, number_client}
+use Rattle.assise_machine_calls.proofs.Common.{areas_stay, leases_held, LetsSomeGo, is_early, is_ripe}
+use Rattle.std.proofs.Common.{true≢false}
 use Rattle.assise_model_leases.proofs.LeasesGo.{release_keeps}
-use Rattle.assise_model_members.specs.Returns.{OtherAreasStay}
-use Rattle.assise_machine_state.specs.Changes.{after_letting_go}
-use Rattle.assise_machine_state.specs.ClientValues.{ClientValue, client_in, cut_once_asked}
-use Rattle.assise_lease_table.specs.Cuts.{are_once, cut_in, is_asked, is_of}
-use Rattle.assise_machine_state.specs.Observed.{observed, own_seen, world_of}
-use Rattle.assise_machine_state.specs.Places.{IsNumber}
-use Rattle.assise_machine_state.specs.Invariant.{CutsInvariant, ShapeInvariant}
-use Rattle.assise_machine_state.specs.StateValues.{StateValue, leases_of}
-use Rattle.assise_machine_state.proofs.Fullness.{number_client}
-use Rattle.assise_machine_state.proofs.ShapedClients.{areas_stay, leases_held}
-use Rattle.assise_machine_calls.specs.Releasing.{LetsSomeGo, is_early, is_ripe}
 
 -- ---- one answer among others
 
@@ -71,7 +58,8 @@ first_other x xs ys a once =
     false_from_ne_true (is_of a.client a.inode x) (λ is.
     let same = answer_parts x a.client a.inode is in
     true≢false
-    (sym (subst (λ e. is_asked (xs ++ a ∷ ys) e x.inode ≡ true) (sym same.0) (subst (λ k. is_asked (xs ++ a ∷ ys) a.client k ≡ true) (sym same.1) (asked_there xs ys a)))
+    (sym (subst (λ e. is_asked (xs ++ a ∷ ys) e x.inode ≡ true) (sym same.0)
+    (subst (λ k. is_asked (xs ++ a ∷ ys) a.client k ≡ true) (sym same.1) (asked_there xs ys a)))
     ∙ not-true (is_asked (xs ++ a ∷ ys) x.client x.inode) parts.0))
 
 gone_unasked : (xs ys : List Asked) (a : Asked) → are_once (xs ++ a ∷ ys) ≡ true → is_asked (xs ++ ys) a.client a.inode ≡ false
@@ -88,7 +76,8 @@ cut_there (x ∷ xs) ys a once =
 
 -- ---- one lease goes
 
-module _ (s : StateValue) (levels : TwoLevels) (a : Asked) (xs ys : List Asked) (is : s.cuts ≡ xs ++ a ∷ ys) (noted : CutsInvariant s) (ripe : is_ripe s a ≡ true)
+module _ (s : StateValue) (levels : TwoLevels) (a : Asked) (xs ys : List Asked) (is : s.cuts ≡ xs ++ a ∷ ys) (noted : CutsInvariant s)
+    (ripe : is_ripe s a ≡ true)
     (released : ReleasesLease s.levels levels a.client ((world_of s).home a.client) a.inode) where
   abbrev t : StateValue
   t = after_letting_go s levels (xs ++ ys)
@@ -133,7 +122,8 @@ module _ (s : StateValue) (levels : TwoLevels) (a : Asked) (xs ys : List Asked) 
 
   held : HoldsAsLeased (world_of s) (world_of t) (leases_of t)
   unfolding world_of own_seen leases_of
-  held = (let h = leases_held s levels in record { logs = h.logs; clients = h.clients; goals = h.goals; nodes = h.nodes; held = record { holds = λ d j. refl; writes = λ d j. refl } })
+  held = (let h = leases_held s levels in
+      record { logs = h.logs; clients = h.clients; goals = h.goals; nodes = h.nodes; held = record { holds = λ d j. refl; writes = λ d j. refl } })
 
   pub goes_now : ReleasesReady (world_of s) (leases_of s) a.client a.inode (world_of t) (leases_of t)
   unfolding leases_of
@@ -177,7 +167,8 @@ module _ (s : StateValue) (levels : TwoLevels) (a : Asked) (xs ys : List Asked) 
         | inl same ↦
             let which = answer_parts a d j same in
             subst (λ e. is_asked (xs ++ ys) e j ≡ is_revoked (lease_of (levels.clients j) e)) which.0
-            (subst (λ k. is_asked (xs ++ ys) a.client k ≡ is_revoked (lease_of (levels.clients k) a.client)) which.1 (gone_unasked xs ys a once ∙ sym (ap is_revoked lease_gone)))
+            (subst (λ k. is_asked (xs ++ ys) a.client k ≡ is_revoked (lease_of (levels.clients k) a.client)) which.1
+            (gone_unasked xs ys a once ∙ sym (ap is_revoked lease_gone)))
         | inr other ↦ asked_without xs ys a d j other ∙ ap (λ l. is_asked l d j) (sym is) ∙ noted.noted d j ∙ ap is_revoked (sym (lease_else d j other))
       ]
 
@@ -205,7 +196,8 @@ module _ (s : StateValue) (levels : TwoLevels) (a : Asked) (xs ys : List Asked) 
 -- ---- answers that are left
 
 pub early_left : (e : Asked → Bool) (xs ys : List Asked) (a : Asked) → e a ≡ true →
-    filter e (take (length xs) (xs ++ a ∷ ys)) ++ drop (length xs) (xs ++ a ∷ ys) ≡ filter e (take (suc (length xs)) (xs ++ a ∷ ys)) ++ drop (suc (length xs)) (xs ++ a ∷ ys)
+    filter e (take (length xs) (xs ++ a ∷ ys)) ++ drop (length xs) (xs ++ a ∷ ys) ≡ filter e (take (suc (length xs)) (xs ++ a ∷ ys)) ++ drop (suc (length xs))
+    (xs ++ a ∷ ys)
 early_left e [] ys a early = rw early refl
 early_left e (x ∷ xs) ys a early =
     elim (cases_Bool (e x)) [
@@ -214,7 +206,8 @@ early_left e (x ∷ xs) ys a early =
     ]
 
 pub ripe_left : (e : Asked → Bool) (xs ys : List Asked) (a : Asked) → e a ≡ false →
-    filter e (take (length xs) (xs ++ ys)) ++ drop (length xs) (xs ++ ys) ≡ filter e (take (suc (length xs)) (xs ++ a ∷ ys)) ++ drop (suc (length xs)) (xs ++ a ∷ ys)
+    filter e (take (length xs) (xs ++ ys)) ++ drop (length xs) (xs ++ ys) ≡ filter e (take (suc (length xs)) (xs ++ a ∷ ys)) ++ drop (suc (length xs))
+    (xs ++ a ∷ ys)
 ripe_left e [] ys a ripe = rw ripe refl
 ripe_left e (x ∷ xs) ys a ripe =
     elim (cases_Bool (e x)) [
@@ -224,7 +217,8 @@ ripe_left e (x ∷ xs) ys a ripe =
 
 -- ---- what the code tests
 
-pub ripe_as : (s : StateValue) (a : Asked) (x : ClientValue) (cut digested : ℕ) → IsNumber s.clients a.client → x ≡ client_in s.clients a.client → cut ≡ cut_once_asked x a.cut →
+pub ripe_as : (s : StateValue) (a : Asked) (x : ClientValue) (cut digested : ℕ) → IsNumber s.clients a.client → x ≡ client_in s.clients a.client →
+    cut ≡ cut_once_asked x a.cut →
     digested ≡ digested_by_all (world_of s) a.client → nat_le cut digested ≡ is_ripe s a
 ripe_as s a x cut digested there known is all =
     (λ i. nat_le (is i) (all i)) ∙ ap (λ y. nat_le (cut_once_asked y a.cut) (digested_by_all (world_of s) a.client)) known
@@ -236,7 +230,8 @@ answer_split [] p d low = absurd (omega (arith, low))
 answer_split (x ∷ xs) zero d low = refl
 answer_split (x ∷ xs) (suc p) d low = ap (λ l. x ∷ l) (answer_split xs p d (omega (arith, low)))
 
-module _ (s : StateValue) (place : ℕ) (a : Asked) (some : 0 < place) (low : place ≤ length s.cuts) (is_it : a ≡ slice_index_or s.cuts (place - 1) a) (noted : CutsInvariant s) where
+module _ (s : StateValue) (place : ℕ) (a : Asked) (some : 0 < place) (low : place ≤ length s.cuts) (is_it : a ≡ slice_index_or s.cuts (place - 1) a)
+    (noted : CutsInvariant s) where
   abbrev before : List Asked
   before = take (place - 1) s.cuts
 
@@ -262,7 +257,8 @@ module _ (s : StateValue) (place : ℕ) (a : Asked) (some : 0 < place) (low : pl
   answer_known = noted.known a.client a.inode (ap (λ l. is_asked l a.client a.inode) split ∙ asked_there before behind a)
 
   -- the cuts that are left, where it isn't ripe
-  pub early_cuts : is_ripe s a ≡ false → filter (is_early s) (take (place - 1) s.cuts) ++ drop (place - 1) s.cuts ≡ filter (is_early s) (take place s.cuts) ++ drop place s.cuts
+  pub early_cuts : is_ripe s a ≡ false → filter (is_early s) (take (place - 1) s.cuts) ++ drop (place - 1) s.cuts
+      ≡ filter (is_early s) (take place s.cuts) ++ drop place s.cuts
   early_cuts early =
       (λ k. filter (is_early s) (take (back k) (split k)) ++ drop (back k) (split k))
       ∙ early_left (is_early s) before behind a (ap not early)
@@ -273,7 +269,8 @@ module _ (s : StateValue) (place : ℕ) (a : Asked) (some : 0 < place) (low : pl
     unfolding observed world_of leases_of
     home_is = leases.homes a.client (number_client s a.client answer_known)
 
-    module _ (ripe : is_ripe s a ≡ true) (levels : TwoLevels) (released : (n : ℕ) → s.levels.home a.client ≡ Some n → ReleasesLease s.levels levels a.client n a.inode) (cuts : List Asked)
+    module _ (ripe : is_ripe s a ≡ true) (levels : TwoLevels)
+        (released : (n : ℕ) → s.levels.home a.client ≡ Some n → ReleasesLease s.levels levels a.client n a.inode) (cuts : List Asked)
         (left : cuts ≡ before ++ behind) where
       abbrev u : StateValue
       u = after_letting_go s levels cuts
@@ -282,7 +279,8 @@ module _ (s : StateValue) (place : ℕ) (a : Asked) (some : 0 < place) (low : pl
       here = released ((world_of s).home a.client) home_is
 
       pub leases_now : AreLeases (world_of u) (leases_of u)
-      leases_now = subst (λ l. AreLeases (world_of (after_letting_go s levels l)) (leases_of (after_letting_go s levels l))) (sym left) (leases_then s levels a before behind split noted ripe here leases)
+      leases_now = subst (λ l. AreLeases (world_of (after_letting_go s levels l)) (leases_of (after_letting_go s levels l))) (sym left)
+          (leases_then s levels a before behind split noted ripe here leases)
 
       pub shape_now : ShapeInvariant s → ShapeInvariant u
       shape_now shape = subst (λ l. ShapeInvariant (after_letting_go s levels l)) (sym left) (shape_then s levels a before behind split noted ripe here shape)
@@ -294,11 +292,13 @@ module _ (s : StateValue) (place : ℕ) (a : Asked) (some : 0 < place) (low : pl
       room_now = (let count = ap length left ∙ length-append before behind in omega (arith, so_many, count))
 
       pub gone_now : (v : StateValue) (many : ℕ) → LetsSomeGo u many v → LetsSomeGo s (many + 1) v
-      gone_now v many = subst (λ l. LetsSomeGo (after_letting_go s levels l) many v → LetsSomeGo s (many + 1) v) (sym left) (goes_first s levels a before behind split noted ripe here v many)
+      gone_now v many = subst (λ l. LetsSomeGo (after_letting_go s levels l) many v → LetsSomeGo s (many + 1) v) (sym left)
+          (goes_first s levels a before behind split noted ripe here v many)
 
       pub ripe_cuts : filter (is_early u) (take (place - 1) cuts) ++ drop (place - 1) cuts ≡ filter (is_early s) (take place s.cuts) ++ drop place s.cuts
       ripe_cuts =
           (λ k. filter (is_early (after_letting_go s levels (left k))) (take (back k) (left k)) ++ drop (back k) (left k))
-          ∙ (λ k. filter (λ b. early_then s levels a before behind split noted ripe here b k) (take (length before) (before ++ behind)) ++ drop (length before) (before ++ behind))
+          ∙ (λ k. filter (λ b. early_then s levels a before behind split noted ripe here b k) (take (length before) (before ++ behind)) ++ drop (length before)
+          (before ++ behind))
           ∙ ripe_left (is_early s) before behind a (ap not ripe)
           ∙ (λ k. filter (is_early s) (take (last_one k) (joined k)) ++ drop (last_one k) (joined k))

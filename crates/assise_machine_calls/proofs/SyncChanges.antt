@@ -1,52 +1,20 @@
 -- What a client's syncs change of the state is what the laws mean by them.
-use Rattle.std.proofs.Common.{◌≡◌, ℕ, ◌+◌, ◌<◌, ◌≤◌, true, false, List, [], ◌∷◌, ◌++◌, length, None, refl, ap, sym, subst, ◌∙◌, arith, append-nil}
-use Rattle.std.specs.List.{list_any}
-use Rattle.std.proofs.lemmas.Bool.{false≢true}
-use Rattle.std.proofs.Math.Logic.{∥∥₁_elim, ∥∥₁_map}
-use Rattle.std.specs.Coded.{Coded-set, coded_ℕ}
-use Rattle.std.proofs.Props.{props}
-use Rattle.assise_names.specs.declared.call.Op.{Op}
-use Rattle.assise_names.specs.declared.call.Op.TheVariants.{Fsync}
-use Rattle.assise_names.specs.declared.durability.Durability.{Durability}
-use Rattle.assise_names.specs.declared.durability.Durability.TheVariants.{Optimistic, Pessimistic}
-use Rattle.assise_names.specs.declared.reply.Reply.TheVariants.{Done}
-use Rattle.assise_history.specs.Entries.{EntryValue, calls}
-use Rattle.assise_history.specs.Legal.{calls_made, durability_of, is_sync}
-use Rattle.assise_inode_table.specs.Effects.{contains, makes, touched}
-use Rattle.assise_inode_table.specs.Interaction.{Step}
-use Rattle.assise_inode_table.specs.Numbers.{inode_number}
-use Rattle.assise_inode_table.specs.Traces.{NumberedCall}
-use Rattle.assise_private_log.specs.NumberedLog.{NumberedLog, end as log_end}
-use Rattle.assise_manager.specs.Standings.{full_nodes}
-use Rattle.assise_model_world.specs.ClientSteps.{MakesCall, RaisesGoals}
-use Rattle.assise_model_world.specs.World.{World, call_makes_inode, end_of_log, received_by_all, step_at_home, view}
+use Rattle.assise_machine_calls.proofs.Common.{◌≡◌, ℕ, ◌+◌, ◌<◌, ◌≤◌, true, false, List, [], ◌∷◌, ◌++◌, length, None, refl, ap, sym, subst, ◌∙◌, arith}
+use Rattle.assise_machine_calls.proofs.Common.{append-nil, list_any, false≢true, ∥∥₁_elim, ∥∥₁_map, Coded-set, coded_ℕ, props, Op, Fsync, Durability}
+use Rattle.assise_machine_calls.proofs.Common.{Optimistic, Pessimistic, Done, EntryValue, calls, calls_made, durability_of, is_sync, contains, makes, touched}
+use Rattle.assise_machine_calls.proofs.Common.{Step, inode_number, NumberedCall, NumberedLog, log_end, full_nodes, MakesCall, RaisesGoals, World}
+use Rattle.assise_machine_calls.proofs.Common.{call_makes_inode, end_of_log, received_by_all, step_at_home, view, calls_below, Noting, Syncing, call_of_client}
+use Rattle.assise_machine_calls.proofs.Common.{is_noted, is_replicating, is_synced, Answer, not_yet, replied, client_fault, MachineInvariant, state_of}
+use Rattle.assise_machine_calls.proofs.Common.{client_runs, noting_keeps, syncing_keeps, op_of, after_call, after_goal, goal_of, ClientValue, client_in, cut_of}
+use Rattle.assise_machine_calls.proofs.Common.{with_call, with_client, with_goal, hot_capacities, log_in, with_call_in, observed, own_node, world_of, IsNumber}
+use Rattle.assise_machine_calls.proofs.Common.{CutsInvariant, ShapeInvariant, StateValue, leases_of, standings, call_seen, call_shaped, lives_number}
+use Rattle.assise_machine_calls.proofs.Common.{call_noted, goal_noted, own_end, client_here, client_same, length-with, areas_stay}
 use Rattle.assise_model_world.proofs.WorldObserved.{received_by_all-end}
 use Rattle.assise_model_history.specs.Numbered.{made_in, plain_call}
-use Rattle.assise_model_history.proofs.NumberBounds.{calls_below}
 use Rattle.assise_model_history.proofs.InodeMakers.{nothing_done, sync_step}
-use Rattle.assise_model_events.specs.ClientEvents.{Noting, Syncing, call_of_client, is_noted, is_replicating, is_synced}
-use Rattle.assise_model_events.specs.Events.{Answer, not_yet, replied}
-use Rattle.assise_model_events.specs.Faults.{client_fault}
-use Rattle.assise_model_events.specs.Machine.{MachineInvariant, state_of}
-use Rattle.assise_model_events.proofs.Faultless.{client_runs}
-use Rattle.assise_model_events.proofs.SyncKeeps.{noting_keeps, syncing_keeps}
 use Rattle.assise_machine_calls.specs.declared.sync.SyncCall.{SyncCall}
 use Rattle.assise_machine_calls.specs.declared.sync.SyncCall.TheVariants.{Fsync as OfFsync, Dsync as OfDsync}
-use Rattle.assise_machine_calls.specs.SyncCalls.{op_of}
-use Rattle.assise_machine_state.specs.Changes.{after_call, after_goal, goal_of}
-use Rattle.assise_machine_state.specs.ClientValues.{ClientValue, client_in, cut_of, with_call, with_client, with_goal}
-use Rattle.assise_machine_state.specs.NodeValues.{hot_capacities, log_in, with_call_in}
-use Rattle.assise_machine_state.specs.Observed.{observed, own_node, world_of}
-use Rattle.assise_machine_state.specs.Places.{IsNumber}
-use Rattle.assise_machine_state.specs.Invariant.{CutsInvariant, ShapeInvariant}
-use Rattle.assise_machine_state.specs.StateValues.{StateValue, leases_of, standings}
-use Rattle.assise_machine_state.proofs.CallObserved.{call_seen, call_shaped}
-use Rattle.assise_machine_state.proofs.Fullness.{lives_number}
-use Rattle.assise_machine_state.proofs.Noted.{call_noted, goal_noted}
-use Rattle.assise_machine_state.proofs.OwnLogs.{own_end}
 use Rattle.assise_machine_state.proofs.GoalObserved.{goal_raised, goal_shaped}
-use Rattle.assise_machine_state.proofs.ItemSeen.{client_here, client_same, length-with}
-use Rattle.assise_machine_state.proofs.ShapedClients.{areas_stay}
 
 -- ---- the client
 
@@ -55,7 +23,8 @@ unfolding observed
 fine_number s c fine = lives_number s c (client_runs (observed s) c fine).0
 
 -- how it was opened is what its value says
-pub durability_known : (s : StateValue) (c : ℕ) (u : Durability) → ShapeInvariant s → client_fault (observed s) c ≡ None → u ≡ (client_in s.clients c).durability → u ≡ durability_of c (observed s).history
+pub durability_known : (s : StateValue) (c : ℕ) (u : Durability) → ShapeInvariant s → client_fault (observed s) c ≡ None →
+    u ≡ (client_in s.clients c).durability → u ≡ durability_of c (observed s).history
 unfolding observed
 durability_known s c u shape fine is = is ∙ shape.durabilities c
 
@@ -147,7 +116,11 @@ module _ (s : StateValue) (c : ℕ) (op : Op) (shape : ShapeInvariant s) (fine :
   -- leases stay
   leases_raised : leases_of raised ≡ leases_of s
   unfolding leases_of
-  leases_raised = λ i. record { levels = s.levels; cut = λ d j. client_same (λ y. cut_of s.cuts d y j) s.clients c (with_goal (end_of_log old c) (client_in s.clients c)) refl d i }
+  leases_raised = λ i. record {
+    levels = s.levels;
+    cut = λ d j. client_same (λ y. cut_of s.cuts d y j) s.clients c
+        (with_goal (end_of_log old c) (client_in s.clients c)) refl d i;
+  }
 
   sync_awaited : received_by_all old c < end_of_log old c → Syncing (observed s) c op not_yet (observed raised)
   unfolding observed
@@ -167,7 +140,8 @@ module _ (s : StateValue) (c : ℕ) (op : Op) (shape : ShapeInvariant s) (fine :
 
   module _ (sync : SyncsSome op) where
     sync_shaped : ShapeInvariant (after_sync s c op)
-    sync_shaped = subst ShapeInvariant (note_is raised called_now sync) (call_shaped raised called_now raised_shaped (raises.clients.lives c ∙ fine_lives s c fine))
+    sync_shaped = subst ShapeInvariant (note_is raised called_now sync)
+        (call_shaped raised called_now raised_shaped (raises.clients.lives c ∙ fine_lives s c fine))
 
     sync_noted : CutsInvariant s → CutsInvariant (after_sync s c op)
     sync_noted noted = subst CutsInvariant (note_is raised called_now sync) (call_noted raised called_now (raised_noted noted))
@@ -205,7 +179,12 @@ module _ (s : StateValue) (c : ℕ) (op : Op) (shape : ShapeInvariant s) (fine :
           changed = λ i is. absurd (false≢true (subst (λ t. contains (touched t.effects) i ≡ true) quiet is));
         };
         leases = call_leases raised called_now ∙ leases_raised;
-        adds = record { history = ap (λ k. s.history ++ calls (record { client = c; number = k; op = op; reply = Done }) ∷ []) (next_counted s c holds); limit = refl; hot = ap (λ v. hot_capacities v.nodes) (note_is raised called_now sync) };
+        adds = record {
+          history = ap (λ k. s.history ++ calls (record { client = c; number = k; op = op; reply = Done }) ∷ []) (next_counted s c holds);
+          limit =
+              refl;
+          hot = ap (λ v. hot_capacities v.nodes) (note_is raised called_now sync);
+        };
         keeps = record { members = refl; others = areas_stay s (after_call raised called_now) (ap (λ v. v.nodes) (note_is raised called_now sync)) };
       })
 
@@ -239,7 +218,11 @@ module _ (s : StateValue) (c : ℕ) (shape : ShapeInvariant s) (fine : client_fa
     note_answered = is_noted Done fine refl (record {
       call = record { call = note_called; visited = λ i is. cc; changed = λ i is. cc };
       leases = call_leases s noted_now;
-      adds = record { history = ap (λ k. s.history ++ calls (record { client = c; number = k; op = Fsync; reply = Done }) ∷ []) (next_counted s c holds); limit = refl; hot = refl };
+      adds = record {
+        history = ap (λ k. s.history ++ calls (record { client = c; number = k; op = Fsync; reply = Done }) ∷ []) (next_counted s c holds);
+        limit = refl;
+        hot = refl;
+      };
       keeps = record { members = refl; others = areas_stay s (after_note s noted_now) refl };
     })
 
@@ -258,15 +241,18 @@ SyncsTo s c op a s' = Syncing (observed s) c op a (observed s')
 abbrev pub NotesTo : StateValue → ℕ → Answer → StateValue → Type 0
 NotesTo s c a s' = Noting (observed s) c a (observed s')
 
-given : (s s' : StateValue) (c : ℕ) (op : Op) (a : Answer) → SyncsSome op → ∥ MachineInvariant (observed s) ∥₁ → SyncsTo s c op a s' → ShapeInvariant s' → CutsInvariant s' → Gives (SyncsTo s c op a) s'
-given s s' c op a sync holds e shape noted = record { happens = e; holds = ∥∥₁_map holds (λ h. syncing_keeps (observed s) (observed s') c op sync.0 a sync.1 h e); shape = shape; noted = noted }
+given : (s s' : StateValue) (c : ℕ) (op : Op) (a : Answer) → SyncsSome op → ∥ MachineInvariant (observed s) ∥₁ → SyncsTo s c op a s' → ShapeInvariant s' →
+    CutsInvariant s' → Gives (SyncsTo s c op a) s'
+given s s' c op a sync holds e shape noted =
+    record { happens = e; holds = ∥∥₁_map holds (λ h. syncing_keeps (observed s) (observed s') c op sync.0 a sync.1 h e); shape = shape; noted = noted }
 
 pub place_is : (s : StateValue) (c place : ℕ) (l : NumberedLog) → ShapeInvariant s → client_fault (observed s) c ≡ None →
     0 < length (full_nodes (standings s)) →
     l ≡ (log_in s.nodes (own_node (standings s) (client_in s.clients c)) c).log → place ≡ log_end l → place ≡ end_of_log (world_of s) c
 place_is s c place l shape fine some log is = is ∙ ap log_end log ∙ sym (own_end s c shape (fine_number s c fine) some)
 
-pub all_received : (s : StateValue) (c acked place : ℕ) → acked ≡ received_by_all (world_of s) c → place ≡ end_of_log (world_of s) c → place ≤ acked → received_by_all (world_of s) c ≡ end_of_log (world_of s) c
+pub all_received : (s : StateValue) (c acked place : ℕ) → acked ≡ received_by_all (world_of s) c → place ≡ end_of_log (world_of s) c → place ≤ acked →
+    received_by_all (world_of s) c ≡ end_of_log (world_of s) c
 all_received s c acked place received is all = omega (arith, received, is, all, received_by_all-end (world_of s) c)
 
 module _ (s : StateValue) (c : ℕ) (fine : client_fault (observed s) c ≡ None) where
@@ -289,7 +275,8 @@ module _ (s : StateValue) (c : ℕ) (fine : client_fault (observed s) c ≡ None
   unfolding world_of
   numbered number is = is
 
-module _ (s : StateValue) (c : ℕ) (op : Op) (place : ℕ) (cs : List ClientValue) (shape : ShapeInvariant s) (fine : client_fault (observed s) c ≡ None) (holds : ∥ MachineInvariant (observed s) ∥₁)
+module _ (s : StateValue) (c : ℕ) (op : Op) (place : ℕ) (cs : List ClientValue) (shape : ShapeInvariant s) (fine : client_fault (observed s) c ≡ None)
+    (holds : ∥ MachineInvariant (observed s) ∥₁)
     (is : cs ≡ with_client s.clients c (with_goal place (client_in s.clients c))) where
   -- the client has its new goal
   pub still_number : IsNumber cs c
@@ -305,31 +292,40 @@ module _ (s : StateValue) (c : ℕ) (op : Op) (place : ℕ) (cs : List ClientVal
     raised_clients : cs ≡ (after_goal s c (end_of_log (world_of s) c)).clients
     raised_clients = is ∙ ap (λ k. with_client s.clients c (with_goal k (client_in s.clients c))) same
 
-    pub awaited_given : CutsInvariant s → (acked : ℕ) → acked ≡ received_by_all (world_of s) c → acked < place → Gives (SyncsTo s c op not_yet) (record s { clients = cs })
+    pub awaited_given : CutsInvariant s → (acked : ℕ) → acked ≡ received_by_all (world_of s) c → acked < place →
+        Gives (SyncsTo s c op not_yet) (record s { clients = cs })
     awaited_given noted acked received lacking =
         subst (λ v. Gives (SyncsTo s c op not_yet) v) (λ i. record s { clients = sym raised_clients i })
-        (given s (after_goal s c (end_of_log (world_of s) c)) c op not_yet sync holds (sync_awaited s c op shape fine (omega (arith, same, received, lacking))) (raised_shaped s c op shape fine) (raised_noted s c op shape fine noted))
+        (given s (after_goal s c (end_of_log (world_of s) c)) c op not_yet sync holds (sync_awaited s c op shape fine (omega (arith, same, received, lacking)))
+        (raised_shaped s c op shape fine) (raised_noted s c op shape fine noted))
 
-    pub answered_given : CutsInvariant s → received_by_all (world_of s) c ≡ end_of_log (world_of s) c → (number : ℕ) (e : EntryValue) (ds : List ClientValue) (g h : List EntryValue) → number ≡ (client_in s.clients c).next →
-        e ≡ calls (record { client = c; number = number; op = op; reply = Done }) → ds ≡ with_client cs c (with_call false (client_in cs c)) → g ≡ s.history → h ≡ g ++ e ∷ [] →
+    pub answered_given : CutsInvariant s → received_by_all (world_of s) c ≡ end_of_log (world_of s) c → (number : ℕ) (e : EntryValue) (ds : List ClientValue)
+        (g h : List EntryValue) → number ≡ (client_in s.clients c).next →
+        e ≡ calls (record { client = c; number = number; op = op; reply = Done }) → ds ≡ with_client cs c (with_call false (client_in cs c)) → g ≡ s.history →
+        h ≡ g ++ e ∷ [] →
         Gives (SyncsTo s c op (replied Done)) (record s { clients = ds; history = h })
     answered_given noted all number e ds g h number_is entry clients_are history_was history_is =
         let now : ds ≡ (after_sync s c op).clients = clients_are ∙ ap (λ xs. with_client xs c (with_call false (client_in xs c))) raised_clients in
         let told : h ≡ (after_sync s c op).history =
         history_is ∙ ap (λ es. es ++ e ∷ []) history_was
-        ∙ ap (λ f. s.history ++ f ∷ []) (entry ∙ ap (λ k. calls (record { client = c; number = k; op = op; reply = Done })) (numbered s c fine number number_is)) in
+        ∙ ap (λ f. s.history ++ f ∷ [])
+        (entry ∙ ap (λ k. calls (record { client = c; number = k; op = op; reply = Done })) (numbered s c fine number number_is)) in
         subst (λ v. Gives (SyncsTo s c op (replied Done)) v) (λ i. record s { clients = sym now i; history = sym told i })
-        (given s (after_sync s c op) c op (replied Done) sync holds (synced s c op shape fine sync holds all) (sync_shaped s c op shape fine sync) (sync_noted s c op shape fine sync noted))
+        (given s (after_sync s c op) c op (replied Done) sync holds (synced s c op shape fine sync holds all) (sync_shaped s c op shape fine sync)
+        (sync_noted s c op shape fine sync noted))
 
-module _ (s : StateValue) (c : ℕ) (shape : ShapeInvariant s) (fine : client_fault (observed s) c ≡ None) (holds : ∥ MachineInvariant (observed s) ∥₁) (optimistic : durability_of c (observed s).history ≡ Optimistic) where
+module _ (s : StateValue) (c : ℕ) (shape : ShapeInvariant s) (fine : client_fault (observed s) c ≡ None) (holds : ∥ MachineInvariant (observed s) ∥₁)
+    (optimistic : durability_of c (observed s).history ≡ Optimistic) where
   pub noted_given : CutsInvariant s → (number : ℕ) (e : EntryValue) (ds : List ClientValue) (g h : List EntryValue) → number ≡ (client_in s.clients c).next →
-      e ≡ calls (record { client = c; number = number; op = Fsync; reply = Done }) → ds ≡ with_client s.clients c (with_call false (client_in s.clients c)) → g ≡ s.history → h ≡ g ++ e ∷ [] →
+      e ≡ calls (record { client = c; number = number; op = Fsync; reply = Done }) → ds ≡ with_client s.clients c (with_call false (client_in s.clients c)) →
+      g ≡ s.history → h ≡ g ++ e ∷ [] →
       Gives (NotesTo s c (replied Done)) (record s { clients = ds; history = h })
   noted_given noted number e ds g h number_is entry clients_are history_was history_is =
       let x : NumberedCall = call_of_client (world_of s) c Fsync Done in
       let told : h ≡ (after_note s x).history =
       history_is ∙ ap (λ es. es ++ e ∷ []) history_was
-      ∙ ap (λ f. s.history ++ f ∷ []) (entry ∙ ap (λ k. calls (record { client = c; number = k; op = Fsync; reply = Done })) (numbered s c fine number number_is)) in
+      ∙ ap (λ f. s.history ++ f ∷ [])
+      (entry ∙ ap (λ k. calls (record { client = c; number = k; op = Fsync; reply = Done })) (numbered s c fine number number_is)) in
       let happens = note_answered s c shape fine holds in
       subst (λ v. Gives (NotesTo s c (replied Done)) v) (λ i. record s { clients = sym clients_are i; history = sym told i })
       (record {

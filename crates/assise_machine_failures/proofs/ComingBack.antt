@@ -1,32 +1,20 @@
 -- A node that was down begins to come back, as the laws have it.
-use Rattle.std.proofs.Common.{◌≡◌, List, false, ℕ, true, if◌then◌else◌, length, Option, Some, None, inl, inr, refl, ap, sym, subst, ◌∙◌, append-nil, arith}
-use Rattle.std.specs.Option.{option_map}
-use Rattle.std.specs.Ordering.{nat_cmp}
+use Rattle.assise_machine_failures.proofs.Common.{◌≡◌, List, false, ℕ, true, if◌then◌else◌, length, Option, Some, None, inl, inr, refl, ap, sym, subst, ◌∙◌}
+use Rattle.assise_machine_failures.proofs.Common.{append-nil, arith, option_map, nat_cmp, cases_eq, none-some, same_Some, Refusal, back, back_as, is_returning}
+use Rattle.assise_machine_failures.proofs.Common.{return_fault, stale_of, Membership, lowest_full, written_since, Standing, down, is_full, returning}
+use Rattle.assise_machine_failures.proofs.Common.{standing_of, with_standing, BeginsReturn, down_is, set_here, Answer, began, refused, IsBack, Returning}
+use Rattle.assise_machine_failures.proofs.Common.{count_of, stale_at, after_members, is_full_in, observed, world_of, CutsInvariant, ShapeInvariant, StateValue}
+use Rattle.assise_machine_failures.proofs.Common.{leases_of, standings, members_areas, members_rest, members_shaped, full_as, full_else, full_here, same_count}
+use Rattle.assise_machine_failures.proofs.Common.{LosesStale}
 use Rattle.std.specs.FinSet as set
-use Rattle.std.proofs.lemmas.Bool.{cases_eq}
-use Rattle.std.proofs.lemmas.Option.{none-some, same_Some}
-use Rattle.assise_names.specs.declared.refusal.Refusal.{Refusal}
-use Rattle.assise_manager.specs.Changes.{back, back_as, is_returning, return_fault, stale_of}
-use Rattle.assise_manager.specs.Membership.{Membership, lowest_full, written_since}
-use Rattle.assise_manager.specs.Standings.{Standing, down, is_full, returning, standing_of, with_standing}
-use Rattle.assise_model_members.specs.Returns.{BeginsReturn}
-use Rattle.assise_model_members.proofs.NodeStandings.{down_is, set_here}
-use Rattle.assise_model_events.specs.Events.{Answer, began, refused}
-use Rattle.assise_model_events.specs.MemberEvents.{IsBack, Returning, count_of, stale_at}
 use Rattle.assise_model_events.specs.MemberEvents.Returning.{is_back, is_refused, lacks_memory}
-use Rattle.assise_machine_state.specs.Changes.{after_members}
-use Rattle.assise_machine_state.specs.Observed.{is_full_in, observed, world_of}
-use Rattle.assise_machine_state.specs.Invariant.{CutsInvariant, ShapeInvariant}
-use Rattle.assise_machine_state.specs.StateValues.{StateValue, leases_of, standings}
-use Rattle.assise_machine_state.proofs.AwayObserved.{members_areas, members_rest, members_shaped}
-use Rattle.assise_machine_state.proofs.Standings.{full_as, full_else, full_here, same_count}
-use Rattle.assise_machine_failures.specs.Copies.{LosesStale}
 use Rattle.assise_machine_failures.proofs.DroppedCopies.{lost_else, lost_here, lost_hot, lost_is, lost_rests, lost_shaped, rests_more}
 use Rattle.assise_machine_failures.proofs.RefusedFailures.{IsFaultOr, same_after}
 
 -- ---- it is refused
 
-pub back_refused : (s : StateValue) (n : ℕ) (m : Membership) (e : Refusal) (a : Answer) → m ≡ s.members → a ≡ refused e → IsFaultOr (return_fault s.members n) e →
+pub back_refused : (s : StateValue) (n : ℕ) (m : Membership) (e : Refusal) (a : Answer) → m ≡ s.members → a ≡ refused e →
+    IsFaultOr (return_fault s.members n) e →
     Returning (observed s) n a (observed (after_members s m))
 unfolding observed
 back_refused s n m e a same is (inl (fine, memory)) = lacks_memory fine (is ∙ ap refused memory) (ap observed (same_after s m same))
@@ -37,7 +25,8 @@ back_refused s n m e a same is (inr fault) = is_refused e fault is (ap observed 
 pub still_full : (nodes : List Standing) (n : ℕ) (old now : Standing) → standing_of nodes n ≡ Some old → is_full old ≡ false → is_full now ≡ false →
     (k : ℕ) → is_full_in (with_standing nodes n now) k ≡ is_full_in nodes k
 still_full nodes n old now stands was is k = elim (cases_eq k n) [
-  | inl same ↦ subst (λ j. is_full_in (with_standing nodes n now) j ≡ is_full_in nodes j) (sym same) (full_here nodes n old now stands ∙ is ∙ sym (full_as nodes n old stands ∙ was))
+  | inl same ↦ subst (λ j. is_full_in (with_standing nodes n now) j ≡ is_full_in nodes j) (sym same)
+      (full_here nodes n old now stands ∙ is ∙ sym (full_as nodes n old stands ∙ was))
   | inr other ↦ full_else nodes n k old now stands other
 ]
 
@@ -104,13 +93,19 @@ module _ {s : StateValue} {n : ℕ} {m : Membership} (comes : IsComing s n m) wh
     is_so = record {
       comes = node_back;
       leases = ap leases_of rest_is;
-      adds = record { history = ap (λ v. v.history) rest_is ∙ sym (append-nil s.history); limit = ap (λ v. v.limit) rest_is; hot = lost_hot t n u back_shaped back_returning lost };
+      adds = record {
+        history = ap (λ v. v.history) rest_is ∙ sym (append-nil s.history);
+        limit = ap (λ v. v.limit) rest_is;
+        hot =
+            lost_hot t n u back_shaped back_returning lost;
+      };
     }
 
     pub back_happens : (count : ℕ) → option_map set.len (stale_of (standing_of m.nodes n)) ≡ Some count → Returning (observed s) n (began count) (observed u)
     unfolding observed
     back_happens count some =
-        let same : count ≡ stale_at u.members n = counted (stale_of (standing_of m.nodes n)) count some ∙ ap (λ o. stale_at o n) (sym (ap (λ v. v.members) rest_is)) in
+        let same : count ≡ stale_at u.members n = counted (stale_of (standing_of m.nodes n)) count some
+        ∙ ap (λ o. stale_at o n) (sym (ap (λ v. v.members) rest_is)) in
         is_back comes.fine (ap began same) is_so
 
     pub back_left : ShapeInvariant u

@@ -1,17 +1,13 @@
 -- Logs of a failed node's clients that are cut, one client after another.
-use Rattle.std.proofs.Common.{◌≡◌, ◌≢◌, ℕ, zero, suc, ◌-◌, ◌<◌, ◌≤◌, ◌==◌, List, [], ◌∷◌, length, slice_index_or, inl, inr, refl, ap, sym, subst, ◌∙◌, arith, eq-eqb}
-use Rattle.std.proofs.lemmas.Bool.{cases_Bool, ne_eqb}
-use Rattle.std.proofs.lemmas.List.{length-map}
-use Rattle.assise_digest.specs.Region.{HasClient, RegionValue, log_of, up_to_number}
-use Rattle.assise_machine_state.specs.Changes.{with_clients_cut, with_clients_failed}
-use Rattle.assise_machine_state.specs.ClientValues.{ClientValue, client_in, failed_at, with_client}
-use Rattle.assise_machine_state.specs.NodeValues.{AreUndigested, HasLog, IsUndigestedFrom, changed_in, log_in, no_region, region_in, with_tails_cut}
-use Rattle.assise_machine_state.specs.Places.{IsNumber, item_at}
-use Rattle.assise_machine_state.proofs.CutSeen.{count_over}
-use Rattle.assise_machine_state.proofs.LogChanges.{beside_seen, count_seen, log_found}
-use Rattle.assise_machine_state.proofs.ItemSeen.{client_else, less_one}
+use Rattle.assise_machine_failures.proofs.Common.{◌≡◌, ◌≢◌, ℕ, zero, suc, ◌-◌, ◌<◌, ◌≤◌, ◌==◌, List, [], ◌∷◌, length, slice_index_or, inl, inr, refl, ap, sym}
+use Rattle.assise_machine_failures.proofs.Common.{subst, ◌∙◌, arith, eq-eqb, cases_Bool, ne_eqb, length-map, HasClient, RegionValue, log_of, up_to_number}
+use Rattle.assise_machine_failures.proofs.Common.{with_clients_cut, with_clients_failed, ClientValue, client_in, failed_at, with_client, AreUndigested, HasLog}
+use Rattle.assise_machine_failures.proofs.Common.{IsUndigestedFrom, changed_in, log_in, no_region, region_in, with_tails_cut, IsNumber, item_at, count_over}
+use Rattle.assise_machine_failures.proofs.Common.{beside_seen, count_seen, log_found, client_else, less_one}
 
-each_undigested : (rs : List RegionValue) (c from : ℕ) → ((k : ℕ) → k < length rs → HasClient (slice_index_or rs k no_region) c → IsUndigestedFrom (log_of (slice_index_or rs k no_region) c) from) → AreUndigested rs c from
+each_undigested : (rs : List RegionValue) (c from : ℕ) →
+    ((k : ℕ) → k < length rs → HasClient (slice_index_or rs k no_region) c → IsUndigestedFrom (log_of (slice_index_or rs k no_region) c) from) →
+    AreUndigested rs c from
 each_undigested [] c from each = tt
 each_undigested (r ∷ rs) c from each = (each 0 (omega arith), each_undigested rs c from (λ k low. each (suc k) (omega (arith, low))))
 
@@ -50,7 +46,8 @@ module _ (n : ℕ) (cs : List ClientValue) (kept : ℕ → ℕ) (rs : List Regio
   log_then zero k d past = refl
   log_then (suc m) k d past =
       elim (cases_Bool ((client_in cs (suc m)).home == n)) [
-        | inl here ↦ rw here (beside_seen (suc m) (λ l. up_to_number l (kept (suc m))) (cut m) k d (omega arith) (λ same. absurd (omega (arith, past, same))) ∙ log_then m k d (omega (arith, past)))
+        | inl here ↦ rw here (beside_seen (suc m) (λ l. up_to_number l (kept (suc m))) (cut m) k d (omega arith) (λ same. absurd (omega (arith, past, same)))
+            ∙ log_then m k d (omega (arith, past)))
         | inr other ↦ rw other (log_then m k d (omega (arith, past)))
       ]
 
@@ -58,7 +55,8 @@ module _ (n : ℕ) (cs : List ClientValue) (kept : ℕ → ℕ) (rs : List Regio
   has_then m k d past has =
       record { node = number_then m k has.node; client = record { some = has.client.some; there = subst (λ j. d ≤ j) (logs_then m k) has.client.there } }
 
-  pub undigested_then : (m d from : ℕ) → m < d → ((k : ℕ) → HasLog rs k d → IsUndigestedFrom (log_in rs k d) from) → (k : ℕ) → HasLog (cut m) k d → IsUndigestedFrom (log_in (cut m) k d) from
+  pub undigested_then : (m d from : ℕ) → m < d → ((k : ℕ) → HasLog rs k d → IsUndigestedFrom (log_in rs k d) from) → (k : ℕ) → HasLog (cut m) k d →
+      IsUndigestedFrom (log_in (cut m) k d) from
   undigested_then m d from past each k has =
       let had : HasLog rs k d = has_then m k d past has in
       let same : log_in (cut m) k d ≡ log_in rs k d = log_then m k d past in
@@ -86,7 +84,8 @@ module _ (n : ℕ) (kept : ℕ → ℕ) (cs : List ClientValue) where
       elim (cases_Bool ((client_in cs (suc m)).home == n)) [
         | inl here ↦
             rw here
-            (client_else (over m) (suc m) (failed_at (kept (suc m)) (client_in cs (suc m))) (number_over m (suc m) record { some = omega arith; there = omega (arith, past, few) }) d (λ same. absurd (omega (arith, past, same)))
+            (client_else (over m) (suc m) (failed_at (kept (suc m)) (client_in cs (suc m)))
+            (number_over m (suc m) record { some = omega arith; there = omega (arith, past, few) }) d (λ same. absurd (omega (arith, past, same)))
             ∙ client_then m d (omega (arith, past)) few)
         | inr other ↦ rw other (client_then m d (omega (arith, past)) few)
       ]

@@ -1,32 +1,11 @@
 -- What is cut where a node fails, and what is kept, as the state has it.
-use Rattle.std.proofs.Common.{◌≡◌, ℕ, zero, suc, ◌+◌, ◌-◌, ◌<◌, ◌≤◌, true, false, nat_lt, List, [], ◌∷◌, ◌++◌, if◌then◌else◌, map, take, drop, get_or, slice_get, length, Some, None, inl, inr, refl, ap, sym, subst, ◌∙◌, arith, append-nil}
-use Rattle.std.proofs.Math.Logic.{∥∥₁_elim}
-use Rattle.std.proofs.Props.{props}
-use Rattle.std.proofs.lemmas.Bool.{cases_Bool, le-ltb, lt-ltb, ltb-false}
-use Rattle.std.proofs.lemmas.List.{map-append}
-use Rattle.std.proofs.lemmas.Option.{none-some, slice_get_within, slice_get_cases}
-use Rattle.assise_history.specs.declared.call.Loss.{Loss}
-use Rattle.assise_record.specs.LogRecord.{LogRecord}
-use Rattle.assise_record.specs.Records.{all_effects, call_of}
-use Rattle.assise_private_log.specs.NumberedLog.{NumberedLog, end as log_end, record_at, records_from}
-use Rattle.assise_inode_table.specs.Effects.{touched}
-use Rattle.assise_digest.specs.Region.{ReceivedLog}
-use Rattle.assise_manager.specs.Standings.{full_nodes}
-use Rattle.assise_model_world.specs.NodeSteps.{kept_at_failure}
-use Rattle.assise_model_world.specs.Invariant.{WorldInvariant}
-use Rattle.assise_model_world.specs.World.{World, call_at, end_of_log, records_between}
-use Rattle.assise_model_history.specs.Lost.{is_cut, losses_to}
-use Rattle.assise_machine_state.specs.ClientValues.{client_in}
-use Rattle.assise_machine_state.specs.NodeValues.{log_in}
-use Rattle.assise_machine_state.specs.Observed.{own_node, own_seen, world_of}
-use Rattle.assise_machine_state.specs.Places.{IsNumber}
-use Rattle.assise_machine_state.specs.Invariant.{ShapeInvariant}
-use Rattle.assise_machine_state.specs.StateValues.{StateValue, standings}
-use Rattle.assise_machine_state.proofs.Kept.{kept_from_first}
-use Rattle.assise_machine_state.proofs.OwnLogs.{own_end}
-use Rattle.assise_machine_state.proofs.ItemSeen.{less_one}
-use Rattle.assise_machine_failures.specs.Answers.{loss_of}
-use Rattle.assise_machine_failures.specs.Listing.{kept_inodes, kept_to}
+use Rattle.assise_machine_failures.proofs.Common.{◌≡◌, ℕ, zero, suc, ◌+◌, ◌-◌, ◌<◌, ◌≤◌, true, false, nat_lt, List, [], ◌∷◌, ◌++◌, if◌then◌else◌, map, take}
+use Rattle.assise_machine_failures.proofs.Common.{drop, get_or, slice_get, length, Some, None, inl, inr, refl, ap, sym, subst, ◌∙◌, arith, append-nil, ∥∥₁_elim}
+use Rattle.assise_machine_failures.proofs.Common.{props, cases_Bool, le-ltb, lt-ltb, ltb-false, map-append, none-some, slice_get_within, slice_get_cases, Loss}
+use Rattle.assise_machine_failures.proofs.Common.{LogRecord, all_effects, call_of, NumberedLog, log_end, record_at, records_from, touched, ReceivedLog}
+use Rattle.assise_machine_failures.proofs.Common.{full_nodes, kept_at_failure, WorldInvariant, World, call_at, end_of_log, records_between, is_cut, losses_to}
+use Rattle.assise_machine_failures.proofs.Common.{client_in, log_in, own_node, own_seen, world_of, IsNumber, ShapeInvariant, StateValue, standings}
+use Rattle.assise_machine_failures.proofs.Common.{kept_from_first, own_end, less_one, loss_of, kept_inodes, kept_to}
 use Rattle.assise_machine_failures.proofs.KeptPlaces.{kept_count, kept_place}
 
 -- ---- one client more
@@ -37,10 +16,13 @@ one_kept w n (suc m) k ks js low before push is =
     let first : ks ≡ kept_to w n m = before ∙ ap (kept_to w n) (less_one m) in
     push ∙ (λ i. first i ++ is i ∷ [])
 
-loss_step : (w : World) (n m k : ℕ) → suc m ≡ k → losses_to w n k ≡ losses_to w n m ++ (if is_cut w n k then record { client = k; first = call_at w k (kept_at_failure w n k) } ∷ [] else [])
-loss_step w n m k next = subst (λ j. losses_to w n j ≡ losses_to w n m ++ (if is_cut w n j then record { client = j; first = call_at w j (kept_at_failure w n j) } ∷ [] else [])) next refl
+loss_step : (w : World) (n m k : ℕ) → suc m ≡ k →
+    losses_to w n k ≡ losses_to w n m ++ (if is_cut w n k then record { client = k; first = call_at w k (kept_at_failure w n k) } ∷ [] else [])
+loss_step w n m k next = subst
+    (λ j. losses_to w n j ≡ losses_to w n m ++ (if is_cut w n j then record { client = j; first = call_at w j (kept_at_failure w n j) } ∷ [] else [])) next refl
 
-pub one_lost : (w : World) (n m call : ℕ) (ls ks : List (ℕ × ℕ)) → map loss_of ls ≡ losses_to w n m → ks ≡ ls ++ (m + 1, call) ∷ [] → is_cut w n (m + 1) ≡ true → call_at w (m + 1) (kept_at_failure w n (m + 1)) ≡ call →
+pub one_lost : (w : World) (n m call : ℕ) (ls ks : List (ℕ × ℕ)) → map loss_of ls ≡ losses_to w n m → ks ≡ ls ++ (m + 1, call) ∷ [] →
+    is_cut w n (m + 1) ≡ true → call_at w (m + 1) (kept_at_failure w n (m + 1)) ≡ call →
     map loss_of ks ≡ losses_to w n (m + 1)
 one_lost w n m call ls ks before push cut is =
     let one : Loss = record { client = m + 1; first = call_at w (m + 1) (kept_at_failure w n (m + 1)) } in
@@ -51,7 +33,8 @@ one_lost w n m call ls ks before push cut is =
     ∙ ap (λ more. losses_to w n m ++ more) (sym here)
     ∙ sym (loss_step w n m (m + 1) (omega arith))
 
-pub none_lost : (w : World) (n m : ℕ) (ls ks : List (ℕ × ℕ)) → map loss_of ls ≡ losses_to w n m → ks ≡ ls → is_cut w n (m + 1) ≡ false → map loss_of ks ≡ losses_to w n (m + 1)
+pub none_lost : (w : World) (n m : ℕ) (ls ks : List (ℕ × ℕ)) → map loss_of ls ≡ losses_to w n m → ks ≡ ls → is_cut w n (m + 1) ≡ false →
+    map loss_of ks ≡ losses_to w n (m + 1)
 none_lost w n m ls ks before same whole =
     let one : Loss = record { client = m + 1; first = call_at w (m + 1) (kept_at_failure w n (m + 1)) } in
     let none : (if is_cut w n (m + 1) then one ∷ [] else []) ≡ [] = rw whole refl in
@@ -84,8 +67,10 @@ module _ (s : StateValue) (n : ℕ) (ks : List ℕ) (all : ks ≡ kept_to (world
       let next : suc k ≡ k + 1 = omega arith in
       ap (λ xs. get_or xs k 0) all ∙ kept_place (world_of s) n (length s.clients) k place_within ∙ ap (kept_at_failure (world_of s) n) next
 
-pub all_places : (s : StateValue) (n : ℕ) (ks : List ℕ) (k : ℕ) → ks ≡ kept_to (world_of s) n (length s.clients) → k ≤ length ks → length ks ≤ k → k ≡ length s.clients
-all_places s n ks k all most least = (let count : length ks ≡ length s.clients = ap length all ∙ kept_count (world_of s) n (length s.clients) in omega (arith, most, least, count))
+pub all_places : (s : StateValue) (n : ℕ) (ks : List ℕ) (k : ℕ) → ks ≡ kept_to (world_of s) n (length s.clients) → k ≤ length ks → length ks ≤ k →
+    k ≡ length s.clients
+all_places s n ks k all most least =
+    (let count : length ks ≡ length s.clients = ap length all ∙ kept_count (world_of s) n (length s.clients) in omega (arith, most, least, count))
 
 -- ---- the first record that is lost
 
@@ -139,7 +124,8 @@ module _ (s : StateValue) (n c : ℕ) (shape : ShapeInvariant s) (client : IsNum
   pub first_kept : ∥ WorldInvariant (world_of s) ∥₁ → own.log.first ≤ cut
   first_kept sound = (let low : (world_of s).first c ≤ cut = ∥∥₁_elim sound (search props) (kept_from_first (world_of s) n c) in omega (arith, low, first_is))
 
-  pub lost_here : (l : NumberedLog) (r : LogRecord) → l ≡ own.log → record_at l cut ≡ Some r → (is_cut (world_of s) n c ≡ true) × (call_at (world_of s) c cut ≡ r.call)
+  pub lost_here : (l : NumberedLog) (r : LogRecord) → l ≡ own.log → record_at l cut ≡ Some r → (is_cut (world_of s) n c ≡ true)
+      × (call_at (world_of s) c cut ≡ r.call)
   unfolding call_at
   lost_here l r same is =
       let there = there_lost own.log cut ((world_of s).next c) r (ap (λ k. record_at k cut) (sym same) ∙ is) in

@@ -1,32 +1,13 @@
 -- Copies of inodes that a node loses: what is left of the state, and what the laws observe of it.
-use Rattle.std.proofs.Common.{◌≡◌, ◌≢◌, ℕ, ◌≤◌, Bool, true, false, if◌then◌else◌, List, [], ◌∷◌, get_or, length, Option, Some, None, inl, inr, refl, ap, sym, subst, ◌∙◌, arith, eq-eqb, true≢false}
-use Rattle.std.specs.Ordering.{nat_cmp}
+use Rattle.assise_machine_failures.proofs.Common.{◌≡◌, ◌≢◌, ℕ, ◌≤◌, Bool, true, false, if◌then◌else◌, List, [], ◌∷◌, get_or, length, Option, Some, None, inl}
+use Rattle.assise_machine_failures.proofs.Common.{inr, refl, ap, sym, subst, ◌∙◌, arith, eq-eqb, true≢false, nat_cmp, contains-from_list_nat, cases_eq, ne_eqb}
+use Rattle.assise_machine_failures.proofs.Common.{get_or_past, same_Some, Content, contains, IsQuiet, RegionValue, log_at, no_log, with_inode, is_returning}
+use Rattle.assise_machine_failures.proofs.Common.{stale_of, Standing, full, standing_of, Rests, Full, World, LosesCopies, after_inode, hot_capacities}
+use Rattle.assise_machine_failures.proofs.Common.{region_in, with_region, is_full_in, stands_full, world_of, IsNumber, ShapeInvariant, StateValue, standings}
+use Rattle.assise_machine_failures.proofs.Common.{full_seen, node_number, region_keeps, inode_else, inode_here, inode_rests, inode_shaped, region_here}
+use Rattle.assise_machine_failures.proofs.Common.{length-with, LosesStale, nodes_without, without_copies}
 use Rattle.std.specs.FinSet as set
-use Rattle.std.specs.FinSet.{contains-from_list_nat}
-use Rattle.std.proofs.lemmas.Bool.{cases_eq, ne_eqb}
-use Rattle.std.proofs.lemmas.List.{get_or_past}
-use Rattle.std.proofs.lemmas.Option.{same_Some}
-use Rattle.assise_inode_table.specs.Contents.{Content}
-use Rattle.assise_inode_table.specs.Effects.{contains}
-use Rattle.assise_digest.specs.Region.{IsQuiet, RegionValue, log_at, no_log, with_inode}
-use Rattle.assise_manager.specs.Changes.{is_returning, stale_of}
-use Rattle.assise_manager.specs.Standings.{Standing, full, standing_of}
-use Rattle.assise_model_world.specs.NodeSteps.{Rests}
-use Rattle.assise_model_world.specs.World.{Full, World}
-use Rattle.assise_model_members.specs.Returns.{LosesCopies}
 use Rattle.assise_model_events.proofs.LeaseSteps.{clients_after, logs_after, nodes_after}
-use Rattle.assise_machine_state.specs.Changes.{after_inode}
-use Rattle.assise_machine_state.specs.NodeValues.{hot_capacities, region_in, with_region}
-use Rattle.assise_machine_state.specs.Observed.{is_full_in, stands_full, world_of}
-use Rattle.assise_machine_state.specs.Places.{IsNumber}
-use Rattle.assise_machine_state.specs.Invariant.{ShapeInvariant}
-use Rattle.assise_machine_state.specs.StateValues.{StateValue, standings}
-use Rattle.assise_machine_state.proofs.Fullness.{full_seen, node_number}
-use Rattle.assise_machine_state.proofs.HotCapacities.{region_keeps}
-use Rattle.assise_machine_state.proofs.AwayObserved.{inode_else, inode_here, inode_rests, inode_shaped}
-use Rattle.assise_machine_state.proofs.LogChanges.{region_here}
-use Rattle.assise_machine_state.proofs.ItemSeen.{length-with}
-use Rattle.assise_machine_failures.specs.Copies.{LosesStale, nodes_without, without_copies}
 
 -- ---- one rest after another
 
@@ -90,14 +71,16 @@ pub without_shaped : (s : StateValue) (n : ℕ) (inodes : List ℕ) → ShapeInv
 without_shaped s n [] shape there = shape
 without_shaped s n (i ∷ inodes) shape there = without_shaped (after_inode s n i None) n inodes (inode_shaped s n i None shape there) (still_number s n i there)
 
-pub without_rests : (s : StateValue) (n : ℕ) (inodes : List ℕ) → IsNumber s.nodes n → (Full (world_of s) n → ⊥) → Rests (world_of s) (world_of (without_copies s n inodes))
+pub without_rests : (s : StateValue) (n : ℕ) (inodes : List ℕ) → IsNumber s.nodes n → (Full (world_of s) n → ⊥) →
+    Rests (world_of s) (world_of (without_copies s n inodes))
 without_rests s n [] there away = rests_still (world_of s)
 without_rests s n (i ∷ inodes) there away =
     let t : StateValue = after_inode s n i None in
     rests_more (world_of s) (world_of t) (world_of (without_copies t n inodes)) (inode_rests s n i None there away)
     (without_rests t n inodes (still_number s n i there) (still_away s n i there away))
 
-pub without_else : (s : StateValue) (n : ℕ) (inodes : List ℕ) → IsNumber s.nodes n → (k j : ℕ) → k ≢ n → (world_of (without_copies s n inodes)).area k j ≡ (world_of s).area k j
+pub without_else : (s : StateValue) (n : ℕ) (inodes : List ℕ) → IsNumber s.nodes n → (k j : ℕ) → k ≢ n → (world_of (without_copies s n inodes)).area k j
+    ≡ (world_of s).area k j
 without_else s n [] there k j other = refl
 without_else s n (i ∷ inodes) there k j other =
     without_else (after_inode s n i None) n inodes (still_number s n i there) k j other
@@ -107,7 +90,8 @@ without_else s n (i ∷ inodes) there k j other =
 gone_either : (later : Bool) (now : Option Content) → now ≡ None → (if later then None else now) ≡ None
 gone_either later now none = grind arith
 
-gone_here : (s : StateValue) (n : ℕ) (inodes : List ℕ) → IsNumber s.nodes n → (j : ℕ) → (world_of (without_copies s n inodes)).area n j ≡ (if contains inodes j then None else (world_of s).area n j)
+gone_here : (s : StateValue) (n : ℕ) (inodes : List ℕ) → IsNumber s.nodes n → (j : ℕ) → (world_of (without_copies s n inodes)).area n j
+    ≡ (if contains inodes j then None else (world_of s).area n j)
 gone_here s n [] there j = refl
 gone_here s n (i ∷ inodes) there j =
     let t : StateValue = after_inode s n i None in
@@ -121,7 +105,8 @@ gone_here s n (i ∷ inodes) there j =
           (ap (λ v. if contains inodes j then None else v) (inode_else s n i None there n j (λ is same. other same)))
     ]
 
-pub without_here : (s : StateValue) (n : ℕ) (inodes : List ℕ) → IsNumber s.nodes n → LosesCopies (world_of s) (world_of (without_copies s n inodes)) n (set.from_list inodes)
+pub without_here : (s : StateValue) (n : ℕ) (inodes : List ℕ) → IsNumber s.nodes n → LosesCopies (world_of s) (world_of (without_copies s n inodes)) n
+    (set.from_list inodes)
 without_here s n inodes there j =
     gone_here s n inodes there j
     ∙ ap (λ b. if b then None else (world_of s).area n j) (sym (contains-from_list_nat inodes j))
@@ -144,35 +129,38 @@ not_full s n away f = true≢false (sym (full_seen s n f) ∙ away)
 pub returning_logless : (s : StateValue) (n : ℕ) → ShapeInvariant s → is_returning (standing_of (standings s) n) ≡ true → (region_in s.nodes n).logs ≡ []
 returning_logless s n shape is = shape.no_logs n (returning_away s n is)
 
-pub loses : (s : StateValue) (n : ℕ) (inodes : List ℕ) (rs : List RegionValue) → stale_of (standing_of (standings s) n) ≡ Some (set.from_list inodes) → rs ≡ nodes_without s.nodes n inodes →
+pub loses : (s : StateValue) (n : ℕ) (inodes : List ℕ) (rs : List RegionValue) → stale_of (standing_of (standings s) n) ≡ Some (set.from_list inodes) →
+    rs ≡ nodes_without s.nodes n inodes →
     LosesStale s n (record s { nodes = rs })
 loses s n inodes rs lacks is = record { inodes = inodes; stale = lacks; copies = (λ i. record s { nodes = is i }) ∙ sym (without_is s n inodes) }
 
 -- what it lost then
-module _ (s : StateValue) (n : ℕ) (u : StateValue) (shape : ShapeInvariant s) (is : is_returning (standing_of (standings s) n) ≡ true) (lost : LosesStale s n u) where
-  there : IsNumber s.nodes n
-  there = returning_number s n shape is
+module _ (s : StateValue) (n : ℕ) (u : StateValue) (shape : ShapeInvariant s) (is : is_returning (standing_of (standings s) n) ≡ true) (lost : LosesStale s n u)
+  where
+    there : IsNumber s.nodes n
+    there = returning_number s n shape is
 
-  -- of the state nothing changes but the nodes
-  pub lost_is : u ≡ record s { nodes = u.nodes }
-  lost_is = (let is : u ≡ record s { nodes = nodes_without s.nodes n lost.inodes } = lost.copies ∙ without_is s n lost.inodes in is ∙ (λ i. record s { nodes = (sym is i).nodes }))
+    -- of the state nothing changes but the nodes
+    pub lost_is : u ≡ record s { nodes = u.nodes }
+    lost_is = (let is : u ≡ record s { nodes = nodes_without s.nodes n lost.inodes } = lost.copies ∙ without_is s n lost.inodes in
+        is ∙ (λ i. record s { nodes = (sym is i).nodes }))
 
-  pub lost_count : length u.nodes ≡ length s.nodes
-  lost_count = ap (λ v. length v.nodes) lost.copies ∙ without_count s n lost.inodes
+    pub lost_count : length u.nodes ≡ length s.nodes
+    lost_count = ap (λ v. length v.nodes) lost.copies ∙ without_count s n lost.inodes
 
-  pub lost_hot : hot_capacities u.nodes ≡ hot_capacities s.nodes
-  lost_hot = ap (λ v. hot_capacities v.nodes) lost.copies ∙ without_hot s n lost.inodes
+    pub lost_hot : hot_capacities u.nodes ≡ hot_capacities s.nodes
+    lost_hot = ap (λ v. hot_capacities v.nodes) lost.copies ∙ without_hot s n lost.inodes
 
-  pub lost_rests : Rests (world_of s) (world_of u)
-  lost_rests = subst (λ v. Rests (world_of s) (world_of v)) (sym lost.copies) (without_rests s n lost.inodes there (not_full s n (returning_away s n is)))
+    pub lost_rests : Rests (world_of s) (world_of u)
+    lost_rests = subst (λ v. Rests (world_of s) (world_of v)) (sym lost.copies) (without_rests s n lost.inodes there (not_full s n (returning_away s n is)))
 
-  pub lost_shaped : ShapeInvariant u
-  lost_shaped = subst ShapeInvariant (sym lost.copies) (without_shaped s n lost.inodes shape there)
+    pub lost_shaped : ShapeInvariant u
+    lost_shaped = subst ShapeInvariant (sym lost.copies) (without_shaped s n lost.inodes shape there)
 
-  pub lost_here : (stale : set.FinSet nat_cmp) → stale_of (standing_of (standings s) n) ≡ Some stale → LosesCopies (world_of s) (world_of u) n stale
-  lost_here stale known =
-      subst (LosesCopies (world_of s) (world_of u) n) (same_Some (set.from_list lost.inodes) stale (sym lost.stale ∙ known))
-      (subst (λ v. LosesCopies (world_of s) (world_of v) n (set.from_list lost.inodes)) (sym lost.copies) (without_here s n lost.inodes there))
+    pub lost_here : (stale : set.FinSet nat_cmp) → stale_of (standing_of (standings s) n) ≡ Some stale → LosesCopies (world_of s) (world_of u) n stale
+    lost_here stale known =
+        subst (LosesCopies (world_of s) (world_of u) n) (same_Some (set.from_list lost.inodes) stale (sym lost.stale ∙ known))
+        (subst (λ v. LosesCopies (world_of s) (world_of v) n (set.from_list lost.inodes)) (sym lost.copies) (without_here s n lost.inodes there))
 
-  pub lost_else : (k i : ℕ) → k ≢ n → (world_of u).area k i ≡ (world_of s).area k i
-  lost_else k i other = ap (λ v. (world_of v).area k i) lost.copies ∙ without_else s n lost.inodes there k i other
+    pub lost_else : (k i : ℕ) → k ≢ n → (world_of u).area k i ≡ (world_of s).area k i
+    lost_else k i other = ap (λ v. (world_of v).area k i) lost.copies ∙ without_else s n lost.inodes there k i other

@@ -1,11 +1,5 @@
 -- That a node failed has one proof at most, where another full node is known.
-use Rattle.std.proofs.Common.{◌≡◌, ◌≢◌, ℕ}
-use Rattle.std.specs.Coded.{Coded-set, coded_bool, coded_option, coded_ℕ}
-use Rattle.std.proofs.Math.Logic.{∥∥₁_elim}
-use Rattle.std.proofs.Props.{props}
-use Rattle.assise_inode_table.specs.Contents.{coded_content}
-use Rattle.assise_model_world.specs.NodeSteps.{Fails}
-use Rattle.assise_model_world.specs.World.{Full, World}
+use Rattle.assise_machine_failures.proofs.Common.{◌≡◌, ◌≢◌, ℕ, Coded-set, coded_bool, coded_option, coded_ℕ, ∥∥₁_elim, props, coded_content, Fails, Full, World}
 use Rattle.assise_machine_failures.proofs.Codes.{coded_calls, coded_records}
 
 module _ (w : World) (n : ℕ) (w' : World) (some : ∥ Fails w n w' ∥₁) (survivor : (m : ℕ) × ((m ≢ n) × Full w m)) where

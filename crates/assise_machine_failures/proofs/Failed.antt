@@ -1,40 +1,18 @@
 -- A full node that failed, as the laws have it.
-use Rattle.std.proofs.Common.{◌≡◌, ◌≢◌, ℕ, ◌<◌, true, List, if◌then◌else◌, Some, None, length, refl, ap, sym, subst, ◌∙◌, arith}
-use Rattle.std.proofs.Math.Logic.{∥∥₁_elim, ∥∥₁_map}
-use Rattle.std.specs.Coded.{Coded-set, coded_ℕ}
-use Rattle.std.specs.Ordering.{nat_cmp}
+use Rattle.assise_machine_failures.proofs.Common.{◌≡◌, ◌≢◌, ℕ, ◌<◌, true, List, if◌then◌else◌, Some, None, length, refl, ap, sym, subst, ◌∙◌, arith, ∥∥₁_elim}
+use Rattle.assise_machine_failures.proofs.Common.{∥∥₁_map, Coded-set, coded_ℕ, nat_cmp, all_effects, contains, touched, Asked, Among, revoke, lease_of}
+use Rattle.assise_machine_failures.proofs.Common.{TwoLevels, donor_of, failed, failure_fault, stale_of, full, standing_of, Drops, Fails, kept_at_failure}
+use Rattle.assise_machine_failures.proofs.Common.{WorldInvariant, Full, World, digested_by_all, fail_sound, FailsWithMembers, losses_of, fail_event}
+use Rattle.assise_machine_failures.proofs.Common.{failed_answer, MachineInvariant, Failing, IsFailed, is_failed, event_keeps, after_failure, drops_to}
+use Rattle.assise_machine_failures.proofs.Common.{is_full_in, observed, world_of, AreLeft, CutsInvariant, ShapeInvariant, StateValue, leases_of, standings}
+use Rattle.assise_machine_failures.proofs.Common.{failure_noted, noted_known, still_noted, seen_full, failure_keeps, survivor_left}
 use Rattle.std.specs.FinSet as set
-use Rattle.assise_record.specs.Records.{all_effects}
-use Rattle.assise_inode_table.specs.Effects.{contains, touched}
-use Rattle.assise_lease_table.specs.declared.lease.Asked.{Asked}
 use Rattle.assise_lease_table.specs.LeaseMaps.{SameLeases as SameLeasesOf}
-use Rattle.assise_lease_table.specs.Leases.{Among, revoke, lease_of}
 use Rattle.assise_lease_tree.specs.Levels.{is_revoked, lives}
-use Rattle.assise_lease_tree.specs.TwoLevels.{TwoLevels}
-use Rattle.assise_manager.specs.Changes.{donor_of, failed, failure_fault, stale_of}
-use Rattle.assise_manager.specs.Standings.{full, standing_of}
-use Rattle.assise_model_world.specs.NodeSteps.{Drops, Fails, kept_at_failure}
-use Rattle.assise_model_world.specs.Invariant.{WorldInvariant}
-use Rattle.assise_model_world.specs.World.{Full, World, digested_by_all}
 use Rattle.assise_model_world.proofs.ClientsStaying.{rest_sound}
-use Rattle.assise_model_world.proofs.FailureKeeps.{fail_sound}
 use Rattle.assise_model_leases.specs.Handing.{FailsWithLeases as LeasesFail}
-use Rattle.assise_model_members.specs.Returns.{FailsWithMembers}
-use Rattle.assise_model_history.specs.Lost.{losses_of}
-use Rattle.assise_model_events.specs.Events.{fail as fail_event, failed as failed_answer}
-use Rattle.assise_model_events.specs.Machine.{MachineInvariant}
-use Rattle.assise_model_events.specs.MemberEvents.{Failing, IsFailed, is_failed}
-use Rattle.assise_model_events.proofs.EachEvent.{event_keeps}
-use Rattle.assise_machine_state.specs.Changes.{after_failure, drops_to}
-use Rattle.assise_machine_state.specs.Observed.{is_full_in, observed, world_of}
-use Rattle.assise_machine_state.specs.Invariant.{AreLeft, CutsInvariant, ShapeInvariant}
-use Rattle.assise_machine_state.specs.StateValues.{StateValue, leases_of, standings}
 use Rattle.assise_machine_state.proofs.Dropped.{StillDropping, all_dropped, same_dropping}
 use Rattle.assise_machine_state.proofs.FailureSeen.{failure_areas, failure_seen, failure_shaped}
-use Rattle.assise_machine_state.proofs.Noted.{failure_noted, noted_known, still_noted}
-use Rattle.assise_machine_state.proofs.Fullness.{seen_full}
-use Rattle.assise_machine_state.proofs.HotCapacities.{failure_keeps}
-use Rattle.assise_machine_state.proofs.Standings.{survivor_left}
 use Rattle.assise_machine_failures.proofs.FailSettled.{fails_settled}
 use Rattle.assise_machine_failures.proofs.LostCopies.{AllLoseAt, StillLosing, all_still, one_loses, others_stay}
 use Rattle.assise_machine_failures.proofs.TakenDown.{few_clients}

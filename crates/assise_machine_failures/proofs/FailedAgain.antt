@@ -1,30 +1,15 @@
 -- A node that was coming back and is down again, as the laws have it.
-use Rattle.std.proofs.Common.{◌≡◌, ℕ, true, List, [], ◌∷◌, ◌++◌, Option, Some, None, Ok, Err, inl, inr, length, refl, sym, subst, ◌∙◌, arith, true≢false}
-use Rattle.std.proofs.Math.Logic.{∥∥₁_map}
-use Rattle.std.proofs.lemmas.Bool.{cases_eq}
+use Rattle.assise_machine_failures.proofs.Common.{◌≡◌, ℕ, true, List, [], ◌∷◌, ◌++◌, Option, Some, None, Ok, Err, inl, inr, length, refl, sym, subst, ◌∙◌}
+use Rattle.assise_machine_failures.proofs.Common.{arith, true≢false, ∥∥₁_map, cases_eq, Refusal, WrongPhase, Loss, EntryValue, fails, failed, failed_as}
+use Rattle.assise_machine_failures.proofs.Common.{failure_fault_of, is_returning, Membership, Standing, down, full, phase_of, returning, standing_of}
+use Rattle.assise_machine_failures.proofs.Common.{with_standing, Rests, fail_event, failed_answer, MachineInvariant, Failing, IsFailedAgain, is_failed_again}
+use Rattle.assise_machine_failures.proofs.Common.{event_keeps, after_members, is_full_in, observed, own_seen, world_of, CutsInvariant, ShapeInvariant}
+use Rattle.assise_machine_failures.proofs.Common.{StateValue, leases_of, standings, still_noted, members_rest, members_shaped, full_as, full_else, full_here}
+use Rattle.assise_machine_failures.proofs.Common.{same_count}
 use Rattle.std.specs.FinSet as set
-use Rattle.assise_names.specs.declared.refusal.Refusal.{Refusal}
-use Rattle.assise_names.specs.declared.refusal.Refusal.TheVariants.{WrongPhase}
-use Rattle.assise_history.specs.declared.call.Loss.{Loss}
-use Rattle.assise_history.specs.Entries.{EntryValue, fails}
 use Rattle.assise_history.proofs.ClientCounts.{durability-still}
 use Rattle.assise_manager.specs.declared.phase.Phase.TheVariants.{Down}
-use Rattle.assise_manager.specs.Changes.{failed, failed_as, failure_fault_of, is_returning}
-use Rattle.assise_manager.specs.Membership.{Membership}
-use Rattle.assise_manager.specs.Standings.{Standing, down, full, phase_of, returning, standing_of, with_standing}
-use Rattle.assise_model_world.specs.NodeSteps.{Rests}
 use Rattle.assise_model_history.proofs.NumberedCalls.{kept_fail_none}
-use Rattle.assise_model_events.specs.Events.{fail as fail_event, failed as failed_answer}
-use Rattle.assise_model_events.specs.Machine.{MachineInvariant}
-use Rattle.assise_model_events.specs.MemberEvents.{Failing, IsFailedAgain, is_failed_again}
-use Rattle.assise_model_events.proofs.EachEvent.{event_keeps}
-use Rattle.assise_machine_state.specs.Changes.{after_members}
-use Rattle.assise_machine_state.specs.Observed.{is_full_in, observed, own_seen, world_of}
-use Rattle.assise_machine_state.specs.Invariant.{CutsInvariant, ShapeInvariant}
-use Rattle.assise_machine_state.specs.StateValues.{StateValue, leases_of, standings}
-use Rattle.assise_machine_state.proofs.Noted.{still_noted}
-use Rattle.assise_machine_state.proofs.AwayObserved.{members_rest, members_shaped}
-use Rattle.assise_machine_state.proofs.Standings.{full_as, full_else, full_here, same_count}
 
 -- ---- how it stood
 
@@ -107,7 +92,19 @@ module _ {s : StateValue} {n : ℕ} (was : WasReturning s n) where
   again_shaped = of_members (members_shaped s m was.shape long same)
     where
       of_members : ShapeInvariant u → ShapeInvariant t
-      of_members h = record { nodes = h.nodes; few_nodes = h.few_nodes; logs = h.logs; no_logs = h.no_logs; at_home = h.at_home; limits = h.limits; least_limit = h.least_limit; most_limit = h.most_limit; marked = h.marked; durabilities = λ c. h.durabilities c ∙ sym (durability-still s.history (fails n []) c refl) }
+      of_members h = record {
+        nodes = h.nodes;
+        few_nodes = h.few_nodes;
+        logs = h.logs;
+        no_logs = h.no_logs;
+        at_home = h.at_home;
+        limits = h.limits;
+        least_limit = h.least_limit;
+        most_limit =
+            h.most_limit;
+        marked = h.marked;
+        durabilities = λ c. h.durabilities c ∙ sym (durability-still s.history (fails n []) c refl);
+      }
 
   again_noted : CutsInvariant t
   again_noted = still_noted s t refl (omega arith) (λ c i. refl) was.noted

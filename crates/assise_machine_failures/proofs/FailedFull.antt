@@ -1,28 +1,14 @@
 -- A full node that failed, as the code lists and does it.
-use Rattle.std.proofs.Common.{◌≡◌, ◌≢◌, ℕ, suc, ◌+◌, ◌<◌, true, List, [], ◌∷◌, Option, Some, None, inl, inr, length, map, take, slice_index_or, refl, ap, sym, subst, ◌∙◌, arith, eq-eqb}
-use Rattle.std.specs.Option.{option_map}
+use Rattle.assise_machine_failures.proofs.Common.{◌≡◌, ◌≢◌, ℕ, suc, ◌+◌, ◌<◌, true, List, [], ◌∷◌, Option, Some, None, inl, inr, length, map, take}
+use Rattle.assise_machine_failures.proofs.Common.{slice_index_or, refl, ap, sym, subst, ◌∙◌, arith, eq-eqb, option_map, cases_Bool, ne_eqb, take_all, nat_cmp}
+use Rattle.assise_machine_failures.proofs.Common.{Refusal, LastNode, OutOfMemory, Among, TwoLevels, donor_of, failed, failure_fault, failure_fault_of}
+use Rattle.assise_machine_failures.proofs.Common.{is_returning, refilled_from, with_epoch, failed_as, Membership, lowest_full, written_since, Standing, full}
+use Rattle.assise_machine_failures.proofs.Common.{full_nodes, down, standing_of, mapped_at, set_else, Answer, failed_answer, refused, Failing, is_refused}
+use Rattle.assise_machine_failures.proofs.Common.{lacks_memory, after_failure, drops_to, observed, world_of, ShapeInvariant, StateValue, standings, loss_of}
+use Rattle.assise_machine_failures.proofs.Common.{AllLose, AreReturning, LosesStale}
 use Rattle.std.proofs.Math.Seq.{take-suc}
-use Rattle.std.proofs.lemmas.Bool.{cases_Bool, ne_eqb}
-use Rattle.std.proofs.lemmas.List.{take_all}
-use Rattle.std.specs.Ordering.{nat_cmp}
 use Rattle.std.specs.FinSet as set
-use Rattle.assise_names.specs.declared.refusal.Refusal.{Refusal}
-use Rattle.assise_names.specs.declared.refusal.Refusal.TheVariants.{LastNode, OutOfMemory}
-use Rattle.assise_lease_table.specs.Leases.{Among}
-use Rattle.assise_lease_tree.specs.TwoLevels.{TwoLevels}
-use Rattle.assise_manager.specs.Changes.{donor_of, failed, failure_fault, failure_fault_of, is_returning, refilled_from, with_epoch, failed_as}
-use Rattle.assise_manager.specs.Membership.{Membership, lowest_full, written_since}
-use Rattle.assise_manager.specs.Standings.{Standing, full, full_nodes, down, standing_of}
-use Rattle.assise_model_members.proofs.NodeStandings.{mapped_at, set_else}
-use Rattle.assise_model_events.specs.Events.{Answer, failed as failed_answer, refused}
-use Rattle.assise_model_events.specs.MemberEvents.{Failing, is_refused, lacks_memory}
-use Rattle.assise_machine_state.specs.Changes.{after_failure, drops_to}
-use Rattle.assise_machine_state.specs.Observed.{observed, world_of}
-use Rattle.assise_machine_state.specs.Invariant.{ShapeInvariant}
-use Rattle.assise_machine_state.specs.StateValues.{StateValue, standings}
 use Rattle.assise_machine_failures.specs.declared.failure.Failure.{Failure}
-use Rattle.assise_machine_failures.specs.Answers.{loss_of}
-use Rattle.assise_machine_failures.specs.Copies.{AllLose, AreReturning, LosesStale}
 use Rattle.assise_machine_failures.specs.Failures.{RevokesBelow, IsListed}
 use Rattle.assise_machine_failures.proofs.Failed.{AreFilled, AreTouched, RevokesBelow as Revokes, Gives, IsCut, IsRefreshed, MayFail, is_cut, is_refreshed}
 use Rattle.assise_machine_failures.proofs.Listed.{filled_all, filled_only, touched_all, touched_only}
@@ -165,7 +151,8 @@ module _ {s : StateValue} {n : ℕ} {f : Failure} where
   refreshed_now {u} c =
       let d = c.is_down in
       all_refreshed s n f d.levels d.may d.listed d.revoked u
-      (subst (λ ks. AllLose (after_failure s n (set.from_list f.inodes.items) d.levels f.asked.items) ks u) d.filled (subst (λ x. AllLose x c.nodes u) d.down c.lose))
+      (subst (λ ks. AllLose (after_failure s n (set.from_list f.inodes.items) d.levels f.asked.items) ks u) d.filled
+      (subst (λ x. AllLose x c.nodes u) d.down c.lose))
 
   pub given_now : {x : StateValue} → ArePrefixesDropped s n f x → Gives s n x
   given_now d = subst (Gives s n) (sym (d.drops ∙ ap (drops_to d.refreshed) d.all)) (refreshed_now d.copies).gives

@@ -1,24 +1,25 @@
 -- The nodes that are filled from a node.
-use Rattle.std.proofs.Common.{◌≡◌, ◌↔◌, ℕ, zero, suc, ◌-◌, ◌≤◌, ◌==◌, Bool, true, false, List, [], ◌∷◌, ◌++◌, if◌then◌else◌, Option, Some, None, Result, Ok, Err, IsOk, IfOk, refl, ap, sym, ◌∙◌, arith, append-nil}
+use Rattle.assise_machine_failures.proofs.Common.{◌≡◌, ◌↔◌, ℕ, zero, suc, ◌-◌, ◌≤◌, ◌==◌, Bool, true, false, List, [], ◌∷◌, ◌++◌, if◌then◌else◌, Option, Some}
+use Rattle.assise_machine_failures.proofs.Common.{None, Result, Ok, Err, IsOk, IfOk, refl, ap, sym, ◌∙◌, arith, append-nil, Refusal, donor_of, filling_fault_of}
+use Rattle.assise_machine_failures.proofs.Common.{Standing, standing_of, less_one, filled_from, is_number}
 use Rattle.std.specs.Result.{result_eq}
-use Rattle.assise_names.specs.declared.refusal.Refusal.{Refusal}
-use Rattle.assise_manager.specs.Changes.{donor_of, filling_fault_of}
-use Rattle.assise_manager.specs.Standings.{Standing, standing_of}
-use Rattle.assise_machine_state.proofs.ItemSeen.{less_one}
-use Rattle.assise_machine_failures.specs.Listing.{filled_from, is_number}
 
 -- ---- one node more
 
-filled_to : (nodes : List Standing) (n c : ℕ) → 1 ≤ c → filled_from nodes n c ≡ filled_from nodes n (c - 1) ++ (if is_number n (donor_of (standing_of nodes c)) then c ∷ [] else [])
+filled_to : (nodes : List Standing) (n c : ℕ) → 1 ≤ c →
+    filled_from nodes n c ≡ filled_from nodes n (c - 1) ++ (if is_number n (donor_of (standing_of nodes c)) then c ∷ [] else [])
 filled_to nodes n zero low = absurd (omega (arith, low))
-filled_to nodes n (suc m) low = ap (λ k. filled_from nodes n k ++ (if is_number n (donor_of (standing_of nodes (suc m))) then suc m ∷ [] else [])) (sym (less_one m))
+filled_to nodes n (suc m) low =
+    ap (λ k. filled_from nodes n k ++ (if is_number n (donor_of (standing_of nodes (suc m))) then suc m ∷ [] else [])) (sym (less_one m))
 
-pub one_filled : (nodes : List Standing) (n c : ℕ) (ks js : List ℕ) → 1 ≤ c → ks ≡ filled_from nodes n (c - 1) → js ≡ ks ++ c ∷ [] → is_number n (donor_of (standing_of nodes c)) ≡ true → js ≡ filled_from nodes n c
+pub one_filled : (nodes : List Standing) (n c : ℕ) (ks js : List ℕ) → 1 ≤ c → ks ≡ filled_from nodes n (c - 1) → js ≡ ks ++ c ∷ [] →
+    is_number n (donor_of (standing_of nodes c)) ≡ true → js ≡ filled_from nodes n c
 one_filled nodes n c ks js low before push from =
     let here : (if is_number n (donor_of (standing_of nodes c)) then c ∷ [] else []) ≡ c ∷ [] = rw from refl in
     push ∙ (λ i. before i ++ sym here i) ∙ sym (filled_to nodes n c low)
 
-pub none_filled : (nodes : List Standing) (n c : ℕ) (ks js : List ℕ) → 1 ≤ c → ks ≡ filled_from nodes n (c - 1) → js ≡ ks → is_number n (donor_of (standing_of nodes c)) ≡ false → js ≡ filled_from nodes n c
+pub none_filled : (nodes : List Standing) (n c : ℕ) (ks js : List ℕ) → 1 ≤ c → ks ≡ filled_from nodes n (c - 1) → js ≡ ks →
+    is_number n (donor_of (standing_of nodes c)) ≡ false → js ≡ filled_from nodes n c
 none_filled nodes n c ks js low before same other =
     let none : (if is_number n (donor_of (standing_of nodes c)) then c ∷ [] else []) ≡ [] = rw other refl in
     same ∙ before ∙ sym (append-nil (filled_from nodes n (c - 1))) ∙ (λ i. filled_from nodes n (c - 1) ++ sym none i) ∙ sym (filled_to nodes n c low)
@@ -31,6 +32,7 @@ no_donor e = Err e
 none_from : (o : Option Standing) (e : Refusal) → (IsOk (no_donor e) ↔ (filling_fault_of o ≡ None)) → donor_of o ≡ None
 none_from o e ok = grind arith
 
-pub filled_is : (o : Option Standing) (r : Result ℕ Refusal) (n : ℕ) (same : Refusal → Refusal → Bool) → (IsOk r ↔ (filling_fault_of o ≡ None)) → IfOk r (λ d. donor_of o ≡ Some d) → result_eq (λ d k. d == k) same r (Ok n) ≡ is_number n (donor_of o)
+pub filled_is : (o : Option Standing) (r : Result ℕ Refusal) (n : ℕ) (same : Refusal → Refusal → Bool) → (IsOk r ↔ (filling_fault_of o ≡ None)) →
+    IfOk r (λ d. donor_of o ≡ Some d) → result_eq (λ d k. d == k) same r (Ok n) ≡ is_number n (donor_of o)
 filled_is o (Ok d) n same ok donor = sym (ap (is_number n) donor)
 filled_is o (Err e) n same ok donor = sym (ap (is_number n) (none_from o e ok))

@@ -1,26 +1,13 @@
 -- The places up to which logs are kept where a node fails, as the state has them.
-use Rattle.std.proofs.Common.{◌≡◌, ◌≢◌, ℕ, zero, suc, ◌+◌, ◌<◌, ◌≤◌, ◌==◌, ◌&&◌, min, take, take-suc, true, false, not, List, [], ◌∷◌, ◌++◌, filter, length, get_or, inl, inr, refl, ap, sym, subst, ◌∙◌, arith, eqb-true, eq-eqb, append-nil}
-use Rattle.std.proofs.lemmas.Bool.{cases_lt, ne_eqb}
-use Rattle.std.proofs.lemmas.List.{get_or_append_left, get_or_push, length_push}
+use Rattle.assise_machine_failures.proofs.Common.{◌≡◌, ◌≢◌, ℕ, zero, suc, ◌+◌, ◌<◌, ◌≤◌, ◌==◌, ◌&&◌, min, take, take-suc, true, false, not, List, [], ◌∷◌, ◌++◌}
+use Rattle.assise_machine_failures.proofs.Common.{filter, length, get_or, inl, inr, refl, ap, sym, subst, ◌∙◌, arith, eqb-true, eq-eqb, append-nil, cases_lt}
+use Rattle.assise_machine_failures.proofs.Common.{ne_eqb, get_or_append_left, get_or_push, length_push, contains, log_end, Standing, full_nodes}
+use Rattle.assise_machine_failures.proofs.Common.{kept_at_failure, World, end_of_log, least_of, client_in, log_in, full_in, own_node, world_of, IsNumber}
+use Rattle.assise_machine_failures.proofs.Common.{ShapeInvariant, StateValue, standings, full_is, kept_elsewhere, listed_is, one_more, own_end, kept_to}
 use Rattle.std.proofs.lemmas.List.Elements.{filter-append}
 use Rattle.std.proofs.lemmas.Map.Views.{any-filter_same}
-use Rattle.assise_inode_table.specs.Effects.{contains}
-use Rattle.assise_private_log.specs.NumberedLog.{end as log_end}
-use Rattle.assise_manager.specs.Standings.{Standing, full_nodes}
-use Rattle.assise_model_world.specs.NodeSteps.{kept_at_failure}
-use Rattle.assise_model_world.specs.World.{World, end_of_log, least_of}
 use Rattle.assise_model_world.proofs.WorldObserved.{least_of-above, least_of-below, least_of-end}
 use Rattle.assise_model_history.proofs.FailureList.{cut_there}
-use Rattle.assise_machine_state.specs.ClientValues.{client_in}
-use Rattle.assise_machine_state.specs.NodeValues.{log_in}
-use Rattle.assise_machine_state.specs.Observed.{full_in, own_node, world_of}
-use Rattle.assise_machine_state.specs.Places.{IsNumber}
-use Rattle.assise_machine_state.specs.Invariant.{ShapeInvariant}
-use Rattle.assise_machine_state.specs.StateValues.{StateValue, standings}
-use Rattle.assise_machine_state.proofs.Fullness.{full_is}
-use Rattle.assise_machine_state.proofs.Kept.{kept_elsewhere}
-use Rattle.assise_machine_state.proofs.OwnLogs.{listed_is, one_more, own_end}
-use Rattle.assise_machine_failures.specs.Listing.{kept_to}
 
 -- ---- the others of a list
 
@@ -41,7 +28,8 @@ same_least ms ns f d same =
     omega (arith, low, high)
 
 same_others : (nodes : List Standing) (n k : ℕ) → contains (others n (full_nodes nodes)) k ≡ contains (others n (full_in nodes)) k
-same_others nodes n k = others_has n (full_nodes nodes) k ∙ ap (λ b. not (k == n) && b) (listed_is nodes k ∙ sym (full_is nodes k)) ∙ sym (others_has n (full_in nodes) k)
+same_others nodes n k = others_has n (full_nodes nodes) k ∙ ap (λ b. not (k == n) && b) (listed_is nodes k ∙ sym (full_is nodes k))
+    ∙ sym (others_has n (full_in nodes) k)
 
 -- ---- one full node after another
 
@@ -56,7 +44,8 @@ next_other n ns i f d low other =
     let one : others n (get_or ns i 0 ∷ []) ≡ get_or ns i 0 ∷ [] = rw (ne_eqb (get_or ns i 0) n other) refl in
     ap (λ ms. least_of ms f d) (prefix_more n ns i low ∙ ap (λ ms. others n (take i ns) ++ ms) one) ∙ one_more (others n (take i ns)) (get_or ns i 0) f d
 
-pub next_itself : (n : ℕ) (ns : List ℕ) (i : ℕ) (f : ℕ → ℕ) (d : ℕ) → i < length ns → get_or ns i 0 ≡ n → least_of (others n (take (i + 1) ns)) f d ≡ least_of (others n (take i ns)) f d
+pub next_itself : (n : ℕ) (ns : List ℕ) (i : ℕ) (f : ℕ → ℕ) (d : ℕ) → i < length ns → get_or ns i 0 ≡ n → least_of (others n (take (i + 1) ns)) f d
+    ≡ least_of (others n (take i ns)) f d
 next_itself n ns i f d low same =
     let none : others n (get_or ns i 0 ∷ []) ≡ [] = rw (eq-eqb (get_or ns i 0) n same) refl in
     ap (λ ms. least_of ms f d) (prefix_more n ns i low ∙ ap (λ ms. others n (take i ns) ++ ms) none ∙ append-nil (others n (take i ns)))
@@ -79,7 +68,8 @@ module _ (s : StateValue) (n c : ℕ) (shape : ShapeInvariant s) (client : IsNum
   unfolding world_of
   kept_other other = sym (kept_elsewhere (world_of s) n c other ∙ own_end s c shape client some)
 
-  least_seen : least_of (others n (full_in (standings s))) (λ m. log_end (log_in s.nodes m c).log) own_place ≡ least_of (others n (world_of s).full) (λ m. (world_of s).received m c) (end_of_log (world_of s) c)
+  least_seen : least_of (others n (full_in (standings s))) (λ m. log_end (log_in s.nodes m c).log) own_place ≡ least_of (others n (world_of s).full)
+      (λ m. (world_of s).received m c) (end_of_log (world_of s) c)
   unfolding world_of
   least_seen =
       ap (λ d. least_of (others n (full_in (standings s))) (λ m. log_end (log_in s.nodes m c).log) d) (sym (own_end s c shape client some))
@@ -88,7 +78,8 @@ module _ (s : StateValue) (n c : ℕ) (shape : ShapeInvariant s) (client : IsNum
       least_of (others n (full_nodes (standings s))) (λ m. log_end (log_in s.nodes m c).log) own_place ≡ kept_at_failure (world_of s) n c
   unfolding world_of
   kept_least unfailed here =
-      same_least (others n (full_nodes (standings s))) (others n (full_in (standings s))) (λ m. log_end (log_in s.nodes m c).log) own_place (same_others (standings s) n)
+      same_least (others n (full_nodes (standings s))) (others n (full_in (standings s))) (λ m. log_end (log_in s.nodes m c).log) own_place
+      (same_others (standings s) n)
       ∙ least_seen
       ∙ sym (cut_there (world_of s) n c (ap not unfailed) here)
 
@@ -96,7 +87,8 @@ module _ (s : StateValue) (n c : ℕ) (shape : ShapeInvariant s) (client : IsNum
 
 pub kept_count : (w : World) (n m : ℕ) → length (kept_to w n m) ≡ m
 kept_count w n zero = refl
-kept_count w n (suc m) = (let all : length (kept_to w n m) ≡ m = kept_count w n m in omega (arith, length_push (kept_to w n m) (kept_at_failure w n (suc m)), all))
+kept_count w n (suc m) = (let all : length (kept_to w n m) ≡ m = kept_count w n m in
+    omega (arith, length_push (kept_to w n m) (kept_at_failure w n (suc m)), all))
 
 pub kept_place : (w : World) (n m k : ℕ) → k < m → get_or (kept_to w n m) k 0 ≡ kept_at_failure w n (suc k)
 kept_place w n zero k low = absurd (omega (arith, low))

@@ -1,3 +1,4 @@
+mod Common
 pub mod DroppedCopies
 pub mod RefusedFailures
 pub mod ComingBack

@@ -1,31 +1,13 @@
 -- What a failure lists, as the laws have it.
-use Rattle.std.proofs.Common.{◌≡◌, ℕ, zero, suc, ◌-◌, ◌≤◌, true, false, List, [], ◌∷◌, ◌++◌, take, drop, length, Option, Some, None, inl, inr, refl, ap, sym, subst, ◌∙◌, arith, append-nil, eqb-true, eq-eqb, true≢false}
-use Rattle.std.proofs.lemmas.Bool.{cases_Bool, cases_eq, cases_lt, or_cases, or_left, or_right}
-use Rattle.std.proofs.lemmas.List.{get_or_past}
-use Rattle.std.proofs.lemmas.Option.{none-some}
-use Rattle.std.specs.Ordering.{nat_cmp}
+use Rattle.assise_machine_failures.proofs.Common.{◌≡◌, ℕ, zero, suc, ◌-◌, ◌≤◌, true, false, List, [], ◌∷◌, ◌++◌, take, drop, length, Option, Some, None, inl}
+use Rattle.assise_machine_failures.proofs.Common.{inr, refl, ap, sym, subst, ◌∙◌, arith, append-nil, eqb-true, eq-eqb, true≢false, cases_Bool, cases_eq}
+use Rattle.assise_machine_failures.proofs.Common.{cases_lt, or_cases, or_left, or_right, get_or_past, none-some, nat_cmp, contains-from_list_nat, LogRecord}
+use Rattle.assise_machine_failures.proofs.Common.{all_effects, contains, touched, Among, no_log, donor_of, Standing, standing_of, kept_at_failure, World}
+use Rattle.assise_machine_failures.proofs.Common.{records_between, client_in, log_in, region_in, is_full_in, own_node, own_seen, world_of, IsNumber, item_at}
+use Rattle.assise_machine_failures.proofs.Common.{ShapeInvariant, StateValue, standings, no_log_there, numbers, filled_from, is_number, kept_inodes}
 use Rattle.std.specs.FinSet as set
-use Rattle.std.specs.FinSet.{contains-from_list_nat}
-use Rattle.assise_record.specs.LogRecord.{LogRecord}
-use Rattle.assise_record.specs.Records.{all_effects}
-use Rattle.assise_inode_table.specs.Effects.{contains, touched}
 use Rattle.assise_inode_table.proofs.EffectValues.{contains-append}
-use Rattle.assise_lease_table.specs.Leases.{Among}
 use Rattle.assise_lease_table.proofs.Elements.{among_prefix, among_last, among_push}
-use Rattle.assise_digest.specs.Region.{no_log}
-use Rattle.assise_manager.specs.Changes.{donor_of}
-use Rattle.assise_manager.specs.Standings.{Standing, standing_of}
-use Rattle.assise_model_world.specs.NodeSteps.{kept_at_failure}
-use Rattle.assise_model_world.specs.World.{World, records_between}
-use Rattle.assise_machine_state.specs.ClientValues.{client_in}
-use Rattle.assise_machine_state.specs.NodeValues.{log_in, region_in}
-use Rattle.assise_machine_state.specs.Observed.{is_full_in, own_node, own_seen, world_of}
-use Rattle.assise_machine_state.specs.Places.{IsNumber, item_at}
-use Rattle.assise_machine_state.specs.Invariant.{ShapeInvariant}
-use Rattle.assise_machine_state.specs.StateValues.{StateValue, standings}
-use Rattle.assise_machine_state.proofs.Fullness.{no_log_there}
-use Rattle.assise_machine_state.proofs.Standings.{numbers}
-use Rattle.assise_machine_failures.specs.Listing.{filled_from, is_number, kept_inodes}
 use Rattle.assise_machine_failures.proofs.Cuts.{touched_kept}
 
 -- ---- the inodes of kept records
@@ -33,7 +15,8 @@ use Rattle.assise_machine_failures.proofs.Cuts.{touched_kept}
 touched_to : (w : World) (n m i : ℕ) → contains (kept_inodes w n m) i ≡ true → (c : ℕ) × (contains (touched_kept w n c) i ≡ true)
 touched_to w n zero i there = cc
 touched_to w n (suc m) i there =
-    elim (or_cases (contains (kept_inodes w n m) i) (contains (touched_kept w n (suc m)) i) (sym (contains-append (kept_inodes w n m) (touched_kept w n (suc m)) i) ∙ there)) [
+    elim (or_cases (contains (kept_inodes w n m) i) (contains (touched_kept w n (suc m)) i)
+    (sym (contains-append (kept_inodes w n m) (touched_kept w n (suc m)) i) ∙ there)) [
       | inl before ↦ touched_to w n m i before
       | inr here ↦ (suc m, here)
     ]
@@ -43,8 +26,10 @@ to_touched w n zero c i low high there = absurd (omega (arith, low, high))
 to_touched w n (suc m) c i low high there =
     contains-append (kept_inodes w n m) (touched_kept w n (suc m)) i
     ∙ elim (cases_eq c (suc m)) [
-      | inl last ↦ or_right (contains (kept_inodes w n m) i) (contains (touched_kept w n (suc m)) i) (subst (λ d. contains (touched_kept w n d) i ≡ true) last there)
-      | inr other ↦ or_left (contains (kept_inodes w n m) i) (contains (touched_kept w n (suc m)) i) (to_touched w n m c i low (omega (arith, high, other)) there)
+      | inl last ↦ or_right (contains (kept_inodes w n m) i) (contains (touched_kept w n (suc m)) i)
+          (subst (λ d. contains (touched_kept w n d) i ≡ true) last there)
+      | inr other ↦ or_left (contains (kept_inodes w n m) i) (contains (touched_kept w n (suc m)) i)
+          (to_touched w n m c i low (omega (arith, high, other)) there)
     ]
 
 -- ---- who is no client has no records
@@ -101,13 +86,15 @@ module _ (s : StateValue) (n : ℕ) (v : World) (inodes : List ℕ) (listed : in
     as_kept : (c i : ℕ) → contains (touched (all_effects (v.records c))) i ≡ contains (touched_kept (world_of s) n c) i
     as_kept c i = ap (λ rs. contains (touched (all_effects rs)) i) (records c)
 
-    pub touched_only : (i : ℕ) → set.contains (set.from_list {R = nat_cmp} inodes) i ≡ true → (c : ℕ) × (contains (touched (all_effects (v.records c))) i ≡ true)
+    pub touched_only : (i : ℕ) → set.contains (set.from_list {R = nat_cmp} inodes) i ≡ true →
+        (c : ℕ) × (contains (touched (all_effects (v.records c))) i ≡ true)
     touched_only i there = (let t = touched_to (world_of s) n (length s.clients) i (sym (has_listed i) ∙ there) in (t.0, as_kept t.0 i ∙ t.1))
 
     no_client : (c i : ℕ) → ShapeInvariant s → contains (touched (all_effects (v.records c))) i ≡ true → (IsNumber s.clients c → ⊥) → ⊥
     no_client c i shape there other = true≢false (sym there ∙ as_kept c i ∙ none_kept s n c i shape other)
 
-    pub touched_all : ShapeInvariant s → (c i : ℕ) → contains (touched (all_effects (v.records c))) i ≡ true → set.contains (set.from_list {R = nat_cmp} inodes) i ≡ true
+    pub touched_all : ShapeInvariant s → (c i : ℕ) → contains (touched (all_effects (v.records c))) i ≡ true → set.contains (set.from_list {R = nat_cmp} inodes)
+        i ≡ true
     touched_all shape zero i there = absurd (no_client zero i shape there (λ is. omega (arith, is.some)))
     touched_all shape (suc k) i there =
         elim (cases_lt k (length s.clients)) [
@@ -136,7 +123,8 @@ of_filled nodes n zero k low high from = absurd (omega (arith, low, high))
 of_filled nodes n (suc m) k low high from =
     elim (cases_eq k (suc m)) [
       | inl last ↦
-          let here : is_number n (donor_of (standing_of nodes (suc m))) ≡ true = ap (λ j. is_number n (donor_of (standing_of nodes j))) (sym last) ∙ ap (is_number n) from ∙ eq-eqb n n refl in
+          let here : is_number n (donor_of (standing_of nodes (suc m))) ≡ true = ap (λ j. is_number n (donor_of (standing_of nodes j))) (sym last)
+          ∙ ap (is_number n) from ∙ eq-eqb n n refl in
           rw here (subst (Among (filled_from nodes n m ++ suc m ∷ [])) (sym last) (among_last (filled_from nodes n m) (suc m)))
       | inr other ↦
           let before : Among (filled_from nodes n m) k = of_filled nodes n m k low (omega (arith, high, other)) from in

@@ -1,20 +1,9 @@
 -- Nodes that lose their copies of what they may lack, one after another.
-use Rattle.std.proofs.Common.{◌≡◌, ◌≢◌, ℕ, zero, suc, ◌<◌, Bool, true, if◌then◌else◌, List, [], ◌∷◌, ◌++◌, take, drop, slice_index_or, arith, Option, Some, None, inl, inr, length, refl, ap, sym, subst, ◌∙◌}
-use Rattle.std.proofs.lemmas.Bool.{cases_eq}
-use Rattle.std.proofs.lemmas.List.{take-append-drop}
-use Rattle.std.specs.Ordering.{nat_cmp}
+use Rattle.assise_machine_failures.proofs.Common.{◌≡◌, ◌≢◌, ℕ, zero, suc, ◌<◌, Bool, true, if◌then◌else◌, List, [], ◌∷◌, ◌++◌, take, drop, slice_index_or}
+use Rattle.assise_machine_failures.proofs.Common.{arith, Option, Some, None, inl, inr, length, refl, ap, sym, subst, ◌∙◌, cases_eq, take-append-drop, nat_cmp}
+use Rattle.assise_machine_failures.proofs.Common.{Among, Content, is_returning, stale_of, standing_of, Rests, LosesCopies, world_of, ShapeInvariant, StateValue}
+use Rattle.assise_machine_failures.proofs.Common.{standings, hot_capacities, AllLose, AreReturning, LosesStale}
 use Rattle.std.specs.FinSet as set
-use Rattle.assise_lease_table.specs.Leases.{Among}
-use Rattle.assise_inode_table.specs.Contents.{Content}
-use Rattle.assise_manager.specs.Changes.{is_returning, stale_of}
-use Rattle.assise_manager.specs.Standings.{standing_of}
-use Rattle.assise_model_world.specs.NodeSteps.{Rests}
-use Rattle.assise_model_members.specs.Returns.{LosesCopies}
-use Rattle.assise_machine_state.specs.Observed.{world_of}
-use Rattle.assise_machine_state.specs.Invariant.{ShapeInvariant}
-use Rattle.assise_machine_state.specs.StateValues.{StateValue, standings}
-use Rattle.assise_machine_state.specs.NodeValues.{hot_capacities}
-use Rattle.assise_machine_failures.specs.Copies.{AllLose, AreReturning, LosesStale}
 use Rattle.assise_machine_failures.proofs.DroppedCopies.{lost_count, lost_else, lost_here, lost_hot, lost_is, lost_rests, lost_shaped, rests_more, rests_still}
 
 -- all of the state is as it was but what nodes have that aren't full
@@ -63,7 +52,8 @@ lost_twice : (gone : Bool) (had : Option Content) → lost gone (lost gone had) 
 lost_twice gone had = grind arith
 
 -- what it may lack is the same after each
-same_stale : (t v : StateValue) (k : ℕ) (stale : set.FinSet nat_cmp) → StillLosing t v → stale_of (standing_of (standings t) k) ≡ Some stale → stale_of (standing_of (standings v) k) ≡ Some stale
+same_stale : (t v : StateValue) (k : ℕ) (stale : set.FinSet nat_cmp) → StillLosing t v → stale_of (standing_of (standings t) k) ≡ Some stale →
+    stale_of (standing_of (standings v) k) ≡ Some stale
 same_stale t v k stale still is = ap (λ x. stale_of (standing_of (standings x) k)) still.same ∙ is
 
 lost_now : (t v : StateValue) (j k i : ℕ) (stale : set.FinSet nat_cmp) → LosesAt t j v → k ≡ j → stale_of (standing_of (standings t) k) ≡ Some stale →
@@ -95,7 +85,8 @@ one_loses t (j ∷ ks) u k i stale (v, (first, rest)) there is =
           ∙ ap (lost (set.contains stale i)) (first.elsewhere k i other)
     ]
 
-pub others_stay : (t : StateValue) (ks : List ℕ) (u : StateValue) (k i : ℕ) → AllLoseAt t ks u → (Among ks k → ⊥) → (world_of u).area k i ≡ (world_of t).area k i
+pub others_stay : (t : StateValue) (ks : List ℕ) (u : StateValue) (k i : ℕ) → AllLoseAt t ks u → (Among ks k → ⊥) →
+    (world_of u).area k i ≡ (world_of t).area k i
 others_stay t [] u k i lose none = ap (λ s. (world_of s).area k i) lose
 others_stay t (j ∷ ks) u k i (v, (first, rest)) none = others_stay v ks u k i rest (λ later. none (inr later)) ∙ first.elsewhere k i (λ same. none (inl same))
 
@@ -141,7 +132,8 @@ some_at t v ks js shape are lose = all_at t ks v shape (prefix_returning t ks js
 
 module _ (t v : StateValue) (ks : List ℕ) (count : ℕ) (shape : ShapeInvariant t) (are : AreReturning t ks) (lose : AllLose t (take count ks) v) where
   losing_some : StillLosing t v
-  losing_some = all_still t (take count ks) v shape (some_at t v (take count ks) (drop count ks) shape (subst (AreReturning t) (sym (take-append-drop count ks)) are) lose)
+  losing_some = all_still t (take count ks) v shape
+      (some_at t v (take count ks) (drop count ks) shape (subst (AreReturning t) (sym (take-append-drop count ks)) are) lose)
 
   pub some_shaped : ShapeInvariant v
   some_shaped = losing_some.shape

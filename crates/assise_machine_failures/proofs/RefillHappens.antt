@@ -1,44 +1,26 @@
 -- A node that comes back gets an inode from the node that it is filled from, as the laws have it.
-use Rattle.std.proofs.Common.{◌≡◌, ◌≢◌, ◌<◌, arith, ℕ, false, List, [], length, Option, Some, None, Result, Ok, Err, IfOk, IsOk, inl, inr, refl, ap, sym, subst, ◌∙◌, append-nil, true≢false}
-use Rattle.std.specs.Option.{option_map}
-use Rattle.std.specs.Ordering.{nat_cmp}
+use Rattle.assise_machine_failures.proofs.Common.{◌≡◌, ◌≢◌, ◌<◌, arith, ℕ, false, List, [], length, Option, Some, None, Result, Ok, Err, IfOk, IsOk, inl, inr}
+use Rattle.assise_machine_failures.proofs.Common.{refl, ap, sym, subst, ◌∙◌, append-nil, true≢false, option_map, nat_cmp, len-empty, cases_eq, none-some}
+use Rattle.assise_machine_failures.proofs.Common.{same_Some, Refusal, OutOfMemory, Content, RegionValue, with_inode, IsLowest, IsLowestOf, copied_by, copied_as}
+use Rattle.assise_machine_failures.proofs.Common.{donor_of, filling_fault, filling_fault_of, stale_of, IsMembership, Membership, Standing, down, full}
+use Rattle.assise_machine_failures.proofs.Common.{returning, standing_of, Refills, Answer, left, refused, IsRefilled, Refilling, count_of, after_inode}
+use Rattle.assise_machine_failures.proofs.Common.{after_members, region_in, with_region, is_full_in, observed, world_of, IsNumber, CutsInvariant}
+use Rattle.assise_machine_failures.proofs.Common.{ShapeInvariant, StateValue, leases_of, standings, value_of, node_number, inode_else, inode_here, inode_rests}
+use Rattle.assise_machine_failures.proofs.Common.{inode_shaped, members_areas, members_rest, members_shaped, region_keeps, full_as, same_count}
+use Rattle.assise_machine_failures.proofs.Common.{refilling_answer}
 use Rattle.std.specs.FinMap as map
 use Rattle.std.specs.FinSet as set
-use Rattle.std.specs.FinSet.{len-empty}
-use Rattle.std.proofs.lemmas.Bool.{cases_eq}
-use Rattle.std.proofs.lemmas.Option.{none-some, same_Some}
-use Rattle.assise_names.specs.declared.refusal.Refusal.{Refusal}
-use Rattle.assise_names.specs.declared.refusal.Refusal.TheVariants.{OutOfMemory}
-use Rattle.assise_inode_table.specs.Contents.{Content}
-use Rattle.assise_digest.specs.Region.{RegionValue, with_inode}
-use Rattle.assise_manager.specs.Changes.{IsLowest, IsLowestOf, with_copied as copied_by, copied_as, donor_of, filling_fault, filling_fault_of, stale_of}
-use Rattle.assise_manager.specs.Membership.{IsMembership, Membership}
-use Rattle.assise_manager.specs.Standings.{Standing, down, full, returning, standing_of}
 use Rattle.assise_manager.proofs.Lawful.{donor_full}
-use Rattle.assise_model_members.specs.Returns.{Refills}
-use Rattle.assise_model_events.specs.Events.{Answer, left, refused}
-use Rattle.assise_model_events.specs.MemberEvents.{IsRefilled, Refilling, count_of}
 use Rattle.assise_model_events.specs.MemberEvents.Refilling.{is_refilled, is_refused, is_whole, lacks_memory}
-use Rattle.assise_machine_state.specs.Changes.{after_inode, after_members}
-use Rattle.assise_machine_state.specs.NodeValues.{region_in, with_region}
-use Rattle.assise_machine_state.specs.Observed.{is_full_in, observed, world_of}
-use Rattle.assise_machine_state.specs.Places.{IsNumber}
-use Rattle.assise_machine_state.specs.Invariant.{CutsInvariant, ShapeInvariant}
-use Rattle.assise_machine_state.specs.StateValues.{StateValue, leases_of, standings}
-use Rattle.assise_machine_state.specs.Whole.{value_of}
 use Rattle.assise_machine_state.specs.declared.sound.SoundOf.{SoundOf}
-use Rattle.assise_machine_state.proofs.Fullness.{node_number}
-use Rattle.assise_machine_state.proofs.AwayObserved.{inode_else, inode_here, inode_rests, inode_shaped, members_areas, members_rest, members_shaped}
-use Rattle.assise_machine_state.proofs.HotCapacities.{region_keeps}
-use Rattle.assise_machine_state.proofs.Standings.{full_as, same_count}
-use Rattle.assise_machine_failures.specs.Answers.{refilling_answer}
 use Rattle.assise_machine_failures.proofs.DroppedCopies.{not_full, rests_more}
 use Rattle.assise_machine_failures.proofs.ComingBack.{counted, still_full}
 use Rattle.assise_machine_failures.proofs.RefusedFailures.{IsFaultOr}
 
 -- ---- it is refused
 
-pub refill_refused : (s : StateValue) (n : ℕ) (e : Refusal) (a : Answer) → a ≡ refused e → filling_fault s.members n ≢ None → IsFaultOr (filling_fault s.members n) e → Refilling (observed s) n a (observed s)
+pub refill_refused : (s : StateValue) (n : ℕ) (e : Refusal) (a : Answer) → a ≡ refused e → filling_fault s.members n ≢ None →
+    IsFaultOr (filling_fault s.members n) e → Refilling (observed s) n a (observed s)
 unfolding observed
 refill_refused s n e a is faulty (inl (fine, memory)) = absurd (faulty fine)
 refill_refused s n e a is faulty (inr fault) = is_refused e fault is refl

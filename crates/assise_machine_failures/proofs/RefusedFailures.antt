@@ -1,10 +1,6 @@
 -- What is refused leaves all as it was.
-use Rattle.std.proofs.Common.{◌≡◌, ◌⊎◌, Option, Some, None, Result, Err, inl, inr, refl, ap, sym, true, false, true≢false}
-use Rattle.assise_names.specs.declared.refusal.Refusal.{Refusal}
-use Rattle.assise_names.specs.declared.refusal.Refusal.TheVariants.{OutOfMemory}
-use Rattle.assise_manager.specs.Membership.{Membership}
-use Rattle.assise_machine_state.specs.Changes.{after_members}
-use Rattle.assise_machine_state.specs.StateValues.{StateValue}
+use Rattle.assise_machine_failures.proofs.Common.{◌≡◌, ◌⊎◌, Option, Some, None, Result, Err, inl, inr, refl, ap, sym, true, false, true≢false, Refusal}
+use Rattle.assise_machine_failures.proofs.Common.{OutOfMemory, Membership, after_members, StateValue}
 
 -- the members are the same after all
 pub same_after : (s : StateValue) (m : Membership) → m ≡ s.members → after_members s m ≡ s
@@ -17,7 +13,8 @@ IsFaultOr fault e = ((fault ≡ None) × (e ≡ OutOfMemory)) ⊎ (fault ≡ Som
 pub same_error : {X : Type 0} (d e : Refusal) → ◌≡◌ {A = Result X Refusal} (Err d) (Err e) → d ≡ e
 same_error d e is = cc
 
-pub fault_or : {X : Type 0} (fault : Option Refusal) (e : Refusal) → ((r : Refusal) → fault ≡ Some r → ◌≡◌ {A = Result X Refusal} (Err e) (Err r)) → (fault ≡ None → e ≡ OutOfMemory) → IsFaultOr fault e
+pub fault_or : {X : Type 0} (fault : Option Refusal) (e : Refusal) → ((r : Refusal) → fault ≡ Some r → ◌≡◌ {A = Result X Refusal} (Err e) (Err r)) →
+    (fault ≡ None → e ≡ OutOfMemory) → IsFaultOr fault e
 fault_or None e faults memory = inl (refl, memory refl)
 fault_or {X} (Some r) e faults memory = inr (ap Some (sym (same_error {X = X} e r (faults r refl))))
 

@@ -1,18 +1,8 @@
 -- That a node is full again has one proof at most, where it is known how it stood.
-use Rattle.std.proofs.Common.{◌≡◌, ℕ, Some, None, inl, inr, ap, sym, ◌∙◌}
-use Rattle.std.specs.Coded.{Coded-set, coded_option, coded_ℕ}
-use Rattle.std.specs.Ordering.{nat_cmp}
+use Rattle.assise_machine_failures.proofs.Common.{◌≡◌, ℕ, Some, None, inl, inr, ap, sym, ◌∙◌, Coded-set, coded_option, coded_ℕ, nat_cmp, ∥∥₁_elim, props}
+use Rattle.assise_machine_failures.proofs.Common.{cases_eq, same_Some, coded_content, donor_of, join_fault, Membership, returning, standing_of, World, Rejoins}
 use Rattle.std.specs.FinSet as set
-use Rattle.std.proofs.Math.Logic.{∥∥₁_elim}
-use Rattle.std.proofs.Props.{props}
-use Rattle.std.proofs.lemmas.Bool.{cases_eq}
-use Rattle.std.proofs.lemmas.Option.{same_Some}
-use Rattle.assise_inode_table.specs.Contents.{coded_content}
-use Rattle.assise_manager.specs.Changes.{donor_of, join_fault, joined}
-use Rattle.assise_manager.specs.Membership.{Membership}
-use Rattle.assise_manager.specs.Standings.{returning, standing_of}
-use Rattle.assise_model_world.specs.World.{World}
-use Rattle.assise_model_members.specs.Returns.{Rejoins}
+use Rattle.assise_manager.specs.Changes.{joined}
 use Rattle.assise_machine_failures.proofs.Codes.{coded_calls, coded_records}
 
 module _ (w w' : World) (m m' : Membership) (n since donor : ℕ) (stale : set.FinSet nat_cmp) (some : ∥ Rejoins w m n w' m' ∥₁)

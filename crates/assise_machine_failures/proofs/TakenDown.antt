@@ -1,35 +1,14 @@
 -- A full node that is taken down: its logs are gone, and those of its clients are cut where they are kept.
-use Rattle.std.proofs.Common.{◌≡◌, ◌≢◌, ℕ, zero, suc, ◌<◌, ◌≤◌, ◌==◌, true, false, not, ◌&&◌, List, [], ◌∷◌, ◌++◌, length, Some, inl, inr, refl, ap, subst, ◌∙◌, arith, slice_index_or}
-use Rattle.std.proofs.Math.Bridge.{le_prop}
-use Rattle.std.proofs.Math.Logic.{∥∥₁_elim, ∥∥₁_map}
-use Rattle.std.proofs.lemmas.Bool.{cases_Bool, ne_eqb}
-use Rattle.std.specs.Ordering.{nat_cmp}
+use Rattle.assise_machine_failures.proofs.Common.{◌≡◌, ◌≢◌, ℕ, zero, suc, ◌<◌, ◌≤◌, ◌==◌, true, false, not, ◌&&◌, List, [], ◌∷◌, ◌++◌, length, Some, inl, inr}
+use Rattle.assise_machine_failures.proofs.Common.{refl, ap, subst, ◌∙◌, arith, slice_index_or, le_prop, ∥∥₁_elim, ∥∥₁_map, cases_Bool, ne_eqb, nat_cmp}
+use Rattle.assise_machine_failures.proofs.Common.{EntryValue, fails, RegionValue, Asked, TwoLevels, failed, Membership, full, standing_of, kept_at_failure}
+use Rattle.assise_machine_failures.proofs.Common.{WorldInvariant, World, received_by_all, kept_low, losses_of, MachineInvariant, after_failure}
+use Rattle.assise_machine_failures.proofs.Common.{with_clients_cut, with_clients_failed, ClientValue, client_in, failed_at, with_client, HasLog}
+use Rattle.assise_machine_failures.proofs.Common.{IsUndigestedFrom, log_in, region_in, with_tails_cut, without_logs, is_full_in, observed, world_of, IsNumber}
+use Rattle.assise_machine_failures.proofs.Common.{ShapeInvariant, StateValue, standings, node_number, seen_full, log_away, region_else, region_here, less_one}
+use Rattle.assise_machine_failures.proofs.Common.{kept_in, kept_to}
 use Rattle.std.specs.FinSet as set
 use Rattle.assise_names.specs.declared.limits.TheConstants.{MOST_CLIENTS}
-use Rattle.assise_history.specs.Entries.{EntryValue, fails}
-use Rattle.assise_digest.specs.Region.{RegionValue}
-use Rattle.assise_lease_table.specs.declared.lease.Asked.{Asked}
-use Rattle.assise_lease_tree.specs.TwoLevels.{TwoLevels}
-use Rattle.assise_manager.specs.Changes.{failed}
-use Rattle.assise_manager.specs.Membership.{Membership}
-use Rattle.assise_manager.specs.Standings.{full, standing_of}
-use Rattle.assise_model_world.specs.NodeSteps.{kept_at_failure}
-use Rattle.assise_model_world.specs.Invariant.{WorldInvariant}
-use Rattle.assise_model_world.specs.World.{World, received_by_all}
-use Rattle.assise_model_world.proofs.FailureKeeps.{kept_low}
-use Rattle.assise_model_history.specs.Lost.{losses_of}
-use Rattle.assise_model_events.specs.Machine.{MachineInvariant}
-use Rattle.assise_machine_state.specs.Changes.{after_failure, with_clients_cut, with_clients_failed}
-use Rattle.assise_machine_state.specs.ClientValues.{ClientValue, client_in, failed_at, with_client}
-use Rattle.assise_machine_state.specs.NodeValues.{HasLog, IsUndigestedFrom, log_in, region_in, with_tails_cut, without_logs}
-use Rattle.assise_machine_state.specs.Observed.{is_full_in, observed, world_of}
-use Rattle.assise_machine_state.specs.Places.{IsNumber}
-use Rattle.assise_machine_state.specs.Invariant.{ShapeInvariant}
-use Rattle.assise_machine_state.specs.StateValues.{StateValue, standings}
-use Rattle.assise_machine_state.proofs.Fullness.{node_number, seen_full}
-use Rattle.assise_machine_state.proofs.LogChanges.{log_away, region_else, region_here}
-use Rattle.assise_machine_state.proofs.ItemSeen.{less_one}
-use Rattle.assise_machine_failures.specs.Listing.{kept_in, kept_to}
 use Rattle.assise_machine_failures.proofs.KeptPlaces.{kept_place}
 
 -- ---- numbers
@@ -52,7 +31,8 @@ place_in w n m (suc c) ks is some low =
     ap (λ js. kept_in js (suc c)) is ∙ ap (λ k. slice_index_or (kept_to w n m) k 0) (less_one c) ∙ kept_place w n m c (omega (arith, low))
 
 -- what is cut depends on the places of clients 1 to m alone
-pub same_cuts : (n : ℕ) (cs : List ClientValue) (f g : ℕ → ℕ) (m : ℕ) (rs : List RegionValue) → ((c : ℕ) → 0 < c → c ≤ m → f c ≡ g c) → with_clients_cut n cs f m rs ≡ with_clients_cut n cs g m rs
+pub same_cuts : (n : ℕ) (cs : List ClientValue) (f g : ℕ → ℕ) (m : ℕ) (rs : List RegionValue) → ((c : ℕ) → 0 < c → c ≤ m → f c ≡ g c) →
+    with_clients_cut n cs f m rs ≡ with_clients_cut n cs g m rs
 same_cuts n cs f g zero rs same = refl
 same_cuts n cs f g (suc m) rs same =
     let rest : with_clients_cut n cs f m rs ≡ with_clients_cut n cs g m rs = same_cuts n cs f g m rs (λ c some low. same c some (omega (arith, low))) in
@@ -62,7 +42,8 @@ same_cuts n cs f g (suc m) rs same =
       | inr other ↦ rw other rest
     ]
 
-pub same_ends : (n : ℕ) (f g : ℕ → ℕ) (m : ℕ) (cs : List ClientValue) → ((c : ℕ) → 0 < c → c ≤ m → f c ≡ g c) → with_clients_failed n f m cs ≡ with_clients_failed n g m cs
+pub same_ends : (n : ℕ) (f g : ℕ → ℕ) (m : ℕ) (cs : List ClientValue) → ((c : ℕ) → 0 < c → c ≤ m → f c ≡ g c) → with_clients_failed n f m cs
+    ≡ with_clients_failed n g m cs
 same_ends n f g zero cs same = refl
 same_ends n f g (suc m) cs same =
     let rest : with_clients_failed n f m cs ≡ with_clients_failed n g m cs = same_ends n f g m cs (λ c some low. same c some (omega (arith, low))) in
@@ -101,7 +82,8 @@ module _ (s : StateValue) (n : ℕ) (shape : ShapeInvariant s) (stands : standin
 
   digested_low : (k c : ℕ) → is_full_in (standings s) k ≡ true → (world_of s).digested k c ≤ kept_at_failure (world_of s) n c
   digested_low k c f =
-      let acked : (world_of s).digested k c ≤ received_by_all (world_of s) c = ∥∥₁_elim sound le_prop (λ h. (h.coherent.order k c (seen_full s k f)).replicated) in
+      let acked : (world_of s).digested k c ≤ received_by_all (world_of s) c = ∥∥₁_elim sound le_prop (λ h. (h.coherent.order k c (seen_full s k f)).replicated)
+      in
       let low : received_by_all (world_of s) c ≤ kept_at_failure (world_of s) n c = kept_low (world_of s) n c in
       omega (arith, acked, low)
 
@@ -125,14 +107,20 @@ module _ (s : StateValue) (n : ℕ) (shape : ShapeInvariant s) (stands : standin
 
 -- ---- it is the state after the failure
 
-pub is_after : (s : StateValue) (n : ℕ) (inodes : set.FinSet nat_cmp) (levels : TwoLevels) (asked : List Asked) (ks : List ℕ) (last : ℕ) (rs : List RegionValue) (m : Membership) (cs : List ClientValue) (cuts : List Asked) (h : List EntryValue) →
-    ks ≡ kept_to (world_of s) n (length s.clients) → last ≡ length s.clients → rs ≡ with_clients_cut n s.clients (kept_in ks) last (without_logs s.nodes n) → m ≡ failed s.members n inodes →
+pub is_after : (s : StateValue) (n : ℕ) (inodes : set.FinSet nat_cmp) (levels : TwoLevels) (asked : List Asked) (ks : List ℕ) (last : ℕ) (rs : List RegionValue)
+    (m : Membership) (cs : List ClientValue) (cuts : List Asked) (h : List EntryValue) →
+    ks ≡ kept_to (world_of s) n (length s.clients) → last ≡ length s.clients → rs ≡ with_clients_cut n s.clients (kept_in ks) last (without_logs s.nodes n) →
+    m ≡ failed s.members n inodes →
     cs ≡ with_clients_failed n (kept_in ks) last s.clients → cuts ≡ s.cuts ++ asked → h ≡ s.history ++ fails n (losses_of (world_of s) n) ∷ [] →
-    ◌≡◌ {A = StateValue} (record { nodes = rs; members = m; clients = cs; levels = levels; cuts = cuts; history = h; limit = s.limit }) (after_failure s n inodes levels asked)
+    ◌≡◌ {A = StateValue} (record { nodes = rs; members = m; clients = cs; levels = levels; cuts = cuts; history = h; limit = s.limit })
+    (after_failure s n inodes levels asked)
 is_after s n inodes levels asked ks last rs m cs cuts h kept all nodes members clients noted told =
-    let places : (c : ℕ) → 0 < c → c ≤ length s.clients → kept_in ks c ≡ kept_at_failure (world_of s) n c = λ c some low. place_in (world_of s) n (length s.clients) c ks kept some low in
+    let places : (c : ℕ) → 0 < c → c ≤ length s.clients → kept_in ks c ≡ kept_at_failure (world_of s) n c = λ c some low. place_in (world_of s) n
+    (length s.clients) c ks kept some low in
     let cut : rs ≡ with_clients_cut n s.clients (kept_at_failure (world_of s) n) (length s.clients) (without_logs s.nodes n) =
-    nodes ∙ ap (λ j. with_clients_cut n s.clients (kept_in ks) j (without_logs s.nodes n)) all ∙ same_cuts n s.clients (kept_in ks) (kept_at_failure (world_of s) n) (length s.clients) (without_logs s.nodes n) places in
+    nodes ∙ ap (λ j. with_clients_cut n s.clients (kept_in ks) j (without_logs s.nodes n)) all
+    ∙ same_cuts n s.clients (kept_in ks) (kept_at_failure (world_of s) n) (length s.clients) (without_logs s.nodes n) places in
     let over : cs ≡ with_clients_failed n (kept_at_failure (world_of s) n) (length s.clients) s.clients =
-    clients ∙ ap (λ j. with_clients_failed n (kept_in ks) j s.clients) all ∙ same_ends n (kept_in ks) (kept_at_failure (world_of s) n) (length s.clients) s.clients places in
+    clients ∙ ap (λ j. with_clients_failed n (kept_in ks) j s.clients) all ∙ same_ends n (kept_in ks) (kept_at_failure (world_of s) n) (length s.clients)
+    s.clients places in
     λ i. record { nodes = cut i; members = members i; clients = over i; levels = levels; cuts = noted i; history = told i; limit = s.limit }

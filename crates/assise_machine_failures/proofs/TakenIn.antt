@@ -1,34 +1,15 @@
 -- A node that came back is full again, as the laws have it.
-use Rattle.std.proofs.Common.{◌≡◌, ◌≢◌, ℕ, suc, ◌+◌, ◌<◌, ◌≤◌, false, true, List, [], ◌∷◌, ◌++◌, length, Option, Some, None, inl, inr, refl, ap, sym, subst, ◌∙◌, arith, eq-eqb, is_some, true≢false}
-use Rattle.std.specs.Ordering.{nat_cmp}
+use Rattle.assise_machine_failures.proofs.Common.{◌≡◌, ◌≢◌, ℕ, suc, ◌+◌, ◌<◌, ◌≤◌, false, true, List, [], ◌∷◌, ◌++◌, length, Option, Some, None, inl, inr, refl}
+use Rattle.assise_machine_failures.proofs.Common.{ap, sym, subst, ◌∙◌, arith, eq-eqb, is_some, true≢false, nat_cmp, contains-empty, empty_of_len, len-empty}
+use Rattle.assise_machine_failures.proofs.Common.{le_prop, ∥∥₁_elim, ∥∥₁_map, ne_eqb, none-some, Refusal, Busy, OutOfMemory, EntryValue, returns, RegionValue}
+use Rattle.assise_machine_failures.proofs.Common.{without_clients, IsLowestOf, filling_fault, filling_fault_of, join_fault, join_fault_of, joined_members}
+use Rattle.assise_machine_failures.proofs.Common.{stale_of, Membership, Standing, returning, standing_of, Answer, joined, refused, MachineInvariant, Joining}
+use Rattle.assise_machine_failures.proofs.Common.{Rejoins, after_join, region_in, with_logs_of, with_region, without_logs, observed, world_of, IsNumber}
+use Rattle.assise_machine_failures.proofs.Common.{CutsInvariant, ShapeInvariant, StateValue, leases_of, standings, region_keeps, region_back, region_here}
+use Rattle.assise_machine_failures.proofs.Common.{length-with, with-with}
 use Rattle.std.specs.FinSet as set
-use Rattle.std.specs.FinSet.{contains-empty, empty_of_len, len-empty}
-use Rattle.std.proofs.Math.Bridge.{le_prop}
-use Rattle.std.proofs.Math.Logic.{∥∥₁_elim, ∥∥₁_map}
-use Rattle.std.proofs.lemmas.Bool.{ne_eqb}
-use Rattle.std.proofs.lemmas.Option.{none-some}
-use Rattle.assise_names.specs.declared.refusal.Refusal.{Refusal}
-use Rattle.assise_names.specs.declared.refusal.Refusal.TheVariants.{Busy, OutOfMemory}
-use Rattle.assise_history.specs.Entries.{EntryValue, returns}
-use Rattle.assise_digest.specs.Region.{RegionValue, without_clients}
-use Rattle.assise_manager.specs.Changes.{IsLowestOf, filling_fault, filling_fault_of, join_fault, join_fault_of, joined as joined_members, stale_of}
-use Rattle.assise_manager.specs.Membership.{Membership}
-use Rattle.assise_manager.specs.Standings.{Standing, returning, standing_of}
-use Rattle.assise_model_events.specs.Events.{Answer, joined, refused}
-use Rattle.assise_model_events.specs.Machine.{MachineInvariant}
-use Rattle.assise_model_events.specs.MemberEvents.{Joining}
 use Rattle.assise_model_events.specs.MemberEvents.Joining.{is_joined, is_refused, lacks_memory}
-use Rattle.assise_model_members.specs.Returns.{Rejoins}
-use Rattle.assise_machine_state.specs.Changes.{after_join}
-use Rattle.assise_machine_state.specs.NodeValues.{region_in, with_logs_of, with_region, without_logs}
-use Rattle.assise_machine_state.specs.Observed.{observed, world_of}
-use Rattle.assise_machine_state.specs.Places.{IsNumber}
-use Rattle.assise_machine_state.specs.Invariant.{CutsInvariant, ShapeInvariant}
-use Rattle.assise_machine_state.specs.StateValues.{StateValue, leases_of, standings}
-use Rattle.assise_machine_state.proofs.HotCapacities.{region_keeps}
 use Rattle.assise_machine_state.proofs.JoinObserved.{join_shaped, node_rejoins}
-use Rattle.assise_machine_state.proofs.LogChanges.{region_back, region_here}
-use Rattle.assise_machine_state.proofs.ItemSeen.{length-with, with-with}
 use Rattle.assise_machine_failures.proofs.RefillHappens.{IsFilledFrom, filled_from, filled_stands}
 use Rattle.assise_machine_failures.proofs.RefusedFailures.{IsFaultOr}
 use Rattle.assise_machine_failures.proofs.Settled.{settled}
@@ -47,7 +28,8 @@ logs_gone rs n d there none =
     let back : without_clients filled ≡ region_in rs n = same ∙ (λ i. record (region_in rs n) { logs = sym none i }) in
     with-with rs n _ _ ∙ ap (with_region rs n) back ∙ region_back rs n
 
-pub logs_back : (rs ls ms : List RegionValue) (n d : ℕ) → IsNumber rs n → (region_in rs n).logs ≡ [] → ls ≡ with_logs_of rs n d → ms ≡ without_logs ls n → ms ≡ rs
+pub logs_back : (rs ls ms : List RegionValue) (n d : ℕ) → IsNumber rs n → (region_in rs n).logs ≡ [] → ls ≡ with_logs_of rs n d → ms ≡ without_logs ls n →
+    ms ≡ rs
 logs_back rs ls ms n d there none got gone = gone ∙ ap (λ xs. without_logs xs n) got ∙ logs_gone rs n d there none
 
 pub got_number : (rs ls : List RegionValue) (n d : ℕ) → IsNumber rs n → ls ≡ with_logs_of rs n d → IsNumber ls n
@@ -66,7 +48,8 @@ epoch_fits s holds few =
 fault_stays : (o : Option Standing) (e : Refusal) → filling_fault_of o ≡ Some e → join_fault_of o ≡ Some e
 fault_stays o e fault = grind (arith, none-some)
 
-pub join_refused : (s : StateValue) (n : ℕ) (e : Refusal) (a : Answer) → a ≡ refused e → IsFaultOr (filling_fault s.members n) e → (filling_fault s.members n ≡ None → ⊥) → Joining (observed s) n a (observed s)
+pub join_refused : (s : StateValue) (n : ℕ) (e : Refusal) (a : Answer) → a ≡ refused e → IsFaultOr (filling_fault s.members n) e →
+    (filling_fault s.members n ≡ None → ⊥) → Joining (observed s) n a (observed s)
 unfolding observed
 join_refused s n e a is (inl (fine, memory)) never = absurd (never fine)
 join_refused s n e a is (inr fault) never = is_refused e (fault_stays (standing_of (standings s) n) e fault) is refl
@@ -82,7 +65,8 @@ no_fault : (o : Option Standing) → IsLowestOf (stale_of o) None → join_fault
 no_fault o none = grind (arith, eq-eqb, len-empty)
 
 module _ (s : StateValue) (n : ℕ) where
-  pub join_busy : (lowest : Option ℕ) → IsLowestOf (stale_of (standing_of (standings s) n)) lowest → is_some lowest ≡ true → Joining (observed s) n (refused Busy) (observed s)
+  pub join_busy : (lowest : Option ℕ) → IsLowestOf (stale_of (standing_of (standings s) n)) lowest → is_some lowest ≡ true →
+      Joining (observed s) n (refused Busy) (observed s)
   unfolding observed
   join_busy None low some = absurd (true≢false (sym some))
   join_busy (Some i) low some = is_refused Busy (busy_fault (standing_of (standings s) n) i low) refl refl

@@ -1,40 +1,21 @@
 -- What the laws observe where those who stand in a call's way are asked for their leases.
-use Rattle.std.proofs.Common.{◌≡◌, ◌≢◌, inl, inr, ℕ, zero, suc, ◌+◌, ◌-◌, ◌≤◌, max, ◌==◌, Bool, true, false, cond, not, ◌&&◌, ◌||◌, if◌then◌else◌, List, []}
-use Rattle.std.proofs.Common.{◌∷◌, ◌++◌, length, filter, drop, slice_get, Option, Some, None, refl, ap, sym, subst, ◌∙◌, arith, eq-eqb}
-use Rattle.std.specs.List.{list_all, list_any}
-use Rattle.std.proofs.Math.Bool.{and-true, or-false}
-use Rattle.std.proofs.lemmas.Bool.{and_from, and_parts, and_right, cases_Bool, cases_eq, eqb-true, false_from_ne_true, ne_eqb, not-true, or_parts}
-use Rattle.std.proofs.lemmas.List.Folds.{list_any-append}
+use Rattle.assise_machine_state.proofs.Common.{◌≡◌, ◌≢◌, inl, inr, ℕ, zero, suc, ◌+◌, ◌-◌, ◌≤◌, max, ◌==◌, Bool, true, false, cond, not, ◌&&◌, ◌||◌}
+use Rattle.assise_machine_state.proofs.Common.{if◌then◌else◌, List, [], ◌∷◌, ◌++◌, length, filter, drop, slice_get, Option, Some, None, refl, ap, sym, subst}
+use Rattle.assise_machine_state.proofs.Common.{◌∙◌, arith, eq-eqb, list_all, list_any, and-true, or-false, and_from, and_parts, and_right, cases_Bool, cases_eq}
+use Rattle.assise_machine_state.proofs.Common.{eqb-true, false_from_ne_true, ne_eqb, not-true, or_parts, list_any-append, Effect, LogRecord, all_effects}
+use Rattle.assise_machine_state.proofs.Common.{contains, touched, NumberedLog, is_border, record_at, Asked, Lease, Among, stand_together, compatible, holders}
+use Rattle.assise_machine_state.proofs.Common.{is_to_ask, lease_of, in_way, is_revoked, IsAskedFor, TwoLevels, is_free_for, RaisesGoals, KeepsLeases}
+use Rattle.assise_machine_state.proofs.Common.{end_of_log, contains-all_effects, Asks, asked_goal, is_newly_revoked, AreLeases, CoversFrom, Leases}
+use Rattle.assise_machine_state.proofs.Common.{client_lease, is_held, is_written, client_records_from, revoke_of, revoked_held, revoked_one, held_one}
+use Rattle.assise_machine_state.proofs.Common.{still_revoked, written_one, after_asking, with_goals, ClientValue, client_in, is_over, with_client, with_goal}
+use Rattle.assise_machine_state.proofs.Common.{are_once, cut_in, is_asked, is_of, own_seen, world_of, IsNumber, AreAnswers, CutsInvariant, ShapeInvariant}
+use Rattle.assise_machine_state.proofs.Common.{StateValue, leases_of}
 use Rattle.assise_names.specs.declared.mode.Mode.{Mode}
-use Rattle.assise_record.specs.declared.effect.Effect.{Effect}
-use Rattle.assise_record.specs.LogRecord.{LogRecord}
 use Rattle.assise_record.specs.Touched.{touched_by}
-use Rattle.assise_record.specs.Records.{all_effects}
-use Rattle.assise_inode_table.specs.Effects.{contains, touched}
-use Rattle.assise_private_log.specs.NumberedLog.{NumberedLog, is_border, record_at}
 use Rattle.assise_private_log.specs.Touches.{Covers as CoversLog, found_touches}
-use Rattle.assise_lease_table.specs.declared.lease.Asked.{Asked}
-use Rattle.assise_lease_table.specs.declared.lease.Lease.{Lease}
 use Rattle.assise_lease_table.specs.Answers.{clients_of}
-use Rattle.assise_lease_table.specs.Leases.{Among, stand_together, compatible, holders, is_to_ask, lease_of}
 use Rattle.assise_lease_table.proofs.Compatibles.{differ, filter_compatible}
 use Rattle.assise_lease_table.proofs.Elements.{all_among, among_all, among_any, among_filter, not_both}
-use Rattle.assise_lease_tree.specs.Levels.{in_way, is_revoked}
-use Rattle.assise_lease_tree.specs.TwoLevels.{IsAskedFor, TwoLevels, is_free_for}
-use Rattle.assise_model_world.specs.ClientSteps.{RaisesGoals}
-use Rattle.assise_model_world.specs.Staying.{KeepsLeases}
-use Rattle.assise_model_world.specs.World.{end_of_log}
-use Rattle.assise_model_world.proofs.Logs.{contains-all_effects}
-use Rattle.assise_model_leases.specs.Handing.{Asks, asked_goal, is_newly_revoked}
-use Rattle.assise_model_leases.specs.Leases.{AreLeases, CoversFrom, Leases, client_lease, is_held, is_written, client_records_from}
-use Rattle.assise_model_leases.proofs.LookUps.{revoke_of, revoked_held, revoked_one, held_one, still_revoked, written_one}
-use Rattle.assise_machine_state.specs.Changes.{after_asking, with_goals}
-use Rattle.assise_machine_state.specs.ClientValues.{ClientValue, client_in, is_over, with_client, with_goal}
-use Rattle.assise_lease_table.specs.Cuts.{are_once, cut_in, is_asked, is_of}
-use Rattle.assise_machine_state.specs.Observed.{own_seen, world_of}
-use Rattle.assise_machine_state.specs.Places.{IsNumber}
-use Rattle.assise_machine_state.specs.Invariant.{AreAnswers, CutsInvariant, ShapeInvariant}
-use Rattle.assise_machine_state.specs.StateValues.{StateValue, leases_of}
 use Rattle.assise_machine_state.proofs.Fullness.{lives_number}
 use Rattle.assise_machine_state.proofs.Noted.{asked_either, cut_before, none_cut, once_both}
 use Rattle.assise_machine_state.proofs.ItemSeen.{client_else, client_here, client_same, each_number, length-with}
@@ -54,7 +35,8 @@ none_else l (k ∷ ks) all = grind (arith, and_parts, not-true, ne_eqb, differ, 
 
 -- the first lease, which stays or goes
 
-own_left : (b : Bool) (l : Lease) (ls : List Lease) (d : ℕ) → (l.holder == d) ≡ true → contains (holders ls) d ≡ false → contains (holders (cond b (l ∷ ls) ls)) d ≡ b
+own_left : (b : Bool) (l : Lease) (ls : List Lease) (d : ℕ) → (l.holder == d) ≡ true → contains (holders ls) d ≡ false →
+    contains (holders (cond b (l ∷ ls) ls)) d ≡ b
 own_left b l ls d h1 h2 = grind arith
 
 else_left : (b : Bool) (l : Lease) (ls : List Lease) (d : ℕ) → (l.holder == d) ≡ false → contains (holders (cond b (l ∷ ls) ls)) d ≡ contains (holders ls) d
@@ -139,7 +121,8 @@ same_number : (cs ds : List ClientValue) (d : ℕ) → length ds ≡ length cs �
 same_number cs ds d count there = record { some = there.some; there = subst (λ n. d ≤ n) (sym count) there.there }
 
 -- each is raised to its client's answer, where all are of one inode, and one of each client
-goals_raised : (xs : List Asked) (cs : List ClientValue) (i d : ℕ) → AreAt i xs → AreDistinct (clients_of xs) → ((a : Asked) → Among xs a → IsNumber cs a.client) →
+goals_raised : (xs : List Asked) (cs : List ClientValue) (i d : ℕ) → AreAt i xs → AreDistinct (clients_of xs) →
+    ((a : Asked) → Among xs a → IsNumber cs a.client) →
     (client_in (with_goals xs cs) d).goal ≡ max (client_in cs d).goal (cut_in xs d i)
 goals_raised [] cs i d all distinct there = omega arith
 goals_raised (a ∷ xs) cs i d all distinct there =
@@ -158,7 +141,8 @@ goals_raised (a ∷ xs) cs i d all distinct there =
           let cut : cut_in (a ∷ xs) d i ≡ a.cut = ap (λ b. if b then a.cut else cut_in xs d i) (of_client a i d (all a (inl refl)) ∙ eq-eqb a.client d is) in
           rest ∙ ap (max (client_in (with_client cs a.client now) d).goal) none ∙ rw cut (omega (arith, raised))
       | inr other ↦
-          let cut : cut_in (a ∷ xs) d i ≡ cut_in xs d i = ap (λ b. if b then a.cut else cut_in xs d i) (of_client a i d (all a (inl refl)) ∙ ne_eqb a.client d other) in
+          let cut : cut_in (a ∷ xs) d i ≡ cut_in xs d i = ap (λ b. if b then a.cut else cut_in xs d i)
+          (of_client a i d (all a (inl refl)) ∙ ne_eqb a.client d other) in
           rest
           ∙ ap (λ x. max x.goal (cut_in xs d i)) (client_else cs a.client now here d (λ same. other (sym same)))
           ∙ sym (ap (max (client_in cs d).goal) cut)
@@ -170,7 +154,8 @@ effects_touch : (es : List Effect) (i : ℕ) → contains (touched es) i ≡ lis
 effects_touch [] i = refl
 effects_touch (e ∷ es) i = ap (λ b. (touched_by e == i) || b) (effects_touch es i)
 
-places_untouched : (rs : List LogRecord) (j i : ℕ) → ((k : ℕ) → j ≤ k → found_touches (slice_get rs k) i ≡ false) → contains (touched (all_effects (drop j rs))) i ≡ false
+places_untouched : (rs : List LogRecord) (j i : ℕ) → ((k : ℕ) → j ≤ k → found_touches (slice_get rs k) i ≡ false) →
+    contains (touched (all_effects (drop j rs))) i ≡ false
 places_untouched [] zero i none = refl
 places_untouched [] (suc j) i none = refl
 places_untouched (r ∷ rs) zero i none =
@@ -187,7 +172,8 @@ log_covers s c i cut covers =
     let l : NumberedLog = (own_seen s c).log in
     record {
       to_end = covers.to_end;
-      untouched = places_untouched l.records (cut - l.first) i (λ k from. ap (λ o. found_touches o i) (sym (place_of l k)) ∙ covers.untouched (l.first + k) (omega (arith, from)));
+      untouched = places_untouched l.records (cut - l.first) i
+          (λ k from. ap (λ o. found_touches o i) (sym (place_of l k)) ∙ covers.untouched (l.first + k) (omega (arith, from)));
     }
 
 -- ---- what stays
@@ -207,7 +193,8 @@ asking_shaped s levels asked = still_shaped s (with_goals asked s.clients) level
 
 -- ---- leases that are asked for
 
-module _ (s : StateValue) (c i : ℕ) (mode : Mode) (levels : TwoLevels) (asked : List Asked) (noted : CutsInvariant s) (leases : AreLeases (world_of s) (leases_of s))
+module _ (s : StateValue) (c i : ℕ) (mode : Mode) (levels : TwoLevels) (asked : List Asked) (noted : CutsInvariant s)
+    (leases : AreLeases (world_of s) (leases_of s))
     (asks : IsAskedFor s.levels levels c (client_in s.clients c).home i mode) (answers : AreAnswers s c i mode asked) where
   abbrev way : Lease → Bool
   way = in_way s.levels.home (s.levels.nodes i) c (client_in s.clients c).home mode
@@ -265,7 +252,8 @@ module _ (s : StateValue) (c i : ℕ) (mode : Mode) (levels : TwoLevels) (asked 
   asked_here d j h = subst (λ k. is_asked asked d k ≡ true) (at_inode d j h) h
 
   unrevoked : (d : ℕ) → is_asked asked d i ≡ true → is_revoked (client_lease l d i) ≡ false
-  unrevoked d h = not-true (is_revoked (client_lease l d i)) (and_parts (not (is_revoked (client_lease l d i))) (is_revoked (client_lease l' d i)) (newly d ∙ h)).0
+  unrevoked d h = not-true (is_revoked (client_lease l d i))
+      (and_parts (not (is_revoked (client_lease l d i))) (is_revoked (client_lease l' d i)) (newly d ∙ h)).0
 
   held : (d : ℕ) → is_asked asked d i ≡ true → is_held (client_lease l d i) ≡ true
   held d h =

@@ -1,20 +1,8 @@
 -- What the laws observe where only nodes change that aren't full.
-use Rattle.std.proofs.Common.{◌≡◌, ◌≢◌, ℕ, ◌==◌, if◌then◌else◌, length, Option, refl, ap, subst, ◌∙◌, eq-eqb, arith}
-use Rattle.std.proofs.lemmas.Bool.{cases_eq, ne_eqb}
-use Rattle.assise_inode_table.specs.Contents.{Content, values}
-use Rattle.assise_inode_table.proofs.EffectValues.{get-with_value}
-use Rattle.assise_digest.specs.Region.{RegionValue, no_log, with_inode}
-use Rattle.assise_manager.specs.Membership.{Membership}
-use Rattle.assise_private_log.specs.NumberedLog.{is_border}
-use Rattle.assise_model_world.specs.NodeSteps.{Rests}
-use Rattle.assise_model_world.specs.World.{Full}
-use Rattle.assise_machine_state.specs.Changes.{after_inode, after_members}
-use Rattle.assise_machine_state.specs.ClientValues.{client_in}
-use Rattle.assise_machine_state.specs.NodeValues.{log_in, region_in}
-use Rattle.assise_machine_state.specs.Observed.{is_full_in, own_node, own_seen, world_of}
-use Rattle.assise_machine_state.specs.Places.{IsNumber, item_at}
-use Rattle.assise_machine_state.specs.Invariant.{ShapeInvariant}
-use Rattle.assise_machine_state.specs.StateValues.{StateValue, standings}
+use Rattle.assise_machine_state.proofs.Common.{◌≡◌, ◌≢◌, ℕ, ◌==◌, if◌then◌else◌, length, Option, refl, ap, subst, ◌∙◌, eq-eqb, arith, cases_eq, ne_eqb, Content}
+use Rattle.assise_machine_state.proofs.Common.{values, get-with_value, RegionValue, no_log, with_inode, Membership, is_border, Rests, Full, after_inode}
+use Rattle.assise_machine_state.proofs.Common.{after_members, client_in, log_in, region_in, is_full_in, own_node, own_seen, world_of, IsNumber, item_at}
+use Rattle.assise_machine_state.proofs.Common.{ShapeInvariant, StateValue, standings}
 use Rattle.assise_machine_state.proofs.LogChanges.{region_else, region_here, region_kept}
 use Rattle.assise_machine_state.proofs.ShapeKept.{shaped_as, still_marked}
 use Rattle.assise_machine_state.proofs.Standings.{same_full, same_own}
@@ -23,17 +11,18 @@ use Rattle.assise_machine_state.proofs.ItemSeen.{length-with}
 
 -- ---- members of which the same are full
 
-module _ (s : StateValue) (m : Membership) (long : length m.nodes ≡ length (standings s)) (same : (n : ℕ) → is_full_in m.nodes n ≡ is_full_in (standings s) n) where
-  abbrev u : StateValue
-  u = after_members s m
+module _ (s : StateValue) (m : Membership) (long : length m.nodes ≡ length (standings s)) (same : (n : ℕ) → is_full_in m.nodes n ≡ is_full_in (standings s) n)
+  where
+    abbrev u : StateValue
+    u = after_members s m
 
-  own_stays : (c : ℕ) → own_seen u c ≡ own_seen s c
-  unfolding own_seen
-  own_stays c = ap (λ n. log_in s.nodes n c) (same_own m.nodes (standings s) long same (client_in s.clients c))
+    own_stays : (c : ℕ) → own_seen u c ≡ own_seen s c
+    unfolding own_seen
+    own_stays c = ap (λ n. log_in s.nodes n c) (same_own m.nodes (standings s) long same (client_in s.clients c))
 
-  pub members_rest : Rests (world_of s) (world_of u)
-  unfolding world_of
-  members_rest = search (logs_as, own_stays, clients_as, goals_as, leases_as, same_full, node_as, arith) parts 3
+    pub members_rest : Rests (world_of s) (world_of u)
+    unfolding world_of
+    members_rest = search (logs_as, own_stays, clients_as, goals_as, leases_as, same_full, node_as, arith) parts 3
 
 pub members_areas : (s : StateValue) (m : Membership) (n i : ℕ) → (world_of (after_members s m)).area n i ≡ (world_of s).area n i
 unfolding world_of
@@ -82,7 +71,8 @@ module _ (s : StateValue) (n i : ℕ) (v : Option Content) (there : IsNumber s.n
   pub inode_rests : (Full (world_of s) n → ⊥) → Rests (world_of s) (world_of t)
   unfolding world_of
   inode_rests away = record {
-    logs = logs_as s t refl refl (λ c. ap (λ l. l.log.records) (own_same c)) (λ c. ap (λ l. l.log.first) (own_same c)) (λ c k. ap (λ l. is_border l.log k) (own_same c));
+    logs = logs_as s t refl refl (λ c. ap (λ l. l.log.records) (own_same c)) (λ c. ap (λ l. l.log.first) (own_same c))
+        (λ c k. ap (λ l. is_border l.log k) (own_same c));
     clients = clients_as s t refl;
     goals = goals_as s t refl;
     leases = leases_as s t (λ j. refl);

@@ -1,20 +1,8 @@
 -- The greatest place that a full node besides a client's home has received.
-use Rattle.std.proofs.Common.{◌≡◌, ℕ, ◌+◌, ◌<◌, ◌≤◌, ◌==◌, max, not, take, take-suc, Bool, true, false, List, [], ◌∷◌, ◌++◌, filter, length, get_or, refl, ap}
-use Rattle.std.proofs.Common.{◌∙◌, arith, suc}
-use Rattle.std.proofs.lemmas.Bool.{cases_Bool, cases_eq, false≢true, ne_eqb}
-use Rattle.assise_inode_table.specs.Effects.{contains}
-use Rattle.assise_private_log.specs.NumberedLog.{end as log_end}
-use Rattle.assise_manager.specs.Standings.{full_nodes}
-use Rattle.assise_model_world.specs.World.{received_by_all}
-use Rattle.assise_model_world.proofs.FailureKeeps.{contains-filter, filter-contains}
-use Rattle.assise_model_events.specs.Dsyncs.{besides, coalesced_from, full_elsewhere, most_of}
-use Rattle.assise_model_events.proofs.Regroupable.{most-above, most-below}
-use Rattle.assise_machine_state.specs.ClientValues.{client_in}
-use Rattle.assise_machine_state.specs.NodeValues.{log_in}
-use Rattle.assise_machine_state.specs.Observed.{world_of}
-use Rattle.assise_machine_state.specs.Places.{IsNumber}
-use Rattle.assise_machine_state.specs.Invariant.{ShapeInvariant}
-use Rattle.assise_machine_state.specs.StateValues.{StateValue, standings}
+use Rattle.assise_machine_state.proofs.Common.{◌≡◌, ℕ, ◌+◌, ◌<◌, ◌≤◌, ◌==◌, max, not, take, take-suc, Bool, true, false, List, [], ◌∷◌, ◌++◌, filter, length}
+use Rattle.assise_machine_state.proofs.Common.{get_or, refl, ap, ◌∙◌, arith, suc, cases_Bool, cases_eq, false≢true, ne_eqb, contains, log_end, full_nodes}
+use Rattle.assise_machine_state.proofs.Common.{received_by_all, contains-filter, filter-contains, besides, coalesced_from, full_elsewhere, most_of, most-above}
+use Rattle.assise_machine_state.proofs.Common.{most-below, client_in, log_in, world_of, IsNumber, ShapeInvariant, StateValue, standings}
 use Rattle.assise_machine_state.proofs.Fullness.{full_is}
 use Rattle.assise_machine_state.proofs.Standings.{is_listed, listed_is_full}
 
@@ -59,7 +47,8 @@ module _ (s : StateValue) (c : ℕ) (shape : ShapeInvariant s) (client : IsNumbe
   abbrev received_in : ℕ → ℕ
   received_in n = log_end (log_in s.nodes n c).log
 
-  most_besides : most_of (besides (client_in s.clients c).home (full_nodes (standings s))) received_in ≡ most_of (full_elsewhere (world_of s) c) (λ n. (world_of s).received n c)
+  most_besides : most_of (besides (client_in s.clients c).home (full_nodes (standings s))) received_in ≡ most_of (full_elsewhere (world_of s) c)
+      (λ n. (world_of s).received n c)
   unfolding world_of
   most_besides = grind (arith, no_less, full_is, listed_is_full, is_listed)
 

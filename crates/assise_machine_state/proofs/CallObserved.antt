@@ -1,29 +1,11 @@
 -- What the laws observe of a call that is answered.
-use Rattle.std.proofs.Common.{◌≡◌, ◌≢◌, ℕ, suc, ◌+◌, ◌<◌, ◌≤◌, Bool, true, false, not, if◌then◌else◌, List, [], ◌∷◌, ◌++◌, length, inl, inr, refl, ap, sym, subst, ◌∙◌, arith}
-use Rattle.std.proofs.lemmas.Bool.{cases_Bool, cond_both}
-use Rattle.assise_history.specs.Entries.{calls}
-use Rattle.assise_history.proofs.ClientCounts.{durability-still}
-use Rattle.assise_record.specs.declared.effect.Effect.{Effect}
-use Rattle.assise_record.specs.Records.{has_some}
-use Rattle.assise_inode_table.specs.Contents.{values}
+use Rattle.assise_machine_state.proofs.Common.{◌≡◌, ◌≢◌, ℕ, suc, ◌+◌, ◌<◌, ◌≤◌, Bool, true, false, not, if◌then◌else◌, List, [], ◌∷◌, ◌++◌, length, inl, inr}
+use Rattle.assise_machine_state.proofs.Common.{refl, ap, sym, subst, ◌∙◌, arith, cases_Bool, cond_both, calls, durability-still, Effect, has_some, values}
+use Rattle.assise_machine_state.proofs.Common.{NumberedCall, log_end, is_border, border_end, ReceivedLog, RegionValue, with_more, MayMakeCall, MakesCall, World}
+use Rattle.assise_machine_state.proofs.Common.{call_makes_inode, end_of_log, step_at_home, OtherAreasStay, kept_numbered, made_in, numbered_in, plain_call}
+use Rattle.assise_machine_state.proofs.Common.{kept_call, after_call, ClientValue, client_in, with_call, HasLog, log_in, region_in, with_call_in, with_log_in}
+use Rattle.assise_machine_state.proofs.Common.{own_node, own_seen, world_of, IsNumber, IsMarked, ShapeInvariant, StateValue, standings}
 use Rattle.assise_inode_table.specs.Numbers.{inode_number}
-use Rattle.assise_inode_table.specs.Traces.{NumberedCall}
-use Rattle.assise_private_log.specs.NumberedLog.{end as log_end, is_border}
-use Rattle.assise_private_log.proofs.Borders.{border_end}
-use Rattle.assise_digest.specs.Region.{ReceivedLog, RegionValue, with_more}
-use Rattle.assise_model_world.specs.Chances.{MayMakeCall}
-use Rattle.assise_model_world.specs.ClientSteps.{MakesCall}
-use Rattle.assise_model_world.specs.World.{World, call_makes_inode, end_of_log, step_at_home}
-use Rattle.assise_model_members.specs.Returns.{OtherAreasStay}
-use Rattle.assise_model_history.specs.Numbered.{kept_numbered, made_in, numbered_in, plain_call}
-use Rattle.assise_model_history.proofs.NumberedCalls.{kept_call}
-use Rattle.assise_machine_state.specs.Changes.{after_call}
-use Rattle.assise_machine_state.specs.ClientValues.{ClientValue, client_in, with_call}
-use Rattle.assise_machine_state.specs.NodeValues.{HasLog, log_in, region_in, with_call_in, with_log_in}
-use Rattle.assise_machine_state.specs.Observed.{own_node, own_seen, world_of}
-use Rattle.assise_machine_state.specs.Places.{IsNumber}
-use Rattle.assise_machine_state.specs.Invariant.{IsMarked, ShapeInvariant}
-use Rattle.assise_machine_state.specs.StateValues.{StateValue, standings}
 use Rattle.assise_machine_state.proofs.Fullness.{has_log, home_full, lives_number, lives_unfailed}
 use Rattle.assise_machine_state.proofs.LogChanges.{log_else, log_here, log_same, none_more, region_kept, region_with}
 use Rattle.assise_machine_state.proofs.Marks.{called, called_border, marked_as, marked_called, so_many_marks}
@@ -107,7 +89,8 @@ module _ (s : StateValue) (x : NumberedCall) where
   call_areas k i away = area_kept k i
 
   -- logs stay but their records
-  kept : {A : Type 0} (f : ReceivedLog → A) → f (with_more (log_in s.nodes home c) (record { call = x.number; effects = es })) ≡ f (log_in s.nodes home c) → (n d : ℕ) →
+  kept : {A : Type 0} (f : ReceivedLog → A) → f (with_more (log_in s.nodes home c) (record { call = x.number; effects = es })) ≡ f (log_in s.nodes home c) →
+      (n d : ℕ) →
       f (log_in s'.nodes n d) ≡ f (log_in s.nodes n d)
   kept f same n d = call_log_kept s.nodes home c x.number es f same n d
 
@@ -122,7 +105,8 @@ module _ (s : StateValue) (x : NumberedCall) where
   unfolding own_seen
   own_now d = ap (λ n. log_in s'.nodes n d) (stays (own_node (standings s)) refl d)
 
-  own_kept : {A : Type 0} (f : ReceivedLog → A) → f (with_more (log_in s.nodes home c) (record { call = x.number; effects = es })) ≡ f (log_in s.nodes home c) → (d : ℕ) →
+  own_kept : {A : Type 0} (f : ReceivedLog → A) → f (with_more (log_in s.nodes home c) (record { call = x.number; effects = es })) ≡ f (log_in s.nodes home c) →
+      (d : ℕ) →
       f (own_seen s' d) ≡ f (own_seen s d)
   unfolding own_seen
   own_kept f same d = ap f (own_now d) ∙ kept f same (own_node (standings s) (client_in s.clients d)) d
@@ -222,7 +206,13 @@ module _ (s : StateValue) (x : NumberedCall) where
       digested = λ n d f. kept (λ l. l.digested) refl n d;
       area = λ n i f. area_kept n i;
       full = refl;
-      clients = record { clients = so_many_clients; home = stays (λ y. y.home) refl; lives = stays (λ y. not y.failed) refl; crashed = stays (λ y. y.crashed) refl };
+      clients = record {
+        clients = so_many_clients;
+        home = stays (λ y. y.home) refl;
+        lives = stays (λ y. not y.failed) refl;
+        crashed =
+            stays (λ y. y.crashed) refl;
+      };
       goals = stays (λ y. y.goal) refl;
       leases = leases_as s s' (λ i. refl);
     }

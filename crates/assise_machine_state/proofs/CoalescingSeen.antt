@@ -1,35 +1,19 @@
 -- What the laws observe of a client's records that become groups.
-use Rattle.std.proofs.Common.{◌≡◌, ◌≢◌, ℕ, ◌+◌, ◌-◌, ◌<◌, ◌≤◌, take, true, false, List, ◌++◌, length, inl, inr, refl, ap, sym, subst, ◌∙◌, arith, eq-eqb, take_all}
-use Rattle.std.proofs.Math.Logic.{∥∥₁_elim}
-use Rattle.std.proofs.Props.{props}
-use Rattle.std.proofs.lemmas.Bool.{cases_Bool, cases_eq, ne_eqb}
-use Rattle.std.proofs.lemmas.List.{length-append, length-drop, length-take}
-use Rattle.assise_record.specs.Groups.{AllHaveEffects, all_coalesced, are_whole, groups_of}
-use Rattle.assise_record.specs.LogRecord.{LogRecord}
+use Rattle.assise_machine_state.proofs.Common.{◌≡◌, ◌≢◌, ℕ, ◌+◌, ◌-◌, ◌<◌, ◌≤◌, take, true, false, List, ◌++◌, length, inl, inr, refl, ap, sym, subst, ◌∙◌}
+use Rattle.assise_machine_state.proofs.Common.{arith, eq-eqb, ∥∥₁_elim, props, cases_Bool, cases_eq, ne_eqb, length-append, length-drop, length-take}
+use Rattle.assise_machine_state.proofs.Common.{AllHaveEffects, all_coalesced, are_whole, groups_of, LogRecord, values, IsNumberedLog, NumberedLog, log_end}
+use Rattle.assise_machine_state.proofs.Common.{is_border, records_from, regrouped_all, regrouped_among, regrouped_before, regrouped_records, ReceivedLog}
+use Rattle.assise_machine_state.proofs.Common.{regrouped_from, RaisesGoals, WorldInvariant, KeepsLeases, Full, World, end_of_log, received_by_all}
+use Rattle.assise_machine_state.proofs.Common.{records_between, end_is, OtherAreasStay, coalesced_from, new_groups, between_length, coalesced_elsewhere}
+use Rattle.assise_machine_state.proofs.Common.{coalesced_first, coalesced_high, after_coalescing, after_regrouping, goal_of, client_in, HasLog, log_in}
+use Rattle.assise_machine_state.proofs.Common.{region_in, is_full_in, own_node, own_seen, world_of, IsNumber, CutsInvariant, IsMarked, ShapeInvariant}
+use Rattle.assise_machine_state.proofs.Common.{StateValue, standings}
+use Rattle.std.proofs.Common.{take_all}
 use Rattle.assise_record.proofs.GroupMarks.{groups-all, groups-are}
 use Rattle.assise_record.proofs.WholeGroups.{whole_none}
-use Rattle.assise_inode_table.specs.Contents.{values}
-use Rattle.assise_private_log.specs.NumberedLog.{IsNumberedLog, NumberedLog, end as log_end, is_border, records_from}
-use Rattle.assise_private_log.proofs.LogGroups.{regrouped_all, regrouped_among, regrouped_before, regrouped_records}
-use Rattle.assise_digest.specs.Region.{ReceivedLog, regrouped_from}
-use Rattle.assise_model_world.specs.ClientSteps.{RaisesGoals}
 use Rattle.assise_model_world.specs.Coalescing.{GetsAll, HasNone}
 use Rattle.assise_model_world.specs.Regrouped.{Regroups}
-use Rattle.assise_model_world.specs.Invariant.{WorldInvariant}
-use Rattle.assise_model_world.specs.Staying.{KeepsLeases}
-use Rattle.assise_model_world.specs.World.{Full, World, end_of_log, received_by_all, records_between}
-use Rattle.assise_model_world.proofs.WorldObserved.{end_is}
 use Rattle.assise_model_world.proofs.QuietSteps.{end-same}
-use Rattle.assise_model_members.specs.Returns.{OtherAreasStay}
-use Rattle.assise_model_events.specs.Dsyncs.{coalesced_from, new_groups}
-use Rattle.assise_model_events.proofs.Regroupable.{between_length, coalesced_elsewhere, coalesced_first, coalesced_high}
-use Rattle.assise_machine_state.specs.Changes.{after_coalescing, after_regrouping, goal_of}
-use Rattle.assise_machine_state.specs.ClientValues.{client_in}
-use Rattle.assise_machine_state.specs.NodeValues.{HasLog, log_in, region_in}
-use Rattle.assise_machine_state.specs.Observed.{is_full_in, own_node, own_seen, world_of}
-use Rattle.assise_machine_state.specs.Places.{IsNumber}
-use Rattle.assise_machine_state.specs.Invariant.{CutsInvariant, IsMarked, ShapeInvariant}
-use Rattle.assise_machine_state.specs.StateValues.{StateValue, standings}
 use Rattle.assise_machine_state.proofs.Fullness.{has_log, home_full, lives_number, lives_unfailed, no_log_there, seen_full}
 use Rattle.assise_machine_state.proofs.LogChanges.{log_else, log_here, log_same, region_kept, region_with}
 use Rattle.assise_machine_state.proofs.Marks.{marked_as}
@@ -177,7 +161,16 @@ module _ (s : StateValue) (c from : ℕ) where
         unfolding world_of
         end_now =
             let first : u.first c ≡ l.first = ap (λ x. x.log.first) own_now ∙ ap (λ m. m.first) (regrouped_all l from) in
-            omega (arith, end_is u c, first, ap length records_now, length-append (take (from - l.first) l.records) (all_coalesced gs), length-take (from - l.first) l.records, first_low, high)
+            omega (
+              arith,
+              end_is u c,
+              first,
+              ap length records_now,
+              length-append (take (from - l.first) l.records) (all_coalesced gs),
+              length-take (from - l.first) l.records,
+              first_low,
+              high,
+            )
 
         border_among : (k : ℕ) → k ≤ length (all_coalesced gs) → u.border c (from + k) ≡ are_whole gs k
         unfolding world_of end_of_log
@@ -241,7 +234,8 @@ module _ (s : StateValue) (c from : ℕ) where
           log_else = λ n d f other. (raised.nodes.same n (still_full n f)).log d ∙ ap (λ x. x.log.records) (else_now n d (λ _ same. other same));
           full = raised.nodes.full;
           area = λ n i f. (raised.nodes.same n (still_full n f)).area i ∙ area_kept n i;
-          digested = λ n d f. (raised.nodes.same n (still_full n f)).digested d ∙ log_same s.nodes home c (region_in s.nodes home).inodes new (λ x. x.digested) n d refl;
+          digested = λ n d f. (raised.nodes.same n (still_full n f)).digested d ∙ log_same s.nodes home c (region_in s.nodes home).inodes new (λ x. x.digested)
+              n d refl;
           calls = raised.logs.calls;
           first = λ d. raised.logs.first d ∙ first_kept d;
           next = raised.logs.next;
@@ -255,7 +249,8 @@ module _ (s : StateValue) (c from : ℕ) where
 
 -- ---- where a dsync begins
 
-module _ (s : StateValue) (c : ℕ) (shape : ShapeInvariant s) (sound : ∥ WorldInvariant (world_of s) ∥₁) (lives : (world_of s).lives c ≡ true) (law : IsNumberedLog (own_seen s c).log) where
+module _ (s : StateValue) (c : ℕ) (shape : ShapeInvariant s) (sound : ∥ WorldInvariant (world_of s) ∥₁) (lives : (world_of s).lives c ≡ true)
+    (law : IsNumberedLog (own_seen s c).log) where
   abbrev start : ℕ
   start = coalesced_from (world_of s) c
 

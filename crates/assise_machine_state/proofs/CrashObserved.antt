@@ -1,21 +1,8 @@
 -- What the laws observe of a client that crashes.
-use Rattle.std.proofs.Common.{◌≡◌, ℕ, ◌==◌, true, false, List, ◌∷◌, [], ◌++◌, refl, arith}
-use Rattle.std.proofs.lemmas.Bool.{ne_eqb}
-use Rattle.assise_history.proofs.ClientCounts.{durability-still}
-use Rattle.assise_history.specs.Entries.{EntryValue, crashes}
-use Rattle.assise_lease_table.specs.declared.lease.Asked.{Asked}
-use Rattle.assise_lease_table.specs.Leases.{is_own}
-use Rattle.assise_lease_tree.specs.TwoLevels.{IsRevoked, TwoLevels}
-use Rattle.assise_model_world.specs.ClientSteps.{Crashes}
-use Rattle.assise_model_world.specs.World.{World, end_of_log}
-use Rattle.assise_model_leases.specs.Handing.{CrashesWith}
-use Rattle.assise_model_history.proofs.NumberedCalls.{kept_crash}
-use Rattle.assise_machine_state.specs.Changes.{after_crash}
-use Rattle.assise_machine_state.specs.ClientValues.{ClientValue, client_in, crashed_at, with_client}
-use Rattle.assise_machine_state.specs.Observed.{world_of}
-use Rattle.assise_machine_state.specs.Places.{IsNumber}
-use Rattle.assise_machine_state.specs.Invariant.{AreLeft, ShapeInvariant}
-use Rattle.assise_machine_state.specs.StateValues.{StateValue, leases_of}
+use Rattle.assise_machine_state.proofs.Common.{◌≡◌, ℕ, ◌==◌, true, false, List, ◌∷◌, [], ◌++◌, refl, arith, ne_eqb, durability-still, EntryValue, crashes}
+use Rattle.assise_machine_state.proofs.Common.{Asked, is_own, IsRevoked, TwoLevels, Crashes, World, end_of_log, CrashesWith, kept_crash, after_crash}
+use Rattle.assise_machine_state.proofs.Common.{ClientValue, client_in, crashed_at, with_client, world_of, IsNumber, AreLeft, ShapeInvariant, StateValue}
+use Rattle.assise_machine_state.proofs.Common.{leases_of}
 use Rattle.assise_machine_state.proofs.Fullness.{lives_number}
 use Rattle.assise_machine_state.proofs.Noted.{left_else, unasked_cut}
 use Rattle.assise_machine_state.proofs.ItemSeen.{client_else, client_here}
@@ -49,7 +36,8 @@ module _ (s : StateValue) (c : ℕ) (levels : TwoLevels) (asked : List Asked) wh
       let leases = leases_revoked s (after_crash s c levels asked) (is_own c) revoked.clients in
       search (remain, client_here, client_else, arith) parts 3
 
-  pub crash_seen : w.lives c ≡ true → w.crashed c ≡ false → IsRevoked s.levels levels c → AreLeft s (λ d. d == c) asked → CrashesWith w (leases_of s) c w' (leases_of (after_crash s c levels asked))
+  pub crash_seen : w.lives c ≡ true → w.crashed c ≡ false → IsRevoked s.levels levels c → AreLeft s (λ d. d == c) asked →
+      CrashesWith w (leases_of s) c w' (leases_of (after_crash s c levels asked))
   unfolding leases_of
   crash_seen lives runs revoked left =
       let there : IsNumber s.clients c = lives_number s c lives in

@@ -1,13 +1,8 @@
 -- What is seen of nodes and clients once a node's logs are gone, and those of its clients are cut.
-use Rattle.std.proofs.Common.{◌≡◌, ◌≢◌, ℕ, zero, suc, ◌-◌, ◌<◌, ◌≤◌, true, false, ◌==◌, List, [], length, inl, inr, refl, ap, sym, subst, ◌∙◌, arith}
-use Rattle.std.proofs.Common.{eq-eqb}
-use Rattle.std.proofs.lemmas.Bool.{cases_eq, cond_both, eqb-true}
-use Rattle.std.proofs.lemmas.List.{length-map, take_all}
-use Rattle.assise_digest.specs.Region.{ReceivedLog, RegionValue, no_log, up_to_number}
-use Rattle.assise_machine_state.specs.Changes.{with_clients_cut, with_clients_failed}
-use Rattle.assise_machine_state.specs.ClientValues.{ClientValue, client_in, failed_at, with_client}
-use Rattle.assise_machine_state.specs.NodeValues.{log_in, region_in, with_tails_cut, without_logs}
-use Rattle.assise_machine_state.specs.Places.{IsNumber}
+use Rattle.assise_machine_state.proofs.Common.{◌≡◌, ◌≢◌, ℕ, zero, suc, ◌-◌, ◌<◌, ◌≤◌, true, false, ◌==◌, List, [], length, inl, inr, refl, ap, sym, subst, ◌∙◌}
+use Rattle.assise_machine_state.proofs.Common.{arith, eq-eqb, cases_eq, cond_both, eqb-true, length-map, take_all, ReceivedLog, RegionValue, no_log}
+use Rattle.assise_machine_state.proofs.Common.{up_to_number, with_clients_cut, with_clients_failed, ClientValue, client_in, failed_at, with_client, log_in}
+use Rattle.assise_machine_state.proofs.Common.{region_in, with_tails_cut, without_logs, IsNumber}
 use Rattle.assise_machine_state.proofs.LogChanges.{beside_seen, count_seen, inodes_seen, log_away, own_changes_all, region_else, region_here, region_kept}
 use Rattle.assise_machine_state.proofs.ItemSeen.{client_else, client_here, length-with, seen_number}
 

@@ -1,28 +1,10 @@
 -- What the laws observe of records that a node digests.
-use Rattle.std.proofs.Common.{◌≡◌, ◌≢◌, ℕ, ◌-◌, List, length, map, take, refl, ap, ◌∙◌, arith}
-use Rattle.std.proofs.lemmas.List.{length-map}
+use Rattle.assise_machine_state.proofs.Common.{◌≡◌, ◌≢◌, ℕ, ◌-◌, List, length, map, take, refl, ap, ◌∙◌, arith, length-map, nat_cmp, all_effects}
+use Rattle.assise_machine_state.proofs.Common.{get-all_applied, InodeMap, values, all_applied, contains, touched, value_after, log_end, is_border, ReceivedLog}
+use Rattle.assise_machine_state.proofs.Common.{RegionValue, ahead, digested_further, noted, stale_again, Standing, full, is_full, MayDigest, Digests}
+use Rattle.assise_machine_state.proofs.Common.{WorldInvariant, World, undigested_below, DigestsNoted, after_digest, client_in, HasLog, log_in, region_in}
+use Rattle.assise_machine_state.proofs.Common.{is_full_in, own_node, own_seen, world_of, IsNumber, ShapeInvariant, StateValue, standings}
 use Rattle.std.specs.FinSet as set
-use Rattle.std.specs.Ordering.{nat_cmp}
-use Rattle.assise_record.specs.Records.{all_effects}
-use Rattle.assise_inode_table.proofs.EffectLists.{get-all_applied}
-use Rattle.assise_inode_table.specs.Contents.{InodeMap, values}
-use Rattle.assise_inode_table.specs.Effects.{all_applied, contains, touched, value_after}
-use Rattle.assise_private_log.specs.NumberedLog.{end as log_end, is_border}
-use Rattle.assise_digest.specs.Region.{ReceivedLog, RegionValue, ahead, digested_further}
-use Rattle.assise_manager.specs.Changes.{noted, stale_again}
-use Rattle.assise_manager.specs.Standings.{Standing, full, is_full}
-use Rattle.assise_model_world.specs.Chances.{MayDigest}
-use Rattle.assise_model_world.specs.NodeSteps.{Digests}
-use Rattle.assise_model_world.specs.Invariant.{WorldInvariant}
-use Rattle.assise_model_world.specs.World.{World, undigested_below}
-use Rattle.assise_model_members.specs.Returns.{DigestsNoted}
-use Rattle.assise_machine_state.specs.Changes.{after_digest}
-use Rattle.assise_machine_state.specs.ClientValues.{client_in}
-use Rattle.assise_machine_state.specs.NodeValues.{HasLog, log_in, region_in}
-use Rattle.assise_machine_state.specs.Observed.{is_full_in, own_node, own_seen, world_of}
-use Rattle.assise_machine_state.specs.Places.{IsNumber}
-use Rattle.assise_machine_state.specs.Invariant.{ShapeInvariant}
-use Rattle.assise_machine_state.specs.StateValues.{StateValue, standings}
 use Rattle.assise_machine_state.proofs.Fullness.{full_seen, has_log, same_first}
 use Rattle.assise_machine_state.proofs.LogChanges.{log_else, log_here, log_same, region_else, region_here, region_with}
 use Rattle.assise_machine_state.proofs.ReadObserved.{ahead_first}
@@ -67,7 +49,8 @@ own_log s n c k inodes d =
 pub digest_shaped : (s : StateValue) (n c k : ℕ) (inodes : set.FinSet nat_cmp) → ShapeInvariant s → ShapeInvariant (after_digest s n c k inodes)
 digest_shaped s n c k inodes shape =
     shaped_log s (noted s.members n inodes) n c (inodes_now s n c k) (further s n c k) shape refl refl
-    (still_marked s (after_digest s n c k inodes) (same_log s n c k inodes) (own_log s n c k inodes)) (same_count (standings s) n inodes) (still_full (standings s) n inodes)
+    (still_marked s (after_digest s n c k inodes) (same_log s n c k inodes) (own_log s n c k inodes)) (same_count (standings s) n inodes)
+    (still_full (standings s) n inodes)
 
 module _ (s : StateValue) (n c k : ℕ) (inodes : set.FinSet nat_cmp) (shape : ShapeInvariant s)
     (first : (log_in s.nodes n c).log.first ≡ (world_of s).first c) (client : IsNumber s.clients c) (may : MayDigest (world_of s) n c k) where
@@ -113,10 +96,12 @@ module _ (s : StateValue) (n c k : ℕ) (inodes : set.FinSet nat_cmp) (shape : S
       λ m d other. ap (λ x. x.digested) (log_else s.nodes n c (inodes_now s n c k) (further s n c k) has m d other) in
       search (log, received, else_same, digested_now, area_now, area_beside, clients_as, goals_as, leases_as) parts 3
 
-  pub noted_prefix : ((i : ℕ) → set.contains inodes i ≡ contains (touched (all_effects (undigested_below w n c k))) i) → DigestsNoted w s.members n c k inodes w' t.members
+  pub noted_prefix : ((i : ℕ) → set.contains inodes i ≡ contains (touched (all_effects (undigested_below w n c k))) i) →
+      DigestsNoted w s.members n c k inodes w' t.members
   noted_prefix touches = grind (arith, digested, area_beside)
 
-pub digest_noted : (s : StateValue) (n c k : ℕ) (inodes : set.FinSet nat_cmp) → ShapeInvariant s → WorldInvariant (world_of s) → IsNumber s.clients c → MayDigest (world_of s) n c k →
+pub digest_noted : (s : StateValue) (n c k : ℕ) (inodes : set.FinSet nat_cmp) → ShapeInvariant s → WorldInvariant (world_of s) → IsNumber s.clients c →
+    MayDigest (world_of s) n c k →
     ((i : ℕ) → set.contains inodes i ≡ contains (touched (all_effects (undigested_below (world_of s) n c k))) i) →
     DigestsNoted (world_of s) s.members n c k inodes (world_of (after_digest s n c k inodes)) (after_digest s n c k inodes).members
 digest_noted s n c k inodes shape sound client may touches = noted_prefix s n c k inodes shape (same_first s n c sound may.full_node) client may touches

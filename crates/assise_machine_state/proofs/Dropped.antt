@@ -1,23 +1,12 @@
 -- Prefixes that are dropped of one client's logs after another's, as the laws have it.
-use Rattle.std.proofs.Common.{◌≡◌, ◌⊎◌, ℕ, zero, suc, ◌-◌, ◌<◌, ◌≤◌, ◌==◌, true, if◌then◌else◌, List, [], ◌∷◌, length, slice_index_or, inl, inr, refl, ap}
-use Rattle.std.proofs.Common.{sym, subst, ◌∙◌, arith, eq-eqb}
-use Rattle.std.proofs.Math.Logic.{∥∥₁_elim, ∥∥₁_map}
-use Rattle.std.proofs.Props.{props}
-use Rattle.std.proofs.lemmas.Bool.{cases_Bool, cases_eq, ne_eqb}
-use Rattle.assise_private_log.proofs.Borders.{border_first}
-use Rattle.assise_digest.specs.Region.{HasClient, RegionValue, log_of, no_log}
-use Rattle.assise_model_world.specs.NodeSteps.{Drops}
-use Rattle.assise_model_world.specs.Invariant.{WorldInvariant}
-use Rattle.assise_model_world.specs.World.{World, digested_by_all, end_of_log}
+use Rattle.assise_machine_state.proofs.Common.{◌≡◌, ◌⊎◌, ℕ, zero, suc, ◌-◌, ◌<◌, ◌≤◌, ◌==◌, true, if◌then◌else◌, List, [], ◌∷◌, length, slice_index_or, inl}
+use Rattle.assise_machine_state.proofs.Common.{inr, refl, ap, sym, subst, ◌∙◌, arith, eq-eqb, ∥∥₁_elim, ∥∥₁_map, props, cases_Bool, cases_eq, ne_eqb}
+use Rattle.assise_machine_state.proofs.Common.{border_first, HasClient, RegionValue, log_of, no_log, Drops, WorldInvariant, World, digested_by_all, end_of_log}
+use Rattle.assise_machine_state.proofs.Common.{digested_by_all-below, least_of-end, after_drop, drops_to, first_but, AreDigested, IsDigestedTo, hot_capacities}
+use Rattle.assise_machine_state.proofs.Common.{log_in, no_region, region_in, is_full_in, own_seen, world_of, IsNumber, item_at, ShapeInvariant, StateValue}
+use Rattle.assise_machine_state.proofs.Common.{standings}
 use Rattle.assise_model_world.proofs.DropKeeps.{drop_sound}
-use Rattle.assise_model_world.proofs.WorldObserved.{digested_by_all-below, least_of-end}
 use Rattle.assise_model_events.proofs.Failable.{digested_border}
-use Rattle.assise_machine_state.specs.Changes.{after_drop, drops_to, first_but}
-use Rattle.assise_machine_state.specs.NodeValues.{AreDigested, IsDigestedTo, hot_capacities, log_in, no_region, region_in}
-use Rattle.assise_machine_state.specs.Observed.{is_full_in, own_seen, world_of}
-use Rattle.assise_machine_state.specs.Places.{IsNumber, item_at}
-use Rattle.assise_machine_state.specs.Invariant.{ShapeInvariant}
-use Rattle.assise_machine_state.specs.StateValues.{StateValue, standings}
 use Rattle.assise_machine_state.proofs.Prefixes.{HasPrefixes, drop_areas, drop_shaped, dropped_prefixes, dropped_twice, has_prefixes, none_dropped}
 use Rattle.assise_machine_state.proofs.Prefixes.{same_digested}
 use Rattle.assise_machine_state.proofs.Fullness.{no_log_there, seen_full}
@@ -71,7 +60,8 @@ prefixes_of s c sound = ∥∥₁_elim sound (hlevel props) (has_prefixes s c)
 to_border : (s : StateValue) (c : ℕ) → ∥ WorldInvariant (world_of s) ∥₁ → (world_of s).border c (digested_by_all (world_of s) c) ≡ true
 to_border s c sound = ∥∥₁_elim sound (search props) (λ h. digested_border (world_of s) h c)
 
-each_digested : (rs : List RegionValue) (c to : ℕ) → ((k : ℕ) → k < length rs → HasClient (slice_index_or rs k no_region) c → IsDigestedTo (log_of (slice_index_or rs k no_region) c) to) → AreDigested rs c to
+each_digested : (rs : List RegionValue) (c to : ℕ) →
+    ((k : ℕ) → k < length rs → HasClient (slice_index_or rs k no_region) c → IsDigestedTo (log_of (slice_index_or rs k no_region) c) to) → AreDigested rs c to
 each_digested [] c to each = tt
 each_digested (r ∷ rs) c to each = (each 0 (omega arith), each_digested rs c to (λ k low. each (suc k) (omega (arith, low))))
 
@@ -142,8 +132,10 @@ module _ (s : StateValue) (shape : ShapeInvariant s) (sound : ∥ WorldInvariant
       let before : Drops w (first_to w m) (world_of t) = drops_first m (omega (arith, last)) in
       let own : Drops (world_of t) (first_but (world_of t) (suc m) (digested_by_all (world_of t) (suc m))) (world_of (drops_to s (suc m))) =
       next_drops t m (same_dropping m (omega (arith, last))) (omega (arith, last)) in
-      let both = dropped_twice w (world_of t) (world_of (drops_to s (suc m))) (first_to w m) (first_but (world_of t) (suc m) (digested_by_all (world_of t) (suc m))) before own in
-      subst (λ f. Drops w f (world_of (drops_to s (suc m)))) (λ i d. if d == suc m then same_digested w (world_of t) (first_to w m) before (suc m) i else before.first d i) both
+      let both = dropped_twice w (world_of t) (world_of (drops_to s (suc m))) (first_to w m)
+      (first_but (world_of t) (suc m) (digested_by_all (world_of t) (suc m))) before own in
+      subst (λ f. Drops w f (world_of (drops_to s (suc m))))
+      (λ i d. if d == suc m then same_digested w (world_of t) (first_to w m) before (suc m) i else before.first d i) both
 
   all_first : (m d : ℕ) → ((m < d) ⊎ (d ≡ 0) → w.first d ≡ digested_by_all w d) → first_to w m d ≡ digested_by_all w d
   all_first zero zero beyond = beyond (inr refl)

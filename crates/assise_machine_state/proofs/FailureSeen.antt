@@ -1,46 +1,18 @@
 -- What the laws observe of a full node that fails, where another is left.
-use Rattle.std.proofs.Common.{◌≡◌, ◌≢◌, ◌⊎◌, ℕ, ◌-◌, ◌<◌, ◌≤◌, min, true, false, not, List, length, take, filter, Some, None, inl, inr, refl, ap}
-use Rattle.std.proofs.Common.{sym, subst, ◌∙◌, arith, true≢false, []}
-use Rattle.std.specs.Ordering.{nat_cmp}
+use Rattle.assise_machine_state.proofs.Common.{◌≡◌, ◌≢◌, ◌⊎◌, ℕ, ◌-◌, ◌<◌, ◌≤◌, min, true, false, not, List, length, take, filter, Some, None, inl, inr, refl}
+use Rattle.assise_machine_state.proofs.Common.{ap, sym, subst, ◌∙◌, arith, true≢false, [], nat_cmp, ∥∥₁_elim, props, and-false, cases_Bool, cases_eq, cases_lt}
+use Rattle.assise_machine_state.proofs.Common.{ne_eqb, length-take, nil_from_length, take_all, fails, durability-still, values, NumberedCall, below}
+use Rattle.assise_machine_state.proofs.Common.{NumberedLog, log_end, is_border, without_tail, border_end, border_first, ReceivedLog, up_to_number, Asked}
+use Rattle.assise_machine_state.proofs.Common.{revoke, lives, TwoLevels, failure_fault, lowest_full, full, standing_of, Fails, kept_at_failure, WorldInvariant}
+use Rattle.assise_machine_state.proofs.Common.{KeepsLeases, Full, World, call_at, end_of_log, kept_border, kept_high, FailsWithLeases, AreLeases, kept_fail}
+use Rattle.assise_machine_state.proofs.Common.{after_failure, ClientValue, client_in, cut_of, failed_at, log_in, region_in, is_full_in, own_seen, world_of}
+use Rattle.assise_machine_state.proofs.Common.{IsNumber, AreLeft, IsMarked, ShapeInvariant, StateValue, leases_of, standings}
 use Rattle.std.specs.FinSet as set
-use Rattle.std.proofs.Math.Logic.{∥∥₁_elim}
-use Rattle.std.proofs.Props.{props}
-use Rattle.std.proofs.Math.Bool.{and-false}
-use Rattle.std.proofs.lemmas.Bool.{cases_Bool, cases_eq, cases_lt, ne_eqb}
-use Rattle.std.proofs.lemmas.List.{length-take, nil_from_length, take_all}
-use Rattle.assise_history.specs.Entries.{fails}
-use Rattle.assise_history.proofs.ClientCounts.{durability-still}
-use Rattle.assise_inode_table.specs.Contents.{values}
-use Rattle.assise_inode_table.specs.Traces.{NumberedCall, below}
-use Rattle.assise_private_log.specs.NumberedLog.{NumberedLog, end as log_end, is_border, without_tail}
-use Rattle.assise_private_log.proofs.Borders.{border_end, border_first}
-use Rattle.assise_digest.specs.Region.{ReceivedLog, up_to_number}
-use Rattle.assise_lease_table.specs.declared.lease.Asked.{Asked}
 use Rattle.assise_lease_table.specs.LeaseMaps.{SameLeases as SameLeasesOf}
-use Rattle.assise_lease_table.specs.Leases.{revoke}
-use Rattle.assise_lease_tree.specs.Levels.{lives}
-use Rattle.assise_lease_tree.specs.TwoLevels.{TwoLevels}
-use Rattle.assise_manager.specs.Changes.{failure_fault}
-use Rattle.assise_manager.specs.Membership.{lowest_full}
-use Rattle.assise_manager.specs.Standings.{full, standing_of}
-use Rattle.assise_model_world.specs.NodeSteps.{Fails, kept_at_failure}
-use Rattle.assise_model_world.specs.Invariant.{WorldInvariant}
-use Rattle.assise_model_world.specs.Staying.{KeepsLeases}
-use Rattle.assise_model_world.specs.World.{Full, World, call_at, end_of_log}
-use Rattle.assise_model_world.proofs.FailureKeeps.{kept_border, kept_high}
-use Rattle.assise_model_leases.specs.Handing.{FailsWithLeases}
-use Rattle.assise_model_leases.specs.Leases.{AreLeases}
 use Rattle.assise_model_history.specs.Lost.{losses_of}
 use Rattle.assise_model_history.proofs.FailureKeeps.{failure_takes}
-use Rattle.assise_model_history.proofs.NumberedCalls.{kept_fail}
-use Rattle.assise_machine_state.specs.Changes.{after_failure}
-use Rattle.assise_machine_state.specs.ClientValues.{ClientValue, client_in, cut_of, failed_at}
-use Rattle.assise_machine_state.specs.NodeValues.{log_in, region_in}
-use Rattle.assise_machine_state.specs.Observed.{is_full_in, own_seen, world_of}
-use Rattle.assise_machine_state.specs.Places.{IsNumber}
-use Rattle.assise_machine_state.specs.Invariant.{AreLeft, IsMarked, ShapeInvariant}
-use Rattle.assise_machine_state.specs.StateValues.{StateValue, leases_of, standings}
-use Rattle.assise_machine_state.proofs.CutSeen.{client_fails, client_stays, count_over, home_number, inodes_left, log_cut_left, log_left, count_left, logs_gone, logs_left}
+use Rattle.assise_machine_state.proofs.CutSeen.{client_fails, client_stays, count_over, home_number, inodes_left, log_cut_left, log_left, count_left, logs_gone}
+use Rattle.assise_machine_state.proofs.CutSeen.{logs_left}
 use Rattle.assise_machine_state.proofs.Fullness.{full_seen, node_number, same_first, seen_full, no_log_in}
 use Rattle.assise_machine_state.proofs.Kept.{kept_elsewhere, kept_from_first, kept_received, part_first, prefix_kept, all_kept, end_cut}
 use Rattle.assise_machine_state.proofs.Marks.{border_inside, marked_as, marked_tail, so_many_marks, tail_border}
@@ -59,11 +31,13 @@ up_to_all l k marks past = grind (arith, take_all)
 
 -- ---- what is seen of nodes and clients
 
-pub failure_areas : (s : StateValue) (n k i : ℕ) (inodes : set.FinSet nat_cmp) (levels : TwoLevels) (asked : List Asked) → (world_of (after_failure s n inodes levels asked)).area k i ≡ (world_of s).area k i
+pub failure_areas : (s : StateValue) (n k i : ℕ) (inodes : set.FinSet nat_cmp) (levels : TwoLevels) (asked : List Asked) →
+    (world_of (after_failure s n inodes levels asked)).area k i ≡ (world_of s).area k i
 unfolding world_of
 failure_areas s n k i inodes levels asked = ap (λ m. values m i) (inodes_left s.nodes n s.clients (kept_at_failure (world_of s) n) k)
 
-module _ (s : StateValue) (n : ℕ) (inodes : set.FinSet nat_cmp) (levels : TwoLevels) (asked : List Asked) (shape : ShapeInvariant s) (stands : standing_of (standings s) n ≡ Some full) where
+module _ (s : StateValue) (n : ℕ) (inodes : set.FinSet nat_cmp) (levels : TwoLevels) (asked : List Asked) (shape : ShapeInvariant s)
+    (stands : standing_of (standings s) n ≡ Some full) where
   abbrev w : World
   w = world_of s
 
@@ -236,7 +210,8 @@ module _ (s : StateValue) (n : ℕ) (inodes : set.FinSet nat_cmp) (levels : TwoL
       lowest_border c k over below =
           elim (cases_lt (lowest c).first k) [
             | inl inside ↦
-                let there : kept c ≤ w.received low c = kept_received w n low c sound (was_full low low_stands) (not_failed low low_stands) (has_ended c over) in
+                let there : kept c ≤ w.received low c = kept_received w n low c sound (was_full low low_stands) (not_failed low low_stands) (has_ended c over)
+                in
                 border_inside (is_border (own c)) (lowest c) k (shape.marked low c) inside (omega (arith, below, there))
             | inr before ↦ border_first (lowest c) k before ∙ sym (border_first (own c) k (omega (arith, before, lowest_first c)))
           ]
@@ -276,7 +251,8 @@ module _ (s : StateValue) (n : ℕ) (inodes : set.FinSet nat_cmp) (levels : TwoL
       -- ---- the failure
 
       survivor : (m : ℕ) × ((m ≢ n) × Full w m)
-      survivor = (let k : (m : ℕ) × ((m ≢ n) × (is_full_in (standings s) m ≡ true)) = survivor_left s.members n stands fine in (k.0, (k.1.0, seen_full s k.0 k.1.1)))
+      survivor = (let k : (m : ℕ) × ((m ≢ n) × (is_full_in (standings s) m ≡ true)) = survivor_left s.members n stands fine in
+          (k.0, (k.1.0, seen_full s k.0 k.1.1)))
 
       module _ (revoked : (i : ℕ) → levels.clients i ≡ revoke (λ a. lives s.levels.home a.holder n) (s.levels.clients i)) where
         held : KeepsLeases w w'
@@ -315,9 +291,11 @@ module _ (s : StateValue) (n : ℕ) (inodes : set.FinSet nat_cmp) (levels : TwoL
         unfolding world_of
         calls_kept =
             kept_fail s.history n (losses_of w n)
-            ∙ sym (failure_takes w (record w' { calls = filter (below (λ c. call_at w c (kept c))) w.calls }) n sound (with_calls (filter (below (λ c. call_at w c (kept c))) w.calls) refl))
+            ∙ sym (failure_takes w (record w' { calls = filter (below (λ c. call_at w c (kept c))) w.calls }) n sound
+            (with_calls (filter (below (λ c. call_at w c (kept c))) w.calls) refl))
 
-        pub failure_seen : ((c : ℕ) → levels.home c ≡ s.levels.home c) → SameLeasesOf s.levels.nodes levels.nodes → AreLeft s (λ c. lives s.levels.home c n) asked → AreLeases w (leases_of s) →
+        pub failure_seen : ((c : ℕ) → levels.home c ≡ s.levels.home c) → SameLeasesOf s.levels.nodes levels.nodes →
+            AreLeft s (λ c. lives s.levels.home c n) asked → AreLeases w (leases_of s) →
             FailsWithLeases w (leases_of s) n w' (leases_of t)
         unfolding world_of leases_of
         failure_seen homes nodes left leases = record {

@@ -1,22 +1,11 @@
 -- Which nodes are full, and which logs they have.
-use Rattle.std.proofs.Common.{◌≡◌, ℕ, ◌-◌, ◌≤◌, min, true, false, ◌==◌, List, [], length, Some, inl, inr, refl, ap, sym, subst, ◌∙◌, arith, eq-eqb, true≢false}
-use Rattle.std.proofs.lemmas.Bool.{cases_Bool, eqb-true, not-true}
-use Rattle.std.proofs.lemmas.List.{length-take}
+use Rattle.assise_machine_state.proofs.Common.{◌≡◌, ℕ, ◌-◌, ◌≤◌, min, true, false, ◌==◌, List, [], length, Some, inl, inr, refl, ap, sym, subst, ◌∙◌, arith}
+use Rattle.assise_machine_state.proofs.Common.{eq-eqb, true≢false, cases_Bool, eqb-true, not-true, length-take, contains, RegionValue, no_log, Standing, full}
+use Rattle.assise_machine_state.proofs.Common.{standing_of, WorldInvariant, Full, IsClient, World, end_of_log, received_by_all-below, down_from, client_in}
+use Rattle.assise_machine_state.proofs.Common.{no_client, HasLog, log_in, region_in, full_in, is_full_in, observed, world_of, IsNumber, item_at, ShapeInvariant}
+use Rattle.assise_machine_state.proofs.Common.{StateValue, standings}
 use Rattle.std.proofs.lemmas.Map.Views.{any-filter_same}
-use Rattle.assise_inode_table.specs.Effects.{contains}
-use Rattle.assise_digest.specs.Region.{RegionValue, no_log}
-use Rattle.assise_manager.specs.Standings.{Standing, full, standing_of}
-use Rattle.assise_model_world.specs.Invariant.{WorldInvariant}
-use Rattle.assise_model_world.specs.World.{Full, IsClient, World, end_of_log}
-use Rattle.assise_model_world.proofs.WorldObserved.{received_by_all-below}
-use Rattle.assise_model_history.specs.State.{down_from}
 use Rattle.assise_model_history.proofs.TracesKeep.{of_node}
-use Rattle.assise_machine_state.specs.ClientValues.{client_in, no_client}
-use Rattle.assise_machine_state.specs.NodeValues.{HasLog, log_in, region_in}
-use Rattle.assise_machine_state.specs.Observed.{full_in, is_full_in, observed, world_of}
-use Rattle.assise_machine_state.specs.Places.{IsNumber, item_at}
-use Rattle.assise_machine_state.specs.Invariant.{ShapeInvariant}
-use Rattle.assise_machine_state.specs.StateValues.{StateValue, standings}
 use Rattle.assise_machine_state.proofs.ItemSeen.{seen_nothing, seen_number}
 use Rattle.assise_machine_state.proofs.Standings.{numbers, stands_so}
 
@@ -40,7 +29,8 @@ unfolding world_of
 seen_full s n f = full_is (standings s) n ∙ f
 
 pub node_number : (s : StateValue) (n : ℕ) (x : Standing) → ShapeInvariant s → standing_of (standings s) n ≡ Some x → IsNumber s.nodes n
-node_number s n x shape stands = (let g : (1 ≤ n) × (n ≤ length (standings s)) = numbers (standings s) n x stands in record { some = g.0; there = subst (λ k. n ≤ k) (sym shape.nodes) g.1 })
+node_number s n x shape stands =
+    (let g : (1 ≤ n) × (n ≤ length (standings s)) = numbers (standings s) n x stands in record { some = g.0; there = subst (λ k. n ≤ k) (sym shape.nodes) g.1 })
 
 pub full_number : (s : StateValue) (n : ℕ) → ShapeInvariant s → is_full_in (standings s) n ≡ true → IsNumber s.nodes n
 full_number s n shape f = node_number s n full shape (stands_so (standings s) n f)
@@ -89,7 +79,8 @@ unfolding world_of end_of_log
 same_first s n c sound f =
     let order = sound.coherent.order n c f in
     let all : (world_of s).digested n c ≤ (world_of s).received n c = omega (arith, order.replicated, received_by_all-below (world_of s) n c f) in
-    let prefix : length ((world_of s).log n c) ≡ min ((world_of s).received n c - (world_of s).first c) (length ((world_of s).records c)) = prefix_length (world_of s) n c sound f in
+    let prefix : length ((world_of s).log n c) ≡ min ((world_of s).received n c - (world_of s).first c) (length ((world_of s).records c)) =
+    prefix_length (world_of s) n c sound f in
     omega (arith, order.begun, order.known, all, prefix)
 
 -- ---- what a client and a node are to the laws

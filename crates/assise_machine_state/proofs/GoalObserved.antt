@@ -1,14 +1,6 @@
 -- What the laws observe of a goal that is raised.
-use Rattle.std.proofs.Common.{◌≡◌, ℕ, ◌≤◌, List, max, refl, arith, eq-eqb}
-use Rattle.std.proofs.lemmas.Bool.{cases_eq, ne_eqb}
-use Rattle.assise_model_world.specs.ClientSteps.{RaisesGoals}
-use Rattle.assise_model_world.specs.World.{World, end_of_log}
-use Rattle.assise_machine_state.specs.Changes.{after_goal, goal_of}
-use Rattle.assise_machine_state.specs.ClientValues.{ClientValue, client_in, with_client, with_goal}
-use Rattle.assise_machine_state.specs.Observed.{world_of}
-use Rattle.assise_machine_state.specs.Places.{IsNumber}
-use Rattle.assise_machine_state.specs.Invariant.{ShapeInvariant}
-use Rattle.assise_machine_state.specs.StateValues.{StateValue}
+use Rattle.assise_machine_state.proofs.Common.{◌≡◌, ℕ, ◌≤◌, List, max, refl, arith, eq-eqb, cases_eq, ne_eqb, RaisesGoals, World, end_of_log, after_goal}
+use Rattle.assise_machine_state.proofs.Common.{goal_of, ClientValue, client_in, with_client, with_goal, world_of, IsNumber, ShapeInvariant, StateValue}
 use Rattle.assise_machine_state.proofs.ItemSeen.{client_else, client_here, client_same}
 use Rattle.assise_machine_state.proofs.ShapedClients.{Remain, clients_stay, logs_stay, nodes_stay, one_remains, still_shaped}
 use Rattle.assise_machine_state.proofs.SameObserved.{leases_as}

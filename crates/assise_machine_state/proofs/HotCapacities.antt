@@ -1,24 +1,22 @@
 -- How many inodes may be hot at each node stays where its inodes and logs change.
-use Rattle.std.proofs.Common.{◌≡◌, ℕ, zero, suc, ◌-◌, ◌==◌, Bool, List, [], ◌∷◌, map, replicate, slice_index_or, slice_set, refl, ap, ◌∙◌, arith}
-use Rattle.std.proofs.lemmas.Bool.{cond_both}
-use Rattle.std.proofs.lemmas.List.{map-set}
-use Rattle.assise_record.specs.declared.effect.Effect.{Effect}
-use Rattle.assise_digest.specs.Region.{ReceivedLog, RegionValue, from_number, region_with_client, up_to_number, with_hot_capacity}
-use Rattle.assise_machine_state.specs.Changes.{with_clients_cut}
-use Rattle.assise_machine_state.specs.ClientValues.{ClientValue}
-use Rattle.assise_machine_state.specs.NodeValues.{begun_log, changed_in, hot_capacities, new_regions, no_region, region_in, with_call_in, with_hot_in, with_log_in, with_logs_begun, with_prefixes_dropped, with_region, with_tails_cut, without_logs}
-use Rattle.assise_machine_state.specs.Places.{IsNumber, item_at}
+use Rattle.assise_machine_state.proofs.Common.{◌≡◌, ℕ, zero, suc, ◌-◌, ◌==◌, Bool, List, [], ◌∷◌, map, replicate, slice_index_or, slice_set, refl, ap, ◌∙◌}
+use Rattle.assise_machine_state.proofs.Common.{arith, cond_both, map-set, Effect, ReceivedLog, RegionValue, from_number, region_with_client, up_to_number}
+use Rattle.assise_machine_state.proofs.Common.{with_hot_capacity, with_clients_cut, ClientValue, begun_log, changed_in, hot_capacities, new_regions, no_region}
+use Rattle.assise_machine_state.proofs.Common.{region_in, with_call_in, with_hot_in, with_log_in, with_logs_begun, with_prefixes_dropped, with_region}
+use Rattle.assise_machine_state.proofs.Common.{with_tails_cut, without_logs, IsNumber, item_at}
 use Rattle.assise_machine_state.proofs.ItemSeen.{is_seen, is_set}
 use Rattle.assise_machine_state.proofs.LogChanges.{region_with}
 
 -- ---- at one node
 
-kept_at : (rs : List RegionValue) (k : ℕ) (r : RegionValue) → r.capacity ≡ (slice_index_or rs k no_region).capacity → hot_capacities (slice_set rs k r) ≡ hot_capacities rs
+kept_at : (rs : List RegionValue) (k : ℕ) (r : RegionValue) → r.capacity ≡ (slice_index_or rs k no_region).capacity → hot_capacities (slice_set rs k r)
+    ≡ hot_capacities rs
 kept_at [] k r same = refl
 kept_at (q ∷ rs) zero r same = ap (λ capacity. capacity ∷ hot_capacities rs) same
 kept_at (q ∷ rs) (suc k) r same = ap (λ capacities. q.capacity ∷ capacities) (kept_at rs k r same)
 
-pub region_keeps : (rs : List RegionValue) (n : ℕ) (r : RegionValue) → r.capacity ≡ (region_in rs n).capacity → hot_capacities (with_region rs n r) ≡ hot_capacities rs
+pub region_keeps : (rs : List RegionValue) (n : ℕ) (r : RegionValue) → r.capacity ≡ (region_in rs n).capacity → hot_capacities (with_region rs n r)
+    ≡ hot_capacities rs
 unfolding region_in item_at
 region_keeps rs n r h1 = grind (arith, kept_at)
 
@@ -39,7 +37,8 @@ call_keeps rs n c call es = grind (arith, cond_both, log_keeps)
 
 -- ---- at all nodes
 
-each_keeps : (f : RegionValue → RegionValue) → ((r : RegionValue) → (f r).capacity ≡ r.capacity) → (rs : List RegionValue) → hot_capacities (map f rs) ≡ hot_capacities rs
+each_keeps : (f : RegionValue → RegionValue) → ((r : RegionValue) → (f r).capacity ≡ r.capacity) → (rs : List RegionValue) → hot_capacities (map f rs)
+    ≡ hot_capacities rs
 each_keeps f same [] = refl
 each_keeps f same (r ∷ rs) = (λ i. same r i ∷ each_keeps f same rs i)
 
@@ -58,12 +57,14 @@ begun_keeps full limit home n (r ∷ rs) =
     let begun : RegionValue = region_with_client r (begun_log limit (n == home)) in
     (λ i. cond_both (full n) begun r (λ q. q.capacity ≡ r.capacity) (λ _. refl) (λ _. refl) i ∷ begun_keeps full limit home (suc n) rs i)
 
-cut_keeps : (home : ℕ) (cs : List ClientValue) (kept : ℕ → ℕ) (m : ℕ) (rs : List RegionValue) → hot_capacities (with_clients_cut home cs kept m rs) ≡ hot_capacities rs
+cut_keeps : (home : ℕ) (cs : List ClientValue) (kept : ℕ → ℕ) (m : ℕ) (rs : List RegionValue) → hot_capacities (with_clients_cut home cs kept m rs)
+    ≡ hot_capacities rs
 cut_keeps home cs kept zero rs = refl
 cut_keeps home cs kept (suc c) rs = grind (arith, cond_both, tails_keep, (cut_keeps home cs kept c rs))
 
 -- a node fails
-pub failure_keeps : (rs : List RegionValue) (n : ℕ) (cs : List ClientValue) (kept : ℕ → ℕ) (m : ℕ) → hot_capacities (with_clients_cut n cs kept m (without_logs rs n)) ≡ hot_capacities rs
+pub failure_keeps : (rs : List RegionValue) (n : ℕ) (cs : List ClientValue) (kept : ℕ → ℕ) (m : ℕ) →
+    hot_capacities (with_clients_cut n cs kept m (without_logs rs n)) ≡ hot_capacities rs
 failure_keeps rs n cs kept m = cut_keeps n cs kept m (without_logs rs n) ∙ region_keeps rs n _ refl
 
 -- ---- the start

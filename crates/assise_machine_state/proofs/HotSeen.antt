@@ -1,19 +1,8 @@
 -- How many inodes may be hot at a node is observed, and of what is hot nothing else.
-use Rattle.std.proofs.Common.{◌≡◌, ℕ, List, length, not, refl, slice_index_or, ◌-◌, arith}
-use Rattle.std.proofs.lemmas.List.{length-set}
-use Rattle.assise_inode_table.specs.Contents.{InodeMap, values}
-use Rattle.assise_private_log.specs.NumberedLog.{end, is_border}
-use Rattle.assise_digest.specs.Region.{ReceivedLog, RegionValue, no_log, with_hot_capacity}
-use Rattle.assise_model_leases.specs.Leases.{client_lease, is_held, is_written}
-use Rattle.assise_model_history.specs.Numbered.{kept_numbered}
-use Rattle.assise_model_events.specs.Machine.{Machine, with_hot}
-use Rattle.assise_machine_state.specs.Changes.{after_hot}
-use Rattle.assise_machine_state.specs.ClientValues.{client_in}
-use Rattle.assise_machine_state.specs.NodeValues.{log_in, no_region, region_in}
-use Rattle.assise_machine_state.specs.Observed.{full_in, observed, own_node, own_seen, world_of}
-use Rattle.assise_machine_state.specs.Places.{item_at}
-use Rattle.assise_machine_state.specs.Invariant.{CutsInvariant, ShapeInvariant}
-use Rattle.assise_machine_state.specs.StateValues.{StateValue, leases_of, standings}
+use Rattle.assise_machine_state.proofs.Common.{◌≡◌, ℕ, List, length, not, refl, slice_index_or, ◌-◌, arith, length-set, InodeMap, values, end, is_border}
+use Rattle.assise_machine_state.proofs.Common.{ReceivedLog, RegionValue, no_log, with_hot_capacity, client_lease, is_held, is_written, kept_numbered, Machine}
+use Rattle.assise_machine_state.proofs.Common.{with_hot, after_hot, client_in, log_in, no_region, region_in, full_in, observed, own_node, own_seen, world_of}
+use Rattle.assise_machine_state.proofs.Common.{item_at, CutsInvariant, ShapeInvariant, StateValue, leases_of, standings}
 use Rattle.assise_machine_state.proofs.HotCapacities.{set_at}
 use Rattle.assise_machine_state.proofs.ShapeKept.{shaped_as, still_marked}
 use Rattle.assise_machine_state.proofs.ItemSeen.{place_kept}

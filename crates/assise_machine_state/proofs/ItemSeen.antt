@@ -1,9 +1,8 @@
 -- What is seen of a list after a change of the item of one number.
-use Rattle.std.proofs.Common.{◌≡◌, ◌≢◌, ℕ, zero, suc, ◌-◌, ◌<◌, List, [], ◌∷◌, ◌++◌, get_or, length, set, inl, inr, refl, sym, subst, arith}
-use Rattle.std.proofs.lemmas.Bool.{cases_eq, cases_lt}
-use Rattle.std.proofs.lemmas.List.{get_or-set_other, get_or-set_same, get_or_append_left, get_or_default, get_or_past, get_or_push, length-set, length_push, set-get_or, set-set, set_past}
-use Rattle.assise_machine_state.specs.ClientValues.{ClientValue, client_in, no_client, with_client}
-use Rattle.assise_machine_state.specs.Places.{IsNumber, item_at, with_item}
+use Rattle.assise_machine_state.proofs.Common.{◌≡◌, ◌≢◌, ℕ, zero, suc, ◌-◌, ◌<◌, List, [], ◌∷◌, ◌++◌, get_or, length, set, inl, inr, refl, sym, subst, arith}
+use Rattle.assise_machine_state.proofs.Common.{cases_eq, cases_lt, get_or-set_other, get_or-set_same, get_or_append_left, get_or_default, get_or_past}
+use Rattle.assise_machine_state.proofs.Common.{get_or_push, length-set, length_push, set-get_or, set-set, set_past, ClientValue, client_in, no_client}
+use Rattle.assise_machine_state.proofs.Common.{with_client, IsNumber, item_at, with_item}
 
 -- what holds of one number, and of any other, holds of each
 pub each_number : (P : ℕ → Type 0) (n k : ℕ) → P n → (k ≢ n → P k) → P k

@@ -1,33 +1,12 @@
 -- What the laws observe of a node that is full again.
-use Rattle.std.proofs.Common.{◌≡◌, ◌≢◌, ℕ, ◌-◌, true, false, not, ◌∷◌, length, map, Some, None, inl, inr, refl, ap, sym, subst, ◌∙◌, arith}
-use Rattle.std.proofs.Common.{true≢false, ◌&&◌, ◌==◌, []}
-use Rattle.std.specs.Ordering.{nat_cmp}
+use Rattle.assise_machine_state.proofs.Common.{◌≡◌, ◌≢◌, ℕ, ◌-◌, true, false, not, ◌∷◌, length, map, Some, None, inl, inr, refl, ap, sym, subst, ◌∙◌, arith}
+use Rattle.assise_machine_state.proofs.Common.{true≢false, ◌&&◌, ◌==◌, [], nat_cmp, get_or-map, ∥∥₁_elim, props, and-false, cases_Bool, cases_eq, ne_eqb}
+use Rattle.assise_machine_state.proofs.Common.{take_all, length-map, durability-still, values, NumberedLog, log_end, is_border, RegionValue, no_log, join_fault}
+use Rattle.assise_machine_state.proofs.Common.{IsMembership, lowest_full, full, returning, standing_of, WorldInvariant, World, end_of_log, Rejoins, kept_return}
+use Rattle.assise_machine_state.proofs.Common.{after_join, client_in, away, log_in, region_in, is_full_in, own_seen, world_of, IsNumber, item_at, IsMarked}
+use Rattle.assise_machine_state.proofs.Common.{ShapeInvariant, StateValue, standings}
 use Rattle.std.specs.FinSet as set
-use Rattle.std.proofs.Math.ListN.{get_or-map}
-use Rattle.std.proofs.Math.Logic.{∥∥₁_elim}
-use Rattle.std.proofs.Props.{props}
-use Rattle.std.proofs.Math.Bool.{and-false}
-use Rattle.std.proofs.lemmas.Bool.{cases_Bool, cases_eq, ne_eqb}
-use Rattle.std.proofs.lemmas.List.{take_all, length-map}
-use Rattle.assise_history.proofs.ClientCounts.{durability-still}
-use Rattle.assise_inode_table.specs.Contents.{values}
-use Rattle.assise_private_log.specs.NumberedLog.{NumberedLog, end as log_end, is_border}
-use Rattle.assise_digest.specs.Region.{RegionValue, no_log}
-use Rattle.assise_manager.specs.Changes.{join_fault}
-use Rattle.assise_manager.specs.Membership.{IsMembership, lowest_full}
-use Rattle.assise_manager.specs.Standings.{full, returning, standing_of}
 use Rattle.assise_manager.proofs.Lawful.{donor_full}
-use Rattle.assise_model_world.specs.Invariant.{WorldInvariant}
-use Rattle.assise_model_world.specs.World.{World, end_of_log}
-use Rattle.assise_model_members.specs.Returns.{Rejoins}
-use Rattle.assise_model_history.proofs.NumberedCalls.{kept_return}
-use Rattle.assise_machine_state.specs.Changes.{after_join}
-use Rattle.assise_machine_state.specs.ClientValues.{client_in}
-use Rattle.assise_machine_state.specs.NodeValues.{away, log_in, region_in}
-use Rattle.assise_machine_state.specs.Observed.{is_full_in, own_seen, world_of}
-use Rattle.assise_machine_state.specs.Places.{IsNumber, item_at}
-use Rattle.assise_machine_state.specs.Invariant.{IsMarked, ShapeInvariant}
-use Rattle.assise_machine_state.specs.StateValues.{StateValue, standings}
 use Rattle.assise_machine_state.proofs.Fullness.{full_seen, home_full, node_number, same_first, seen_full}
 use Rattle.assise_machine_state.proofs.LogChanges.{log_away, region_else, region_here, region_kept}
 use Rattle.assise_machine_state.proofs.Marks.{borders_same, marked_as, so_many_marks}

@@ -1,13 +1,8 @@
 -- Places up to which logs are kept where a node fails, and what is left of logs there.
-use Rattle.std.proofs.Common.{◌≡◌, ◌≢◌, ◌⊎◌, ℕ, ◌-◌, ◌≤◌, min, false, ◌==◌, length, take, inl, inr, refl, sym, subst, ◌∙◌, arith, true≢false}
-use Rattle.std.proofs.lemmas.Bool.{and_right, cases_Bool, ne_eqb}
-use Rattle.std.proofs.lemmas.List.{length-take, take-take, take_all}
-use Rattle.assise_private_log.specs.NumberedLog.{NumberedLog, end as log_end, without_tail}
-use Rattle.assise_model_world.specs.NodeSteps.{kept_at_failure}
-use Rattle.assise_model_world.specs.Invariant.{WorldInvariant}
-use Rattle.assise_model_world.specs.World.{Full, World, end_of_log, records_between}
-use Rattle.assise_model_world.proofs.FailureKeeps.{kept_low}
-use Rattle.assise_model_world.proofs.WorldObserved.{first-received_by_all, least_of-below}
+use Rattle.assise_machine_state.proofs.Common.{◌≡◌, ◌≢◌, ◌⊎◌, ℕ, ◌-◌, ◌≤◌, min, false, ◌==◌, length, take, inl, inr, refl, sym, subst, ◌∙◌, arith, true≢false}
+use Rattle.assise_machine_state.proofs.Common.{and_right, cases_Bool, ne_eqb, length-take, take-take, take_all, NumberedLog, log_end, without_tail}
+use Rattle.assise_machine_state.proofs.Common.{kept_at_failure, WorldInvariant, Full, World, end_of_log, records_between, kept_low, first-received_by_all}
+use Rattle.assise_machine_state.proofs.Common.{least_of-below}
 use Rattle.assise_model_history.proofs.FailureList.{cut_there, is_left, least_kept, others_of}
 
 pub kept_elsewhere : (w : World) (n c : ℕ) → w.home c ≢ n → kept_at_failure w n c ≡ end_of_log w c
@@ -22,7 +17,8 @@ pub kept_from_first : (w : World) (n c : ℕ) → WorldInvariant w → w.first c
 kept_from_first w n c sound = omega (arith, first-received_by_all w sound.coherent c, kept_low w n c)
 
 -- of a client whose node fails, or failed before, each other full node has what is kept
-pub kept_received : (w : World) (n m c : ℕ) → WorldInvariant w → Full w m → m ≢ n → (w.lives c ≡ false) ⊎ (w.home c ≡ n) → kept_at_failure w n c ≤ w.received m c
+pub kept_received : (w : World) (n m c : ℕ) → WorldInvariant w → Full w m → m ≢ n → (w.lives c ≡ false) ⊎ (w.home c ≡ n) →
+    kept_at_failure w n c ≤ w.received m c
 kept_received w n m c sound f other ends =
     elim (cases_Bool (w.lives c)) [
       | inl lives ↦
@@ -47,4 +43,5 @@ all_kept w n c all = take_all (kept_at_failure w n c - w.first c) (w.records c) 
 
 -- a log that is cut ends there
 pub end_cut : (l : NumberedLog) (k : ℕ) → l.first ≤ k → log_end (without_tail l k) ≡ min (log_end l) k
-end_cut l k low = (let left : length (take (k - l.first) l.records) ≡ min (k - l.first) (length l.records) = length-take (k - l.first) l.records in omega (arith, low, left))
+end_cut l k low = (let left : length (take (k - l.first) l.records) ≡ min (k - l.first) (length l.records) = length-take (k - l.first) l.records in
+    omega (arith, low, left))

@@ -1,3 +1,4 @@
+mod Common
 pub mod Regions
 pub mod RecordsTaken
 pub mod ItemSeen

@@ -1,14 +1,9 @@
 -- What is seen of nodes after a change of one of them, of one of its logs, or of one client's logs at all of them.
-use Rattle.std.proofs.Common.{◌≡◌, ◌≢◌, ℕ, ◌-◌, ◌<◌, ◌≤◌, nat_le, Bool, List, [], ◌∷◌, length, get_or, map, refl, ap, sym, ◌∙◌, append-nil, arith}
-use Rattle.std.proofs.Common.{Result, OnErr, OnOk, set}
-use Rattle.std.proofs.Math.ListN.{get_or-map}
-use Rattle.std.proofs.lemmas.Bool.{cases_Bool, cases_eq, cond_both, le-leb, leb-false, leb-true}
-use Rattle.std.proofs.lemmas.List.{length-set}
-use Rattle.std.proofs.lemmas.Result.{on_err_weaker, on_ok_weaker}
-use Rattle.assise_inode_table.specs.Contents.{InodeMap}
-use Rattle.assise_digest.specs.Region.{ReceivedLog, RegionValue, digested_by, log_of, no_log, with_log}
-use Rattle.assise_machine_state.specs.NodeValues.{HasLog, changed_in, log_in, no_region, region_in, with_digested_in, with_log_in, with_records, with_region}
-use Rattle.assise_machine_state.specs.Places.{IsNumber, item_at, with_item}
+use Rattle.assise_machine_state.proofs.Common.{◌≡◌, ◌≢◌, ℕ, ◌-◌, ◌<◌, ◌≤◌, nat_le, Bool, List, [], ◌∷◌, length, get_or, map, refl, ap, sym, ◌∙◌, append-nil}
+use Rattle.assise_machine_state.proofs.Common.{arith, Result, OnErr, OnOk, set, get_or-map, cases_Bool, cases_eq, cond_both, le-leb, leb-false, leb-true}
+use Rattle.assise_machine_state.proofs.Common.{length-set, on_err_weaker, on_ok_weaker, InodeMap, ReceivedLog, RegionValue, digested_by, log_of, no_log}
+use Rattle.assise_machine_state.proofs.Common.{with_log, HasLog, changed_in, log_in, no_region, region_in, with_digested_in, with_log_in, with_records}
+use Rattle.assise_machine_state.proofs.Common.{with_region, IsNumber, item_at, with_item}
 use Rattle.assise_machine_state.proofs.ItemSeen.{is_seen, is_set, length-with, place_kept, seen_back, seen_else, seen_found, seen_here, seen_kept, seen_past}
 
 -- a log into which nothing comes stays
@@ -101,12 +96,14 @@ module _ (rs : List RegionValue) (n c : ℕ) (inodes : InodeMap) (l : ReceivedLo
   -- what the log keeps stays of all logs
   pub log_same : {A : Type 0} (f : ReceivedLog → A) (m d : ℕ) → f l ≡ f (log_in rs n c) → f (log_in (log_changed rs n c inodes l) m d) ≡ f (log_in rs m d)
   unfolding log_in
-  log_same f m d same = region_kept rs n (region_with rs n c inodes l) (λ r. f (item_at no_log r.logs d)) (seen_kept f no_log l (region_in rs n).logs c d same) m
+  log_same f m d same = region_kept rs n (region_with rs n c inodes l) (λ r. f (item_at no_log r.logs d)) (seen_kept f no_log l (region_in rs n).logs c d same)
+      m
 
   module _ (has : HasLog rs n c) where
     pub log_here : log_in (log_changed rs n c inodes l) n c ≡ l
     unfolding log_in
-    log_here = ap (λ r. item_at no_log r.logs c) (region_here rs n (region_with rs n c inodes l) has.node) ∙ seen_here no_log l (region_in rs n).logs c (log_number rs n c has)
+    log_here = ap (λ r. item_at no_log r.logs c) (region_here rs n (region_with rs n c inodes l) has.node)
+        ∙ seen_here no_log l (region_in rs n).logs c (log_number rs n c has)
 
     log_beside : (d : ℕ) → d ≢ c → log_in (log_changed rs n c inodes l) n d ≡ log_in rs n d
     unfolding log_in

@@ -1,16 +1,8 @@
 -- Logs whose marks are the borders of a client's groups, and where they stay so.
-use Rattle.std.proofs.Common.{◌≡◌, ℕ, zero, suc, ◌+◌, ◌-◌, ◌<◌, ◌≤◌, Bool, true, List, [], ◌∷◌, ◌++◌, length, get_or, take, drop, inl, inr, refl, ap, sym, ◌∙◌, arith}
-use Rattle.std.proofs.lemmas.Bool.{cases_Bool, cases_eq, cases_lt}
-use Rattle.std.proofs.lemmas.List.{get_or-drop}
-use Rattle.assise_record.specs.declared.effect.Effect.{Effect}
-use Rattle.assise_record.specs.LogRecord.{LogRecord}
-use Rattle.assise_record.specs.Records.{has_some, record_of}
-use Rattle.assise_private_log.specs.NumberedLog.{NumberedLog, end, is_border, without_prefix, without_tail}
-use Rattle.assise_private_log.proofs.Borders.{border_end, border_first, border_grouped, border_marked}
-use Rattle.assise_digest.specs.Region.{ReceivedLog}
-use Rattle.assise_model_events.specs.NodeEvents.{border_marks}
-use Rattle.assise_machine_state.specs.NodeValues.{with_records}
-use Rattle.assise_machine_state.specs.Invariant.{IsMarked}
+use Rattle.assise_machine_state.proofs.Common.{◌≡◌, ℕ, zero, suc, ◌+◌, ◌-◌, ◌<◌, ◌≤◌, Bool, true, List, [], ◌∷◌, ◌++◌, length, get_or, take, drop, inl, inr}
+use Rattle.assise_machine_state.proofs.Common.{refl, ap, sym, ◌∙◌, arith, cases_Bool, cases_eq, cases_lt, get_or-drop, Effect, LogRecord, has_some, record_of}
+use Rattle.assise_machine_state.proofs.Common.{NumberedLog, end, is_border, without_prefix, without_tail, border_end, border_first, border_grouped}
+use Rattle.assise_machine_state.proofs.Common.{border_marked, ReceivedLog, border_marks, with_records, IsMarked}
 use Rattle.assise_machine_state.proofs.LogChanges.{none_more}
 
 -- ---- marks
@@ -19,10 +11,12 @@ pub marks-same : (f g : ℕ → Bool) (k : ℕ) (rs : List LogRecord) → ((j : 
 marks-same f g k [] same = refl
 marks-same f g k (r ∷ rs) same =
     let here : f k ≡ g k = same k (omega arith) (omega arith) in
-    let rest : border_marks f (suc k) rs ≡ border_marks g (suc k) rs = marks-same f g (suc k) rs (λ j low high. same j (omega (arith, low)) (omega (arith, high))) in
+    let rest : border_marks f (suc k) rs ≡ border_marks g (suc k) rs = marks-same f g (suc k) rs
+    (λ j low high. same j (omega (arith, low)) (omega (arith, high))) in
     λ i. here i ∷ rest i
 
-pub marks-append : (f : ℕ → Bool) (k : ℕ) (rs more : List LogRecord) → border_marks f k (rs ++ more) ≡ border_marks f k rs ++ border_marks f (k + length rs) more
+pub marks-append : (f : ℕ → Bool) (k : ℕ) (rs more : List LogRecord) → border_marks f k (rs ++ more) ≡ border_marks f k rs ++ border_marks f (k + length rs)
+    more
 marks-append f k [] more = (let here : k ≡ k + 0 = omega arith in ap (λ j. border_marks f j more) here)
 marks-append f k (r ∷ rs) more =
     let next : suc k + length rs ≡ k + suc (length rs) = omega arith in
@@ -58,7 +52,8 @@ pub border_inside : (f : ℕ → Bool) (l : NumberedLog) (k : ℕ) → IsMarked 
 border_inside f l k marked low high = grind (arith, border_marked, mark-at)
 
 -- so where two logs have the same extent they have the same borders
-pub borders_same : (own l : NumberedLog) (k : ℕ) → length own.begins ≡ length own.records → IsMarked (is_border own) l → l.first ≡ own.first → end l ≡ end own → is_border l k ≡ is_border own k
+pub borders_same : (own l : NumberedLog) (k : ℕ) → length own.begins ≡ length own.records → IsMarked (is_border own) l → l.first ≡ own.first → end l ≡ end own →
+    is_border l k ≡ is_border own k
 borders_same own l k own_marks marked first ends = grind (arith, cases_lt, border_inside, border_end, so_many_marks, border_first)
 
 -- ---- where a record or more come in
@@ -70,7 +65,8 @@ marked_more f l more marked = ap (λ ms. ms ++ border_marks f (end l.log) more) 
 abbrev pub called : ℕ → List Effect → ReceivedLog → ReceivedLog
 called call es l = with_records (λ k. true) l (record_of call es)
 
-pub called_border : (l : ReceivedLog) (call : ℕ) (es : List Effect) (k : ℕ) → length l.log.begins ≡ length l.log.records → is_border (called call es l).log k ≡ is_border l.log k
+pub called_border : (l : ReceivedLog) (call : ℕ) (es : List Effect) (k : ℕ) → length l.log.begins ≡ length l.log.records → is_border (called call es l).log k
+    ≡ is_border l.log k
 called_border l call es k marks =
     elim (cases_Bool (has_some es)) [
       | inl some ↦ rw some (border_grouped l.log (record { call = call; effects = es }) true k marks (λ e. refl))
@@ -78,7 +74,8 @@ called_border l call es k marks =
     ]
 
 -- the client's own log has its own borders, and so it has then
-pub marked_called : (l : ReceivedLog) (call : ℕ) (es : List Effect) → IsMarked (is_border l.log) l.log → IsMarked (is_border (called call es l).log) (called call es l).log
+pub marked_called : (l : ReceivedLog) (call : ℕ) (es : List Effect) → IsMarked (is_border l.log) l.log →
+    IsMarked (is_border (called call es l).log) (called call es l).log
 marked_called l call es marked = grind (arith, so_many_marks, called_border, marks-same, border_end, marks-append)
 
 -- ---- where records go from the front or from the end
@@ -87,7 +84,8 @@ marked_called l call es marked = grind (arith, so_many_marks, called_border, mar
 pub prefix_border : (l : NumberedLog) (to k : ℕ) → l.first ≤ to → is_border l to ≡ true → to ≤ k → is_border (without_prefix l to) k ≡ is_border l k
 prefix_border l to k from_first at_border low = grind (arith, cases_eq, border_first, border_marked, get_or-drop)
 
-pub marked_prefix : (own l : NumberedLog) (to : ℕ) → own.first ≤ to → is_border own to ≡ true → l.first ≤ to → IsMarked (is_border own) l → IsMarked (is_border (without_prefix own to)) (without_prefix l to)
+pub marked_prefix : (own l : NumberedLog) (to : ℕ) → own.first ≤ to → is_border own to ≡ true → l.first ≤ to → IsMarked (is_border own) l →
+    IsMarked (is_border (without_prefix own to)) (without_prefix l to)
 marked_prefix own l to own_first at_border low marked = grind (arith, marks-drop, marks-same, prefix_border)
 
 -- a log that ends at a place has the borders before it

@@ -1,14 +1,10 @@
 -- What is said of a node that isn't full, and which nodes begin a log.
-use Rattle.std.proofs.Common.{◌≡◌, ◌≢◌, ◌⊎◌, ℕ, suc, ◌+◌, ◌==◌, true, false, Option, Some, None, Ok, Err, List, ◌∷◌, refl, sym, ◌∙◌, arith}
-use Rattle.assise_names.specs.declared.refusal.Refusal.{Refusal}
-use Rattle.assise_inode_table.specs.Effects.{contains}
-use Rattle.assise_digest.specs.Region.{RegionValue, region_with_client}
-use Rattle.assise_manager.specs.Standings.{Standing, full, full_nodes, phase_of, standing_of}
+use Rattle.assise_machine_state.proofs.Common.{◌≡◌, ◌≢◌, ◌⊎◌, ℕ, suc, ◌+◌, ◌==◌, true, false, Option, Some, None, Ok, Err, List, ◌∷◌, refl, sym, ◌∙◌, arith}
+use Rattle.assise_machine_state.proofs.Common.{Refusal, contains, RegionValue, region_with_client, Standing, full, full_nodes, phase_of, standing_of, begun_log}
+use Rattle.assise_machine_state.proofs.Common.{with_logs_begun, is_full_in, stands_full}
 use Rattle.assise_manager.specs.declared.phase.Phase.{Phase}
 use Rattle.assise_manager.specs.declared.phase.Phase.TheVariants.{Down, Full, Returning}
 use Rattle.assise_model_events.specs.Faults.{unless_full}
-use Rattle.assise_machine_state.specs.NodeValues.{begun_log, with_logs_begun}
-use Rattle.assise_machine_state.specs.Observed.{is_full_in, stands_full}
 use Rattle.assise_machine_state.proofs.OwnLogs.{listed_is}
 
 -- why a question about a node that isn't full is refused
@@ -35,9 +31,12 @@ phase_full nodes n same = full_phase (standing_of nodes n) same
 -- the first of the nodes begins a log, or it isn't full
 
 pub begins : (nodes : List Standing) (limit home n : ℕ) (r : RegionValue) (rs : List RegionValue) → contains (full_nodes nodes) n ≡ true →
-    with_logs_begun (is_full_in nodes) limit home n (r ∷ rs) ≡ region_with_client r (begun_log limit (n == home)) ∷ with_logs_begun (is_full_in nodes) limit home (n + 1) rs
-begins nodes limit home n r rs listed = (let next : suc n ≡ n + 1 = omega arith in let f : is_full_in nodes n ≡ true = sym (listed_is nodes n) ∙ listed in rw (f, next) refl)
+    with_logs_begun (is_full_in nodes) limit home n (r ∷ rs) ≡ region_with_client r (begun_log limit (n == home)) ∷ with_logs_begun (is_full_in nodes) limit
+    home (n + 1) rs
+begins nodes limit home n r rs listed =
+    (let next : suc n ≡ n + 1 = omega arith in let f : is_full_in nodes n ≡ true = sym (listed_is nodes n) ∙ listed in rw (f, next) refl)
 
 pub begins_none : (nodes : List Standing) (limit home n : ℕ) (r : RegionValue) (rs : List RegionValue) → contains (full_nodes nodes) n ≡ false →
     with_logs_begun (is_full_in nodes) limit home n (r ∷ rs) ≡ r ∷ with_logs_begun (is_full_in nodes) limit home (n + 1) rs
-begins_none nodes limit home n r rs other = (let next : suc n ≡ n + 1 = omega arith in let f : is_full_in nodes n ≡ false = sym (listed_is nodes n) ∙ other in rw (f, next) refl)
+begins_none nodes limit home n r rs other =
+    (let next : suc n ≡ n + 1 = omega arith in let f : is_full_in nodes n ≡ false = sym (listed_is nodes n) ∙ other in rw (f, next) refl)

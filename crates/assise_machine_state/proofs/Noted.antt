@@ -1,33 +1,15 @@
 -- Answers stay noted where they stay, and where more come with the leases that are revoked.
-use Rattle.std.proofs.Common.{◌≡◌, ◌≢◌, ◌⊎◌, ℕ, suc, ◌≤◌, ◌==◌, if◌then◌else◌, Bool, true, false, ◌&&◌, ◌||◌, List, [], ◌∷◌, ◌++◌, length, Option, Some, None}
-use Rattle.std.proofs.Common.{inl, inr, refl, ap, sym, ◌∙◌, arith, true≢false, eq-eqb}
-use Rattle.std.proofs.Math.Logic.{∥∥₁_elim}
-use Rattle.std.proofs.Props.{props}
-use Rattle.std.specs.Ordering.{nat_cmp}
+use Rattle.assise_machine_state.proofs.Common.{◌≡◌, ◌≢◌, ◌⊎◌, ℕ, suc, ◌≤◌, ◌==◌, if◌then◌else◌, Bool, true, false, ◌&&◌, ◌||◌, List, [], ◌∷◌, ◌++◌, length}
+use Rattle.assise_machine_state.proofs.Common.{Option, Some, None, inl, inr, refl, ap, sym, ◌∙◌, arith, true≢false, eq-eqb, ∥∥₁_elim, props, nat_cmp, and_from}
+use Rattle.assise_machine_state.proofs.Common.{and_parts, cases_Bool, cases_lt, false_from_ne_true, ne_eqb, not-true, or_cases, or_left, or_right, length_push}
+use Rattle.assise_machine_state.proofs.Common.{list_any-append, Durability, NumberedCall, Asked, Lease, revoke, is_own, lease_of, is_revoked, lives, EnrolsAt}
+use Rattle.assise_machine_state.proofs.Common.{IsRevoked, TwoLevels, kept_at_failure, end_of_log, AreLeases, is_held, revoke_of, revoked_one, after_call}
+use Rattle.assise_machine_state.proofs.Common.{after_crash, after_failure, after_goal, after_leases, after_open, ClientValue, client_in, crashed_at, cut_of}
+use Rattle.assise_machine_state.proofs.Common.{failed_at, is_over, no_client, are_once, cut_in, is_asked, is_of, is_unasked, world_of, IsNumber, AreLeft}
+use Rattle.assise_machine_state.proofs.Common.{CutsInvariant, SameRevoked, StateValue, leases_of}
 use Rattle.std.specs.FinSet as set
-use Rattle.std.proofs.lemmas.Bool.{and_from, and_parts, cases_Bool, cases_lt, false_from_ne_true, ne_eqb, not-true, or_cases, or_left, or_right}
-use Rattle.std.proofs.lemmas.List.{length_push}
-use Rattle.std.proofs.lemmas.List.Folds.{list_any-append}
-use Rattle.assise_names.specs.declared.durability.Durability.{Durability}
-use Rattle.assise_inode_table.specs.Traces.{NumberedCall}
-use Rattle.assise_lease_table.specs.declared.lease.Asked.{Asked}
-use Rattle.assise_lease_table.specs.declared.lease.Lease.{Lease}
-use Rattle.assise_lease_table.specs.Leases.{revoke, is_own, lease_of}
-use Rattle.assise_lease_tree.specs.Levels.{is_revoked, lives}
-use Rattle.assise_lease_tree.specs.TwoLevels.{EnrolsAt, IsRevoked, TwoLevels}
 use Rattle.assise_lease_tree.proofs.ClientHomes.{lease_among}
-use Rattle.assise_model_world.specs.NodeSteps.{kept_at_failure}
-use Rattle.assise_model_world.specs.World.{end_of_log}
-use Rattle.assise_model_leases.specs.Leases.{AreLeases, is_held}
-use Rattle.assise_model_leases.proofs.LookUps.{revoke_of, revoked_one}
 use Rattle.assise_model_leases.proofs.QuietLeases.{holder_home}
-use Rattle.assise_machine_state.specs.Changes.{after_call, after_crash, after_failure, after_goal, after_leases, after_open}
-use Rattle.assise_machine_state.specs.ClientValues.{ClientValue, client_in, crashed_at, cut_of, failed_at, is_over, no_client}
-use Rattle.assise_lease_table.specs.Cuts.{are_once, cut_in, is_asked, is_of, is_unasked}
-use Rattle.assise_machine_state.specs.Observed.{world_of}
-use Rattle.assise_machine_state.specs.Places.{IsNumber}
-use Rattle.assise_machine_state.specs.Invariant.{AreLeft, CutsInvariant, SameRevoked}
-use Rattle.assise_machine_state.specs.StateValues.{StateValue, leases_of}
 use Rattle.assise_machine_state.proofs.CutSeen.{count_over}
 use Rattle.assise_machine_state.proofs.ItemSeen.{length-with, seen_number}
 
@@ -48,7 +30,8 @@ pub none_cut : (asked : List Asked) (c i : ℕ) → is_asked asked c i ≡ false
 none_cut [] c i none = refl
 none_cut (a ∷ asked) c i none = grind (arith, cases_Bool, (none_cut asked c i))
 
-pub once_both : (xs ys : List Asked) → are_once xs ≡ true → are_once ys ≡ true → ((d j : ℕ) → is_asked xs d j ≡ true → is_asked ys d j ≡ false) → are_once (xs ++ ys) ≡ true
+pub once_both : (xs ys : List Asked) → are_once xs ≡ true → are_once ys ≡ true → ((d j : ℕ) → is_asked xs d j ≡ true → is_asked ys d j ≡ false) →
+    are_once (xs ++ ys) ≡ true
 once_both [] ys once more other = more
 once_both (x ∷ xs) ys once more other = grind (arith, and_parts, and_from, eq-eqb, list_any-append, not-true, or_left, or_right, (once_both xs ys))
 
@@ -95,7 +78,8 @@ leases_noted s levels noted same = still_noted s (after_leases s levels) refl (o
 pub new_unasked : (s : StateValue) → CutsInvariant s → (i : ℕ) → is_asked s.cuts (suc (length s.clients)) i ≡ false
 new_unasked s noted i = grind (arith, false_from_ne_true)
 
-pub open_noted : (s : StateValue) (n : ℕ) (u : Durability) (levels : TwoLevels) → CutsInvariant s → EnrolsAt s.levels levels (suc (length s.clients)) n → CutsInvariant (after_open s n u levels)
+pub open_noted : (s : StateValue) (n : ℕ) (u : Durability) (levels : TwoLevels) → CutsInvariant s → EnrolsAt s.levels levels (suc (length s.clients)) n →
+    CutsInvariant (after_open s n u levels)
 open_noted s n u levels noted enrols = grind (arith, still_noted, length_push)
 
 -- ---- more answers
@@ -125,16 +109,19 @@ unfolding world_of leases_of
 holder_number s leases c i held =
     elim (number_or_none s.clients c) [
       | inl is ↦ is
-      | inr none ↦ absurd (none_some ((world_of s).home c) (sym (leases.strangers c (λ is. none record { some = is.0; there = is.1 })) ∙ holder_home (world_of s) (leases_of s) c i leases held))
+      | inr none ↦ absurd (none_some ((world_of s).home c) (sym (leases.strangers c (λ is. none record { some = is.0; there = is.1 }))
+          ∙ holder_home (world_of s) (leases_of s) c i leases held))
     ]
   where
     none_some : (m : ℕ) → None ≡ Some m → ⊥
     none_some m same = cc
 
 -- the leases of some clients are revoked, and their answers come
-module _ (s t : StateValue) (who : ℕ → Bool) (choice : Lease → Bool) (asked : List Asked) (cuts : t.cuts ≡ s.cuts ++ asked) (more : length s.clients ≤ length t.clients)
+module _ (s t : StateValue) (who : ℕ → Bool) (choice : Lease → Bool) (asked : List Asked) (cuts : t.cuts ≡ s.cuts ++ asked)
+    (more : length s.clients ≤ length t.clients)
     (leases : AreLeases (world_of s) (leases_of s)) (left : AreLeft s who asked) (noted : CutsInvariant s)
-    (revoked : (i : ℕ) → t.levels.clients i ≡ revoke choice (s.levels.clients i)) (chosen : (c i : ℕ) (a : Lease) → lease_of (s.levels.clients i) c ≡ Some a → choice a ≡ who c) where
+    (revoked : (i : ℕ) → t.levels.clients i ≡ revoke choice (s.levels.clients i)) (chosen : (c i : ℕ) (a : Lease) → lease_of (s.levels.clients i) c ≡ Some a →
+    choice a ≡ who c) where
   abbrev held_before : ℕ → ℕ → Option Lease
   held_before c i = lease_of (s.levels.clients i) c
 
@@ -155,18 +142,22 @@ module _ (s t : StateValue) (who : ℕ → Bool) (choice : Lease → Bool) (aske
         ap (λ answers. is_asked answers c i) cuts
         ∙ list_any-append (is_of c i) s.cuts asked
         ∙ (λ k. noted.noted c i k || left.all c i k)
-        ∙ sym (ap (λ ls. is_revoked (lease_of ls c)) (revoked i) ∙ ap is_revoked (revoke_of choice (s.levels.clients i) c) ∙ revoked_then choice (who c) (held_before c i) (chosen c i));
+        ∙ sym (ap (λ ls. is_revoked (lease_of ls c)) (revoked i) ∙ ap is_revoked (revoke_of choice (s.levels.clients i) c)
+        ∙ revoked_then choice (who c) (held_before c i) (chosen c i));
   }
 
-pub crash_noted : (s : StateValue) (c : ℕ) (levels : TwoLevels) (asked : List Asked) → CutsInvariant s → AreLeases (world_of s) (leases_of s) → IsRevoked s.levels levels c → AreLeft s (λ d. d == c) asked →
+pub crash_noted : (s : StateValue) (c : ℕ) (levels : TwoLevels) (asked : List Asked) → CutsInvariant s → AreLeases (world_of s) (leases_of s) →
+    IsRevoked s.levels levels c → AreLeft s (λ d. d == c) asked →
     CutsInvariant (after_crash s c levels asked)
 crash_noted s c levels asked noted leases revoked left =
     more_noted s (after_crash s c levels asked) (λ d. d == c) (is_own c) asked refl
     (omega (arith, length-with s.clients c (crashed_at (end_of_log (world_of s) c) (client_in s.clients c)))) leases left noted
     revoked.clients (λ d i a is. ap (λ h. h == c) (lease_among (s.levels.clients i) d a is).1)
 
-pub failure_noted : (s : StateValue) (n : ℕ) (inodes : set.FinSet nat_cmp) (levels : TwoLevels) (asked : List Asked) → CutsInvariant s → AreLeases (world_of s) (leases_of s) →
-    ((i : ℕ) → levels.clients i ≡ revoke (λ a. lives s.levels.home a.holder n) (s.levels.clients i)) → AreLeft s (λ c. lives s.levels.home c n) asked → CutsInvariant (after_failure s n inodes levels asked)
+pub failure_noted : (s : StateValue) (n : ℕ) (inodes : set.FinSet nat_cmp) (levels : TwoLevels) (asked : List Asked) → CutsInvariant s →
+    AreLeases (world_of s) (leases_of s) →
+    ((i : ℕ) → levels.clients i ≡ revoke (λ a. lives s.levels.home a.holder n) (s.levels.clients i)) → AreLeft s (λ c. lives s.levels.home c n) asked →
+    CutsInvariant (after_failure s n inodes levels asked)
 failure_noted s n inodes levels asked noted leases revoked left =
     more_noted s (after_failure s n inodes levels asked) (λ c. lives s.levels.home c n) (λ a. lives s.levels.home a.holder n) asked refl
     (omega (arith, count_over n (kept_at_failure (world_of s) n) s.clients (length s.clients))) leases left noted

@@ -1,28 +1,11 @@
 -- What the laws observe of a client that is opened: what is seen of it was seen where there was none, but that it lives.
-use Rattle.std.proofs.Common.{◌≡◌, ◌≢◌, ℕ, zero, suc, ◌+◌, ◌<◌, Bool, true, false, not, ◌==◌, List, [], ◌∷◌, get_or, length, inl, inr, refl, ap, sym}
-use Rattle.std.proofs.Common.{subst, ◌∙◌, arith}
-use Rattle.std.proofs.Math.Bool.{and-true}
-use Rattle.std.proofs.lemmas.Bool.{cases_Bool, cases_eq, ne_eqb}
-use Rattle.std.proofs.lemmas.List.{length_push}
-use Rattle.assise_names.specs.declared.durability.Durability.{Durability}
-use Rattle.assise_history.proofs.ClientCounts.{durability-opened, durability-other}
-use Rattle.assise_inode_table.specs.Contents.{values}
-use Rattle.assise_private_log.specs.NumberedLog.{end as log_end, is_border}
-use Rattle.assise_digest.specs.Region.{ReceivedLog, RegionValue, no_log, region_with_client as with_client_log}
-use Rattle.assise_lease_tree.specs.TwoLevels.{EnrolsAt, TwoLevels}
-use Rattle.assise_model_world.specs.ClientSteps.{Opens}
-use Rattle.assise_model_world.specs.Staying.{SameLogs}
-use Rattle.assise_model_world.specs.World.{Full, World}
-use Rattle.assise_model_leases.specs.Handing.{OpensAt, SameCuts}
-use Rattle.assise_model_members.specs.Returns.{OtherAreasStay}
-use Rattle.assise_model_history.proofs.NumberedCalls.{kept_open}
-use Rattle.assise_machine_state.specs.Changes.{after_open}
-use Rattle.assise_machine_state.specs.ClientValues.{ClientValue, client_in, cut_of, no_client, opened_on}
-use Rattle.assise_machine_state.specs.NodeValues.{begun_log, log_in, no_region, region_in, with_logs_begun}
-use Rattle.assise_machine_state.specs.Observed.{is_full_in, own_node, own_seen, world_of}
-use Rattle.assise_machine_state.specs.Places.{IsNumber, item_at}
-use Rattle.assise_machine_state.specs.Invariant.{CutsInvariant, IsMarked, ShapeInvariant}
-use Rattle.assise_machine_state.specs.StateValues.{StateValue, leases_of, standings}
+use Rattle.assise_machine_state.proofs.Common.{◌≡◌, ◌≢◌, ℕ, zero, suc, ◌+◌, ◌<◌, Bool, true, false, not, ◌==◌, List, [], ◌∷◌, get_or, length, inl, inr, refl}
+use Rattle.assise_machine_state.proofs.Common.{ap, sym, subst, ◌∙◌, arith, and-true, cases_Bool, cases_eq, ne_eqb, length_push, Durability, durability-opened}
+use Rattle.assise_machine_state.proofs.Common.{durability-other, values, log_end, is_border, ReceivedLog, RegionValue, no_log, with_client_log, EnrolsAt}
+use Rattle.assise_machine_state.proofs.Common.{TwoLevels, Opens, SameLogs, Full, World, OpensAt, SameCuts, OtherAreasStay, kept_open, after_open, ClientValue}
+use Rattle.assise_machine_state.proofs.Common.{client_in, cut_of, no_client, opened_on, begun_log, log_in, no_region, region_in, with_logs_begun, is_full_in}
+use Rattle.assise_machine_state.proofs.Common.{own_node, own_seen, world_of, IsNumber, item_at, CutsInvariant, IsMarked, ShapeInvariant, StateValue, leases_of}
+use Rattle.assise_machine_state.proofs.Common.{standings}
 use Rattle.assise_machine_state.proofs.Fullness.{full_number, full_seen, no_log_in, no_log_there}
 use Rattle.assise_machine_state.proofs.Noted.{new_unasked, none_cut}
 use Rattle.assise_machine_state.proofs.ItemSeen.{each_number, pushed_else, pushed_here, pushed_kept, seen_past}
@@ -41,14 +24,18 @@ module _ (full : ℕ → Bool) (limit home : ℕ) where
   begun_kept f same n (r ∷ rs) zero = grind (arith, cases_Bool)
   begun_kept f same n (r ∷ rs) (suc j) = begun_kept f same (suc n) rs j
 
-  begun_there : (n : ℕ) (rs : List RegionValue) (j m : ℕ) → m ≡ n + j → full m ≡ true → j < length rs → get_or (with_logs_begun full limit home n rs) j no_region ≡ begun m (get_or rs j no_region)
+  begun_there : (n : ℕ) (rs : List RegionValue) (j m : ℕ) → m ≡ n + j → full m ≡ true → j < length rs →
+      get_or (with_logs_begun full limit home n rs) j no_region ≡ begun m (get_or rs j no_region)
   begun_there n [] j m is has low = absurd (omega (arith, low))
-  begun_there n (r ∷ rs) zero m is has low = (let same : m ≡ n = omega (arith, is) in subst (λ k. get_or (with_logs_begun full limit home k (r ∷ rs)) 0 no_region ≡ begun m r) same (rw has refl))
+  begun_there n (r ∷ rs) zero m is has low =
+      (let same : m ≡ n = omega (arith, is) in subst (λ k. get_or (with_logs_begun full limit home k (r ∷ rs)) 0 no_region ≡ begun m r) same (rw has refl))
   begun_there n (r ∷ rs) (suc j) m is has low = begun_there (suc n) rs j m (omega (arith, is)) has (omega (arith, low))
 
-  begun_away : (n : ℕ) (rs : List RegionValue) (j m : ℕ) → m ≡ n + j → full m ≡ false → get_or (with_logs_begun full limit home n rs) j no_region ≡ get_or rs j no_region
+  begun_away : (n : ℕ) (rs : List RegionValue) (j m : ℕ) → m ≡ n + j → full m ≡ false → get_or (with_logs_begun full limit home n rs) j no_region
+      ≡ get_or rs j no_region
   begun_away n [] j m is away = refl
-  begun_away n (r ∷ rs) zero m is away = (let same : m ≡ n = omega (arith, is) in subst (λ k. get_or (with_logs_begun full limit home k (r ∷ rs)) 0 no_region ≡ r) same (rw away refl))
+  begun_away n (r ∷ rs) zero m is away =
+      (let same : m ≡ n = omega (arith, is) in subst (λ k. get_or (with_logs_begun full limit home k (r ∷ rs)) 0 no_region ≡ r) same (rw away refl))
   begun_away n (r ∷ rs) (suc j) m is away = begun_away (suc n) rs j m (omega (arith, is)) away
 
   so_many_nodes : (n : ℕ) (rs : List RegionValue) → length (with_logs_begun full limit home n rs) ≡ length rs

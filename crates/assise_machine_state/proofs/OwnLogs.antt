@@ -1,29 +1,20 @@
 -- The node whose log of a client is the client's own, and the least place of all full nodes.
-use Rattle.std.proofs.Common.{◌≡◌, ℕ, suc, ◌+◌, ◌<◌, ◌≤◌, ◌==◌, min, take, take-suc, take_all, Bool, true, false, List, [], ◌∷◌, ◌++◌, length, get_or, refl, ap}
-use Rattle.std.proofs.Common.{subst, ◌∙◌, arith, eq-eqb}
-use Rattle.std.proofs.lemmas.Bool.{cases_Bool}
-use Rattle.std.proofs.lemmas.List.Folds.{list_any_at}
-use Rattle.assise_inode_table.specs.Effects.{contains}
-use Rattle.assise_private_log.specs.NumberedLog.{end as log_end}
-use Rattle.assise_manager.specs.Membership.{lowest_full}
-use Rattle.assise_manager.specs.Standings.{Standing, full_nodes}
-use Rattle.assise_model_world.specs.World.{end_of_log, least_of}
-use Rattle.assise_model_world.proofs.WorldObserved.{least_of-above, least_of-below, least_of-end}
-use Rattle.assise_machine_state.specs.ClientValues.{ClientValue, client_in}
-use Rattle.assise_machine_state.specs.NodeValues.{HasLog, log_in}
-use Rattle.assise_machine_state.specs.Observed.{full_in, is_full_in, own_node, own_seen, world_of}
-use Rattle.assise_machine_state.specs.Places.{IsNumber}
-use Rattle.assise_machine_state.specs.Invariant.{ShapeInvariant}
-use Rattle.assise_machine_state.specs.StateValues.{StateValue, standings}
+use Rattle.assise_machine_state.proofs.Common.{◌≡◌, ℕ, suc, ◌+◌, ◌<◌, ◌≤◌, ◌==◌, min, take, take-suc, Bool, true, false, List, [], ◌∷◌, ◌++◌, length, get_or}
+use Rattle.assise_machine_state.proofs.Common.{refl, ap, subst, ◌∙◌, arith, eq-eqb, cases_Bool, list_any_at, contains, log_end, lowest_full, Standing}
+use Rattle.assise_machine_state.proofs.Common.{full_nodes, end_of_log, least_of, least_of-above, least_of-below, least_of-end, ClientValue, client_in, HasLog}
+use Rattle.assise_machine_state.proofs.Common.{log_in, full_in, is_full_in, own_node, own_seen, world_of, IsNumber, ShapeInvariant, StateValue, standings}
+use Rattle.std.proofs.Common.{take_all}
 use Rattle.assise_machine_state.proofs.Fullness.{full_is, has_log, home_full}
 use Rattle.assise_machine_state.proofs.Standings.{is_listed, listed_is_full, lowest_listed}
 
 -- ---- the own node
 
-pub own_full : (s : StateValue) (c : ℕ) → ShapeInvariant s → IsNumber s.clients c → 0 < length (full_nodes (standings s)) → is_full_in (standings s) (own_node (standings s) (client_in s.clients c)) ≡ true
+pub own_full : (s : StateValue) (c : ℕ) → ShapeInvariant s → IsNumber s.clients c → 0 < length (full_nodes (standings s)) →
+    is_full_in (standings s) (own_node (standings s) (client_in s.clients c)) ≡ true
 own_full s c shape client some = grind (arith, cases_Bool, lowest_listed, home_full)
 
-pub own_log : (s : StateValue) (c : ℕ) → ShapeInvariant s → IsNumber s.clients c → 0 < length (full_nodes (standings s)) → HasLog s.nodes (own_node (standings s) (client_in s.clients c)) c
+pub own_log : (s : StateValue) (c : ℕ) → ShapeInvariant s → IsNumber s.clients c → 0 < length (full_nodes (standings s)) →
+    HasLog s.nodes (own_node (standings s) (client_in s.clients c)) c
 own_log s c shape client some = has_log s (own_node (standings s) (client_in s.clients c)) c shape (own_full s c shape client some) client
 
 pub listed_log : (s : StateValue) (n c : ℕ) → ShapeInvariant s → IsNumber s.clients c → contains (full_nodes (standings s)) n ≡ true → HasLog s.nodes n c
@@ -36,10 +27,12 @@ pub own_of_unfailed : (nodes : List Standing) (x : ClientValue) → x.failed ≡
 own_of_unfailed nodes x unfailed = rw unfailed refl
 
 -- the log of a client that lives is known at its home as that of one that lives there
-pub home_log : (s : StateValue) (c : ℕ) → ShapeInvariant s → IsNumber s.clients c → (client_in s.clients c).failed ≡ false → HasLog s.nodes (client_in s.clients c).home c
+pub home_log : (s : StateValue) (c : ℕ) → ShapeInvariant s → IsNumber s.clients c → (client_in s.clients c).failed ≡ false →
+    HasLog s.nodes (client_in s.clients c).home c
 home_log s c shape client unfailed = has_log s (client_in s.clients c).home c shape (home_full s c shape unfailed) client
 
-pub home_known : (s : StateValue) (c : ℕ) → ShapeInvariant s → IsNumber s.clients c → (client_in s.clients c).failed ≡ false → (log_in s.nodes (client_in s.clients c).home c).at_home ≡ true
+pub home_known : (s : StateValue) (c : ℕ) → ShapeInvariant s → IsNumber s.clients c → (client_in s.clients c).failed ≡ false →
+    (log_in s.nodes (client_in s.clients c).home c).at_home ≡ true
 home_known s c shape client unfailed = grind (arith, eq-eqb)
 
 -- ---- the least place
@@ -72,8 +65,10 @@ own_end s c shape client some = refl
 contains_at : (ns : List ℕ) (i : ℕ) → i < length ns → contains ns (get_or ns i 0) ≡ true
 contains_at ns i low = list_any_at (λ n. n == get_or ns i 0) ns i 0 low (eq-eqb (get_or ns i 0) (get_or ns i 0) refl)
 
-pub next_log : (s : StateValue) (c i : ℕ) (ns : List ℕ) → ShapeInvariant s → IsNumber s.clients c → ns ≡ full_nodes (standings s) → i < length ns → HasLog s.nodes (get_or ns i 0) c
-next_log s c i ns shape client all low = listed_log s (get_or ns i 0) c shape client (subst (λ ms. contains ms (get_or ns i 0) ≡ true) all (contains_at ns i low))
+pub next_log : (s : StateValue) (c i : ℕ) (ns : List ℕ) → ShapeInvariant s → IsNumber s.clients c → ns ≡ full_nodes (standings s) → i < length ns →
+    HasLog s.nodes (get_or ns i 0) c
+next_log s c i ns shape client all low =
+    listed_log s (get_or ns i 0) c shape client (subst (λ ms. contains ms (get_or ns i 0) ≡ true) all (contains_at ns i low))
 
 pub next_least : (ns all : List ℕ) (i : ℕ) (f : ℕ → ℕ) (d least found now : ℕ) → ns ≡ all → i < length ns → least ≡ least_of (take i all) f d →
     found ≡ f (get_or ns i 0) → now ≡ min least found → now ≡ least_of (take (i + 1) all) f d

@@ -1,25 +1,11 @@
 -- What the laws observe of prefixes that are dropped at all nodes.
-use Rattle.std.proofs.Common.{◌≡◌, ◌≢◌, ℕ, ◌+◌, ◌-◌, ◌≤◌, true, List, length, drop, refl, ap, sym, subst, ◌∙◌, arith, eq-eqb}
-use Rattle.std.proofs.lemmas.Bool.{cases_Bool, cases_eq, ne_eqb}
-use Rattle.std.proofs.lemmas.List.{length-drop, nil_from_length}
-use Rattle.assise_record.specs.LogRecord.{LogRecord}
-use Rattle.assise_inode_table.specs.Contents.{values}
-use Rattle.assise_private_log.specs.NumberedLog.{NumberedLog, end as log_end, is_border}
-use Rattle.assise_private_log.proofs.Borders.{border_first}
-use Rattle.assise_digest.specs.Region.{from_number, no_log}
-use Rattle.assise_model_world.specs.NodeSteps.{Drops}
-use Rattle.assise_model_world.specs.Invariant.{WorldInvariant}
-use Rattle.assise_model_world.specs.World.{Full, World, digested_by_all, end_of_log}
-use Rattle.assise_model_world.proofs.Logs.{drop-of_drop}
-use Rattle.assise_model_world.proofs.WorldObserved.{digested_by_all-below, digested_by_all-first, least_of-end, least_of-same, received_by_all-below}
+use Rattle.assise_machine_state.proofs.Common.{◌≡◌, ◌≢◌, ℕ, ◌+◌, ◌-◌, ◌≤◌, true, List, length, drop, refl, ap, sym, subst, ◌∙◌, arith, eq-eqb, cases_Bool}
+use Rattle.assise_machine_state.proofs.Common.{cases_eq, ne_eqb, length-drop, nil_from_length, LogRecord, values, NumberedLog, log_end, is_border, border_first}
+use Rattle.assise_machine_state.proofs.Common.{from_number, no_log, Drops, WorldInvariant, Full, World, digested_by_all, end_of_log, drop-of_drop}
+use Rattle.assise_machine_state.proofs.Common.{digested_by_all-below, digested_by_all-first, least_of-end, least_of-same, received_by_all-below, after_drop}
+use Rattle.assise_machine_state.proofs.Common.{first_but, client_in, log_in, is_full_in, own_node, own_seen, world_of, IsNumber, IsMarked, ShapeInvariant}
+use Rattle.assise_machine_state.proofs.Common.{StateValue, standings}
 use Rattle.assise_model_events.proofs.LeaseSteps.{clients_after, full_after}
-use Rattle.assise_machine_state.specs.Changes.{after_drop, first_but}
-use Rattle.assise_machine_state.specs.ClientValues.{client_in}
-use Rattle.assise_machine_state.specs.NodeValues.{log_in}
-use Rattle.assise_machine_state.specs.Observed.{is_full_in, own_node, own_seen, world_of}
-use Rattle.assise_machine_state.specs.Places.{IsNumber}
-use Rattle.assise_machine_state.specs.Invariant.{IsMarked, ShapeInvariant}
-use Rattle.assise_machine_state.specs.StateValues.{StateValue, standings}
 use Rattle.assise_machine_state.proofs.Fullness.{full_seen, has_log, no_log_in, no_log_there, same_first, seen_full}
 use Rattle.assise_machine_state.proofs.ItemSeen.{each_number}
 use Rattle.assise_machine_state.proofs.LogChanges.{beside_seen, count_seen, inodes_seen, own_changes, own_changes_all, part_seen}
@@ -119,7 +105,8 @@ module _ (s : StateValue) (c to : ℕ) (shape : ShapeInvariant s) (prefixes : Ha
 
   -- a prefix that goes leaves the end
   ends : (first cut : ℕ) (rs : List LogRecord) → first ≤ cut → cut ≤ first + length rs → cut + length (drop (cut - first) rs) ≡ first + length rs
-  ends first cut rs low high = (let left : length (drop (cut - first) rs) ≡ length rs - (cut - first) = length-drop (cut - first) rs in omega (arith, low, high, left))
+  ends first cut rs low high =
+      (let left : length (drop (cut - first) rs) ≡ length rs - (cut - first) = length-drop (cut - first) rs in omega (arith, low, high, left))
 
   received_now : (n d : ℕ) → Full w n → w'.received n d ≡ w.received n d
   unfolding world_of
@@ -146,7 +133,8 @@ module _ (s : StateValue) (c to : ℕ) (shape : ShapeInvariant s) (prefixes : Ha
       let digested = part_seen c (λ l. from_number l to) (λ x. x.digested) in
       search (records_now, border_now, log_now, received_now, digested, drop_areas, clients_as, goals_as, leases_as) parts 3
 
-pub dropped : (s : StateValue) (c to : ℕ) → ShapeInvariant s → WorldInvariant (world_of s) → IsNumber s.clients c → (world_of s).first c ≤ to → to ≤ digested_by_all (world_of s) c → (world_of s).border c to ≡ true →
+pub dropped : (s : StateValue) (c to : ℕ) → ShapeInvariant s → WorldInvariant (world_of s) → IsNumber s.clients c → (world_of s).first c ≤ to →
+    to ≤ digested_by_all (world_of s) c → (world_of s).border c to ≡ true →
     Drops (world_of s) (first_but (world_of s) c to) (world_of (after_drop s c to))
 dropped s c to shape sound client low high border = dropped_prefixes s c to shape (has_prefixes s c sound) client low high border
 
@@ -161,7 +149,8 @@ module _ (w v : World) (f : ℕ → ℕ) (prefix : Drops w f v) where
 
   pub same_digested : (c : ℕ) → digested_by_all v c ≡ digested_by_all w c
   unfolding digested_by_all
-  same_digested c = rw (same_end c, prefix.full) (least_of-same w.full (λ m. v.digested m c) (λ m. w.digested m c) (end_of_log w c) (λ m full. prefix.digested m c full))
+  same_digested c = rw (same_end c, prefix.full)
+      (least_of-same w.full (λ m. v.digested m c) (λ m. w.digested m c) (end_of_log w c) (λ m full. prefix.digested m c full))
 
 module _ (w v u : World) (f g : ℕ → ℕ) (prefix : Drops w f v) (next : Drops v g u) where
   still_full : (n : ℕ) → Full w n → Full v n

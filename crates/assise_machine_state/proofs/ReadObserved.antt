@@ -1,19 +1,11 @@
 -- What a client reads at its home, and what a full node's region alone gives, as the laws observe it.
-use Rattle.std.proofs.Common.{◌≡◌, ℕ, zero, suc, ◌<◌, ◌≤◌, true, List, [], ◌∷◌, ◌++◌, ◌-◌, length, get_or, drop, take, slice_index_or, refl, ap, sym, ◌∙◌, arith}
-use Rattle.std.proofs.lemmas.List.{append-nil, append_assoc, take_all}
+use Rattle.assise_machine_state.proofs.Common.{◌≡◌, ℕ, zero, suc, ◌<◌, ◌≤◌, true, List, [], ◌∷◌, ◌++◌, ◌-◌, length, get_or, drop, take, slice_index_or, refl}
+use Rattle.assise_machine_state.proofs.Common.{ap, sym, ◌∙◌, arith, append_assoc, take_all, all_effects, get-all_applied, values, value_after, ReceivedLog}
+use Rattle.assise_machine_state.proofs.Common.{ahead, ahead_below, all_ahead, alone, no_log, WorldInvariant, Full, World, ahead_observed, below_observed}
+use Rattle.assise_machine_state.proofs.Common.{all_observed, alone_observed, received_by_all, view, log_in, region_in, inodes_read, world_of, item_at}
+use Rattle.assise_machine_state.proofs.Common.{ShapeInvariant, StateValue}
+use Rattle.std.proofs.lemmas.List.{append-nil}
 use Rattle.std.specs.FinMap as map
-use Rattle.assise_record.specs.Records.{all_effects}
-use Rattle.assise_inode_table.proofs.EffectLists.{get-all_applied}
-use Rattle.assise_inode_table.specs.Contents.{values}
-use Rattle.assise_inode_table.specs.Effects.{value_after}
-use Rattle.assise_digest.specs.Region.{ReceivedLog, ahead, ahead_below, all_ahead, alone, no_log}
-use Rattle.assise_model_world.specs.Invariant.{WorldInvariant}
-use Rattle.assise_model_world.specs.World.{Full, World, undigested_records as ahead_observed, undigested_below as below_observed, all_undigested_records as all_observed, alone_at as alone_observed, received_by_all, view}
-use Rattle.assise_machine_state.specs.NodeValues.{log_in, region_in}
-use Rattle.assise_machine_state.specs.Observed.{inodes_read, world_of}
-use Rattle.assise_machine_state.specs.Places.{item_at}
-use Rattle.assise_machine_state.specs.Invariant.{ShapeInvariant}
-use Rattle.assise_machine_state.specs.StateValues.{StateValue}
 use Rattle.assise_machine_state.proofs.Fullness.{full_seen, same_first}
 
 -- ---- what a full node has ahead of a client
@@ -28,7 +20,8 @@ ahead_is s n c sound f = ahead_first s n c (same_first s n c sound f)
 
 -- ---- by a client at its home
 
-pub read_at_home : (s : StateValue) (c i : ℕ) → ShapeInvariant s → WorldInvariant (world_of s) → (world_of s).lives c ≡ true → map.get (inodes_read s c) i ≡ view (world_of s) ((world_of s).home c) c i
+pub read_at_home : (s : StateValue) (c i : ℕ) → ShapeInvariant s → WorldInvariant (world_of s) → (world_of s).lives c ≡ true → map.get (inodes_read s c) i
+    ≡ view (world_of s) ((world_of s).home c) c i
 unfolding view world_of
 read_at_home s c i shape sound lives = grind (arith, get-all_applied, ahead_is)
 
@@ -42,7 +35,8 @@ one_more (l ∷ ls) [] m low few = absurd (omega (arith, few))
 one_more (l ∷ ls) (a ∷ acked) zero low few = append-nil (all_effects (ahead_below l a))
 one_more (l ∷ ls) (a ∷ acked) (suc m) low few = grind (arith, append_assoc, (one_more ls acked m))
 
-module _ (s : StateValue) (n : ℕ) (acked : List ℕ) (shape : ShapeInvariant s) (sound : WorldInvariant (world_of s)) (full : Full (world_of s) n) (count : length acked ≡ length s.clients)
+module _ (s : StateValue) (n : ℕ) (acked : List ℕ) (shape : ShapeInvariant s) (sound : WorldInvariant (world_of s)) (full : Full (world_of s) n)
+    (count : length acked ≡ length s.clients)
     (received : (c : ℕ) → c < length s.clients → slice_index_or acked c 0 ≡ received_by_all (world_of s) (suc c)) where
   abbrev w : World
   w = world_of s

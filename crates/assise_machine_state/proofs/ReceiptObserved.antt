@@ -1,23 +1,8 @@
 -- What the laws observe of records that come to a node.
-use Rattle.std.proofs.Common.{◌≡◌, ℕ, ◌+◌, ◌-◌, [], ◌++◌, List, length, take, drop, refl, ap, ◌∙◌, arith}
-use Rattle.std.proofs.lemmas.Bool.{cases_Bool, cases_eq}
-use Rattle.std.proofs.lemmas.List.{length-append, length-drop, length-take}
-use Rattle.assise_record.specs.LogRecord.{LogRecord}
-use Rattle.assise_inode_table.specs.Contents.{values}
-use Rattle.assise_private_log.specs.NumberedLog.{end as log_end, is_border}
-use Rattle.assise_digest.specs.Region.{ReceivedLog}
-use Rattle.assise_model_world.specs.Chances.{MayDeliver}
-use Rattle.assise_model_world.specs.NodeSteps.{Delivers}
-use Rattle.assise_model_world.specs.Invariant.{WorldInvariant}
-use Rattle.assise_model_world.specs.World.{Full, World, end_of_log, records_between}
-use Rattle.assise_model_members.specs.Returns.{OtherAreasStay}
-use Rattle.assise_machine_state.specs.Changes.{after_delivery}
-use Rattle.assise_machine_state.specs.ClientValues.{client_in}
-use Rattle.assise_machine_state.specs.NodeValues.{HasLog, log_in, region_in, with_records}
-use Rattle.assise_machine_state.specs.Observed.{own_node, own_seen, world_of}
-use Rattle.assise_machine_state.specs.Places.{IsNumber}
-use Rattle.assise_machine_state.specs.Invariant.{ShapeInvariant}
-use Rattle.assise_machine_state.specs.StateValues.{StateValue, standings}
+use Rattle.assise_machine_state.proofs.Common.{◌≡◌, ℕ, ◌+◌, ◌-◌, [], ◌++◌, List, length, take, drop, refl, ap, ◌∙◌, arith, cases_Bool, cases_eq, length-append}
+use Rattle.assise_machine_state.proofs.Common.{length-drop, length-take, LogRecord, values, log_end, is_border, ReceivedLog, MayDeliver, Delivers}
+use Rattle.assise_machine_state.proofs.Common.{WorldInvariant, Full, World, end_of_log, records_between, OtherAreasStay, after_delivery, client_in, HasLog}
+use Rattle.assise_machine_state.proofs.Common.{log_in, region_in, with_records, own_node, own_seen, world_of, IsNumber, ShapeInvariant, StateValue, standings}
 use Rattle.assise_machine_state.proofs.Fullness.{full_seen, has_log, same_first}
 use Rattle.assise_machine_state.proofs.LogChanges.{log_else, log_here, log_same, none_more, region_kept, region_with}
 use Rattle.assise_machine_state.proofs.Marks.{marked_more}
@@ -45,7 +30,8 @@ pub has_prefix : (s : StateValue) (n c : ℕ) → WorldInvariant (world_of s) �
 unfolding world_of
 has_prefix s n c sound full_node = grind (arith, cases_Bool, same_first)
 
-module _ (s : StateValue) (n c k : ℕ) (shape : ShapeInvariant s) (prefix : HasPrefix s n c) (client : IsNumber s.clients c) (may : MayDeliver (world_of s) n c k) where
+module _ (s : StateValue) (n c k : ℕ) (shape : ShapeInvariant s) (prefix : HasPrefix s n c) (client : IsNumber s.clients c)
+    (may : MayDeliver (world_of s) n c k) where
   abbrev w : World
   w = world_of s
 
@@ -70,7 +56,8 @@ module _ (s : StateValue) (n c k : ℕ) (shape : ShapeInvariant s) (prefix : Has
   unfolding records_between
   no_more all =
       let none : k - w.received n c ≡ 0 = omega (arith, all, may.to) in
-      let nothing : take (k - w.received n c) (drop (w.received n c - w.first c) (w.records c)) ≡ [] = ap (λ j. take j (drop (w.received n c - w.first c) (w.records c))) none in
+      let nothing : take (k - w.received n c) (drop (w.received n c - w.first c) (w.records c)) ≡ [] =
+      ap (λ j. take j (drop (w.received n c - w.first c) (w.records c))) none in
       ap (with_records (is_border (own_seen s c).log) (log_in s.nodes n c)) nothing ∙ none_more (is_border (own_seen s c).log) (log_in s.nodes n c)
 
   same_here : own_node (standings s) (client_in s.clients c) ≡ n → (m d : ℕ) → log_in t.nodes m d ≡ log_in s.nodes m d
@@ -108,5 +95,6 @@ module _ (s : StateValue) (n c k : ℕ) (shape : ShapeInvariant s) (prefix : Has
       let digested = log_same s.nodes n c (region_in s.nodes n).inodes longer (λ x. x.digested) in
       search (log_beside, beside, digested, same_area, clients_as, goals_as, leases_as) parts 3
 
-pub delivered : (s : StateValue) (n c k : ℕ) → ShapeInvariant s → WorldInvariant (world_of s) → IsNumber s.clients c → MayDeliver (world_of s) n c k → Delivers (world_of s) n c k (world_of (after_delivery s n c k))
+pub delivered : (s : StateValue) (n c k : ℕ) → ShapeInvariant s → WorldInvariant (world_of s) → IsNumber s.clients c → MayDeliver (world_of s) n c k →
+    Delivers (world_of s) n c k (world_of (after_delivery s n c k))
 delivered s n c k shape sound client may = delivered_prefix s n c k shape (has_prefix s n c sound may.full_node) client may

@@ -1,19 +1,15 @@
 -- Records and logs come to a region one after another.
-use Rattle.std.proofs.Common.{◌≡◌, ◌≢◌, ℕ, suc, ◌+◌, ◌<◌, Bool, List, [], ◌∷◌, ◌++◌, false, length, map, take, take-suc, get_or, inl, inr, ap, sym, subst, ◌∙◌}
-use Rattle.std.proofs.Common.{arith}
-use Rattle.std.proofs.lemmas.Bool.{cases_eq}
-use Rattle.std.proofs.lemmas.List.{append_assoc, length_push, map-append}
-use Rattle.assise_record.specs.LogRecord.{LogRecord}
-use Rattle.assise_private_log.specs.NumberedLog.{NumberedLog, end, is_border, with_grouped}
-use Rattle.assise_private_log.proofs.Borders.{border_end, border_grouped}
-use Rattle.assise_digest.specs.Region.{AreWhole, IsBegun, ReceivedLog, RegionValue, no_log, with_one}
-use Rattle.assise_machine_state.specs.NodeValues.{AreTaken, HasGroupsOf, HasLog, away, copied, log_in, region_in, with_log_in, with_next, with_records}
+use Rattle.assise_machine_state.proofs.Common.{◌≡◌, ◌≢◌, ℕ, suc, ◌+◌, ◌<◌, Bool, List, [], ◌∷◌, ◌++◌, false, length, map, take, take-suc, get_or, inl, inr, ap}
+use Rattle.assise_machine_state.proofs.Common.{sym, subst, ◌∙◌, arith, cases_eq, append_assoc, length_push, map-append, LogRecord, NumberedLog, end, is_border}
+use Rattle.assise_machine_state.proofs.Common.{with_grouped, border_end, border_grouped, AreWhole, IsBegun, ReceivedLog, RegionValue, no_log, with_one}
+use Rattle.assise_machine_state.proofs.Common.{AreTaken, HasGroupsOf, HasLog, away, copied, log_in, region_in, with_log_in, with_next, with_records}
 use Rattle.assise_machine_state.proofs.LogChanges.{log_back, log_else, log_here, logs_count, none_more, region_here, region_with}
 use Rattle.assise_machine_state.proofs.ItemSeen.{length-with, with-with}
 
 -- ---- records
 
-one_then_others : (border : ℕ → Bool) (l : ReceivedLog) (a : LogRecord) (rest : List LogRecord) → with_records border (with_one l a (border (end l.log))) rest ≡ with_records border l (a ∷ rest)
+one_then_others : (border : ℕ → Bool) (l : ReceivedLog) (a : LogRecord) (rest : List LogRecord) → with_records border (with_one l a (border (end l.log))) rest
+    ≡ with_records border l (a ∷ rest)
 one_then_others border l a rest = grind (arith, length_push, append_assoc)
 
 -- a later change of the log stands
@@ -29,7 +25,8 @@ has_then : (border : ℕ → Bool) (rs : List RegionValue) (n m c : ℕ) (a : Lo
 has_then border rs n m c a has = grind (arith, length-with, region_with, logs_count)
 
 pub one_taken : (border : ℕ → Bool) (rs : List RegionValue) (n c : ℕ) (a : LogRecord) (rest : List LogRecord) → HasLog rs n c →
-    with_log_in (with_next border rs n c a) n c (with_records border (log_in (with_next border rs n c a) n c) rest) ≡ with_log_in rs n c (with_records border (log_in rs n c) (a ∷ rest))
+    with_log_in (with_next border rs n c a) n c (with_records border (log_in (with_next border rs n c a) n c) rest)
+    ≡ with_log_in rs n c (with_records border (log_in rs n c) (a ∷ rest))
 one_taken border rs n c a rest has = grind (arith, log_then, put_again, one_then_others)
 
 -- the groups of the own log go on
@@ -39,7 +36,8 @@ groups_then own l a g = record {
   marks = omega (arith, g.marks, length_push l.begins (is_border own (end l)), length_push l.records a);
   borders = λ k low is.
       elim (cases_eq k (end l)) [
-        | inl last ↦ border_grouped l a (is_border own (end l)) k g.marks (λ here. ap (is_border own) (sym here) ∙ is) ∙ border_end l k g.marks (omega (arith, last))
+        | inl last ↦ border_grouped l a (is_border own (end l)) k g.marks (λ here. ap (is_border own) (sym here) ∙ is)
+            ∙ border_end l k g.marks (omega (arith, last))
         | inr other ↦
             let before : k < end l = omega (arith, low, other, length_push l.records a) in
             border_grouped l a (is_border own (end l)) k g.marks (λ here. absurd (other here)) ∙ g.borders k before is
@@ -84,7 +82,8 @@ none_taken border rs n c = ap (with_log_in rs n c) (none_more border (log_in rs 
 
 -- ---- copies
 
-pub one_copied : (xs : List (NumberedLog × ℕ)) (ls : List ReceivedLog) (k : ℕ) (l : NumberedLog) (d : ℕ) → map copied xs ≡ map away (take k ls) → k < length ls → l ≡ (get_or ls k no_log).log → d ≡ (get_or ls k no_log).digested →
+pub one_copied : (xs : List (NumberedLog × ℕ)) (ls : List ReceivedLog) (k : ℕ) (l : NumberedLog) (d : ℕ) → map copied xs ≡ map away (take k ls) →
+    k < length ls → l ≡ (get_or ls k no_log).log → d ≡ (get_or ls k no_log).digested →
     map copied (xs ++ (l, d) ∷ []) ≡ map away (take (k + 1) ls)
 one_copied xs ls k l d same low log digested =
     map-append copied xs ((l, d) ∷ [])
@@ -98,6 +97,7 @@ one_copied xs ls k l d same low log digested =
     one_more : take (k + 1) ls ≡ take k ls ++ get_or ls k no_log ∷ []
     one_more = (let next : k + 1 ≡ suc k = omega arith in ap (λ n. take n ls) next ∙ take-suc ls k no_log low)
 
-pub one_sound : (xs : List (NumberedLog × ℕ)) (l : NumberedLog) (d : ℕ) → AreTaken xs → IsBegun (copied (l, d)) → AreWhole l.records → AreTaken (xs ++ (l, d) ∷ [])
+pub one_sound : (xs : List (NumberedLog × ℕ)) (l : NumberedLog) (d : ℕ) → AreTaken xs → IsBegun (copied (l, d)) → AreWhole l.records →
+    AreTaken (xs ++ (l, d) ∷ [])
 one_sound [] l d all begun whole = (begun, whole, tt)
 one_sound (x ∷ xs) l d (b, w, all) begun whole = (b, w, one_sound xs l d all begun whole)

@@ -1,6 +1,5 @@
 -- Regions of new nodes.
-use Rattle.std.proofs.Common.{◌≡◌, ℕ, zero, suc, ◌+◌, [], ◌∷◌, ◌++◌, refl, ap, ◌∙◌, arith}
-use Rattle.assise_machine_state.specs.NodeValues.{new_region, new_regions}
+use Rattle.assise_machine_state.proofs.Common.{◌≡◌, ℕ, zero, suc, ◌+◌, [], ◌∷◌, ◌++◌, refl, ap, ◌∙◌, arith, new_region, new_regions}
 
 -- one more
 pushed : (count hot : ℕ) → new_regions count hot ++ new_region hot ∷ [] ≡ new_regions (suc count) hot

@@ -1,18 +1,12 @@
 -- A log whose last records became groups marks its own borders.
-use Rattle.std.proofs.Common.{◌≡◌, ℕ, suc, ◌+◌, ◌-◌, ◌<◌, Bool, true, List, [], ◌∷◌, ◌++◌, length, get_or, take, refl, ap, ◌∙◌, arith}
-use Rattle.std.proofs.lemmas.Bool.{cases_eq}
-use Rattle.std.proofs.lemmas.List.{length-append, length-map, length-take}
-use Rattle.assise_record.specs.Groups.{all_marks, all_records, marks_of}
-use Rattle.assise_record.specs.LogRecord.{LogRecord}
+use Rattle.assise_machine_state.proofs.Common.{◌≡◌, ℕ, suc, ◌+◌, ◌-◌, ◌<◌, Bool, true, List, [], ◌∷◌, ◌++◌, length, get_or, take, refl, ap, ◌∙◌, arith}
+use Rattle.assise_machine_state.proofs.Common.{cases_eq, length-append, length-map, length-take, all_marks, all_records, marks_of, LogRecord, NumberedLog}
+use Rattle.assise_machine_state.proofs.Common.{is_border, without_tail, border_first, border_marked, regrouped_all, with_all, border_marks, IsMarked}
 use Rattle.assise_private_log.specs.Groups.{groups_from, regrouped}
-use Rattle.assise_private_log.specs.NumberedLog.{NumberedLog, is_border, without_tail}
-use Rattle.assise_private_log.proofs.Borders.{border_first, border_marked}
-use Rattle.assise_private_log.proofs.LogGroups.{regrouped_all, with_all}
-use Rattle.assise_model_events.specs.NodeEvents.{border_marks}
-use Rattle.assise_machine_state.specs.Invariant.{IsMarked}
 use Rattle.assise_machine_state.proofs.Marks.{so_many_marks}
 
-marks_at : (f : ℕ → Bool) (k : ℕ) (ms : List Bool) (rs : List LogRecord) → length ms ≡ length rs → ((i : ℕ) → i < length rs → get_or ms i true ≡ f (k + i)) → ms ≡ border_marks f k rs
+marks_at : (f : ℕ → Bool) (k : ℕ) (ms : List Bool) (rs : List LogRecord) → length ms ≡ length rs → ((i : ℕ) → i < length rs → get_or ms i true ≡ f (k + i)) →
+    ms ≡ border_marks f k rs
 marks_at f k [] [] same at = refl
 marks_at f k [] (r ∷ rs) same at = absurd (omega (arith, same))
 marks_at f k (m ∷ ms) [] same at = absurd (omega (arith, same))

@@ -1,17 +1,7 @@
 -- What the laws observe as the same where parts of the state are.
-use Rattle.std.proofs.Common.{◌≡◌, ℕ, Bool, ap, arith}
-use Rattle.assise_inode_table.specs.Contents.{values}
-use Rattle.assise_private_log.specs.NumberedLog.{is_border}
-use Rattle.assise_lease_table.specs.declared.lease.Lease.{Lease}
-use Rattle.assise_lease_table.specs.Leases.{revoke, lease_of}
-use Rattle.assise_model_world.specs.Staying.{SameClients, SameGoals, KeepsLeases, SameLogs, SameNode}
-use Rattle.assise_model_leases.specs.Leases.{is_held, is_written}
-use Rattle.assise_model_leases.proofs.LookUps.{revoke_of, held_one, written_one}
-use Rattle.assise_model_history.specs.Numbered.{kept_numbered}
-use Rattle.assise_machine_state.specs.ClientValues.{client_in}
-use Rattle.assise_machine_state.specs.NodeValues.{log_in, region_in}
-use Rattle.assise_machine_state.specs.Observed.{own_seen, world_of}
-use Rattle.assise_machine_state.specs.StateValues.{StateValue, leases_of}
+use Rattle.assise_machine_state.proofs.Common.{◌≡◌, ℕ, Bool, ap, arith, values, is_border, Lease, revoke, lease_of, SameClients, SameGoals, KeepsLeases}
+use Rattle.assise_machine_state.proofs.Common.{SameLogs, SameNode, is_held, is_written, revoke_of, held_one, written_one, kept_numbered, client_in, log_in}
+use Rattle.assise_machine_state.proofs.Common.{region_in, own_seen, world_of, StateValue, leases_of}
 
 module _ (s t : StateValue) where
   -- clients, and with them their goals

@@ -1,18 +1,7 @@
 -- What keeps the shape of the state.
-use Rattle.std.proofs.Common.{◌≡◌, ℕ, true, false, not, ◌&&◌, ◌==◌, [], length, map, arith}
-use Rattle.std.proofs.lemmas.Bool.{cases_Bool}
-use Rattle.std.proofs.lemmas.List.{length-map, nil_from_length}
-use Rattle.assise_history.specs.Legal.{durability_of}
-use Rattle.assise_inode_table.specs.Contents.{InodeMap}
-use Rattle.assise_private_log.specs.NumberedLog.{is_border}
-use Rattle.assise_digest.specs.Region.{ReceivedLog}
-use Rattle.assise_manager.specs.Membership.{Membership}
-use Rattle.assise_machine_state.specs.ClientValues.{client_in}
-use Rattle.assise_machine_state.specs.NodeValues.{HasLog, changed_in, log_in, region_in}
-use Rattle.assise_machine_state.specs.Observed.{is_full_in, own_node, own_seen}
-use Rattle.assise_machine_state.specs.Places.{IsNumber}
-use Rattle.assise_machine_state.specs.Invariant.{IsMarked, ShapeInvariant}
-use Rattle.assise_machine_state.specs.StateValues.{StateValue, standings}
+use Rattle.assise_machine_state.proofs.Common.{◌≡◌, ℕ, true, false, not, ◌&&◌, ◌==◌, [], length, map, arith, cases_Bool, length-map, nil_from_length}
+use Rattle.assise_machine_state.proofs.Common.{durability_of, InodeMap, is_border, ReceivedLog, Membership, client_in, HasLog, changed_in, log_in, region_in}
+use Rattle.assise_machine_state.proofs.Common.{is_full_in, own_node, own_seen, IsNumber, IsMarked, ShapeInvariant, StateValue, standings}
 use Rattle.assise_machine_state.proofs.Fullness.{has_log}
 use Rattle.assise_machine_state.proofs.LogChanges.{count_seen, log_changed, log_same, logs_count, part_seen}
 use Rattle.assise_machine_state.proofs.ItemSeen.{length-with}

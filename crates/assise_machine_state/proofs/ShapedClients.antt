@@ -1,18 +1,7 @@
 -- What stays of the state where the values of clients change, and the nodes of their own logs don't.
-use Rattle.std.proofs.Common.{◌≡◌, ℕ, not, List, length, refl, ap, arith}
-use Rattle.assise_history.specs.Legal.{durability_of}
-use Rattle.assise_history.specs.Entries.{EntryValue}
-use Rattle.assise_lease_table.specs.declared.lease.Asked.{Asked}
-use Rattle.assise_lease_tree.specs.TwoLevels.{TwoLevels}
-use Rattle.assise_model_world.specs.Staying.{SameClients, SameLogs, SameNodes}
-use Rattle.assise_model_leases.specs.Handing.{HoldsAsLeased}
-use Rattle.assise_model_members.specs.Returns.{OtherAreasStay}
-use Rattle.assise_model_history.specs.Numbered.{kept_numbered}
-use Rattle.assise_machine_state.specs.Changes.{after_leases, after_letting_go}
-use Rattle.assise_machine_state.specs.ClientValues.{ClientValue, client_in, with_client}
-use Rattle.assise_machine_state.specs.Observed.{own_seen, world_of}
-use Rattle.assise_machine_state.specs.Invariant.{ShapeInvariant}
-use Rattle.assise_machine_state.specs.StateValues.{StateValue, leases_of}
+use Rattle.assise_machine_state.proofs.Common.{◌≡◌, ℕ, not, List, length, refl, ap, arith, durability_of, EntryValue, Asked, TwoLevels, SameClients, SameLogs}
+use Rattle.assise_machine_state.proofs.Common.{SameNodes, HoldsAsLeased, OtherAreasStay, kept_numbered, after_leases, after_letting_go, ClientValue, client_in}
+use Rattle.assise_machine_state.proofs.Common.{with_client, own_seen, world_of, ShapeInvariant, StateValue, leases_of}
 use Rattle.assise_machine_state.proofs.ItemSeen.{client_same, length-with}
 use Rattle.assise_machine_state.proofs.ShapeKept.{shaped_as, still_marked}
 use Rattle.assise_machine_state.proofs.SameObserved.{clients_as, goals_as, logs_as, node_as}

@@ -1,24 +1,20 @@
 -- Which nodes are full once the members change.
-use Rattle.std.proofs.Common.{◌≡◌, ◌≢◌, ℕ, zero, suc, ◌+◌, ◌-◌, ◌<◌, ◌≤◌, true, false, if◌then◌else◌, List, [], ◌∷◌, length, filter, map, slice_get, Option, Some, None, refl, ap, sym, ◌∙◌, arith, eq-eqb, true≢false}
+use Rattle.assise_machine_state.proofs.Common.{◌≡◌, ◌≢◌, ℕ, zero, suc, ◌+◌, ◌-◌, ◌<◌, ◌≤◌, true, false, if◌then◌else◌, List, [], ◌∷◌, length, filter, map}
+use Rattle.assise_machine_state.proofs.Common.{slice_get, Option, Some, None, refl, ap, sym, ◌∙◌, arith, eq-eqb, true≢false, nat_cmp, length-map, length-set}
+use Rattle.assise_machine_state.proofs.Common.{contains, failed, failed_as, failure_fault, refilled_from, with_epoch, Membership, lowest_full, written_since}
+use Rattle.assise_machine_state.proofs.Common.{Standing, down, full, full_from, full_nodes, is_full, standing_of, with_standing, down_from, ClientValue}
+use Rattle.assise_machine_state.proofs.Common.{full_in, is_full_in, own_node, stands_full}
 use Rattle.std.specs.List.{slice_index_or}
-use Rattle.std.specs.Ordering.{nat_cmp}
 use Rattle.std.specs.FinSet as set
-use Rattle.std.proofs.lemmas.List.{length-map, length-set}
 use Rattle.std.proofs.lemmas.Option.{none-some, slice_get_within}
-use Rattle.assise_inode_table.specs.Effects.{contains}
-use Rattle.assise_manager.specs.Changes.{failed, failed_as, failure_fault, refilled_from, with_epoch}
-use Rattle.assise_manager.specs.Membership.{Membership, lowest_full, written_since}
-use Rattle.assise_manager.specs.Standings.{Standing, down, full, full_from, full_nodes, is_full, standing_of, with_standing}
 use Rattle.assise_manager.proofs.Nodes.{one_full_less}
 use Rattle.assise_model_members.proofs.NodeStandings.{full_listed, listed_full, lowest_stands, mapped_at, refilled_full, set_else, set_here}
-use Rattle.assise_model_history.specs.State.{down_from}
-use Rattle.assise_machine_state.specs.ClientValues.{ClientValue}
-use Rattle.assise_machine_state.specs.Observed.{full_in, is_full_in, own_node, stands_full}
 use Rattle.assise_machine_state.proofs.ItemSeen.{less_one}
 
 -- ---- lists of nodes of which the same are full
 
-same_from : (k : ℕ) (xs ys : List Standing) → length xs ≡ length ys → ((i : ℕ) → stands_full (slice_get xs i) ≡ stands_full (slice_get ys i)) → full_from k xs ≡ full_from k ys
+same_from : (k : ℕ) (xs ys : List Standing) → length xs ≡ length ys → ((i : ℕ) → stands_full (slice_get xs i) ≡ stands_full (slice_get ys i)) →
+    full_from k xs ≡ full_from k ys
 same_from k [] [] long same = refl
 same_from k [] (y ∷ ys) long same = absurd (omega (arith, long))
 same_from k (x ∷ xs) [] long same = absurd (omega (arith, long))
@@ -35,11 +31,13 @@ pub same_full : (xs ys : List Standing) → length xs ≡ length ys → ((n : �
 unfolding full_in
 same_full xs ys long same = λ i. filter (λ n. same n i) (down_from (long i))
 
-pub same_own : (xs ys : List Standing) → length xs ≡ length ys → ((n : ℕ) → is_full_in xs n ≡ is_full_in ys n) → (x : ClientValue) → own_node xs x ≡ own_node ys x
+pub same_own : (xs ys : List Standing) → length xs ≡ length ys → ((n : ℕ) → is_full_in xs n ≡ is_full_in ys n) → (x : ClientValue) →
+    own_node xs x ≡ own_node ys x
 same_own xs ys long same x = ap (λ low. if x.failed then low else x.home) (same_lowest xs ys long same)
 
 -- each node stands full exactly where it did
-pub mapped_full : (f : Standing → Standing) → ((x : Standing) → is_full (f x) ≡ is_full x) → (nodes : List Standing) (n : ℕ) → is_full_in (map f nodes) n ≡ is_full_in nodes n
+pub mapped_full : (f : Standing → Standing) → ((x : Standing) → is_full (f x) ≡ is_full x) → (nodes : List Standing) (n : ℕ) → is_full_in (map f nodes) n
+    ≡ is_full_in nodes n
 unfolding is_full_in
 mapped_full f same nodes n = grind (arith, mapped_at)
 
@@ -83,7 +81,8 @@ lowest_is_full nodes n f = lowest_listed nodes (some_of (full_nodes nodes) n (is
 pub full_here : (nodes : List Standing) (n : ℕ) (old s : Standing) → standing_of nodes n ≡ Some old → is_full_in (with_standing nodes n s) n ≡ is_full s
 full_here nodes n old s stands = full_as (with_standing nodes n s) n s (set_here nodes n old s stands)
 
-pub full_else : (nodes : List Standing) (n k : ℕ) (old s : Standing) → standing_of nodes n ≡ Some old → k ≢ n → is_full_in (with_standing nodes n s) k ≡ is_full_in nodes k
+pub full_else : (nodes : List Standing) (n k : ℕ) (old s : Standing) → standing_of nodes n ≡ Some old → k ≢ n → is_full_in (with_standing nodes n s) k
+    ≡ is_full_in nodes k
 unfolding is_full_in
 full_else nodes n k old s stands other = ap stands_full (set_else nodes n k old s stands other)
 
@@ -122,7 +121,8 @@ other_left m n stands fine one = grind (arith, eq-eqb, none-some)
 fewer : (nodes : List Standing) (n : ℕ) → standing_of nodes n ≡ Some full → length (full_nodes (with_standing nodes n (down 0))) + 1 ≡ length (full_nodes nodes)
 fewer nodes n h1 = grind (arith, none-some, less_one, one_full_less)
 
-pub survivor_left : (m : Membership) (n : ℕ) → standing_of m.nodes n ≡ Some full → failure_fault m n ≡ None → (k : ℕ) × ((k ≢ n) × (is_full_in m.nodes k ≡ true))
+pub survivor_left : (m : Membership) (n : ℕ) → standing_of m.nodes n ≡ Some full → failure_fault m n ≡ None →
+    (k : ℕ) × ((k ≢ n) × (is_full_in m.nodes k ≡ true))
 survivor_left m n stands fine =
     let rest : List Standing = with_standing m.nodes n (down 0) in
     let less : length (full_nodes rest) + 1 ≡ length (full_nodes m.nodes) = fewer m.nodes n stands in

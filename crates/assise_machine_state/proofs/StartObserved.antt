@@ -1,23 +1,11 @@
 -- A cluster in which nothing happened is observed as the start of the machine.
-use Rattle.std.proofs.Common.{◌≡◌, ℕ, zero, suc, ◌<◌, ◌≤◌, ◌&&◌, ◌==◌, [], ◌∷◌, length, filter, get_or, slice_get, false, not, Some, refl, ap, sym, subst, ◌∙◌, arith}
-use Rattle.std.proofs.Math.Bool.{and-false}
+use Rattle.assise_machine_state.proofs.Common.{◌≡◌, ℕ, zero, suc, ◌<◌, ◌≤◌, ◌&&◌, ◌==◌, [], ◌∷◌, length, filter, get_or, slice_get, false, not, Some, refl, ap}
+use Rattle.assise_machine_state.proofs.Common.{sym, subst, ◌∙◌, arith, and-false, values, empty_log, end, is_border, border_end, RegionValue, no_log}
+use Rattle.assise_machine_state.proofs.Common.{SameLevels, TwoLevels, nobody, all_full, fulls, full, down_from, begun_as, client_in, cut_of, no_client, HasLog}
+use Rattle.assise_machine_state.proofs.Common.{log_in, new_region, new_regions, no_region, region_in, full_in, is_full_in, observed, own_node, own_seen}
+use Rattle.assise_machine_state.proofs.Common.{world_of, item_at, IsMarked, ShapeInvariant, StateValue, leases_of}
 use Rattle.assise_names.specs.declared.limits.TheConstants.{MOST_NODES}
-use Rattle.assise_inode_table.specs.Contents.{values}
-use Rattle.assise_private_log.specs.NumberedLog.{empty_log, end, is_border}
-use Rattle.assise_private_log.proofs.Borders.{border_end}
-use Rattle.assise_digest.specs.Region.{RegionValue, no_log}
-use Rattle.assise_lease_tree.specs.TwoLevels.{SameLevels, TwoLevels, nobody}
-use Rattle.assise_manager.specs.Changes.{all_full, fulls}
-use Rattle.assise_manager.specs.Standings.{full}
 use Rattle.assise_model_world.specs.Runs.{begun}
-use Rattle.assise_model_history.specs.State.{down_from}
-use Rattle.assise_model_events.specs.Machine.{begun_as}
-use Rattle.assise_machine_state.specs.ClientValues.{client_in, cut_of, no_client}
-use Rattle.assise_machine_state.specs.NodeValues.{HasLog, log_in, new_region, new_regions, no_region, region_in}
-use Rattle.assise_machine_state.specs.Observed.{full_in, is_full_in, observed, own_node, own_seen, world_of}
-use Rattle.assise_machine_state.specs.Places.{item_at}
-use Rattle.assise_machine_state.specs.Invariant.{IsMarked, ShapeInvariant}
-use Rattle.assise_machine_state.specs.StateValues.{StateValue, leases_of}
 use Rattle.assise_machine_state.proofs.HotCapacities.{begun_capacities}
 use Rattle.assise_machine_state.proofs.ItemSeen.{seen_nothing}
 
@@ -44,7 +32,8 @@ nobody_seen c = seen_nothing no_client c
 
 -- the state in which nothing happened
 abbrev begun_state : (n hot limit : ℕ) → TwoLevels → StateValue
-begun_state n hot limit levels = record { nodes = new_regions n hot; members = all_full n; clients = []; levels = levels; cuts = []; history = []; limit = limit }
+begun_state n hot limit levels =
+    record { nodes = new_regions n hot; members = all_full n; clients = []; levels = levels; cuts = []; history = []; limit = limit }
 
 no_own_log : (n hot limit c : ℕ) (t : TwoLevels) → own_seen (begun_state n hot limit t) c ≡ no_log
 unfolding own_seen
@@ -104,13 +93,16 @@ same_levels old new s = λ i. record { home = λ c. s.home c i; clients = λ j. 
 
 begun_seen : (n hot limit : ℕ) → observed (begun_state n hot limit nobody) ≡ begun_as n limit hot
 unfolding observed
-begun_seen n hot limit = λ k. record { limit = limit; hot = begun_capacities n hot k; history = []; world = world_seen n hot limit k; leases = leases_seen n hot limit k; members = all_full n }
+begun_seen n hot limit = λ k. record
+    { limit = limit; hot = begun_capacities n hot k; history = []; world = world_seen n hot limit k; leases = leases_seen n hot limit k; members = all_full n }
 
 -- nothing is seen of a state but its parts
-parts : (s : StateValue) (n hot : ℕ) → s.nodes ≡ new_regions n hot → s.members ≡ all_full n → s.clients ≡ [] → SameLevels nobody s.levels → s.cuts ≡ [] → s.history ≡ [] → s ≡ begun_state n hot s.limit nobody
+parts : (s : StateValue) (n hot : ℕ) → s.nodes ≡ new_regions n hot → s.members ≡ all_full n → s.clients ≡ [] → SameLevels nobody s.levels → s.cuts ≡ [] →
+    s.history ≡ [] → s ≡ begun_state n hot s.limit nobody
 parts s n hot nodes members none levels unasked nothing = grind (arith, same_levels)
 
-pub starts : (s : StateValue) (n hot : ℕ) → s.nodes ≡ new_regions n hot → s.members ≡ all_full n → s.clients ≡ [] → SameLevels nobody s.levels → s.cuts ≡ [] → s.history ≡ [] → observed s ≡ begun_as n s.limit hot
+pub starts : (s : StateValue) (n hot : ℕ) → s.nodes ≡ new_regions n hot → s.members ≡ all_full n → s.clients ≡ [] → SameLevels nobody s.levels → s.cuts ≡ [] →
+    s.history ≡ [] → observed s ≡ begun_as n s.limit hot
 starts s n hot nodes members none levels unasked nothing = ap observed (parts s n hot nodes members none levels unasked nothing) ∙ begun_seen n hot s.limit
 
 -- ---- its parts
@@ -141,5 +133,7 @@ begun_shaped n hot limit few least most = record {
         let none : length (region_in (new_regions m hot) k).logs ≡ 0 = ap length (new_seen (λ r. r.logs) m hot k refl) in
         absurd (omega (arith, none, has.client.some, has.client.there))
 
-pub starts_shaped : (s : StateValue) (n hot : ℕ) → s.nodes ≡ new_regions n hot → s.members ≡ all_full n → s.clients ≡ [] → SameLevels nobody s.levels → s.cuts ≡ [] → s.history ≡ [] → n ≤ MOST_NODES → 8 ≤ s.limit → s.limit ≤ 4096 → ShapeInvariant s
-starts_shaped s n hot nodes members none levels unasked nothing few least most = subst ShapeInvariant (sym (parts s n hot nodes members none levels unasked nothing)) (begun_shaped n hot s.limit few least most)
+pub starts_shaped : (s : StateValue) (n hot : ℕ) → s.nodes ≡ new_regions n hot → s.members ≡ all_full n → s.clients ≡ [] → SameLevels nobody s.levels →
+    s.cuts ≡ [] → s.history ≡ [] → n ≤ MOST_NODES → 8 ≤ s.limit → s.limit ≤ 4096 → ShapeInvariant s
+starts_shaped s n hot nodes members none levels unasked nothing few least most =
+    subst ShapeInvariant (sym (parts s n hot nodes members none levels unasked nothing)) (begun_shaped n hot s.limit few least most)

@@ -1,16 +1,7 @@
 -- The first call of which some full node may lack a record, as a client's own log has it.
-use Rattle.std.proofs.Common.{◌≡◌, ℕ, zero, suc, ◌-◌, ◌<◌, List, [], ◌∷◌, length, drop, refl, arith}
-use Rattle.assise_record.specs.LogRecord.{LogRecord}
-use Rattle.assise_record.specs.Records.{call_of}
-use Rattle.assise_private_log.specs.NumberedLog.{NumberedLog, records_from}
-use Rattle.assise_manager.specs.Standings.{full_nodes}
-use Rattle.assise_model_world.specs.World.{call_at, first_unreplicated, received_by_all}
-use Rattle.assise_machine_state.specs.ClientValues.{client_in}
-use Rattle.assise_machine_state.specs.NodeValues.{log_in}
-use Rattle.assise_machine_state.specs.Observed.{own_node, own_seen, world_of}
-use Rattle.assise_machine_state.specs.Places.{IsNumber}
-use Rattle.assise_machine_state.specs.Invariant.{ShapeInvariant}
-use Rattle.assise_machine_state.specs.StateValues.{StateValue, standings}
+use Rattle.assise_machine_state.proofs.Common.{◌≡◌, ℕ, zero, suc, ◌-◌, ◌<◌, List, [], ◌∷◌, length, drop, refl, arith, LogRecord, call_of, NumberedLog}
+use Rattle.assise_machine_state.proofs.Common.{records_from, full_nodes, call_at, first_unreplicated, received_by_all, client_in, log_in, own_node, own_seen}
+use Rattle.assise_machine_state.proofs.Common.{world_of, IsNumber, ShapeInvariant, StateValue, standings}
 
 call_behind : (rs : List LogRecord) (k next : ℕ) → call_of rs k next ≡ call_of (drop k rs) 0 next
 call_behind [] zero next = refl

@@ -1,25 +1,17 @@
 -- A delivered message stands.
-use Rattle.std.proofs.Common.{◌≡◌, ℕ, Bool, true, false, cond, ◌==◌, List, [], ◌∷◌, ◌++◌, length, Result, Ok, Err, refl, ap, sym, subst, ◌∙◌, append-nil}
-use Rattle.std.proofs.Common.{arith, drop_of_length-le}
-use Rattle.std.proofs.lemmas.Bool.{ne_eqb}
-use Rattle.assise_names.specs.Path.{same_path}
-use Rattle.assise_names.specs.declared.reply.Reply.TheVariants.{Done}
-use Rattle.assise_names.specs.declared.reply.TreeError.{TreeError}
-use Rattle.assise_names.specs.declared.reply.TreeError.TheVariants.{Exists}
-use Rattle.assise_history.specs.declared.call.Call.{Call}
-use Rattle.assise_history.specs.Kept.{IsRun, tree_after}
-use Rattle.assise_seq_tree.specs.Answer.{◌>>=◌, answer, as_directory, create_answer, last_name, parent_of, reply_and_tree, rename_answer, room_at, room_for, write_answer}
-use Rattle.assise_seq_tree.specs.Tree.{Tree, Entries, at, dir, file, put}
+use Rattle.assise_mail.proofs.Common.{◌≡◌, ℕ, Bool, true, false, cond, ◌==◌, List, [], ◌∷◌, ◌++◌, length, Result, Ok, Err, refl, ap, sym, subst, ◌∙◌}
+use Rattle.assise_mail.proofs.Common.{append-nil, arith, drop_of_length-le, ne_eqb, same_path, Done, TreeError, Exists, Call, IsRun, tree_after, ◌>>=◌, answer}
+use Rattle.assise_mail.proofs.Common.{as_directory, create_answer, last_name, parent_of, reply_and_tree, rename_answer, room_at, room_for, write_answer, Tree}
+use Rattle.assise_mail.proofs.Common.{Entries, at, dir, file, put, bytes_after, wrote, AllLeave, IsDelivery}
 use Rattle.assise_seq_tree.proofs.Paths.{put_stands}
 use Rattle.assise_seq_tree.proofs.Renamed.{stands_at_its_new_path}
-use Rattle.assise_seq_tree.proofs.Writes.{bytes_after, wrote}
-use Rattle.assise_mail.specs.Delivery.{AllLeave, IsDelivery}
 use Rattle.assise_mail.proofs.Left.{all_leave}
 
 -- ---- the three calls
 
 -- where there is room for an entry its parent is a directory
-parent_there : (b : Bool) (r : Result Tree TreeError) (f : Entries → Result (Unit {0}) TreeError) (x : Unit {0}) → cond b (Err Exists) (r >>= λ found. as_directory found >>= λ es. f es) ≡ Ok x → (es : Entries) × (r ≡ Ok (dir es))
+parent_there : (b : Bool) (r : Result Tree TreeError) (f : Entries → Result (Unit {0}) TreeError) (x : Unit {0}) →
+    cond b (Err Exists) (r >>= λ found. as_directory found >>= λ es. f es) ≡ Ok x → (es : Entries) × (r ≡ Ok (dir es))
 parent_there true r f x h = cc
 parent_there false (Ok (dir es)) f x h = (es, refl)
 parent_there false (Ok (file bytes)) f x h = cc
@@ -28,8 +20,10 @@ parent_there false (Err e) f x h = cc
 created : (t : Tree) (p : List (List ℕ)) → (create_answer t p).0 ≡ Done → at (create_answer t p).1 p ≡ Ok (file [])
 created t p = go (room_at t p) refl
   where
-    go : (r : Result (Unit {0}) TreeError) → room_at t p ≡ r → (reply_and_tree t (r >>= λ _. Ok (Done, put t p (file [])))).0 ≡ Done → at (reply_and_tree t (r >>= λ _. Ok (Done, put t p (file [])))).1 p ≡ Ok (file [])
-    go (Ok x) is done = let parent = parent_there (length p == 0) (at t (parent_of p)) (room_for (last_name p)) x is in put_stands t (file []) p parent.0 parent.1
+    go : (r : Result (Unit {0}) TreeError) → room_at t p ≡ r → (reply_and_tree t (r >>= λ _. Ok (Done, put t p (file [])))).0 ≡ Done →
+        at (reply_and_tree t (r >>= λ _. Ok (Done, put t p (file [])))).1 p ≡ Ok (file [])
+    go (Ok x) is done = let parent =
+        parent_there (length p == 0) (at t (parent_of p)) (room_for (last_name p)) x is in put_stands t (file []) p parent.0 parent.1
     go (Err e) is done = cc
 
 all_written : (bytes message : List ℕ) → bytes ≡ [] → bytes_after bytes 0 message ≡ message
@@ -38,14 +32,17 @@ all_written bytes (b ∷ bs) none =
     let some = ne_eqb (length (b ∷ bs)) 0 (λ zero. absurd (omega (arith, zero))) in
     ap (λ old. bytes_after old 0 (b ∷ bs)) none ∙ rw some (ap (λ l. (b ∷ bs) ++ l) (drop_of_length-le [] (omega arith)) ∙ append-nil (b ∷ bs))
 
-written_whole : (t : Tree) (p : List (List ℕ)) (message : List ℕ) → (write_answer t p 0 message).0 ≡ Done → at t p ≡ Ok (file []) → at (write_answer t p 0 message).1 p ≡ Ok (file message)
+written_whole : (t : Tree) (p : List (List ℕ)) (message : List ℕ) → (write_answer t p 0 message).0 ≡ Done → at t p ≡ Ok (file []) →
+    at (write_answer t p 0 message).1 p ≡ Ok (file message)
 written_whole t p message done empty =
     let w = wrote t (write_answer t p 0 message).1 p 0 message (ap (λ reply. (reply, (write_answer t p 0 message).1)) done) in
     let none : Ok (file w.bytes) ≡ Ok (file []) = sym w.there ∙ empty in
     w.after ∙ ap (λ bytes. Ok (file bytes)) (all_written w.bytes message (cc))
 
-moved_whole : (t : Tree) (p q : List (List ℕ)) (message : List ℕ) → same_path p q ≡ false → (rename_answer t p q).0 ≡ Done → at t p ≡ Ok (file message) → at (rename_answer t p q).1 q ≡ Ok (file message)
-moved_whole t p q message other done there = stands_at_its_new_path t (rename_answer t p q).1 p q (file message) (ap (λ reply. (reply, (rename_answer t p q).1)) done) other there
+moved_whole : (t : Tree) (p q : List (List ℕ)) (message : List ℕ) → same_path p q ≡ false → (rename_answer t p q).0 ≡ Done → at t p ≡ Ok (file message) →
+    at (rename_answer t p q).1 q ≡ Ok (file message)
+moved_whole t p q message other done there =
+    stands_at_its_new_path t (rename_answer t p q).1 p q (file message) (ap (λ reply. (reply, (rename_answer t p q).1)) done) other there
 
 -- ---- a run in two parts
 
@@ -68,19 +65,23 @@ module _ (draft place : List (List ℕ)) (message : List ℕ) (make write move :
   after_make t right = subst (λ op. (answer t op).0 ≡ Done → at (answer t op).1 draft ≡ Ok (file [])) (sym d.makes) (created t draft) (sym right ∙ d.made)
 
   after_write : (t : Tree) → write.reply ≡ (answer t write.op).0 → at t draft ≡ Ok (file []) → at (answer t write.op).1 draft ≡ Ok (file message)
-  after_write t right = subst (λ op. (answer t op).0 ≡ Done → at t draft ≡ Ok (file []) → at (answer t op).1 draft ≡ Ok (file message)) (sym d.writes) (written_whole t draft message) (sym right ∙ d.written)
+  after_write t right = subst (λ op. (answer t op).0 ≡ Done → at t draft ≡ Ok (file []) → at (answer t op).1 draft ≡ Ok (file message)) (sym d.writes)
+      (written_whole t draft message) (sym right ∙ d.written)
 
   after_move : (t : Tree) → move.reply ≡ (answer t move.op).0 → at t draft ≡ Ok (file message) → at (answer t move.op).1 place ≡ Ok (file message)
-  after_move t right = subst (λ op. (answer t op).0 ≡ Done → at t draft ≡ Ok (file message) → at (answer t op).1 place ≡ Ok (file message)) (sym d.moves) (moved_whole t draft place message d.elsewhere) (sym right ∙ d.moved)
+  after_move t right = subst (λ op. (answer t op).0 ≡ Done → at t draft ≡ Ok (file message) → at (answer t op).1 place ≡ Ok (file message)) (sym d.moves)
+      (moved_whole t draft place message d.elsewhere) (sym right ∙ d.moved)
 
   -- behind each of the three, and calls that leave what it made
   made_stands : (t : Tree) (between : List Call) → IsRun t (make ∷ between) → AllLeave draft between → at (tree_after t (make ∷ between)) draft ≡ Ok (file [])
   made_stands t between run leave = all_leave (answer t make.op).1 draft between run.1 leave ∙ after_make t run.0
 
-  written_stands : (t : Tree) (between : List Call) → at t draft ≡ Ok (file []) → IsRun t (write ∷ between) → AllLeave draft between → at (tree_after t (write ∷ between)) draft ≡ Ok (file message)
+  written_stands : (t : Tree) (between : List Call) → at t draft ≡ Ok (file []) → IsRun t (write ∷ between) → AllLeave draft between →
+      at (tree_after t (write ∷ between)) draft ≡ Ok (file message)
   written_stands t between there run leave = all_leave (answer t write.op).1 draft between run.1 leave ∙ after_write t run.0 there
 
-  moved_stands : (t : Tree) (between : List Call) → at t draft ≡ Ok (file message) → IsRun t (move ∷ between) → AllLeave place between → at (tree_after t (move ∷ between)) place ≡ Ok (file message)
+  moved_stands : (t : Tree) (between : List Call) → at t draft ≡ Ok (file message) → IsRun t (move ∷ between) → AllLeave place between →
+      at (tree_after t (move ∷ between)) place ≡ Ok (file message)
   moved_stands t between there run leave = all_leave (answer t move.op).1 place between run.1 leave ∙ after_move t run.0 there
 
   pub delivered : (t : Tree) (before created written moved : List Call) → IsRun t (before ++ make ∷ (created ++ write ∷ (written ++ move ∷ moved))) →

@@ -1,20 +1,10 @@
 -- What a call leaves as it was.
-use Rattle.std.proofs.Common.{◌≡◌, inl, inr, ℕ, Bool, true, false, cond, ◌==◌, nat_le, List, [], ◌∷◌, length, Result, Ok, Err, Contains, refl, ap, sym, ◌∙◌}
-use Rattle.std.proofs.Common.{arith}
-use Rattle.std.proofs.lemmas.List.Elements.{Contains-append_right}
-use Rattle.assise_names.specs.Path.{same_path}
-use Rattle.assise_names.specs.declared.call.Op.{Op}
-use Rattle.assise_names.specs.declared.call.Op.TheVariants.{Create, Mkdir, Read, Write, Truncate, Rename, Unlink, Rmdir, List as ListCall, Stat, Fsync, Dsync}
-use Rattle.assise_names.specs.declared.reply.Reply.TheVariants.{Done, Error}
-use Rattle.assise_names.specs.declared.reply.TreeError.{TreeError}
-use Rattle.assise_names.specs.declared.reply.TreeError.TheVariants.{TooBig}
-use Rattle.assise_history.specs.declared.call.Call.{Call}
-use Rattle.assise_history.specs.Kept.{IsRun, tree_after}
-use Rattle.assise_seq_tree.specs.Answer.{◌>>=◌, answer, room_at, file_at, entries_at, may_rename, may_unlink, may_rmdir, reply_and_tree}
-use Rattle.assise_seq_tree.specs.Contents.{overwritten, is_within, resized}
-use Rattle.assise_seq_tree.specs.Tree.{Tree, file, dir, no_entries, at, put, without}
+use Rattle.assise_mail.proofs.Common.{◌≡◌, inl, inr, ℕ, Bool, true, false, cond, ◌==◌, nat_le, List, [], ◌∷◌, length, Result, Ok, Err, Contains, refl, ap, sym}
+use Rattle.assise_mail.proofs.Common.{◌∙◌, arith, Contains-append_right, same_path, Op, Create, Mkdir, Read, Write, Truncate, Rename, Unlink, Rmdir, ListCall}
+use Rattle.assise_mail.proofs.Common.{Stat, Fsync, Dsync, Done, Error, TreeError, TooBig, Call, IsRun, tree_after, ◌>>=◌, answer, room_at, file_at, entries_at}
+use Rattle.assise_mail.proofs.Common.{may_rename, may_unlink, may_rmdir, reply_and_tree, overwritten, is_within, resized, Tree, file, dir, no_entries, at, put}
+use Rattle.assise_mail.proofs.Common.{without, AllLeave, Leaves, only_looks}
 use Rattle.assise_seq_tree.proofs.Calls.{list_leaves, read_leaves, rest_is_left, stat_leaves}
-use Rattle.assise_mail.specs.Delivery.{AllLeave, Leaves, only_looks}
 
 -- ---- a call that only looks
 
@@ -34,18 +24,21 @@ looking_leaves t (Rmdir p) is = cc
 
 -- ---- a call that failed
 
-done_or_stays : (t u : Tree) (r : Result (Unit {0}) TreeError) (e : TreeError) → (reply_and_tree t (r >>= λ _. Ok (Done, u))).0 ≡ Error e → (reply_and_tree t (r >>= λ _. Ok (Done, u))).1 ≡ t
+done_or_stays : (t u : Tree) (r : Result (Unit {0}) TreeError) (e : TreeError) → (reply_and_tree t (r >>= λ _. Ok (Done, u))).0 ≡ Error e →
+    (reply_and_tree t (r >>= λ _. Ok (Done, u))).1 ≡ t
 done_or_stays t u (Ok x) e is = cc
 done_or_stays t u (Err f) e is = refl
 
 write_or_stays : (t : Tree) (changed : List ℕ → Tree) (r : Result (List ℕ) TreeError) (b : Bool) (e : TreeError) →
-    (reply_and_tree t (r >>= λ bytes. cond b (Ok (Done, changed bytes)) (Err TooBig))).0 ≡ Error e → (reply_and_tree t (r >>= λ bytes. cond b (Ok (Done, changed bytes)) (Err TooBig))).1 ≡ t
+    (reply_and_tree t (r >>= λ bytes. cond b (Ok (Done, changed bytes)) (Err TooBig))).0 ≡ Error e →
+    (reply_and_tree t (r >>= λ bytes. cond b (Ok (Done, changed bytes)) (Err TooBig))).1 ≡ t
 write_or_stays t changed (Ok bytes) true e is = cc
 write_or_stays t changed (Ok bytes) false e is = refl
 write_or_stays t changed (Err f) b e is = refl
 
 rename_or_stays : (t : Tree) (changed : Tree → Tree) (may : Result (Unit {0}) TreeError) (found : Result Tree TreeError) (e : TreeError) →
-    (reply_and_tree t (may >>= λ _. found >>= λ moved. Ok (Done, changed moved))).0 ≡ Error e → (reply_and_tree t (may >>= λ _. found >>= λ moved. Ok (Done, changed moved))).1 ≡ t
+    (reply_and_tree t (may >>= λ _. found >>= λ moved. Ok (Done, changed moved))).0 ≡ Error e →
+    (reply_and_tree t (may >>= λ _. found >>= λ moved. Ok (Done, changed moved))).1 ≡ t
 rename_or_stays t changed (Ok x) (Ok moved) e is = cc
 rename_or_stays t changed (Ok x) (Err f) e is = refl
 rename_or_stays t changed (Err f) found e is = refl
@@ -58,7 +51,8 @@ failing_leaves t Fsync e is = refl
 failing_leaves t Dsync e is = refl
 failing_leaves t (Create p) e is = done_or_stays t (put t p (file [])) (room_at t p) e is
 failing_leaves t (Mkdir p) e is = done_or_stays t (put t p (dir no_entries)) (room_at t p) e is
-failing_leaves t (Write p offset new) e is = write_or_stays t (λ bytes. cond (length new == 0) t (put t p (file (overwritten bytes offset new)))) (file_at t p) (is_within offset new) e is
+failing_leaves t (Write p offset new) e is =
+    write_or_stays t (λ bytes. cond (length new == 0) t (put t p (file (overwritten bytes offset new)))) (file_at t p) (is_within offset new) e is
 failing_leaves t (Truncate p size) e is = write_or_stays t (λ bytes. put t p (file (resized bytes size))) (file_at t p) (nat_le size 1048576) e is
 failing_leaves t (Rename p q) e is = rename_or_stays t (λ moved. cond (same_path p q) t (put (without t p) q moved)) (may_rename t p q) (at t p) e is
 failing_leaves t (Unlink p) e is = done_or_stays t (without t p) (may_unlink t p) e is
@@ -79,4 +73,5 @@ behind_in xs y x there = Contains-append_right (y ∷ []) xs x there
 
 pub all_leave : (t : Tree) (p : List (List ℕ)) (xs : List Call) → IsRun t xs → AllLeave p xs → at (tree_after t xs) p ≡ at t p
 all_leave t p [] run leave = refl
-all_leave t p (x ∷ xs) run leave = all_leave (answer t x.op).1 p xs run.1 (λ y there. leave y (behind_in xs x y there)) ∙ one_leaves t p x run.0 (leave x (first_in xs x))
+all_leave t p (x ∷ xs) run leave =
+    all_leave (answer t x.op).1 p xs run.1 (λ y there. leave y (behind_in xs x y there)) ∙ one_leaves t p x run.0 (leave x (first_in xs x))

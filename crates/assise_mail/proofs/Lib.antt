@@ -1,3 +1,4 @@
+mod Common
 pub mod Left
 pub mod Delivered
 pub mod Unlost

@@ -1,23 +1,10 @@
 -- What a reader sees of a delivery.
-use Rattle.std.proofs.Common.{◌≡◌, ◌⊎◌, ℕ, zero, suc, ◌+◌, ◌<◌, Bool, true, false, not, if◌then◌else◌, ◌==◌, List, [], ◌∷◌, ◌++◌, length, filter, Contains, Ok, Err, refl, ap, sym, subst, ◌∙◌, inl, inr, arith, append_assoc, eq-eqb}
-use Rattle.std.proofs.lemmas.Bool.{cases_Bool, false_from_ne_true}
-use Rattle.std.proofs.lemmas.List.Elements.{Contains-append_cases}
-use Rattle.assise_names.specs.declared.call.Op.TheVariants.{Read}
-use Rattle.assise_names.specs.declared.reply.Reply.TheVariants.{Bytes, Error}
-use Rattle.assise_names.specs.declared.reply.TreeError.TheVariants.{NoEnt}
-use Rattle.assise_history.specs.declared.call.Call.{Call}
-use Rattle.assise_history.specs.Entries.{EntryValue, calls}
-use Rattle.assise_history.specs.Kept.{IsRun, IsTaken, is_lost, kept, tree_after}
-use Rattle.assise_history.specs.Legal.{IsLegal, IsNextCall, calls_made}
-use Rattle.assise_history.proofs.ClientCounts.{made_append}
-use Rattle.assise_history.proofs.Legality.{fits_in, legal_run, prefix_in}
-use Rattle.assise_history.proofs.Lost.{kept-append, lost, taken}
-use Rattle.assise_history.proofs.Runs.{is_lost-append, kept-push, run-last}
-use Rattle.assise_seq_tree.specs.Answer.{IsDisjointFrom, answer, read_answer}
-use Rattle.assise_seq_tree.specs.Contents.{bytes_from}
-use Rattle.assise_seq_tree.specs.Tree.{Tree, at, file, opening}
-use Rattle.assise_seq_tree.proofs.Writes.{reads}
-use Rattle.assise_mail.specs.Delivery.{AllLeave, CallsLeave, IsDraftedAndMoved, Leaves}
+use Rattle.assise_mail.proofs.Common.{◌≡◌, ◌⊎◌, ℕ, zero, suc, ◌+◌, ◌<◌, Bool, true, false, not, if◌then◌else◌, ◌==◌, List, [], ◌∷◌, ◌++◌, length, filter}
+use Rattle.assise_mail.proofs.Common.{Contains, Ok, Err, refl, ap, sym, subst, ◌∙◌, inl, inr, arith, append_assoc, eq-eqb, cases_Bool, false_from_ne_true}
+use Rattle.assise_mail.proofs.Common.{Contains-append_cases, Read, Bytes, Error, NoEnt, Call, EntryValue, calls, IsRun, IsTaken, is_lost, kept, tree_after}
+use Rattle.assise_mail.proofs.Common.{IsLegal, IsNextCall, calls_made, made_append, fits_in, legal_run, prefix_in, kept-append, lost, taken, is_lost-append}
+use Rattle.assise_mail.proofs.Common.{kept-push, run-last, IsDisjointFrom, answer, read_answer, bytes_from, Tree, at, file, opening, reads, AllLeave}
+use Rattle.assise_mail.proofs.Common.{CallsLeave, IsDraftedAndMoved, Leaves}
 use Rattle.assise_mail.proofs.Delivered.{delivered}
 use Rattle.assise_mail.proofs.Left.{all_leave}
 use Rattle.assise_mail.proofs.Synced.{cut_at, from_filter, front_leaves, front_of, kept_leave}
@@ -26,16 +13,20 @@ use Rattle.assise_mail.proofs.Unlost.{none_lost}
 -- ---- the reply to a read
 
 -- a call is answered on the tree of what is kept before it
-right_reply : (h front behind : List EntryValue) (r : Call) → IsLegal h → h ≡ front ++ calls r ∷ behind → r.reply ≡ (answer (tree_after opening (kept front)) r.op).0
-right_reply h front behind r legal split = run-last opening (kept front) r (subst (IsRun opening) (kept-push front (calls r)) (fits_in h front behind (calls r) legal split).run)
+right_reply : (h front behind : List EntryValue) (r : Call) → IsLegal h → h ≡ front ++ calls r ∷ behind →
+    r.reply ≡ (answer (tree_after opening (kept front)) r.op).0
+right_reply h front behind r legal split =
+    run-last opening (kept front) r (subst (IsRun opening) (kept-push front (calls r)) (fits_in h front behind (calls r) legal split).run)
 
-read_of : (t : Tree) (r : Call) (place : List (List ℕ)) (offset most : ℕ) → r.reply ≡ (answer t r.op).0 → r.op ≡ Read place offset most → r.reply ≡ (read_answer t place offset most).0
+read_of : (t : Tree) (r : Call) (place : List (List ℕ)) (offset most : ℕ) → r.reply ≡ (answer t r.op).0 → r.op ≡ Read place offset most →
+    r.reply ≡ (read_answer t place offset most).0
 read_of t r place offset most right is = right ∙ ap (λ op. (answer t op).0) is
 
 missing : (t : Tree) (place : List (List ℕ)) (offset most : ℕ) → at t place ≡ Err NoEnt → (read_answer t place offset most).0 ≡ Error NoEnt
 missing t place offset most gone = rw gone refl
 
-present : (t : Tree) (place : List (List ℕ)) (offset most : ℕ) (message : List ℕ) → at t place ≡ Ok (file message) → (read_answer t place offset most).0 ≡ Bytes (bytes_from offset most message)
+present : (t : Tree) (place : List (List ℕ)) (offset most : ℕ) (message : List ℕ) → at t place ≡ Ok (file message) → (read_answer t place offset most).0
+    ≡ Bytes (bytes_from offset most message)
 present t place offset most message there = ap (λ o. o.0) (reads t place offset most message there)
 
 nothing_at_first : (place : List (List ℕ)) → 0 < length place → at opening place ≡ Err NoEnt
@@ -44,10 +35,12 @@ nothing_at_first [] some = absurd (omega (arith, some))
 nothing_at_first (name ∷ path) some = refl
 
 -- nothing was made there
-still_missing : (front : List EntryValue) (place : List (List ℕ)) → IsRun opening (kept front) → 0 < length place → AllLeave place (kept front) → at (tree_after opening (kept front)) place ≡ Err NoEnt
+still_missing : (front : List EntryValue) (place : List (List ℕ)) → IsRun opening (kept front) → 0 < length place → AllLeave place (kept front) →
+    at (tree_after opening (kept front)) place ≡ Err NoEnt
 still_missing front place run some leave = all_leave opening place (kept front) run leave ∙ nothing_at_first place some
 
-pub nothing_read : (h front behind : List EntryValue) (r : Call) (place : List (List ℕ)) (offset most : ℕ) → IsLegal h → h ≡ front ++ calls r ∷ behind → r.op ≡ Read place offset most → 0 < length place → AllLeave place (kept front) → r.reply ≡ Error NoEnt
+pub nothing_read : (h front behind : List EntryValue) (r : Call) (place : List (List ℕ)) (offset most : ℕ) → IsLegal h → h ≡ front ++ calls r ∷ behind →
+    r.op ≡ Read place offset most → 0 < length place → AllLeave place (kept front) → r.reply ≡ Error NoEnt
 nothing_read h front behind r place offset most legal split is some leave =
     let t = tree_after opening (kept front) in
     read_of t r place offset most (right_reply h front behind r legal split) is
@@ -66,9 +59,11 @@ first_or_later x y xs there = elim (Contains-append_cases (x ∷ []) xs y there)
     only x y (suc k, few, is) = absurd (omega arith)
 
 -- all that is kept leaves a place, where the entries before a call and behind it do, and the call does or is lost
-leave_across : (place : List (List ℕ)) (es later : List EntryValue) (x : Call) → CallsLeave place es → (is_lost later x ≡ true) ⊎ Leaves place x → AllLeave place (kept later) → AllLeave place (kept (es ++ calls x ∷ later))
+leave_across : (place : List (List ℕ)) (es later : List EntryValue) (x : Call) → CallsLeave place es → (is_lost later x ≡ true) ⊎ Leaves place x →
+    AllLeave place (kept later) → AllLeave place (kept (es ++ calls x ∷ later))
 leave_across place es later x early own late y there =
-    elim (Contains-append_cases (filter (λ z. not (is_lost (calls x ∷ later) z)) (kept es)) (kept (calls x ∷ later)) y (subst (λ ys. Contains ys y) (kept-append es (calls x ∷ later)) there)) [
+    elim (Contains-append_cases (filter (λ z. not (is_lost (calls x ∷ later) z)) (kept es)) (kept (calls x ∷ later)) y
+    (subst (λ ys. Contains ys y) (kept-append es (calls x ∷ later)) there)) [
       | inl before ↦ kept_leave place es early y (from_filter (λ z. not (is_lost (calls x ∷ later) z)) (kept es) y before)
       | inr rest ↦ behind own rest
     ]
@@ -87,15 +82,18 @@ leave_across place es later x early own late y there =
 
 -- ---- a call before one that isn't lost
 
-module _ (front before behind : List EntryValue) (y : Call) (legal : IsLegal front) (split : front ≡ before ++ calls y ∷ behind) (kept_one : is_lost behind y ≡ false) where
+module _ (front before behind : List EntryValue) (y : Call) (legal : IsLegal front) (split : front ≡ before ++ calls y ∷ behind)
+    (kept_one : is_lost behind y ≡ false) where
   module _ (early later : List EntryValue) (x : Call) (there : before ≡ early ++ calls x ∷ later) (client : x.client ≡ y.client) where
     lower : x.number < y.number
     lower =
-        let x_split : front ≡ early ++ calls x ∷ (later ++ calls y ∷ behind) = split ∙ ap (λ es. es ++ calls y ∷ behind) there ∙ append_assoc early (calls x ∷ later) (calls y ∷ behind) in
+        let x_split : front ≡ early ++ calls x ∷ (later ++ calls y ∷ behind) = split ∙ ap (λ es. es ++ calls y ∷ behind) there
+        ∙ append_assoc early (calls x ∷ later) (calls y ∷ behind) in
         let x_next : IsNextCall early x = (fits_in front early (later ++ calls y ∷ behind) (calls x) legal x_split).follows in
         let y_next : IsNextCall before y = (fits_in front before behind (calls y) legal split).follows in
         let own : (y.client == x.client) ≡ true = eq-eqb y.client x.client (sym client) in
-        let all : calls_made y.client before ≡ calls_made y.client early + calls_made y.client (calls x ∷ later) = ap (calls_made y.client) there ∙ made_append y.client early (calls x ∷ later) in
+        let all : calls_made y.client before ≡ calls_made y.client early + calls_made y.client (calls x ∷ later) = ap (calls_made y.client) there
+        ∙ made_append y.client early (calls x ∷ later) in
         let some : calls_made y.client (calls x ∷ later) ≡ calls_made y.client later + 1 = rw own (omega arith) in
         let mine : x.number ≡ calls_made y.client early = x_next.number ∙ ap (λ c. calls_made c early) client in
         omega (arith, all, some, mine, y_next.number)
@@ -123,7 +121,8 @@ module _ (front before behind : List EntryValue) (y : Call) (legal : IsLegal fro
     kept_too =
         let next : IsNextCall before y = (fits_in front before behind (calls y) legal split).follows in
         is_lost-append later (calls y ∷ behind) x
-        ∙ ap (λ b. if b then true else is_lost behind x) (none_lost before (prefix_in front before (calls y ∷ behind) legal split) y.client next.ready early later x there client)
+        ∙ ap (λ b. if b then true else is_lost behind x)
+        (none_lost before (prefix_in front before (calls y ∷ behind) legal split) y.client next.ready early later x there client)
         ∙ false_from_ne_true (is_lost behind x) taken_too
 
 -- ---- a delivery, with its move or without
@@ -137,7 +136,8 @@ all_pass [] = refl
 all_pass (x ∷ xs) = ap (λ ys. x ∷ ys) (all_pass xs)
 
 module _ (h front behind : List EntryValue) (r : Call) (draft place : List (List ℕ)) (message : List ℕ) (offset most : ℕ)
-    (legal : IsLegal h) (split : h ≡ front ++ calls r ∷ behind) (is : r.op ≡ Read place offset most) (some : 0 < length place) (d : IsDraftedAndMoved front draft place message) where
+    (legal : IsLegal h) (split : h ≡ front ++ calls r ∷ behind) (is : r.op ≡ Read place offset most) (some : 0 < length place)
+    (d : IsDraftedAndMoved front draft place message) where
   abbrev from_move : List EntryValue
   from_move = calls d.move ∷ d.moved
 
@@ -185,9 +185,11 @@ module _ (h front behind : List EntryValue) (r : Call) (draft place : List (List
         ∙ kept_too front before_move d.moved d.move front_legal to_move stays d.before (d.created ++ calls d.write ∷ d.written) d.make refl d.maker
 
     write_stays : is_lost (d.written ++ from_move) d.write ≡ false
-    write_stays = kept_too front before_move d.moved d.move front_legal to_move stays (d.before ++ calls d.make ∷ d.created) d.written d.write (sym (append_assoc d.before (calls d.make ∷ d.created) (calls d.write ∷ d.written))) d.writer
+    write_stays = kept_too front before_move d.moved d.move front_legal to_move stays (d.before ++ calls d.make ∷ d.created) d.written d.write
+        (sym (append_assoc d.before (calls d.make ∷ d.created) (calls d.write ∷ d.written))) d.writer
 
-    whole : kept front ≡ front_of everything d.before from_make ++ d.make ∷ (front_of everything d.created from_write ++ d.write ∷ (front_of everything d.written from_move ++ d.move ∷ kept d.moved))
+    whole : kept front ≡ front_of everything d.before
+        from_make ++ d.make ∷ (front_of everything d.created from_write ++ d.write ∷ (front_of everything d.written from_move ++ d.move ∷ kept d.moved))
     unfolding everything
     whole =
         sym (all_pass (kept front))

@@ -1,18 +1,17 @@
 -- Where calls in order stop.
-use Rattle.std.proofs.Common.{◌≡◌, ℕ, zero, suc, ◌+◌, ◌<◌, Bool, true, false, not, true≢false, List, [], ◌∷◌, ◌++◌, length, take, drop, get_or, refl, ap, sym, subst, ◌∙◌, arith, Result, Ok, Err, IfErr}
+use Rattle.assise_mail.proofs.Common.{◌≡◌, ℕ, zero, suc, ◌+◌, ◌<◌, Bool, true, false, not, true≢false, List, [], ◌∷◌, ◌++◌, length, take, drop, get_or, refl}
+use Rattle.assise_mail.proofs.Common.{ap, sym, subst, ◌∙◌, arith, Result, Ok, Err, IfErr, EntryValue, SeesAll, AnyTurns, ComesToElse, StopsAt, replies_of}
+use Rattle.assise_mail.proofs.Common.{ops_of}
 use Rattle.std.specs.Result.{IsErrAnd}
 use Rattle.std.proofs.lemmas.List.{map_push, take_more}
 use Rattle.assise_names.specs.contracts.reply.ReplyPartialEq.TheImpl.{eq-value}
 use Rattle.assise_names.specs.declared.refusal.Refusal.{Refusal}
 use Rattle.assise_names.specs.declared.reply.Reply.{Reply}
-use Rattle.assise_history.specs.Entries.{EntryValue}
 use Rattle.assise_history.proofs.Replies.{equal_replies}
 use Rattle.assise_libfs.specs.Calling.{SeesCall}
-use Rattle.assise_workers.specs.Told.{SeesAll}
 use Rattle.assise_workers.proofs.Lists.{one_more_of}
 use Rattle.assise_mail.specs.declared.fault.MailFault.{MailFault}
 use Rattle.assise_mail.specs.declared.due_call.DueCall.{DueCall}
-use Rattle.assise_mail.specs.DueCalls.{AnyTurns, ComesToElse, StopsAt, replies_of, ops_of}
 
 -- ---- whether a reply is the one that is due
 
@@ -46,7 +45,8 @@ reply_or d (Err refusal) = d
 pub ok-value : {a b : Reply} → ◌≡◌ {A = Result Reply Refusal} (Ok a) (Ok b) → a ≡ b
 ok-value {a} is = ap (reply_or a) is
 
-pub where_err : (r : Result (Unit {0}) MailFault) (IsThis Leaves : MailFault → Type 0) → IsErrAnd r IsThis → ((fault : MailFault) → IsThis fault → Leaves fault) → IfErr r Leaves
+pub where_err : (r : Result (Unit {0}) MailFault) (IsThis Leaves : MailFault → Type 0) → IsErrAnd r IsThis →
+    ((fault : MailFault) → IsThis fault → Leaves fault) → IfErr r Leaves
 where_err (Ok x) IsThis Leaves h leaves = tt
 where_err (Err fault) IsThis Leaves h leaves = leaves fault h
 
@@ -57,16 +57,22 @@ split_at [] i d there = absurd (omega (arith, there))
 split_at (x ∷ xs) zero d there = refl
 split_at (x ∷ xs) (suc i) d there = ap (λ ys. x ∷ ys) (split_at xs i d (omega (arith, there)))
 
-module _ (c : ℕ) (calls : List DueCall) (i : ℕ) (wanted : DueCall) (h between new : List EntryValue) (there : i < length calls) (is : get_or calls i wanted ≡ wanted)
+module _ (c : ℕ) (calls : List DueCall) (i : ℕ) (wanted : DueCall) (h between new : List EntryValue) (there : i < length calls)
+    (is : get_or calls i wanted ≡ wanted)
     (sees : SeesAll AnyTurns c (ops_of (take i calls)) h (replies_of (take i calls)) between) where
-  pub one_call_more : (d : ℕ) (reply : Reply) → d ≡ c → reply ≡ wanted.reply → SeesCall d wanted.op between (Ok reply) new → SeesAll AnyTurns c (ops_of (take (i + 1) calls)) h (replies_of (take (i + 1) calls)) new
+  pub one_call_more : (d : ℕ) (reply : Reply) → d ≡ c → reply ≡ wanted.reply → SeesCall d wanted.op between (Ok reply) new →
+      SeesAll AnyTurns c (ops_of (take (i + 1) calls)) h (replies_of (take (i + 1) calls)) new
   one_call_more d reply same due one =
       let more : take (i + 1) calls ≡ take i calls ++ wanted ∷ [] = take_more calls i wanted there ∙ ap (λ s. take i calls ++ s ∷ []) is in
-      let ops : ops_of (take (i + 1) calls) ≡ ops_of (take i calls) ++ wanted.op ∷ [] = ap ops_of more ∙ map_push (λ (s : DueCall). s.op) (take i calls) wanted in
-      let dues : replies_of (take (i + 1) calls) ≡ replies_of (take i calls) ++ Ok wanted.reply ∷ [] = ap replies_of more ∙ map_push (λ (s : DueCall). Ok s.reply) (take i calls) wanted in
+      let ops : ops_of (take (i + 1) calls) ≡ ops_of (take i calls) ++ wanted.op ∷ [] = ap ops_of more ∙ map_push (λ (s : DueCall). s.op) (take i calls) wanted
+      in
+      let dues : replies_of (take (i + 1) calls) ≡ replies_of (take i calls) ++ Ok wanted.reply ∷ [] = ap replies_of more
+      ∙ map_push (λ (s : DueCall). Ok s.reply) (take i calls) wanted in
       let all : SeesAll AnyTurns c (ops_of (take i calls) ++ wanted.op ∷ []) h (replies_of (take i calls) ++ Ok wanted.reply ∷ []) new =
-      one_more_of AnyTurns c d (ops_of (take i calls)) h (replies_of (take i calls)) between wanted.op (Ok wanted.reply) new same sees (subst (λ r. SeesCall d wanted.op between (Ok r) new) due one) tt tt in
-      subst (λ os. SeesAll AnyTurns c os h (replies_of (take (i + 1) calls)) new) (sym ops) (subst (λ ds. SeesAll AnyTurns c (ops_of (take i calls) ++ wanted.op ∷ []) h ds new) (sym dues) all)
+      one_more_of AnyTurns c d (ops_of (take i calls)) h (replies_of (take i calls)) between wanted.op (Ok wanted.reply) new same sees
+      (subst (λ r. SeesCall d wanted.op between (Ok r) new) due one) tt tt in
+      subst (λ os. SeesAll AnyTurns c os h (replies_of (take (i + 1) calls)) new) (sym ops)
+      (subst (λ ds. SeesAll AnyTurns c (ops_of (take i calls) ++ wanted.op ∷ []) h ds new) (sym dues) all)
 
   pub stops_here : (d : ℕ) (fault : MailFault) → d ≡ c → ComesToElse d wanted.op (λ reply. reply ≡ wanted.reply) between fault new → StopsAt c calls h fault new
   stops_here d fault same other = record {

@@ -1,17 +1,9 @@
 -- An answered delivery stays.
-use Rattle.std.proofs.Common.{◌≡◌, ℕ, ◌<◌, Bool, true, false, not, nat_lt, List, [], ◌∷◌, ◌++◌, filter, Contains, Ok, refl, ap, sym, subst, ◌∙◌, inl, inr, arith, append_assoc, lt-ltb}
-use Rattle.std.proofs.lemmas.Bool.{cases_Bool}
-use Rattle.std.proofs.lemmas.List.Elements.{Contains-append_cases, Contains-append_left, Contains-append_right, filter-append}
-use Rattle.assise_history.specs.declared.call.Call.{Call}
-use Rattle.assise_history.specs.Entries.{EntryValue, calls}
-use Rattle.assise_history.specs.Kept.{IsRun, Stays, is_lost, kept, tree_after}
-use Rattle.assise_history.specs.Legal.{IsLegal, IsPastSyncs, durability_of, is_sync}
-use Rattle.assise_names.specs.declared.call.Op.{Op}
-use Rattle.assise_names.specs.declared.call.Op.TheVariants.{Create, Mkdir, Read, Write, Truncate, Rename, Unlink, Rmdir, List as ListCall, Stat, Fsync, Dsync}
-use Rattle.assise_names.specs.declared.durability.Durability.{Durability}
-use Rattle.assise_history.proofs.Lost.{kept-append, stays}
-use Rattle.assise_seq_tree.specs.Tree.{at, file, opening}
-use Rattle.assise_mail.specs.Delivery.{AllLeave, CallsLeave, IsMessageDelivered, Leaves, only_looks}
+use Rattle.assise_mail.proofs.Common.{◌≡◌, ℕ, ◌<◌, Bool, true, false, not, nat_lt, List, [], ◌∷◌, ◌++◌, filter, Contains, Ok, refl, ap, sym, subst, ◌∙◌, inl}
+use Rattle.assise_mail.proofs.Common.{inr, arith, append_assoc, lt-ltb, cases_Bool, Contains-append_cases, Contains-append_left, Contains-append_right}
+use Rattle.assise_mail.proofs.Common.{filter-append, Call, EntryValue, calls, IsRun, Stays, is_lost, kept, tree_after, IsLegal, IsPastSyncs, durability_of}
+use Rattle.assise_mail.proofs.Common.{is_sync, Op, Create, Mkdir, Read, Write, Truncate, Rename, Unlink, Rmdir, ListCall, Stat, Fsync, Dsync, Durability}
+use Rattle.assise_mail.proofs.Common.{kept-append, stays, at, file, opening, AllLeave, CallsLeave, IsMessageDelivered, Leaves, only_looks}
 use Rattle.assise_mail.proofs.Delivered.{delivered}
 use Rattle.assise_mail.proofs.Unlost.{earlier_number, unlost}
 
@@ -53,9 +45,11 @@ module _ (p : Call → Bool) where
   front_of es later = filter p (filter (λ x. not (is_lost later x)) (kept es))
 
   pub front_leaves : (path : List (List ℕ)) (es later : List EntryValue) → CallsLeave path es → AllLeave path (front_of es later)
-  front_leaves path es later leave x there = kept_leave path es leave x (from_filter (λ x. not (is_lost later x)) (kept es) x (from_filter p (filter (λ x. not (is_lost later x)) (kept es)) x there))
+  front_leaves path es later leave x there =
+      kept_leave path es leave x (from_filter (λ x. not (is_lost later x)) (kept es) x (from_filter p (filter (λ x. not (is_lost later x)) (kept es)) x there))
 
-  pub cut_at : (es later : List EntryValue) (x : Call) → is_lost later x ≡ false → p x ≡ true → filter p (kept (es ++ calls x ∷ later)) ≡ front_of es (calls x ∷ later) ++ x ∷ filter p (kept later)
+  pub cut_at : (es later : List EntryValue) (x : Call) → is_lost later x ≡ false → p x ≡ true → filter p (kept (es ++ calls x ∷ later))
+      ≡ front_of es (calls x ∷ later) ++ x ∷ filter p (kept later)
   cut_at es later x safe passes =
       ap (filter p) (kept-append es (calls x ∷ later))
       ∙ filter-append p (filter (λ y. not (is_lost (calls x ∷ later) y)) (kept es)) (kept (calls x ∷ later))
@@ -128,30 +122,40 @@ module _ (h : List EntryValue) (bound : ℕ → ℕ) (draft place : List (List �
 
   -- behind the move
   behind_sync : CallsLeave place sync_on
-  behind_sync [] later x split = let same : d.sync ≡ x = cc in subst (Leaves place) same (inr (inl (sync_looks d.sync.op (durability_of d.sync.client front) d.syncs)))
+  behind_sync [] later x split =
+      let same : d.sync ≡ x = cc in subst (Leaves place) same (inr (inl (sync_looks d.sync.op (durability_of d.sync.client front) d.syncs)))
   behind_sync (e ∷ before) later x split = let rest : d.behind ≡ before ++ calls x ∷ later = cc in d.last before later x rest
 
   behind_move : AllLeave place (kept move_on)
   behind_move x there =
-      elim (Contains-append_cases (filter (λ y. not (is_lost sync_on y)) (kept d.moved)) (kept sync_on) x (subst (λ ys. Contains ys x) (kept-append d.moved sync_on) there)) [
+      elim (Contains-append_cases (filter (λ y. not (is_lost sync_on y)) (kept d.moved)) (kept sync_on) x
+      (subst (λ ys. Contains ys x) (kept-append d.moved sync_on) there)) [
         | inl early ↦ kept_leave place d.moved d.third x (from_filter (λ y. not (is_lost sync_on y)) (kept d.moved) x early)
         | inr late ↦ kept_leave place sync_on behind_sync x late
       ]
 
-  whole : filter below_bound (kept h) ≡ front_of below_bound d.before (calls d.make ∷ make_on) ++ d.make ∷ (front_of below_bound d.created (calls d.write ∷ write_on) ++ d.write ∷ (front_of below_bound d.written (calls d.move ∷ move_on) ++ d.move ∷ filter below_bound (kept move_on)))
+  whole : filter below_bound (kept h) ≡ front_of below_bound d.before
+      (calls d.make ∷ make_on) ++ d.make ∷
+      (front_of below_bound d.created
+      (calls d.write ∷ write_on) ++ d.write ∷ (front_of below_bound d.written (calls d.move ∷ move_on) ++ d.move ∷ filter below_bound (kept move_on)))
   whole =
       ap (λ es. filter below_bound (kept es)) d.split
-      ∙ cut_at below_bound d.before make_on d.make (ap (λ es. is_lost es d.make) (sym make_is) ∙ safe d.before from_make d.make refl d.maker) (passes d.before from_make d.make refl d.maker)
+      ∙ cut_at below_bound d.before make_on d.make (ap (λ es. is_lost es d.make) (sym make_is) ∙ safe d.before from_make d.make refl d.maker)
+      (passes d.before from_make d.make refl d.maker)
       ∙ ap (λ ys. front_of below_bound d.before (calls d.make ∷ make_on) ++ d.make ∷ ys)
-      (cut_at below_bound d.created write_on d.write (ap (λ es. is_lost es d.write) (sym write_is) ∙ safe (d.before ++ calls d.make ∷ d.created) from_write d.write to_write d.writer) (passes (d.before ++ calls d.make ∷ d.created) from_write d.write to_write d.writer)
+      (cut_at below_bound d.created write_on d.write
+      (ap (λ es. is_lost es d.write) (sym write_is) ∙ safe (d.before ++ calls d.make ∷ d.created) from_write d.write to_write d.writer)
+      (passes (d.before ++ calls d.make ∷ d.created) from_write d.write to_write d.writer)
       ∙ ap (λ ys. front_of below_bound d.created (calls d.write ∷ write_on) ++ d.write ∷ ys)
-      (cut_at below_bound d.written move_on d.move (safe (d.before ++ calls d.make ∷ (d.created ++ calls d.write ∷ d.written)) d.moved d.move to_move d.mover) (passes (d.before ++ calls d.make ∷ (d.created ++ calls d.write ∷ d.written)) d.moved d.move to_move d.mover)))
+      (cut_at below_bound d.written move_on d.move (safe (d.before ++ calls d.make ∷ (d.created ++ calls d.write ∷ d.written)) d.moved d.move to_move d.mover)
+      (passes (d.before ++ calls d.make ∷ (d.created ++ calls d.write ∷ d.written)) d.moved d.move to_move d.mover)))
 
   pub delivery_stays : IsRun opening (filter below_bound (kept h)) → at (tree_after opening (filter below_bound (kept h))) place ≡ Ok (file message)
   delivery_stays run =
       ap (λ cs. at (tree_after opening cs) place) whole
       ∙ delivered draft place message d.make d.write d.move d.delivery opening
-      (front_of below_bound d.before (calls d.make ∷ make_on)) (front_of below_bound d.created (calls d.write ∷ write_on)) (front_of below_bound d.written (calls d.move ∷ move_on)) (filter below_bound (kept move_on))
+      (front_of below_bound d.before (calls d.make ∷ make_on)) (front_of below_bound d.created (calls d.write ∷ write_on))
+      (front_of below_bound d.written (calls d.move ∷ move_on)) (filter below_bound (kept move_on))
       (subst (IsRun opening) whole run)
       (front_leaves below_bound draft d.created (calls d.write ∷ write_on) d.first)
       (front_leaves below_bound draft d.written (calls d.move ∷ move_on) d.second)

@@ -1,13 +1,14 @@
 -- What changes a node opens no client and answers no call, so that any pass may give it.
-use Rattle.std.proofs.Common.{◌≡◌, ◌∙◌, ℕ, List, [], ◌∷◌, sym, subst, ap, append-nil, Option}
+use Rattle.assise_mail_example.proofs.Common.{◌≡◌, ◌∙◌, ℕ, List, [], ◌∷◌, sym, subst, ap, append-nil, Option, Answer}
 use Rattle.assise_history.specs.Entries.{EntryValue, returns}
 use Rattle.assise_keeper.specs.declared.view.Opens.{Opens}
 use Rattle.assise_keeper.specs.Clients.{MayGive}
-use Rattle.assise_model_events.specs.Events.{Answer}
 use Rattle.assise_model_events.specs.Machine.{Machine}
-use Rattle.assise_model_events.specs.MemberEvents.{Failing, Returning, Refilling, Joining, is_back, is_failed, is_failed_again, is_joined, is_refilled, is_refused, is_whole, lacks_memory}
+use Rattle.assise_model_events.specs.MemberEvents.{Failing, Returning, Refilling, Joining, is_back, is_failed, is_failed_again, is_joined, is_refilled}
+use Rattle.assise_model_events.specs.MemberEvents.{is_refused, is_whole, lacks_memory}
 
-pub may_give : (c : Option ℕ) (o : Opens) (taken old new : List EntryValue) → taken ≡ old → ((client : Option ℕ) (right : Opens) → MayGive client right old new) → MayGive c o taken new
+pub may_give : (c : Option ℕ) (o : Opens) (taken old new : List EntryValue) → taken ≡ old →
+    ((client : Option ℕ) (right : Opens) → MayGive client right old new) → MayGive c o taken new
 may_give c o taken old new is gives = subst (λ h. MayGive c o h new) (sym is) (gives c o)
 
 module _ (c : Option ℕ) (o : Opens) (m m' : Machine) where

@@ -1,24 +1,18 @@
 -- Lists of numbers that ascend, as sets.
-use Rattle.std.proofs.Common.{◌≡◌, ℕ, suc, ◌+◌, ◌<◌, ◌≤◌, Bool, true, false, cond, ◌||◌, ◌⊎◌, Option, Some, None, IfSome, List, [], ◌∷◌, take, drop, length, get_or, refl, sym, ap, ◌∙◌, rules, arith, Bor, inl, inr, eqb, subst, ◌&&◌, not, zero, true≢false, add-one}
-use Rattle.std.specs.List.{list_any, insert, dedup, slice_index_or, slice_get}
-use Rattle.std.specs.Prelude.{IsSome, option_copied, Result, Ok, Err, OnOk, OnErr}
-use Rattle.std.specs.Ordering.{nat_cmp, eq_by_cmp, is_lt, is_gt, is_eq, ordering_index}
+use Rattle.assise_manager.proofs.Common.{◌≡◌, ℕ, suc, ◌+◌, ◌<◌, ◌≤◌, Bool, true, false, cond, ◌||◌, ◌⊎◌, Option, Some, None, IfSome, List, [], ◌∷◌, take, drop}
+use Rattle.assise_manager.proofs.Common.{length, get_or, refl, sym, ap, ◌∙◌, rules, arith, Bor, inl, inr, eqb, subst, ◌&&◌, not, zero, true≢false, add-one}
+use Rattle.assise_manager.proofs.Common.{list_any, insert, dedup, slice_index_or, slice_get, option_copied, Result, Ok, Err, OnOk, OnErr, nat_cmp, eq_by_cmp}
+use Rattle.assise_manager.proofs.Common.{is_lt, is_gt, is_eq, ordering_index, AllByRecursion, cases_order, IsEquivalence, list_any-append, list_any_at}
+use Rattle.assise_manager.proofs.Common.{take-append-drop, nat_cmp_total, Equal-is, tied_itself, nat_cmp_is, members, contains-from_list, contains-insert}
+use Rattle.assise_manager.proofs.Common.{contains-remove, contains-empty, len-insert, nat_cmp-IsAntisymmetric, IsStrictlySortedBy, IsNonDecreasingBy}
+use Rattle.assise_manager.proofs.Common.{IsPartitionPoint, sorted_from_strictly_increasing, below_from_sorted, IsLowest}
+use Rattle.std.specs.Prelude.{IsSome}
 use Rattle.std.specs.declared.cmp.Ordering.TheVariants.{Less, Equal, Greater}
-use Rattle.std.specs.List.{AllByRecursion}
-use Rattle.std.proofs.lemmas.Bool.{cases_order}
 use Rattle.std.proofs.lemmas.Cmp.{eq_by_cmp_equiv}
 use Rattle.std.proofs.lemmas.Map.Views.{Contains-from_any, list_any-from_Contains}
 use Rattle.std.proofs.lemmas.List.Kept.{Contains-dedup_nat, Contains-from_dedup}
-use Rattle.std.specs.Cmp.{IsEquivalence}
-use Rattle.std.proofs.lemmas.List.Folds.{list_any-append, list_any_at}
-use Rattle.std.proofs.lemmas.List.{take-append-drop}
-use Rattle.std.specs.Cmp.{nat_cmp_total, Equal-is, tied_itself, nat_cmp_is}
 use Rattle.std.specs.FinSet as set
-use Rattle.std.specs.FinSet.{members, contains-from_list, contains-insert, contains-remove, contains-empty, len-insert, nat_cmp-IsAntisymmetric}
-use Rattle.std.specs.List.Sorted.{IsStrictlySortedBy, IsNonDecreasingBy, IsPartitionPoint}
-use Rattle.std.proofs.lemmas.Map.Keys.{sorted_from_strictly_increasing, below_from_sorted}
 use Rattle.std.proofs.lemmas.List.Edits.{length-insert, get_or-insert_at, get_or-insert_below, get_or-insert_above}
-use Rattle.assise_manager.specs.Changes.{IsLowest}
 use Rattle.assise_manager.proofs.Sets.{same, same_list, insert_there}
 
 either : {P : Type 0} (a b : Bool) → (a || b) ≡ true → (a ≡ true → P) → (b ≡ true → P) → P
@@ -88,27 +82,39 @@ first_lowest x xs s =
 pub without_first : (x : ℕ) (xs : List ℕ) → IsStrictlySortedBy nat_cmp (x ∷ xs) → set.from_list {R = nat_cmp} xs ≡ set.remove (set.from_list (x ∷ xs)) x
 unfolding IsStrictlySortedBy
 without_first x xs s =
-    same _ _ (λ q. elim (eq_by_cmp nat_cmp q x) as (λ b. eq_by_cmp nat_cmp q x ≡ b → set.contains (set.from_list {R = nat_cmp} xs) q ≡ set.contains (set.remove (set.from_list {R = nat_cmp} (x ∷ xs)) x) q) [
-      | true ↦ λ here. ap (set.contains (set.from_list {R = nat_cmp} xs)) (nat_cmp-IsAntisymmetric q x ((Equal-is (nat_cmp q x)).0 here)) ∙ absent x xs s.0 ∙ sym (contains-remove nat_cmp_total (set.from_list {R = nat_cmp} (x ∷ xs)) x q ∙ ap (λ b. not b && set.contains (set.from_list {R = nat_cmp} (x ∷ xs)) q) here)
-      | false ↦ λ else. sym (contains-remove nat_cmp_total (set.from_list {R = nat_cmp} (x ∷ xs)) x q ∙ ap (λ b. not b && set.contains (set.from_list {R = nat_cmp} (x ∷ xs)) q) else ∙ contains-insert nat_cmp_total (set.from_list {R = nat_cmp} xs) x q ∙ ap (λ b. b || set.contains (set.from_list {R = nat_cmp} xs) q) else)
+    same _ _ (λ q. elim (eq_by_cmp nat_cmp q x)
+    as (λ b. eq_by_cmp nat_cmp q x ≡ b → set.contains (set.from_list {R = nat_cmp} xs) q
+    ≡ set.contains (set.remove (set.from_list {R = nat_cmp} (x ∷ xs)) x) q) [
+      | true ↦ λ here. ap (set.contains (set.from_list {R = nat_cmp} xs)) (nat_cmp-IsAntisymmetric q x ((Equal-is (nat_cmp q x)).0 here)) ∙ absent x xs s.0
+          ∙ sym (contains-remove nat_cmp_total (set.from_list {R = nat_cmp} (x ∷ xs)) x q
+          ∙ ap (λ b. not b && set.contains (set.from_list {R = nat_cmp} (x ∷ xs)) q) here)
+      | false ↦ λ else. sym (contains-remove nat_cmp_total (set.from_list {R = nat_cmp} (x ∷ xs)) x q
+          ∙ ap (λ b. not b && set.contains (set.from_list {R = nat_cmp} (x ∷ xs)) q) else ∙ contains-insert nat_cmp_total (set.from_list {R = nat_cmp} xs) x q
+          ∙ ap (λ b. b || set.contains (set.from_list {R = nat_cmp} xs) q) else)
     ] refl)
 
-behind_place : (xs : List ℕ) (i x k : ℕ) → IsStrictlySortedBy nat_cmp xs → i ≤ length xs → i < k → k < length xs → get_or (insert xs i x) k 0 < get_or (insert xs i x) (k + 1) 0
+behind_place : (xs : List ℕ) (i x k : ℕ) → IsStrictlySortedBy nat_cmp xs → i ≤ length xs → i < k → k < length xs →
+    get_or (insert xs i x) k 0 < get_or (insert xs i x) (k + 1) 0
 behind_place xs i x zero s within behind inside = absurd (omega arith)
 behind_place xs i x (suc k) s within behind inside =
     lt_both _ _ _ _ (ap (λ n. get_or (insert xs i x) n 0) (sym (add-one k)) ∙ get_or-insert_above xs i x 0 k (omega arith) within)
     (get_or-insert_above xs i x 0 (suc k) (omega arith) within) (below_from_sorted xs k (suc k) 0 s (omega arith) inside)
 
 -- a number put in at its place
-pub insert_ascending : (xs : List ℕ) (i x : ℕ) → IsStrictlySortedBy nat_cmp xs → i ≤ length xs → ((k : ℕ) → k < i → get_or xs k 0 < x) → ((k : ℕ) → i ≤ k → k < length xs → x < get_or xs k 0) → IsStrictlySortedBy nat_cmp (insert xs i x)
+pub insert_ascending : (xs : List ℕ) (i x : ℕ) → IsStrictlySortedBy nat_cmp xs → i ≤ length xs → ((k : ℕ) → k < i → get_or xs k 0 < x) →
+    ((k : ℕ) → i ≤ k → k < length xs → x < get_or xs k 0) → IsStrictlySortedBy nat_cmp (insert xs i x)
 insert_ascending xs i x s within below above =
     let more : length (insert xs i x) ≡ length xs + 1 = length-insert xs i x within in
     let ascends : (k : ℕ) → k + 1 < length xs → get_or xs k 0 < get_or xs (k + 1) 0 = λ k h. below_from_sorted xs k (k + 1) 0 s (omega arith) h in
-    sorted_from_strictly_increasing (insert xs i x) (λ k inside. elim (cases_order k i) as (λ _. get_or (insert xs i x) k 0 < get_or (insert xs i x) (k + 1) 0) [
-      | inl at ↦ lt_both _ _ _ _ (ap (λ n. get_or (insert xs i x) n 0) at ∙ get_or-insert_at xs i x 0 within) (get_or-insert_above xs i x 0 k (omega arith) within) (above k (omega arith) (omega arith))
+    sorted_from_strictly_increasing (insert xs i x)
+    (λ k inside. elim (cases_order k i) as (λ _. get_or (insert xs i x) k 0 < get_or (insert xs i x) (k + 1) 0) [
+      | inl at ↦ lt_both _ _ _ _ (ap (λ n. get_or (insert xs i x) n 0) at ∙ get_or-insert_at xs i x 0 within)
+          (get_or-insert_above xs i x 0 k (omega arith) within) (above k (omega arith) (omega arith))
       | inr (inl before) ↦ elim (cases_order (k + 1) i) as (λ _. get_or (insert xs i x) k 0 < get_or (insert xs i x) (k + 1) 0) [
-        | inl at ↦ lt_both _ _ _ _ (get_or-insert_below xs i x 0 k before within) (ap (λ n. get_or (insert xs i x) n 0) at ∙ get_or-insert_at xs i x 0 within) (below k before)
-        | inr (inl still) ↦ lt_both _ _ _ _ (get_or-insert_below xs i x 0 k before within) (get_or-insert_below xs i x 0 (k + 1) still within) (ascends k (omega arith))
+        | inl at ↦ lt_both _ _ _ _ (get_or-insert_below xs i x 0 k before within) (ap (λ n. get_or (insert xs i x) n 0) at ∙ get_or-insert_at xs i x 0 within)
+            (below k before)
+        | inr (inl still) ↦ lt_both _ _ _ _ (get_or-insert_below xs i x 0 k before within) (get_or-insert_below xs i x 0 (k + 1) still within)
+            (ascends k (omega arith))
         | inr (inr over) ↦ absurd (omega arith)
       ]
       | inr (inr behind) ↦ behind_place xs i x k s within behind (omega arith)
@@ -116,7 +122,11 @@ insert_ascending xs i x s within below above =
 
 -- a number put in anywhere
 pub insert_set : (xs : List ℕ) (i x : ℕ) → i ≤ length xs → set.from_list {R = nat_cmp} (insert xs i x) ≡ set.insert (set.from_list xs) x
-insert_set xs i x within = same_list (insert xs i x) (x ∷ xs) (λ q. list_any-append (eq_by_cmp nat_cmp q) (take i xs) (x ∷ drop i xs) ∙ or_middle (list_any (eq_by_cmp nat_cmp q) (take i xs)) (eq_by_cmp nat_cmp q x) (list_any (eq_by_cmp nat_cmp q) (drop i xs)) ∙ ap (λ b. eq_by_cmp nat_cmp q x || b) (sym (list_any-append (eq_by_cmp nat_cmp q) (take i xs) (drop i xs)) ∙ ap (list_any (eq_by_cmp nat_cmp q)) (take-append-drop i xs)))
+insert_set xs i x within = same_list (insert xs i x) (x ∷ xs)
+    (λ q. list_any-append (eq_by_cmp nat_cmp q) (take i xs) (x ∷ drop i xs) ∙ or_middle (list_any (eq_by_cmp nat_cmp q) (take i xs)) (eq_by_cmp nat_cmp q x)
+    (list_any (eq_by_cmp nat_cmp q) (drop i xs))
+    ∙ ap (λ b. eq_by_cmp nat_cmp q x || b)
+    (sym (list_any-append (eq_by_cmp nat_cmp q) (take i xs) (drop i xs)) ∙ ap (list_any (eq_by_cmp nat_cmp q)) (take-append-drop i xs)))
 
 same_truth : (a b : Bool) → (a ≡ true → b ≡ true) → (b ≡ true → a ≡ true) → a ≡ b
 same_truth true b p q = sym (p refl)
@@ -145,8 +155,18 @@ index_ascends_from : (a b x m n : ℕ) → MatchOrder m a x → MatchOrder n b x
 index_ascends_from a b x m n p q h =
     elim p [
       | inl p ↦ let e : m ≡ 0 = p.1 in omega arith
-      | inr (inl p) ↦ elim q [ inl q ↦ (let g : b < x = q.0 in let f : a ≡ x = p.0 in absurd (omega arith)) | inr (inl q) ↦ (let g : m ≡ 1 = p.1 in let f : n ≡ 1 = q.1 in omega arith) | inr (inr q) ↦ (let g : m ≡ 1 = p.1 in let f : n ≡ 2 = q.1 in omega arith) ]
-      | inr (inr p) ↦ elim q [ inl q ↦ (let g : b < x = q.0 in let f : x < a = p.0 in absurd (omega arith)) | inr (inl q) ↦ (let g : b ≡ x = q.0 in let f : x < a = p.0 in absurd (omega arith)) | inr (inr q) ↦ (let g : m ≡ 2 = p.1 in let f : n ≡ 2 = q.1 in omega arith) ]
+      | inr (inl p) ↦ elim q [
+        | inl q ↦ (let g : b < x = q.0 in let f : a ≡ x = p.0 in absurd (omega arith))
+        | inr (inl q) ↦
+            (let g : m ≡ 1 = p.1 in let f : n ≡ 1 = q.1 in omega arith)
+        | inr (inr q) ↦ (let g : m ≡ 1 = p.1 in let f : n ≡ 2 = q.1 in omega arith)
+      ]
+      | inr (inr p) ↦ elim q [
+        | inl q ↦ (let g : b < x = q.0 in let f : x < a = p.0 in absurd (omega arith))
+        | inr (inl q) ↦
+            (let g : b ≡ x = q.0 in let f : x < a = p.0 in absurd (omega arith))
+        | inr (inr q) ↦ (let g : m ≡ 2 = p.1 in let f : n ≡ 2 = q.1 in omega arith)
+      ]
     ]
 
 index_of : (a x : ℕ) → MatchOrder (ordering_index (nat_cmp a x)) a x
@@ -170,14 +190,17 @@ searchable xs x s i j d low inside =
     ])
 
 -- a number that a search doesn't find, put in at the place that it answers
-pub placed_ascending : (xs : List ℕ) (i x : ℕ) → IsStrictlySortedBy nat_cmp xs → i ≤ length xs → IsPartitionPoint (λ y. nat_cmp y x ≡ Less) (λ y. nat_cmp y x ≡ Greater) xs i → IsStrictlySortedBy nat_cmp (insert xs i x)
+pub placed_ascending : (xs : List ℕ) (i x : ℕ) → IsStrictlySortedBy nat_cmp xs → i ≤ length xs →
+    IsPartitionPoint (λ y. nat_cmp y x ≡ Less) (λ y. nat_cmp y x ≡ Greater) xs i → IsStrictlySortedBy nat_cmp (insert xs i x)
 placed_ascending xs i x s within parted =
     insert_ascending xs i x s within (λ k h. less _ _ (parted.0 k 0 (omega arith) h)) (λ k h inside. greater _ _ (parted.1 k 0 h inside))
 
 -- a number that a search finds
 pub found_there : (xs : List ℕ) (i x : ℕ) → i < length xs → nat_cmp (get_or xs i 0) x ≡ Equal → set.from_list {R = nat_cmp} xs ≡ set.insert (set.from_list xs) x
 found_there xs i x inside e =
-    sym (insert_there (set.from_list xs) x (contains-from_list nat_cmp_total xs x ∙ list_any_at (eq_by_cmp nat_cmp x) xs i 0 inside (subst (λ y. eq_by_cmp nat_cmp x y ≡ true) (sym (nat_cmp-IsAntisymmetric (get_or xs i 0) x e)) (ap is_eq (tied_itself nat_cmp_total x)))))
+    sym (insert_there (set.from_list xs) x
+    (contains-from_list nat_cmp_total xs x ∙ list_any_at (eq_by_cmp nat_cmp x) xs i 0 inside
+    (subst (λ y. eq_by_cmp nat_cmp x y ≡ true) (sym (nat_cmp-IsAntisymmetric (get_or xs i 0) x e)) (ap is_eq (tied_itself nat_cmp_total x)))))
 
 there_first : (x : ℕ) (xs : List ℕ) → set.contains (set.from_list {R = nat_cmp} (x ∷ xs)) x ≡ true
 there_first x xs = contains-from_list nat_cmp_total (x ∷ xs) x ∙ ap (λ b. b || list_any (eq_by_cmp nat_cmp x) xs) (ap is_eq (tied_itself nat_cmp_total x))
@@ -188,7 +211,8 @@ unfolding IsStrictlySortedBy
 drop_ascending [] s = s
 drop_ascending (x ∷ xs) s = s.1
 
-pub drop_taken : (xs : List ℕ) → IsStrictlySortedBy nat_cmp xs → (inode : ℕ) → IsLowest (set.from_list xs) inode → set.from_list {R = nat_cmp} (drop 1 xs) ≡ set.remove (set.from_list xs) inode
+pub drop_taken : (xs : List ℕ) → IsStrictlySortedBy nat_cmp xs → (inode : ℕ) → IsLowest (set.from_list xs) inode → set.from_list {R = nat_cmp} (drop 1 xs)
+    ≡ set.remove (set.from_list xs) inode
 drop_taken [] s inode low = absurd (true≢false (sym low.there ∙ contains-empty nat_cmp inode))
 drop_taken (x ∷ xs) s inode low =
     let first : IsLowest (set.from_list (x ∷ xs)) x = first_lowest x xs s in
@@ -210,12 +234,14 @@ lowest_of [] o s e = subst (λ r. IfSome r (IsLowest (set.from_list {R = nat_cmp
 lowest_of (x ∷ xs) o s e = subst (λ r. IfSome r (IsLowest (set.from_list (x ∷ xs)))) (sym e) (first_lowest x xs s)
 
 -- a list that a growth left or changed
-pub either_ascends : {T E : Type 0} (r : Result T E) (old new grown : List ℕ) (P : Type 0) → OnOk r (new ≡ grown) → OnErr r ((new ≡ old) × P) → IsStrictlySortedBy nat_cmp old → IsStrictlySortedBy nat_cmp grown → IsStrictlySortedBy nat_cmp new
+pub either_ascends : {T E : Type 0} (r : Result T E) (old new grown : List ℕ) (P : Type 0) → OnOk r (new ≡ grown) → OnErr r ((new ≡ old) × P) →
+    IsStrictlySortedBy nat_cmp old → IsStrictlySortedBy nat_cmp grown → IsStrictlySortedBy nat_cmp new
 either_ascends (Ok t) old new grown P ok err s g = subst (IsStrictlySortedBy nat_cmp) (sym ok) g
 either_ascends (Err e) old new grown P ok err s g = subst (IsStrictlySortedBy nat_cmp) (sym err.0) s
 
 -- the first of a list, lent and copied
-pub prefix_is : (xs : List ℕ) (n : ℕ) (r : Option (Bor ℕ)) → n ≡ length xs → (IsSome r → 0 < n) → (0 < n → IsSome r) → IfSome r (λ x. x.now ≡ slice_index_or xs 0 x.now) → option_copied r ≡ slice_get xs 0
+pub prefix_is : (xs : List ℕ) (n : ℕ) (r : Option (Bor ℕ)) → n ≡ length xs → (IsSome r → 0 < n) → (0 < n → IsSome r) →
+    IfSome r (λ x. x.now ≡ slice_index_or xs 0 x.now) → option_copied r ≡ slice_get xs 0
 prefix_is [] n None e some there at = refl
 prefix_is [] n (Some x) e some there at = absurd (let h : 0 < n = some refl in omega arith)
 prefix_is (x ∷ xs) n None e some there at = absurd (true≢false (sym (there (omega arith))))

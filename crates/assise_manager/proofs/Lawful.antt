@@ -1,28 +1,16 @@
 -- What the changes keep: each leaves a lawful membership lawful.
-use Rattle.std.proofs.Common.{[], ◌≡◌, ℕ, zero, suc, ◌+◌, ◌-◌, ◌<◌, ◌≤◌, Bool, true, false, cond, ◌&&◌, not, inl, inr, Option, Some, None}
-use Rattle.std.proofs.Common.{List, ◌∷◌, ◌++◌, drop, length, refl, sym, ap, ◌∙◌, subst, arith, true≢false}
-use Rattle.std.specs.Prelude.{◌==◌, nat_le}
-use Rattle.std.specs.List.{list_all, list_any, slice_get}
-use Rattle.std.specs.Ordering.{nat_cmp, eq_by_cmp}
+use Rattle.assise_manager.proofs.Common.{[], ◌≡◌, ℕ, zero, suc, ◌+◌, ◌-◌, ◌<◌, ◌≤◌, Bool, true, false, cond, ◌&&◌, not, inl, inr, Option, Some, None, List, ◌∷◌}
+use Rattle.assise_manager.proofs.Common.{◌++◌, drop, length, refl, sym, ap, ◌∙◌, subst, arith, true≢false, ◌==◌, nat_le, list_all, list_any, slice_get, nat_cmp}
+use Rattle.assise_manager.proofs.Common.{eq_by_cmp, contains-union, contains-empty, contains-remove, nat_cmp_total, and_parts, and_from, or_cases, or_left}
+use Rattle.assise_manager.proofs.Common.{or_right, cond_both, eqb-false, leb-true, le-leb, none-some, length-append, length-map, length-set, BadNode}
+use Rattle.assise_manager.proofs.Common.{WrongPhase, LastNode, Standing, is_full, full_nodes, standing_of, with_standing, full, down, Membership, IsMembership}
+use Rattle.assise_manager.proofs.Common.{first_listed, all_inodes, written_since, lowest_full, is_listed, is_known, fulls, all_full, with_node, refilled_from}
+use Rattle.assise_manager.proofs.Common.{with_new_donor, with_epoch, failed_as, failed, failure_fault_of, failure_fault, back_as, back, return_fault_of}
+use Rattle.assise_manager.proofs.Common.{return_fault, is_away, filling_fault_of, filling_fault, copied_as, with_copied, joined, join_fault, with_written}
+use Rattle.assise_manager.proofs.Common.{stale_again, donor_of, noted, raised, greater, joined_levels, level_of, plains, Level, Marked}
 use Rattle.std.specs.FinSet as set
-use Rattle.std.specs.FinSet.{contains-union, contains-empty, contains-remove}
-use Rattle.std.specs.Cmp.{nat_cmp_total}
-use Rattle.std.proofs.lemmas.Bool.{and_parts, and_from, or_cases, or_left, or_right, cond_both, eqb-false, leb-true, le-leb}
-use Rattle.std.proofs.lemmas.Option.{none-some}
-use Rattle.std.proofs.lemmas.List.{length-append, length-map, length-set}
 use Rattle.assise_names.specs.declared.refusal.Refusal.{Refusal}
-use Rattle.assise_names.specs.declared.refusal.Refusal.TheVariants.{BadNode, WrongPhase, LastNode}
-use Rattle.assise_manager.specs.Standings.{Standing, is_full, full_nodes, standing_of, with_standing}
-use Rattle.assise_manager.specs.Standings.Standing.{full, down, returning}
-use Rattle.assise_manager.specs.Membership.{Membership, IsMembership, first_listed, all_inodes, written_since, lowest_full, is_listed}
-use Rattle.assise_manager.specs.Membership.{is_known}
-use Rattle.assise_manager.specs.Changes.{fulls, all_full, with_node, refilled_from, with_new_donor, with_epoch, failed_as, failed}
-use Rattle.assise_manager.specs.Changes.{failure_fault_of, failure_fault, back_as, back, return_fault_of, return_fault, is_away}
-use Rattle.assise_manager.specs.Changes.{filling_fault_of, filling_fault, copied_as, with_copied, joined, join_fault, with_written, stale_again}
-use Rattle.assise_manager.specs.Changes.{donor_of, noted, raised}
-use Rattle.assise_manager.specs.NodeLevels.{greater, joined_levels, level_of, plains}
-use Rattle.assise_manager.specs.declared.level.Level.{Level}
-use Rattle.assise_manager.specs.declared.level.Level.TheVariants.{Marked}
+use Rattle.assise_manager.specs.Standings.Standing.{returning}
 use Rattle.assise_manager.specs.MemberCalls.{MemberCall, MemberCallDoes, AllMemberCalls}
 use Rattle.assise_manager.specs.MemberCalls.MemberCall.{fail, come_back, note_copied, join, note_written, raise}
 use Rattle.assise_manager.proofs.Sets.{Numbers, all_push}
@@ -431,7 +419,8 @@ full_known m full is = refl
 full_known m (down since) is = never is
 full_known m (returning since donor stale) is = never is
 
-joined_as_lawful : (m : Membership) (node : ℕ) → IsMembership m → (levels : List Level) → length levels ≡ length m.levels → (b : Bool) → list_all is_full (with_standing m.nodes node full) ≡ b
+joined_as_lawful : (m : Membership) (node : ℕ) → IsMembership m → (levels : List Level) → length levels ≡ length m.levels → (b : Bool) →
+    list_all is_full (with_standing m.nodes node full) ≡ b
     → IsMembership (record {
       epoch = m.epoch + 1;
       nodes = with_standing m.nodes node full;
@@ -467,7 +456,8 @@ joined_as_lawful m node lawful levels same false some_away =
 
 -- a node is full again
 pub joined_lawful : (m : Membership) (node : ℕ) → IsMembership m → join_fault m node ≡ None → IsMembership (joined m node)
-joined_lawful m node lawful fine = joined_as_lawful m node lawful (joined_levels m.levels node (donor_of (standing_of m.nodes node))) (joined_length m.levels node (donor_of (standing_of m.nodes node))) (list_all is_full (with_standing m.nodes node full)) refl
+joined_lawful m node lawful fine = joined_as_lawful m node lawful (joined_levels m.levels node (donor_of (standing_of m.nodes node)))
+    (joined_length m.levels node (donor_of (standing_of m.nodes node))) (list_all is_full (with_standing m.nodes node full)) refl
 
 -- ---- digests
 

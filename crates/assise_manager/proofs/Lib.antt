@@ -1,3 +1,4 @@
+mod Common
 pub mod Sets
 pub mod AscendingSets
 pub mod Places

@@ -1,13 +1,10 @@
 -- Lists of standings: what a change of one node, or of each, leaves of the list of full nodes.
-use Rattle.std.proofs.Common.{◌≡◌, ◌≢◌, ℕ, zero, suc, ◌+◌, ◌<◌, ◌≤◌, Bool, true, false, cond, ◌&&◌, inl, inr, IsSome, is_some, Some, List, [], ◌∷◌, map}
-use Rattle.std.proofs.Common.{length, refl, sym, ap, ◌∙◌, subst, arith, true≢false, eq-eqb, eqb-true}
-use Rattle.std.specs.Prelude.{◌==◌}
-use Rattle.std.specs.List.{list_all, list_any, slice_get, slice_set, slice_index_or}
-use Rattle.std.proofs.lemmas.Bool.{and_parts, and_from, cond_both, or_cases, or_left, or_right}
-use Rattle.std.proofs.lemmas.Option.{none-some, same_Some}
-use Rattle.assise_manager.specs.Standings.{Standing, full_from, is_full}
-use Rattle.assise_manager.specs.Standings.Standing.{full, down, returning}
-use Rattle.assise_manager.specs.Changes.{is_away}
+use Rattle.assise_manager.proofs.Common.{◌≡◌, ◌≢◌, ℕ, zero, suc, ◌+◌, ◌<◌, ◌≤◌, Bool, true, false, cond, ◌&&◌, inl, inr, IsSome, is_some, Some, List, [], ◌∷◌}
+use Rattle.assise_manager.proofs.Common.{map, length, refl, sym, ap, ◌∙◌, subst, arith, true≢false, eqb-true, ◌==◌, list_all, list_any, slice_get, slice_set}
+use Rattle.assise_manager.proofs.Common.{slice_index_or, and_parts, and_from, cond_both, or_cases, or_left, or_right, none-some, same_Some, Standing, full_from}
+use Rattle.assise_manager.proofs.Common.{is_full, full, down, is_away}
+use Rattle.std.proofs.Common.{eq-eqb}
+use Rattle.assise_manager.specs.Standings.Standing.{returning}
 
 -- no test passes and fails
 pub never : {P : Type 0} → false ≡ true → P

@@ -1,18 +1,10 @@
 -- Sets of numbers, and the lists that they are made from.
-use Rattle.std.proofs.Common.{◌≡◌, ℕ, ◌+◌, ◌<◌, Bool, true, false, cond, ◌||◌, List, [], ◌∷◌, ◌++◌, map, take, length, get_or, refl, sym, ap, ◌∙◌, rules, add-one}
-use Rattle.std.specs.List.{list_any}
-use Rattle.std.specs.Ordering.{nat_cmp, eq_by_cmp}
+use Rattle.assise_manager.proofs.Common.{◌≡◌, ℕ, ◌+◌, ◌<◌, Bool, true, false, cond, ◌||◌, List, [], ◌∷◌, ◌++◌, map, take, length, get_or, refl, sym, ap, ◌∙◌}
+use Rattle.assise_manager.proofs.Common.{rules, add-one, list_any, nat_cmp, eq_by_cmp, members, same_set, nat_cmp-IsAntisymmetric, contains-from_list}
+use Rattle.assise_manager.proofs.Common.{from_list_push, nat_cmp_total, unsigned_tied, nat_eq, list_any-append, IsPermutation, take-suc, map-append, insert_key}
+use Rattle.assise_manager.proofs.Common.{all_inodes}
 use Rattle.std.specs.FinSet as set
-use Rattle.std.specs.FinSet.{members, same_set, nat_cmp-IsAntisymmetric, contains-from_list, from_list_push}
-use Rattle.std.specs.Cmp.{nat_cmp_total, unsigned_tied}
-use Rattle.std.specs.Prelude.{nat_eq}
-use Rattle.std.proofs.lemmas.List.Folds.{list_any-append}
 use Rattle.std.proofs.lemmas.List.Sorted.{list_any-IsPermutation}
-use Rattle.std.specs.List.Sorted.{IsPermutation}
-use Rattle.std.proofs.Math.Seq.{take-suc}
-use Rattle.std.proofs.lemmas.List.{map-append}
-use Rattle.indexmap.specs.IndexSet.{insert_key}
-use Rattle.assise_manager.specs.Membership.{all_inodes}
 
 abbrev pub Numbers : Type 0
 Numbers = set.FinSet nat_cmp
@@ -25,7 +17,8 @@ list_any_same p r is [] = refl
 list_any_same p r is (x ∷ xs) = λ i. is x i || list_any_same p r is xs i
 
 -- two lists whose members are the same
-pub same_list : (xs ys : List ℕ) → ((q : ℕ) → list_any (eq_by_cmp nat_cmp q) xs ≡ list_any (eq_by_cmp nat_cmp q) ys) → set.from_list {R = nat_cmp} xs ≡ set.from_list ys
+pub same_list : (xs ys : List ℕ) → ((q : ℕ) → list_any (eq_by_cmp nat_cmp q) xs ≡ list_any (eq_by_cmp nat_cmp q) ys) → set.from_list {R = nat_cmp} xs
+    ≡ set.from_list ys
 same_list xs ys is = same _ _ (λ q. contains-from_list nat_cmp_total xs q ∙ is q ∙ sym (contains-from_list nat_cmp_total ys q))
 
 -- one number more
@@ -48,7 +41,8 @@ insert_there s k there = same _ _ (λ q. grind (members, rules))
 -- a list that takes a number in unless it has it
 pub listed_insert : (xs : List ℕ) (k : ℕ) → set.from_list {R = nat_cmp} (insert_key nat_eq xs k) ≡ set.insert (set.from_list xs) k
 listed_insert xs k =
-    elim (list_any (nat_eq k) xs) as (λ b. list_any (nat_eq k) xs ≡ b → set.from_list {R = nat_cmp} (cond b xs (xs ++ k ∷ [])) ≡ set.insert (set.from_list xs) k) [
+    elim (list_any (nat_eq k) xs) as (λ b. list_any (nat_eq k) xs ≡ b → set.from_list {R = nat_cmp} (cond b xs (xs ++ k ∷ [])) ≡ set.insert (set.from_list xs)
+    k) [
       | true ↦ λ there. sym (insert_there _ k (there_any xs k there))
       | false ↦ λ _. push xs k
     ] refl
@@ -61,7 +55,8 @@ pub from_permutation : (xs ys : List ℕ) → IsPermutation xs ys → set.from_l
 from_permutation xs ys p = same_list ys xs (λ q. sym (list_any-IsPermutation (eq_by_cmp nat_cmp q) xs ys p))
 
 -- the numbers of a list's prefix, and of one place more
-pub union_take : (s : Numbers) (xs : List ℕ) (i d : ℕ) → i < length xs → set.union s (set.from_list {R = nat_cmp} (take (i + 1) xs)) ≡ set.insert (set.union s (set.from_list (take i xs))) (get_or xs i d)
+pub union_take : (s : Numbers) (xs : List ℕ) (i d : ℕ) → i < length xs → set.union s (set.from_list {R = nat_cmp} (take (i + 1) xs))
+    ≡ set.insert (set.union s (set.from_list (take i xs))) (get_or xs i d)
 union_take s xs i d inside =
     ap (λ n. set.union s (set.from_list {R = nat_cmp} (take n xs))) (add-one i)
     ∙ ap (λ l. set.union s (set.from_list {R = nat_cmp} l)) (take-suc xs i d inside)
@@ -74,7 +69,8 @@ all_push [] l = same _ _ (λ q. grind (members, rules))
 all_push (k ∷ ls) l = ap (set.union k) (all_push ls l) ∙ same _ _ (λ q. grind (members, rules))
 
 -- the lists of a prefix, and of one place more
-pub all_take : {X : Type 0} (f : X → Numbers) (xs : List X) (i : ℕ) (d : X) → i < length xs → set.union (all_inodes (map f (take i xs))) (f (get_or xs i d)) ≡ all_inodes (map f (take (i + 1) xs))
+pub all_take : {X : Type 0} (f : X → Numbers) (xs : List X) (i : ℕ) (d : X) → i < length xs → set.union (all_inodes (map f (take i xs))) (f (get_or xs i d))
+    ≡ all_inodes (map f (take (i + 1) xs))
 all_take f xs i d inside =
     sym (all_push (map f (take i xs)) (f (get_or xs i d)))
     ∙ ap all_inodes (sym (ap (λ n. map f (take n xs)) (add-one i) ∙ ap (map f) (take-suc xs i d inside) ∙ map-append f (take i xs) (get_or xs i d ∷ [])))

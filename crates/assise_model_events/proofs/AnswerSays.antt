@@ -1,39 +1,21 @@
 -- What each answer says.
-use Rattle.std.proofs.Common.{◌≡◌, ◌≢◌, ◌↔◌, ◌⊎◌, inl, inr, ℕ, zero, suc, ◌<◌, ◌≤◌, true, List, [], ◌∷◌, Contains, Some, None, refl, ap, sym, subst, ◌∙◌, arith}
-use Rattle.assise_names.specs.declared.call.Op.{Op}
-use Rattle.assise_names.specs.declared.call.Op.TheVariants.{Dsync}
-use Rattle.assise_names.specs.declared.refusal.Refusal.{Refusal}
-use Rattle.assise_names.specs.declared.refusal.Refusal.TheVariants.{Busy}
-use Rattle.assise_names.specs.declared.reply.Reply.{Reply}
+use Rattle.assise_model_events.proofs.Common.{◌≡◌, ◌≢◌, ◌↔◌, ◌⊎◌, inl, inr, ℕ, zero, suc, ◌<◌, ◌≤◌, true, List, [], ◌∷◌, Contains, Some, None, refl, ap, sym}
+use Rattle.assise_model_events.proofs.Common.{subst, ◌∙◌, arith, Op, Dsync, Refusal, Busy, Reply, opening_tree, Loss, kept, tree_after, NumberedCall, cases_eq}
+use Rattle.assise_model_events.proofs.Common.{Mode, LogFrame, join_fault, is_returning, standing_of, MakesCall, WorldInvariant, World, end_of_log}
+use Rattle.assise_model_events.proofs.Common.{received_by_all, raise_sound, call_reply, Grants, Leases, client_lease, IsRevokedLease, IsFirstLost, losses_of}
+use Rattle.assise_model_events.proofs.Common.{exactly_lost, Granted, Gets, Calling, Syncing, is_answered, is_awaited, is_spent, is_full, is_refused}
+use Rattle.assise_model_events.proofs.Common.{lacks_memory, is_synced, is_replicating, last_leases, last_world, call_of_client, goal_of_sync, Coalescing}
+use Rattle.assise_model_events.proofs.Common.{IsCoalescing, Answer, digested, failed, joined, not_yet, received, refused, replied, place_after, Machine}
+use Rattle.assise_model_events.proofs.Common.{MachineInvariant, Failing, Joining, is_failed, is_failed_again, is_joined, Delivering, Digesting, Releasing}
+use Rattle.assise_model_events.proofs.Common.{is_released, is_ready, most_digested, undigested_to}
 use Rattle.assise_seq_tree.specs.Answer.{answer}
-use Rattle.assise_seq_tree.specs.Tree.{opening as opening_tree}
-use Rattle.assise_history.specs.declared.call.Loss.{Loss}
-use Rattle.assise_history.specs.Kept.{kept, tree_after}
-use Rattle.assise_inode_table.specs.Traces.{NumberedCall}
-use Rattle.std.proofs.lemmas.Bool.{cases_eq}
-use Rattle.assise_names.specs.declared.mode.Mode.{Mode}
-use Rattle.assise_record.specs.LogFrame.{LogFrame}
-use Rattle.assise_manager.specs.Changes.{join_fault, is_returning}
-use Rattle.assise_manager.specs.Standings.{full, standing_of}
-use Rattle.assise_model_world.specs.ClientSteps.{MakesCall}
-use Rattle.assise_model_world.specs.Invariant.{WorldInvariant}
-use Rattle.assise_model_world.specs.World.{World, end_of_log, received_by_all}
-use Rattle.assise_model_world.proofs.ClientsStaying.{raise_sound}
-use Rattle.assise_model_world.proofs.CallKeeps.{call_reply}
-use Rattle.assise_model_leases.specs.Handing.{Grants}
-use Rattle.assise_model_leases.specs.Leases.{Leases, client_lease, IsRevokedLease}
+use Rattle.assise_manager.specs.Standings.{full}
 use Rattle.assise_model_leases.proofs.LookUps.{revoked_serves}
 use Rattle.assise_model_leases.proofs.Waiters.{asked_other, asked_in_way, asked_elsewhere}
-use Rattle.assise_model_history.specs.Lost.{IsFirstLost, losses_of}
-use Rattle.assise_model_history.proofs.FailureList.{exactly_lost}
 use Rattle.assise_model_history.proofs.RecordKeeps.{same_tree}
-use Rattle.assise_model_events.specs.ClientEvents.{Granted, Gets, Calling, Syncing, is_answered, is_awaited, is_spent, is_full, is_refused, lacks_memory, is_synced, is_replicating, last_leases, last_world, call_of_client, goal_of_sync}
-use Rattle.assise_model_events.specs.Dsyncs.{Coalescing, IsCoalescing, is_refused, is_synced, lacks_memory}
-use Rattle.assise_model_events.specs.Events.{Answer, digested, failed, joined, not_yet, received, refused, replied}
-use Rattle.assise_model_events.specs.Faults.{place_after}
-use Rattle.assise_model_events.specs.Machine.{Machine, MachineInvariant}
-use Rattle.assise_model_events.specs.MemberEvents.{Failing, Joining, is_failed, is_failed_again, is_joined, is_refused, lacks_memory}
-use Rattle.assise_model_events.specs.NodeEvents.{Delivering, Digesting, Releasing, is_digested, is_released, is_refused, lacks_memory, is_ready, most_digested, undigested_to}
+use Rattle.assise_model_events.specs.Dsyncs.{is_refused, is_synced, lacks_memory}
+use Rattle.assise_model_events.specs.MemberEvents.{is_refused, lacks_memory}
+use Rattle.assise_model_events.specs.NodeEvents.{is_digested, is_refused, lacks_memory}
 use Rattle.assise_model_events.specs.Outcomes.{AwaitsLease}
 use Rattle.assise_model_events.proofs.LeaseSteps.{comes_to}
 use Rattle.assise_model_events.proofs.ReleaseKeeps.{freed_same}
@@ -41,16 +23,19 @@ use Rattle.assise_model_events.proofs.ReleaseKeeps.{freed_same}
 -- ---- grants
 
 -- a grant revokes nothing
-grant_revokes : (w : World) (l : Leases) (c i : ℕ) (mode : Mode) (u : World) (k : Leases) → Grants w l c i mode u k → (d j : ℕ) → IsRevokedLease k d j → IsRevokedLease l d j
+grant_revokes : (w : World) (l : Leases) (c i : ℕ) (mode : Mode) (u : World) (k : Leases) → Grants w l c i mode u k → (d j : ℕ) → IsRevokedLease k d j →
+    IsRevokedLease l d j
 grant_revokes w l c i mode u k g d j revoked = grind (arith, cases_eq, revoked_serves)
 
-grants_revoke : (x : NumberedCall) (w : World) (l : Leases) (gs : List Granted) → Gets x w l gs → (d j : ℕ) → IsRevokedLease (last_leases l gs) d j → IsRevokedLease l d j
+grants_revoke : (x : NumberedCall) (w : World) (l : Leases) (gs : List Granted) → Gets x w l gs → (d j : ℕ) → IsRevokedLease (last_leases l gs) d j →
+    IsRevokedLease l d j
 grants_revoke x w l [] gets d j revoked = revoked
 grants_revoke x w l (g ∷ gs) (missing, grant, others, more) d j revoked =
     grant_revokes w l x.client g.inode g.mode g.world g.leases grant d j (grants_revoke x g.world g.leases gs more d j revoked)
 
 -- and changes no other client's lease
-grants_leave : (x : NumberedCall) (w : World) (l : Leases) (gs : List Granted) → Gets x w l gs → (d j : ℕ) → d ≢ x.client → client_lease (last_leases l gs) d j ≡ client_lease l d j
+grants_leave : (x : NumberedCall) (w : World) (l : Leases) (gs : List Granted) → Gets x w l gs → (d j : ℕ) → d ≢ x.client → client_lease (last_leases l gs) d j
+    ≡ client_lease l d j
 grants_leave x w l [] gets d j other = refl
 grants_leave x w l (g ∷ gs) (missing, grant, others, more) d j other = grants_leave x g.world g.leases gs more d j other ∙ grant.granted.others j d other
 
@@ -68,7 +53,8 @@ of_the_tree m m' w x h sound same e = call_reply w m'.world x sound e ∙ ap (λ
 same_reply : (a b : Reply) → replied a ≡ replied b → a ≡ b
 same_reply a b is = cc
 
-pub call_replies : (m m' : Machine) (c : ℕ) (op : Op) (reply : Reply) → MachineInvariant m → Calling m c op (replied reply) m' → reply ≡ (answer (tree_after opening_tree (kept m.history)) op).0
+pub call_replies : (m m' : Machine) (c : ℕ) (op : Op) (reply : Reply) → MachineInvariant m → Calling m c op (replied reply) m' →
+    reply ≡ (answer (tree_after opening_tree (kept m.history)) op).0
 call_replies m m' c op reply h (is_answered own granted is e) =
     let x : NumberedCall = call_of_client m.world c op own in
     let r = comes_to m x granted h e.tried.gets in
@@ -79,9 +65,11 @@ call_replies m m' c op reply h (is_full own granted is e keeps) = cc
 call_replies m m' c op reply h (lacks_memory own granted is e keeps) = cc
 call_replies m m' c op reply h (is_refused r fault is same) = cc
 
-pub sync_replies : (m m' : Machine) (c : ℕ) (op : Op) (reply : Reply) → MachineInvariant m → Syncing m c op (replied reply) m' → reply ≡ (answer (tree_after opening_tree (kept m.history)) op).0
+pub sync_replies : (m m' : Machine) (c : ℕ) (op : Op) (reply : Reply) → MachineInvariant m → Syncing m c op (replied reply) m' →
+    reply ≡ (answer (tree_after opening_tree (kept m.history)) op).0
 sync_replies m m' c op reply h (is_synced own fine is e) =
-    same_reply reply own is ∙ of_the_tree m m' e.between (call_of_client m.world c op own) h (raise_sound m.world e.between (goal_of_sync m.world c) h.sound e.raises) e.raises.logs.calls e.call.call
+    same_reply reply own is ∙ of_the_tree m m' e.between (call_of_client m.world c op own) h
+    (raise_sound m.world e.between (goal_of_sync m.world c) h.sound e.raises) e.raises.logs.calls e.call.call
 sync_replies m m' c op reply h (is_replicating fine is e) = cc
 sync_replies m m' c op reply h (lacks_memory fine all is same) = cc
 sync_replies m m' c op reply h (is_refused r fault is same) = cc
@@ -94,7 +82,8 @@ synced_all m m' c op reply h = grind arith
 pub syncing_lacks : (m m' : Machine) (c : ℕ) (op : Op) → Syncing m c op not_yet m' → received_by_all m.world c < end_of_log m.world c
 syncing_lacks m m' c op h = grind arith
 
-pub coalescing_replies : (m m' : Machine) (c : ℕ) (reply : Reply) → MachineInvariant m → Coalescing m c (replied reply) m' → reply ≡ (answer (tree_after opening_tree (kept m.history)) Dsync).0
+pub coalescing_replies : (m m' : Machine) (c : ℕ) (reply : Reply) → MachineInvariant m → Coalescing m c (replied reply) m' →
+    reply ≡ (answer (tree_after opening_tree (kept m.history)) Dsync).0
 coalescing_replies m m' c reply h s = grind (arith, sync_replies)
 
 pub coalescing_all : (m m' : Machine) (c : ℕ) (reply : Reply) → Coalescing m c (replied reply) m' → received_by_all m.world c ≡ end_of_log m.world c
@@ -144,11 +133,13 @@ ready_goes m m' a c i (is_released gone freed is e) ready =
 same_losses : (a b : List Loss) → failed a ≡ failed b → a ≡ b
 same_losses a b is = cc
 
-pub listed_exactly : (m m' : Machine) (n : ℕ) (losses : List Loss) (l : Loss) → MachineInvariant m → standing_of m.members.nodes n ≡ Some full → Failing m n (failed losses) m' →
+pub listed_exactly : (m m' : Machine) (n : ℕ) (losses : List Loss) (l : Loss) → MachineInvariant m → standing_of m.members.nodes n ≡ Some full →
+    Failing m n (failed losses) m' →
     Contains losses l ↔ IsFirstLost m.world n l
 listed_exactly m m' n losses l h at (is_failed fine is e) =
     subst (λ ls. Contains ls l ↔ IsFirstLost m.world n l) (sym (same_losses losses (losses_of m.world n) is)) (exactly_lost m.world n l h.sound)
-listed_exactly m m' n losses l h at (is_failed_again fine is e) = absurd (let back : is_returning (Some full) ≡ true = ap is_returning (sym at) ∙ e.failure.was_returning in cc)
+listed_exactly m m' n losses l h at (is_failed_again fine is e) =
+    absurd (let back : is_returning (Some full) ≡ true = ap is_returning (sym at) ∙ e.failure.was_returning in cc)
 listed_exactly m m' n losses l h at (lacks_memory fine is same) = cc
 listed_exactly m m' n losses l h at (is_refused r fault is same) = cc
 

@@ -1,34 +1,29 @@
 -- A call is answered: the step that its entry tells of, and the length of its client's log.
-use Rattle.std.proofs.Common.{◌≡◌, ℕ, ◌+◌, ◌<◌, ◌≤◌, true, [], ◌∷◌, ◌++◌, length, ap, sym, ◌∙◌, arith, length-append}
-use Rattle.std.proofs.lemmas.Bool.{cases_eq}
-use Rattle.assise_history.specs.Entries.{calls}
-use Rattle.assise_history.specs.Legal.{syncs}
-use Rattle.assise_record.specs.Records.{has_some}
-use Rattle.assise_inode_table.specs.Traces.{NumberedCall}
-use Rattle.assise_model_world.specs.ClientSteps.{MakesCall}
-use Rattle.assise_model_world.specs.World.{World, end_of_log, received_by_all, step_at_home}
-use Rattle.assise_model_history.specs.Traces.{EntryHappens, call}
-use Rattle.assise_model_history.specs.Numbered.{plain_call}
-use Rattle.assise_model_events.specs.Events.{call_entry}
-use Rattle.assise_model_events.specs.Machine.{Machine, MachineInvariant, Adds, state_of}
+use Rattle.assise_model_events.proofs.Common.{◌≡◌, ℕ, ◌+◌, ◌<◌, ◌≤◌, true, [], ◌∷◌, ◌++◌, length, ap, sym, ◌∙◌, arith, length-append, cases_eq, calls, syncs}
+use Rattle.assise_model_events.proofs.Common.{has_some, NumberedCall, MakesCall, World, end_of_log, received_by_all, step_at_home, EntryHappens, call}
+use Rattle.assise_model_events.proofs.Common.{plain_call, call_entry, Machine, MachineInvariant, Adds, state_of}
 use Rattle.assise_model_events.proofs.EventTraces.{with_world}
 
 -- the entry has the number that the client's next call has
-entry_of : (m m' : Machine) (x : NumberedCall) → MachineInvariant m → x.number ≡ m.world.next x.client → Adds m (call_entry m.history x.client x.op x.reply) m' →
+entry_of : (m m' : Machine) (x : NumberedCall) → MachineInvariant m → x.number ≡ m.world.next x.client → Adds m (call_entry m.history x.client x.op x.reply) m'
+    →
     m'.history ≡ m.history ++ calls (plain_call x) ∷ []
 entry_of m m' x h number adds =
-    adds.history ∙ ap (λ n. m.history ++ calls (record { client = x.client; number = n; op = x.op; reply = x.reply }) ∷ []) (sym (number ∙ h.recorded.next x.client))
+    adds.history ∙ ap (λ n. m.history ++ calls (record { client = x.client; number = n; op = x.op; reply = x.reply }) ∷ [])
+    (sym (number ∙ h.recorded.next x.client))
 
 -- the call is made in a world that the machine came to
 pub call_happens : (m m' : Machine) (w : World) (x : NumberedCall) → MachineInvariant m → x.number ≡ m.world.next x.client → MakesCall w x m'.world →
-    (syncs m.history (plain_call x) ≡ true → received_by_all w x.client ≡ end_of_log w x.client) → Adds m (call_entry m.history x.client x.op x.reply) m' → m'.members ≡ m.members →
+    (syncs m.history (plain_call x) ≡ true → received_by_all w x.client ≡ end_of_log w x.client) → Adds m (call_entry m.history x.client x.op x.reply) m' →
+    m'.members ≡ m.members →
     EntryHappens (with_world m w) (state_of m')
 call_happens m m' w x h number e replicated adds members =
     call x (record { adds = record { nodes = ap (λ o. length o.nodes) members; entry = entry_of m m' x h number adds }; world = e; replicated = replicated })
 
 -- ---- the client's log
 
-pub logs_answered : (m m' : Machine) (w : World) (x : NumberedCall) → MachineInvariant m → ((c : ℕ) → w.records c ≡ m.world.records c) → MakesCall w x m'.world →
+pub logs_answered : (m m' : Machine) (w : World) (x : NumberedCall) → MachineInvariant m → ((c : ℕ) → w.records c ≡ m.world.records c) →
+    MakesCall w x m'.world →
     (has_some (step_at_home w x).effects ≡ true → length (m.world.records x.client) < m.limit) → m'.limit ≡ m.limit →
     (c : ℕ) → length (m'.world.records c) ≤ m'.limit
 logs_answered m m' w x h same e room limit c = grind (arith, cases_eq, length-append)

@@ -1,23 +1,10 @@
 -- A call: it is answered, awaited or refused, once its client got leases.
-use Rattle.std.proofs.Common.{◌≡◌, ℕ, false, List, [], ◌∷◌, length, refl, ap, sym, subst, ◌∙◌}
-use Rattle.std.proofs.lemmas.Bool.{both_ways}
-use Rattle.assise_names.specs.declared.call.Op.{Op}
-use Rattle.assise_history.specs.Legal.{durability_of, is_sync, syncs}
-use Rattle.assise_inode_table.specs.Traces.{NumberedCall}
-use Rattle.assise_model_world.specs.World.{World}
-use Rattle.assise_model_world.proofs.ClientsStaying.{raise_sound}
-use Rattle.assise_model_world.proofs.CallKeeps.{call_dropped}
-use Rattle.assise_model_world.proofs.QuietSteps.{still_dropped}
-use Rattle.assise_model_leases.specs.Handing.{asked_goal}
-use Rattle.assise_model_leases.specs.Leases.{Leases, AreLeases}
+use Rattle.assise_model_events.proofs.Common.{◌≡◌, ℕ, false, List, [], ◌∷◌, length, refl, ap, sym, subst, ◌∙◌, both_ways, Op, durability_of, is_sync, syncs}
+use Rattle.assise_model_events.proofs.Common.{NumberedCall, World, raise_sound, call_dropped, still_dropped, asked_goal, Leases, AreLeases, call_keeps}
+use Rattle.assise_model_events.proofs.Common.{raises_goals, plain_call, Granted, last_world, last_leases, IsTried, KeepsGranted, IsAnswered, IsAwaited, Calling}
+use Rattle.assise_model_events.proofs.Common.{is_answered, is_awaited, is_spent, is_full, lacks_memory, is_refused, call_of_client, Answer, call_entry, Leads}
+use Rattle.assise_model_events.proofs.Common.{Machine, MachineInvariant, state_of}
 use Rattle.assise_model_leases.proofs.AskKeeps.{ask_keeps}
-use Rattle.assise_model_leases.proofs.QuietLeases.{call_keeps}
-use Rattle.assise_model_history.specs.Entered.{raises_goals}
-use Rattle.assise_model_history.specs.Numbered.{plain_call}
-use Rattle.assise_model_events.specs.ClientEvents.{Granted, last_world, last_leases, IsTried, KeepsGranted, IsAnswered, IsAwaited, Calling, is_answered, is_awaited, is_spent, is_full, lacks_memory, is_refused, call_of_client}
-use Rattle.assise_model_events.specs.Events.{Answer, call_entry}
-use Rattle.assise_model_events.specs.Happenings.{Leads}
-use Rattle.assise_model_events.specs.Machine.{Machine, MachineInvariant, state_of}
 use Rattle.assise_model_events.proofs.AnsweredCall.{call_happens, logs_answered}
 use Rattle.assise_model_events.proofs.LeaseSteps.{Reached, comes_to, leads_with, reached_holds, logs_after, clients_after, nodes_after, full_after}
 use Rattle.assise_model_events.proofs.EventTraces.{leads_sound, leads_recorded, same_leads, same_holds, with_world, quietly, ends_as}
@@ -69,7 +56,8 @@ module _ (m m' : Machine) (x : NumberedCall) (gs : List Granted) (h : MachineInv
 
 -- ---- it is answered
 
-module _ (m m' : Machine) (x : NumberedCall) (gs : List Granted) (h : MachineInvariant m) (other : syncs m.history (plain_call x) ≡ false) (e : IsAnswered m x gs m') where
+module _ (m m' : Machine) (x : NumberedCall) (gs : List Granted) (h : MachineInvariant m) (other : syncs m.history (plain_call x) ≡ false)
+    (e : IsAnswered m x gs m') where
   abbrev v : World
   v = last_world m.world gs
 
@@ -100,7 +88,8 @@ module _ (m m' : Machine) (x : NumberedCall) (gs : List Granted) (h : MachineInv
 
 -- ---- each outcome
 
-pub calling_leads : (m m' : Machine) (c : ℕ) (op : Op) (a : Answer) → MachineInvariant m → is_sync op (durability_of c m.history) ≡ false → Calling m c op a m' → Leads m m'
+pub calling_leads : (m m' : Machine) (c : ℕ) (op : Op) (a : Answer) → MachineInvariant m → is_sync op (durability_of c m.history) ≡ false →
+    Calling m c op a m' → Leads m m'
 calling_leads m m' c op a h other (is_answered reply gs is e) = answered_leads m m' (call_of_client m.world c op reply) gs h other e
 calling_leads m m' c op a h other (is_awaited reply gs is e) = awaited_leads m m' (call_of_client m.world c op reply) gs h e
 calling_leads m m' c op a h other (is_spent reply gs is spent e) = granted_leads m m' (call_of_client m.world c op reply) gs h spent.tried e
@@ -108,7 +97,8 @@ calling_leads m m' c op a h other (is_full reply gs is full e) = granted_leads m
 calling_leads m m' c op a h other (lacks_memory reply gs is tried e) = granted_leads m m' (call_of_client m.world c op reply) gs h tried e
 calling_leads m m' c op a h other (is_refused r fault is same) = same_leads m m' same
 
-pub calling_keeps : (m m' : Machine) (c : ℕ) (op : Op) (a : Answer) → MachineInvariant m → is_sync op (durability_of c m.history) ≡ false → Calling m c op a m' → MachineInvariant m'
+pub calling_keeps : (m m' : Machine) (c : ℕ) (op : Op) (a : Answer) → MachineInvariant m → is_sync op (durability_of c m.history) ≡ false →
+    Calling m c op a m' → MachineInvariant m'
 calling_keeps m m' c op a h other (is_answered reply gs is e) = answered_keeps m m' (call_of_client m.world c op reply) gs h other e
 calling_keeps m m' c op a h other (is_awaited reply gs is e) = awaited_keeps m m' (call_of_client m.world c op reply) gs h e
 calling_keeps m m' c op a h other (is_spent reply gs is spent e) = granted_keeps m m' (call_of_client m.world c op reply) gs h spent.tried e

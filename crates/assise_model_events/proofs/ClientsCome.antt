@@ -1,28 +1,15 @@
 -- Each outcome of what clients do comes in a state that two nodes come to.
-use Rattle.std.proofs.Common.{◌≡◌, ◌≢◌, ℕ, suc, ◌<◌, true, false, List, [], ◌∷◌, length, Some, None, refl, ap, sym, subst, ◌∙◌, arith}
-use Rattle.assise_names.specs.declared.call.Op.{Op}
-use Rattle.assise_names.specs.declared.call.Op.TheVariants.{Create, Fsync, Stat}
-use Rattle.assise_names.specs.declared.durability.Durability.TheVariants.{Optimistic, Pessimistic}
-use Rattle.assise_names.specs.declared.mode.Mode.TheVariants.{Read, Write}
-use Rattle.assise_names.specs.declared.refusal.Refusal.TheVariants.{ClientGone, LogFull, NodeDown, OutOfMemory}
-use Rattle.assise_names.specs.declared.reply.Reply.TheVariants.{Done}
-use Rattle.assise_history.specs.Legal.{durability_of}
-use Rattle.assise_history.proofs.ClientCounts.{durability-still}
-use Rattle.assise_record.specs.Groups.{AllHaveEffects}
-use Rattle.assise_lease_table.specs.Leases.{new_lease}
-use Rattle.assise_lease_tree.specs.Levels.{in_way}
-use Rattle.assise_lease_tree.specs.TwoLevels.{is_free_for}
-use Rattle.assise_model_world.specs.World.{end_of_log, received_by_all, records_between}
-use Rattle.assise_model_history.proofs.LossReached.{create_op}
-use Rattle.assise_model_events.specs.ClientEvents.{Calling, Crashing, Granted, Opening, Syncing, is_crashed, is_full, is_opened, is_refused, lacks_memory, IsMissing, call_of_client}
-use Rattle.assise_model_events.specs.Dsyncs.{Coalescing, coalesced_from, is_refused, lacks_memory}
-use Rattle.assise_model_events.specs.Events.{Answer, crash, crashed, not_yet, open_client, opened, refused, replied}
-use Rattle.assise_model_events.specs.Faults.{client_fault}
-use Rattle.assise_model_events.specs.Machine.{MachineInvariant, Machine}
-use Rattle.assise_model_events.specs.Reached.{Comes, IsReached}
+use Rattle.assise_model_events.proofs.Common.{◌≡◌, ◌≢◌, ℕ, suc, ◌<◌, true, false, List, [], ◌∷◌, length, Some, None, refl, ap, sym, subst, ◌∙◌, arith, Op}
+use Rattle.assise_model_events.proofs.Common.{Create, Fsync, Stat, Optimistic, Pessimistic, Read, Write, ClientGone, LogFull, NodeDown, OutOfMemory, Done}
+use Rattle.assise_model_events.proofs.Common.{durability_of, durability-still, AllHaveEffects, new_lease, in_way, is_free_for, end_of_log, received_by_all}
+use Rattle.assise_model_events.proofs.Common.{records_between, create_op, Calling, Crashing, Granted, Opening, Syncing, is_crashed, is_full, is_opened}
+use Rattle.assise_model_events.proofs.Common.{is_refused, lacks_memory, IsMissing, call_of_client, Coalescing, coalesced_from, Answer, crash, crashed, not_yet}
+use Rattle.assise_model_events.proofs.Common.{open_client, opened, refused, replied, client_fault, MachineInvariant, Machine, Comes, IsReached}
+use Rattle.assise_model_events.specs.Dsyncs.{is_refused, lacks_memory}
 use Rattle.assise_model_events.proofs.Answerable.{awaited_can, crashed_can, opened_can, replicating_can, synced_can}
 use Rattle.assise_model_events.proofs.ReachedCreate.{HasFile, file_made, has_file, has_file_as}
-use Rattle.assise_model_events.proofs.Trace.{HasLeases, IsOpen, has_effects, is_open, is_open_as, leases_had, reaches, served, tried, start, start_holds, start_reached}
+use Rattle.assise_model_events.proofs.Trace.{HasLeases, IsOpen, has_effects, is_open, is_open_as, leases_had, reaches, served, tried, start, start_holds}
+use Rattle.assise_model_events.proofs.Trace.{start_reached}
 use Rattle.assise_model_events.proofs.EachEvent.{event_keeps}
 use Rattle.assise_model_events.proofs.LackAnswerable.{keeps_them, memory_can, with_granted}
 use Rattle.assise_model_events.proofs.Regroupable.{coalesced_can, coalescing_synced}

@@ -1,21 +1,8 @@
 -- What nodes do keeps the invariant: a frame comes to a node.
-use Rattle.std.proofs.Common.{◌≡◌, ℕ, ◌≤◌, [], ◌∷◌, length, refl, ap, sym, subst, append-nil, arith}
-use Rattle.assise_model_world.specs.Invariant.{AreDropped}
+use Rattle.assise_model_events.proofs.Common.{◌≡◌, ℕ, ◌≤◌, [], ◌∷◌, length, refl, ap, sym, subst, append-nil, arith, AreDropped, World, Full, delivers}
+use Rattle.assise_model_events.proofs.Common.{AreLeases, logs_keep, AreMembers, OtherAreasStay, areas_keep, keeps_areas, Membership, LogFrame, Answer}
+use Rattle.assise_model_events.proofs.Common.{place_after, Leads, Machine, MachineInvariant, Adds, IsDelivered, Delivering}
 use Rattle.assise_model_world.proofs.DeliveryKeeps.{deliver_dropped}
-use Rattle.assise_model_world.specs.World.{World, Full}
-use Rattle.assise_model_history.specs.Entered.NeedsNoEntry.{delivers}
-use Rattle.assise_model_leases.specs.Leases.{AreLeases}
-use Rattle.assise_model_leases.proofs.QuietLeases.{logs_keep}
-use Rattle.assise_model_members.specs.Members.{AreMembers}
-use Rattle.assise_model_members.specs.Returns.{OtherAreasStay}
-use Rattle.assise_model_members.proofs.DigestNoted.{areas_keep, keeps_areas}
-use Rattle.assise_manager.specs.Membership.{Membership}
-use Rattle.assise_record.specs.LogFrame.{LogFrame}
-use Rattle.assise_model_events.specs.Events.{Answer}
-use Rattle.assise_model_events.specs.Faults.{place_after}
-use Rattle.assise_model_events.specs.Happenings.{Leads}
-use Rattle.assise_model_events.specs.Machine.{Machine, MachineInvariant, Adds}
-use Rattle.assise_model_events.specs.NodeEvents.{IsDelivered, Delivering}
 use Rattle.assise_model_events.proofs.EventTraces.{leads_sound, leads_recorded, same_leads, same_holds, with_world, quietly, ends_as}
 
 -- ---- where no entry is added

@@ -1,22 +1,9 @@
 -- What nodes do keeps the invariant: a node digests what all full nodes have.
-use Rattle.std.proofs.Common.{◌≡◌, ℕ, zero, suc, ◌+◌, ◌-◌, ◌≤◌, List, [], ◌∷◌, ◌++◌, length, refl, ap, sym, subst, ◌∙◌, arith}
-use Rattle.std.proofs.lemmas.List.{length-map, length-drop}
-use Rattle.assise_model_world.specs.World.{World, digested_by_all}
-use Rattle.assise_model_world.proofs.DropKeeps.{drop_dropped}
-use Rattle.assise_model_history.specs.Traces.{EntryHappens, IsTrace, last_of}
-use Rattle.assise_model_history.specs.Entered.NeedsNoEntry.{digests, drops}
-use Rattle.assise_model_history.specs.State.{State}
-use Rattle.assise_model_leases.specs.Leases.{AreLeases}
-use Rattle.assise_model_leases.proofs.QuietLeases.{logs_keep, drop_keeps}
-use Rattle.assise_model_members.specs.Members.{AreMembers}
-use Rattle.assise_model_members.proofs.DigestNoted.{digest_keeps}
-use Rattle.assise_manager.specs.Changes.{stale_again}
-use Rattle.assise_manager.specs.Membership.{Membership}
-use Rattle.assise_model_events.specs.Events.{Answer}
-use Rattle.assise_model_events.specs.Happenings.{Leads}
-use Rattle.assise_model_events.specs.Machine.{Machine, MachineInvariant, state_of}
-use Rattle.assise_model_events.specs.NodeEvents.{part_of, DigestsNext, DigestsTo, IsDigested, Digesting}
-use Rattle.assise_model_events.specs.NodeEvents.Digesting.{is_digested, lacks_memory, is_refused}
+use Rattle.assise_model_events.proofs.Common.{◌≡◌, ℕ, zero, suc, ◌+◌, ◌-◌, ◌≤◌, List, [], ◌∷◌, ◌++◌, length, refl, ap, sym, subst, ◌∙◌, arith, length-map}
+use Rattle.assise_model_events.proofs.Common.{length-drop, World, digested_by_all, drop_dropped, EntryHappens, IsTrace, last_of, digests, drops, State}
+use Rattle.assise_model_events.proofs.Common.{AreLeases, logs_keep, drop_keeps, AreMembers, digest_keeps, stale_again, Membership, Answer, Leads, Machine}
+use Rattle.assise_model_events.proofs.Common.{MachineInvariant, state_of, part_of, DigestsNext, DigestsTo, IsDigested, Digesting, is_digested}
+use Rattle.assise_model_events.specs.NodeEvents.Digesting.{lacks_memory, is_refused}
 use Rattle.assise_model_events.proofs.EventTraces.{same_leads, same_holds, with_world, quietly, ends_as}
 use Rattle.assise_model_events.proofs.DeliveryKeeps.{quiet_holds, areas_stay}
 
@@ -58,7 +45,8 @@ at_first m h = record {
 }
 
 -- the trace with a quiet step more
-step_trace : (m : Machine) (w u : World) (o : Membership) (r : Reached m w o) → EntryHappens (with_world m w) (with_world m u) → IsTrace (state_of m) (r.states ++ with_world m u ∷ [])
+step_trace : (m : Machine) (w u : World) (o : Membership) (r : Reached m w o) → EntryHappens (with_world m w) (with_world m u) →
+    IsTrace (state_of m) (r.states ++ with_world m u ∷ [])
 step_trace m w u o r step = further_trace (state_of m) r.states (with_world m u) r.trace (subst (λ s. EntryHappens s (with_world m u)) (sym r.last) step)
 
 next_reached : (m : Machine) (n count c : ℕ) (w u : World) (o p : Membership) → Reached m w o → DigestsNext n count c m.world w o u p → Reached m u p
@@ -66,7 +54,8 @@ next_reached m n count c w u o p r e = record {
   states = r.states ++ with_world m u ∷ [];
   trace = step_trace m w u o r (quietly m w u (digests n c (w.digested n c + part_of m.world n count c) e.digests.digests));
   last = further_last (state_of m) r.states (with_world m u);
-  leases = logs_keep w u m.leases e.digests.digests.logs e.digests.digests.clients e.digests.digests.leases (λ d. rw (e.digests.digests.goals d) (omega arith)) r.leases;
+  leases = logs_keep w u m.leases e.digests.digests.logs e.digests.digests.clients e.digests.digests.leases (λ d. rw (e.digests.digests.goals d) (omega arith))
+      r.leases;
   members = digest_keeps w u o p n c (w.digested n c + part_of m.world n count c) e.inodes r.members e.digests;
   records = λ d. e.digests.digests.logs.records d ∙ r.records d;
   clients = e.digests.digests.clients.clients ∙ r.clients;
@@ -74,7 +63,8 @@ next_reached m n count c w u o p r e = record {
   nodes = ap (λ x. length x.nodes) e.digests.members ∙ length-map o.nodes (stale_again n e.inodes) ∙ r.nodes;
 }
 
-all_reached : (m : Machine) (n count c : ℕ) (w : World) (o : Membership) → MachineInvariant m → DigestsTo n count m.world m.world m.members c w o → Reached m w o
+all_reached : (m : Machine) (n count c : ℕ) (w : World) (o : Membership) → MachineInvariant m → DigestsTo n count m.world m.world m.members c w o →
+    Reached m w o
 all_reached m n count zero w o h (world, members) = rw (world, members) (at_first m h)
 all_reached m n count (suc c) w o h (v, (p, (before, e))) = next_reached m n count (suc c) v w p o (all_reached m n count c v p h before) e
 

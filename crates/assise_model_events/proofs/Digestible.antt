@@ -1,21 +1,10 @@
 -- A node can digest what all full nodes have.
-use Rattle.std.proofs.Common.{◌≡◌, ℕ, zero, suc, ◌+◌, ◌<◌, ◌≤◌, min, true, None, refl, sym, ◌∙◌, arith, append-nil}
-use Rattle.assise_names.specs.declared.refusal.Refusal.TheVariants.{WrongPhase}
-use Rattle.assise_manager.specs.Membership.{Membership}
-use Rattle.assise_manager.specs.Standings.{standing_of}
+use Rattle.assise_model_events.proofs.Common.{◌≡◌, ℕ, zero, suc, ◌+◌, ◌<◌, ◌≤◌, min, true, None, refl, sym, ◌∙◌, arith, append-nil, WrongPhase, Membership}
+use Rattle.assise_model_events.proofs.Common.{standing_of, Digests, WorldInvariant, World, Full, end_of_log, received_by_all, least_of-same, step_sound}
+use Rattle.assise_model_events.proofs.Common.{may_digest, digested, node_fault, MachineInvariant, Machine, DigestsTo, Digesting, most_digested, part_of}
+use Rattle.assise_model_events.proofs.Common.{undigested_to, is_digested}
 use Rattle.assise_model_world.specs.Chances.{MayDigest}
-use Rattle.assise_model_world.specs.NodeSteps.{Digests}
 use Rattle.assise_model_world.specs.Runs.{digests}
-use Rattle.assise_model_world.specs.Invariant.{WorldInvariant}
-use Rattle.assise_model_world.specs.World.{World, Full, end_of_log, received_by_all}
-use Rattle.assise_model_world.proofs.WorldObserved.{least_of-same}
-use Rattle.assise_model_world.proofs.StepLists.{step_sound}
-use Rattle.assise_model_members.proofs.StepsPossible.{may_digest}
-use Rattle.assise_model_events.specs.Events.{digested}
-use Rattle.assise_model_events.specs.Faults.{node_fault}
-use Rattle.assise_model_events.specs.Machine.{MachineInvariant, Machine}
-use Rattle.assise_model_events.specs.NodeEvents.{DigestsTo, Digesting, most_digested, part_of, undigested_to}
-use Rattle.assise_model_events.specs.NodeEvents.Digesting.{is_digested}
 use Rattle.assise_model_events.proofs.Failable.{dropped_world, drops_them}
 use Rattle.assise_model_events.proofs.Faultless.{stands_full}
 use Rattle.assise_model_events.proofs.LeaseSteps.{full_after}
@@ -31,7 +20,8 @@ record SameRecords (w v : World) : Type 0 where
 
 pub same_received : (w v : World) (n c k : ℕ) → Digests w n c k v → (d : ℕ) → received_by_all v d ≡ received_by_all w d
 unfolding received_by_all end_of_log
-same_received w v n c k e d = rw (e.full, e.logs.first d, e.logs.records d) (least_of-same w.full (λ j. v.received j d) (λ j. w.received j d) (end_of_log w d) (λ j f. e.received j d f))
+same_received w v n c k e d =
+    rw (e.full, e.logs.first d, e.logs.records d) (least_of-same w.full (λ j. v.received j d) (λ j. w.received j d) (end_of_log w d) (λ j f. e.received j d f))
 
 next_same : (w v u : World) (n c k : ℕ) → SameRecords w v → Digests v n c k u → SameRecords w u
 next_same w v u n c k s e = record {
@@ -51,7 +41,8 @@ record DigestedTo (m : Machine) (n count c : ℕ) : Type 0 where
   same : SameRecords m.world world
   later : (d : ℕ) → c < d → world.digested n d ≡ m.world.digested n d
 
-module _ (m : Machine) (n count : ℕ) (h : MachineInvariant m) (here : Full m.world n) (borders : (c : ℕ) → m.world.border c (m.world.digested n c + part_of m.world n count c) ≡ true) where
+module _ (m : Machine) (n count : ℕ) (h : MachineInvariant m) (here : Full m.world n)
+    (borders : (c : ℕ) → m.world.border c (m.world.digested n c + part_of m.world n count c) ≡ true) where
   may_next : (c : ℕ) (r : DigestedTo m n count c) → MayDigest r.world n (suc c) (r.world.digested n (suc c) + part_of m.world n count (suc c))
   may_next c r = grind (arith, full_after)
 
@@ -79,7 +70,8 @@ module _ (m : Machine) (n count : ℕ) (h : MachineInvariant m) (here : Full m.w
 
 -- ---- then prefixes of logs go
 
-pub digested_can : (m : Machine) (n count : ℕ) → MachineInvariant m → node_fault m n ≡ None → count ≤ min most_digested (undigested_to m.world n m.world.clients) →
+pub digested_can : (m : Machine) (n count : ℕ) → MachineInvariant m → node_fault m n ≡ None →
+    count ≤ min most_digested (undigested_to m.world n m.world.clients) →
     (0 < undigested_to m.world n m.world.clients → 0 < count) →
     ((c : ℕ) → m.world.border c (m.world.digested n c + part_of m.world n count c) ≡ true) → (m' : Machine) × Digesting m n (digested count) m'
 digested_can m n count h fine few some borders =

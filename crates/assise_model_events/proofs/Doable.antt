@@ -1,29 +1,22 @@
 -- A timely frame can be delivered.
-use Rattle.std.proofs.Common.{◌≡◌, ℕ, ◌+◌, ◌-◌, ◌≤◌, min, not, drop, take, List, length, None, refl, ap, sym, arith, append-nil}
+use Rattle.assise_model_events.proofs.Common.{◌≡◌, ℕ, ◌+◌, ◌-◌, ◌≤◌, min, not, drop, take, List, length, None, refl, ap, sym, arith, append-nil, length-take}
+use Rattle.assise_model_events.proofs.Common.{length-drop, BadClient, WrongPhase, LogFrame, LogRecord, standing_of, IsOrdered, World, Full, end_of_log}
+use Rattle.assise_model_events.proofs.Common.{received_by_all, received_by_all-below, received, IsTimelyDelivery, delivery_fault, fault_if, is_client}
+use Rattle.assise_model_events.proofs.Common.{new_records, node_fault, place_after, MachineInvariant, Machine, Delivering}
 use Rattle.std.proofs.Math.Nat.{le-max_left, max-le}
-use Rattle.std.proofs.lemmas.List.{length-take, length-drop}
-use Rattle.assise_names.specs.declared.refusal.Refusal.TheVariants.{BadClient, WrongPhase}
-use Rattle.assise_record.specs.LogFrame.{LogFrame}
-use Rattle.assise_record.specs.LogRecord.{LogRecord}
-use Rattle.assise_manager.specs.Standings.{standing_of}
-use Rattle.assise_model_world.specs.Invariant.{IsOrdered}
-use Rattle.assise_model_world.specs.World.{World, Full, end_of_log, received_by_all}
-use Rattle.assise_model_world.proofs.WorldObserved.{received_by_all-below}
 use Rattle.assise_model_world.proofs.Possible.{may_deliver}
-use Rattle.assise_model_events.specs.Events.{received}
-use Rattle.assise_model_events.specs.Faults.{IsTimelyDelivery, delivery_fault, fault_if, is_client, new_records, node_fault, place_after}
-use Rattle.assise_model_events.specs.Machine.{MachineInvariant, Machine}
-use Rattle.assise_model_events.specs.NodeEvents.{Delivering}
 use Rattle.assise_model_events.specs.NodeEvents.Delivering.{is_delivered}
 use Rattle.assise_model_events.proofs.Faultless.{first_none, stands_full}
 use Rattle.assise_model_events.proofs.Steady.{old_delivers, with_old_areas}
 
 full_at : (m : Machine) (f : LogFrame) (n : ℕ) → MachineInvariant m → delivery_fault m f n ≡ None → Full m.world n
 full_at m f n h fine =
-    h.members.nodes_full n (stands_full WrongPhase (standing_of m.members.nodes n) (first_none (node_fault m n) (fault_if (not (is_client m.world f.client)) BadClient) fine))
+    h.members.nodes_full n (stands_full WrongPhase (standing_of m.members.nodes n)
+    (first_none (node_fault m n) (fault_if (not (is_client m.world f.client)) BadClient) fine))
 
 -- the frame ends within the client's own log
-frame_there : (m : Machine) (f : LogFrame) (n : ℕ) → MachineInvariant m → Full m.world n → IsTimelyDelivery m f n → f.first + length f.records ≤ end_of_log m.world f.client
+frame_there : (m : Machine) (f : LogFrame) (n : ℕ) → MachineInvariant m → Full m.world n → IsTimelyDelivery m f n →
+    f.first + length f.records ≤ end_of_log m.world f.client
 unfolding end_of_log
 frame_there m f n h here timely =
     let w : World = m.world in
@@ -32,7 +25,8 @@ frame_there m f n h here timely =
     let rest : List LogRecord = drop (w.received n f.client - w.first f.client) (w.records f.client) in
     let own : length (take (length new) rest) ≡ length new = ap length timely.own in
     let taken : length (take (length new) rest) ≡ min (length new) (length rest) = length-take (length new) rest in
-    let behind : length rest ≡ length (w.records f.client) - (w.received n f.client - w.first f.client) = length-drop (w.received n f.client - w.first f.client) (w.records f.client) in
+    let behind : length rest ≡ length (w.records f.client) - (w.received n f.client - w.first f.client) = length-drop (w.received n f.client - w.first f.client)
+    (w.records f.client) in
     let count : length new ≡ length f.records - (w.received n f.client - f.first) = length-drop (w.received n f.client - f.first) f.records in
     let all : received_by_all w f.client ≤ w.received n f.client = received_by_all-below w n f.client here in
     let gap : f.first ≤ w.received n f.client = timely.no_gap in

@@ -1,21 +1,10 @@
 -- A dsync that coalesces keeps the invariant.
-use Rattle.std.proofs.Common.{ℕ, ◌≤◌, List, [], ◌∷◌, length, refl, ap, sym, subst, inl, inr, arith}
-use Rattle.std.proofs.lemmas.Bool.{cases_eq}
-use Rattle.assise_record.specs.Groups.{all_coalesced}
-use Rattle.assise_record.specs.LogRecord.{LogRecord}
-use Rattle.assise_model_world.specs.Coalescing.{Coalesces}
-use Rattle.assise_model_world.proofs.WorldObserved.{end_is}
+use Rattle.assise_model_events.proofs.Common.{ℕ, ◌≤◌, List, [], ◌∷◌, length, refl, ap, sym, subst, inl, inr, arith, cases_eq, all_coalesced, LogRecord}
+use Rattle.assise_model_events.proofs.Common.{Coalesces, end_is, AreLeases, coalesced_keeps, coalesces, Dsync, Pessimistic, Coalescing, IsCoalescing}
+use Rattle.assise_model_events.proofs.Common.{coalesced_from, is_coalesced, new_groups, Answer, Leads, Machine, MachineInvariant}
 use Rattle.assise_model_world.proofs.RegroupKeeps.{regroups_to, regroup_dropped}
-use Rattle.assise_model_leases.specs.Leases.{AreLeases}
-use Rattle.assise_model_leases.proofs.QuietLeases.{coalesced_keeps}
-use Rattle.assise_model_history.specs.Entered.{coalesces}
-use Rattle.assise_names.specs.declared.call.Op.TheVariants.{Dsync}
-use Rattle.assise_names.specs.declared.durability.Durability.TheVariants.{Pessimistic}
 use Rattle.assise_model_events.specs.ClientEvents.Syncing.{is_synced}
-use Rattle.assise_model_events.specs.Dsyncs.{Coalescing, IsCoalescing, coalesced_from, is_coalesced, is_refused, is_synced, lacks_memory, new_groups}
-use Rattle.assise_model_events.specs.Events.{Answer}
-use Rattle.assise_model_events.specs.Happenings.{Leads}
-use Rattle.assise_model_events.specs.Machine.{Machine, MachineInvariant}
+use Rattle.assise_model_events.specs.Dsyncs.{is_refused, is_synced, lacks_memory}
 use Rattle.assise_model_events.proofs.EventTraces.{leads_sound, leads_recorded, with_world, quietly, ends_as, same_leads, same_holds}
 use Rattle.assise_model_events.proofs.SyncKeeps.{syncing_leads, syncing_keeps}
 use Rattle.assise_model_events.proofs.Members.{members_stay, epochs_stay}

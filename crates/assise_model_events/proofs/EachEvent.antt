@@ -1,14 +1,9 @@
 -- Each event, by what it is.
-use Rattle.std.proofs.Common.{◌≡◌, ◌++◌, ℕ, refl, ap, arith}
-use Rattle.assise_names.specs.declared.call.Op.{Op}
-use Rattle.assise_names.specs.declared.call.Op.TheVariants.{Create, Mkdir, Read, Write, Truncate, Rename, Unlink, Rmdir, List as ListCall, Stat, Fsync, Dsync}
-use Rattle.assise_names.specs.declared.durability.Durability.{Durability}
-use Rattle.assise_names.specs.declared.durability.Durability.TheVariants.{Pessimistic, Optimistic}
-use Rattle.assise_history.specs.Legal.{durability_of, is_sync}
-use Rattle.assise_model_events.specs.Events.{Answer, ClusterEvent, open_client, try_call, try_fsync, outgoing, deliver, digest, release_ready, set_hot, crash, fail, back, refill, join, raise, entries_of}
-use Rattle.assise_model_events.specs.Happenings.{Dsyncing, Fsyncing, Happens, Leads, Trying}
-use Rattle.assise_model_events.specs.Machine.{Machine, MachineInvariant}
-use Rattle.assise_model_events.specs.NodeEvents.{Sending, SettingHot}
+use Rattle.assise_model_events.proofs.Common.{◌≡◌, ◌++◌, ℕ, refl, ap, arith, Op, Create, Mkdir, Truncate, Rename, Unlink, Rmdir, ListCall, Stat, Fsync, Dsync}
+use Rattle.assise_model_events.proofs.Common.{Durability, Pessimistic, Optimistic, durability_of, is_sync, Answer, ClusterEvent, open_client, try_call}
+use Rattle.assise_model_events.proofs.Common.{try_fsync, outgoing, deliver, digest, release_ready, set_hot, crash, fail, back, refill, join, raise, entries_of}
+use Rattle.assise_model_events.proofs.Common.{Dsyncing, Fsyncing, Happens, Leads, Trying, Machine, MachineInvariant, Sending, SettingHot}
+use Rattle.assise_names.specs.declared.call.Op.TheVariants.{Read, Write}
 use Rattle.assise_model_events.proofs.CallKeeps.{calling_leads, calling_keeps}
 use Rattle.assise_model_events.proofs.OpenAndCrash.{opening_leads, opening_keeps, crashing_leads, crashing_keeps}
 use Rattle.assise_model_events.proofs.Digested.{digesting_leads, digesting_holds}
@@ -21,7 +16,8 @@ use Rattle.assise_model_events.proofs.Raised.{raise_leads, raise_holds}
 use Rattle.assise_model_events.proofs.Rejoined.{join_leads, join_holds}
 use Rattle.assise_model_events.proofs.ReturnKeeps.{return_leads, return_holds, refill_leads, refill_holds}
 use Rattle.assise_model_events.proofs.SyncKeeps.{noting_leads, noting_keeps, syncing_leads, syncing_keeps}
-use Rattle.assise_model_events.proofs.EntriesTold.{opening_told, trying_told, fsyncing_told, sending_told, delivering_told, digesting_told, releasing_told, hot_told, crashing_told, failing_told, returning_told, refilling_told, joining_told, raising_told}
+use Rattle.assise_model_events.proofs.EntriesTold.{opening_told, trying_told, fsyncing_told, sending_told, delivering_told, digesting_told, releasing_told}
+use Rattle.assise_model_events.proofs.EntriesTold.{hot_told, crashing_told, failing_told, returning_told, refilling_told, joining_told, raising_told}
 
 -- ---- what is told
 
@@ -59,7 +55,8 @@ fsyncing_leads : (m m' : Machine) (c : ℕ) (u : Durability) (a : Answer) → du
 fsyncing_leads m m' c Pessimistic a is h s = syncing_leads m m' c Fsync Pessimistic a refl h s
 fsyncing_leads m m' c Optimistic a is h s = noting_leads m m' c a (ap (is_sync Fsync) is) h s
 
-fsyncing_holds : (m m' : Machine) (c : ℕ) (u : Durability) (a : Answer) → durability_of c m.history ≡ u → MachineInvariant m → Fsyncing u m c a m' → MachineInvariant m'
+fsyncing_holds : (m m' : Machine) (c : ℕ) (u : Durability) (a : Answer) → durability_of c m.history ≡ u → MachineInvariant m → Fsyncing u m c a m' →
+    MachineInvariant m'
 fsyncing_holds m m' c Pessimistic a is h s = syncing_keeps m m' c Fsync Pessimistic a refl h s
 fsyncing_holds m m' c Optimistic a is h s = noting_keeps m m' c a (ap (is_sync Fsync) is) h s
 

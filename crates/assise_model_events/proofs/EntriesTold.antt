@@ -1,21 +1,13 @@
 -- An event's answer tells exactly the entries that the history gets.
-use Rattle.std.proofs.Common.{◌≡◌, ℕ, List, ◌++◌, ap, ◌∙◌, append-nil, arith}
-use Rattle.assise_names.specs.declared.call.Op.{Op}
-use Rattle.assise_names.specs.declared.call.Op.TheVariants.{Create, Mkdir, Read, Write, Truncate, Rename, Unlink, Rmdir, List as ListCall, Stat, Fsync, Dsync}
-use Rattle.assise_names.specs.declared.durability.Durability.{Durability}
-use Rattle.assise_names.specs.declared.durability.Durability.TheVariants.{Pessimistic, Optimistic}
-use Rattle.assise_history.specs.Legal.{durability_of}
-use Rattle.assise_record.specs.LogFrame.{LogFrame}
-use Rattle.assise_model_events.specs.Events.{Answer, open_client, try_call, try_fsync, outgoing, deliver, digest, release_ready, set_hot, crash, fail, back, refill, join, raise, entries_of}
-use Rattle.assise_history.specs.Entries.{EntryValue}
-use Rattle.assise_model_events.specs.Dsyncs.{Coalescing}
-use Rattle.assise_model_events.specs.Happenings.{Dsyncing, Fsyncing, Trying}
-use Rattle.assise_model_events.specs.Machine.{Machine}
-use Rattle.assise_model_events.specs.ClientEvents.{Opening, Calling, Syncing, Noting, Crashing}
-use Rattle.assise_model_events.specs.NodeEvents.{Sending, Delivering, Digesting, Releasing, SettingHot}
-use Rattle.assise_model_events.specs.MemberEvents.{Failing, Returning, Refilling, Joining, Raising}
+use Rattle.assise_model_events.proofs.Common.{◌≡◌, ℕ, List, ◌++◌, ap, ◌∙◌, append-nil, arith, Op, Create, Mkdir, Truncate, Rename, Unlink, Rmdir, ListCall}
+use Rattle.assise_model_events.proofs.Common.{Stat, Fsync, Dsync, Durability, Pessimistic, Optimistic, durability_of, LogFrame, Answer, open_client, try_call}
+use Rattle.assise_model_events.proofs.Common.{try_fsync, outgoing, deliver, digest, release_ready, set_hot, crash, fail, back, refill, join, raise, entries_of}
+use Rattle.assise_model_events.proofs.Common.{EntryValue, Coalescing, Dsyncing, Fsyncing, Trying, Machine, Opening, Calling, Syncing, Noting, Crashing, Sending}
+use Rattle.assise_model_events.proofs.Common.{Delivering, Digesting, Releasing, SettingHot, Failing, Returning, Refilling, Joining, Raising}
+use Rattle.assise_names.specs.declared.call.Op.TheVariants.{Read, Write}
 
-pub opening_told : (m m' : Machine) (n : ℕ) (u : Durability) (a : Answer) → Opening m n u a m' → m'.history ≡ m.history ++ entries_of m.history (open_client n u) a
+pub opening_told : (m m' : Machine) (n : ℕ) (u : Durability) (a : Answer) → Opening m n u a m' →
+    m'.history ≡ m.history ++ entries_of m.history (open_client n u) a
 opening_told m m' n u a h = grind (arith, append-nil)
 
 pub calling_told : (m m' : Machine) (c : ℕ) (op : Op) (a : Answer) → Calling m c op a m' → m'.history ≡ m.history ++ entries_of m.history (try_call c op) a
@@ -36,7 +28,8 @@ crashing_told m m' c a h = grind (arith, append-nil)
 pub sending_told : (m m' : Machine) (n : ℕ) (a : Answer) → Sending m n a m' → m'.history ≡ m.history ++ entries_of m.history (outgoing n) a
 sending_told m m' n a h = grind (arith, append-nil)
 
-pub delivering_told : (m m' : Machine) (f : LogFrame) (n : ℕ) (a : Answer) → Delivering m f n a m' → m'.history ≡ m.history ++ entries_of m.history (deliver f n) a
+pub delivering_told : (m m' : Machine) (f : LogFrame) (n : ℕ) (a : Answer) → Delivering m f n a m' →
+    m'.history ≡ m.history ++ entries_of m.history (deliver f n) a
 delivering_told m m' f n a h = grind (arith, append-nil)
 
 pub digesting_told : (m m' : Machine) (n : ℕ) (a : Answer) → Digesting m n a m' → m'.history ≡ m.history ++ entries_of m.history (digest n) a
@@ -45,7 +38,8 @@ digesting_told m m' n a h = grind (arith, append-nil)
 pub releasing_told : (m m' : Machine) (a : Answer) → Releasing m a m' → m'.history ≡ m.history ++ entries_of m.history release_ready a
 releasing_told m m' a h = grind (arith, append-nil)
 
-pub hot_told : (m m' : Machine) (n capacity : ℕ) (a : Answer) → SettingHot m n capacity a m' → m'.history ≡ m.history ++ entries_of m.history (set_hot n capacity) a
+pub hot_told : (m m' : Machine) (n capacity : ℕ) (a : Answer) → SettingHot m n capacity a m' →
+    m'.history ≡ m.history ++ entries_of m.history (set_hot n capacity) a
 hot_told m m' n capacity a h = grind (arith, append-nil)
 
 pub failing_told : (m m' : Machine) (n : ℕ) (a : Answer) → Failing m n a m' → m'.history ≡ m.history ++ entries_of m.history (fail n) a
@@ -71,10 +65,12 @@ call_told : (m m' : Machine) (c : ℕ) (u : Durability) (a : Answer) → Fsyncin
 call_told m m' c Pessimistic a h = syncing_told m m' c Fsync a h
 call_told m m' c Optimistic a h = noting_told m m' c a h
 
-pub fsyncing_told : (m m' : Machine) (c : ℕ) (u : Durability) (a : Answer) → Fsyncing u m c a m' → m'.history ≡ m.history ++ entries_of m.history (try_fsync c) a
+pub fsyncing_told : (m m' : Machine) (c : ℕ) (u : Durability) (a : Answer) → Fsyncing u m c a m' → m'.history ≡ m.history ++ entries_of m.history (try_fsync c)
+    a
 fsyncing_told m m' c u a h = call_told m m' c u a h ∙ ap (λ es. m.history ++ es) (by_either_name m.history c a)
 
-dsyncing_told : (m m' : Machine) (c : ℕ) (u : Durability) (a : Answer) → Dsyncing u m c a m' → m'.history ≡ m.history ++ entries_of m.history (try_call c Dsync) a
+dsyncing_told : (m m' : Machine) (c : ℕ) (u : Durability) (a : Answer) → Dsyncing u m c a m' → m'.history ≡ m.history ++ entries_of m.history (try_call c Dsync)
+    a
 dsyncing_told m m' c Pessimistic a h = syncing_told m m' c Dsync a h
 dsyncing_told m m' c Optimistic a h = coalescing_told m m' c a h
 

@@ -1,13 +1,6 @@
 -- What an event does is a trace of the machine's history, and so keeps what each trace keeps.
-use Rattle.std.proofs.Common.{◌≡◌, [], ◌++◌, length, refl, ap, sym, subst, ◌∙◌, append-nil}
-use Rattle.assise_model_world.specs.Invariant.{WorldInvariant}
-use Rattle.assise_model_world.specs.World.{World}
-use Rattle.assise_model_history.specs.Traces.{EntryHappens, quiet}
-use Rattle.assise_model_history.specs.Entered.{NeedsNoEntry}
-use Rattle.assise_model_history.specs.State.{State, IsRecorded}
-use Rattle.assise_model_history.proofs.TracesKeep.{trace_sound, trace_recorded}
-use Rattle.assise_model_events.specs.Happenings.{Leads}
-use Rattle.assise_model_events.specs.Machine.{Machine, MachineInvariant, Adds, state_of}
+use Rattle.assise_model_events.proofs.Common.{◌≡◌, [], ◌++◌, length, refl, ap, sym, subst, ◌∙◌, append-nil, WorldInvariant, World, EntryHappens, quiet}
+use Rattle.assise_model_events.proofs.Common.{NeedsNoEntry, State, IsRecorded, trace_sound, trace_recorded, Leads, Machine, MachineInvariant, Adds, state_of}
 
 pub leads_sound : (m m' : Machine) → MachineInvariant m → Leads m m' → WorldInvariant m'.world
 leads_sound m m' h l = subst (λ s. WorldInvariant s.world) l.last (trace_sound (state_of m) l.states h.sound l.trace)

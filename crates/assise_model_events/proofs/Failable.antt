@@ -1,34 +1,14 @@
 -- A node can fail: a full one beside others, and one that was coming back.
-use Rattle.std.proofs.Common.{◌≡◌, ◌≢◌, ℕ, zero, suc, ◌+◌, ◌-◌, ◌<◌, ◌==◌, inl, inr, cond, true, if◌then◌else◌, drop, List, [], ◌∷◌, ◌++◌, length, Option, Some, None, refl, ap, sym, ◌∙◌, subst, arith, eq-eqb}
-use Rattle.std.specs.List.{slice_set}
-use Rattle.std.proofs.lemmas.Bool.{cases_eq, ne_eqb}
-use Rattle.std.proofs.lemmas.List.{nil_from_length}
-use Rattle.std.proofs.lemmas.Option.{none-some, same_Some}
-use Rattle.assise_names.specs.declared.refusal.Refusal.TheVariants.{BadNode, LastNode, WrongPhase}
-use Rattle.assise_history.specs.declared.call.Loss.{Loss}
-use Rattle.assise_history.specs.Entries.{fails}
-use Rattle.assise_history.proofs.ClientCounts.{early}
-use Rattle.assise_lease_table.specs.Leases.{revoke}
-use Rattle.assise_lease_tree.specs.Levels.{lives}
-use Rattle.assise_manager.specs.Changes.{failure_fault, failure_fault_of, is_returning}
-use Rattle.assise_manager.specs.Membership.{Membership, lowest_full}
-use Rattle.assise_manager.specs.Standings.{Standing, is_full, standing_of, with_standing, full_from, full_nodes}
-use Rattle.assise_manager.specs.Standings.Standing.{full, down, returning}
-use Rattle.assise_manager.proofs.Nodes.{never, one_full_less}
-use Rattle.assise_model_world.specs.NodeSteps.{Drops, Fails}
-use Rattle.assise_model_world.specs.Runs.{fails as fails_node, rests}
-use Rattle.assise_model_world.specs.Invariant.{WorldInvariant}
-use Rattle.assise_model_world.specs.World.{World, Full, end_of_log, digested_by_all}
-use Rattle.assise_model_world.proofs.WorldObserved.{digested_by_all-first, least_of-is}
-use Rattle.assise_model_world.proofs.StepLists.{step_sound}
-use Rattle.assise_model_leases.specs.Handing.{FailsWithLeases as LeasesFail}
-use Rattle.assise_model_leases.specs.Leases.{Leases}
-use Rattle.assise_model_members.proofs.StepsPossible.{may_fail, may_fail_again, may_list}
-use Rattle.assise_model_members.proofs.NodeStandings.{lowest_stands, set_here, set_else}
-use Rattle.assise_model_history.specs.Lost.{losses_of}
-use Rattle.assise_model_events.specs.Events.{failed}
-use Rattle.assise_model_events.specs.Machine.{MachineInvariant, Machine}
-use Rattle.assise_model_events.specs.MemberEvents.{Failing}
+use Rattle.assise_model_events.proofs.Common.{◌≡◌, ◌≢◌, ℕ, zero, suc, ◌+◌, ◌-◌, ◌<◌, ◌==◌, inl, inr, cond, true, if◌then◌else◌, drop, List, [], ◌∷◌, ◌++◌}
+use Rattle.assise_model_events.proofs.Common.{length, Option, Some, None, refl, ap, sym, ◌∙◌, subst, arith, eq-eqb, slice_set, cases_eq, ne_eqb}
+use Rattle.assise_model_events.proofs.Common.{nil_from_length, none-some, same_Some, BadNode, LastNode, WrongPhase, Loss, fails, early, revoke, lives}
+use Rattle.assise_model_events.proofs.Common.{failure_fault, failure_fault_of, is_returning, Membership, lowest_full, Standing, standing_of, with_standing}
+use Rattle.assise_model_events.proofs.Common.{full_from, full_nodes, full, down, returning, never, one_full_less, Drops, Fails, fails_node, WorldInvariant}
+use Rattle.assise_model_events.proofs.Common.{World, Full, end_of_log, digested_by_all, digested_by_all-first, least_of-is, step_sound, LeasesFail, Leases}
+use Rattle.assise_model_events.proofs.Common.{may_fail, may_fail_again, may_list, lowest_stands, set_here, set_else, losses_of, failed, MachineInvariant}
+use Rattle.assise_model_events.proofs.Common.{Machine, Failing}
+use Rattle.assise_manager.specs.Standings.{is_full}
+use Rattle.assise_model_world.specs.Runs.{rests}
 use Rattle.assise_model_events.specs.MemberEvents.Failing.{is_failed, is_failed_again}
 
 -- ---- another node is full
@@ -42,7 +22,8 @@ some_left o (suc place) at fine =
     let here : suc place - 1 ≡ place = omega arith in
     subst (λ j. 0 < length (full_from 1 (slice_set o.nodes j (down 0)))) (sym here)
     (elim (cases_eq (length (full_nodes o.nodes)) 1) [
-      | inl one ↦ absurd (none-some LastNode (sym fine ∙ ap (failure_fault_of o) at ∙ ap (λ b. cond b (Some LastNode) None) (eq-eqb (length (full_nodes o.nodes)) 1 one)))
+      | inl one ↦ absurd (none-some LastNode
+          (sym fine ∙ ap (failure_fault_of o) at ∙ ap (λ b. cond b (Some LastNode) None) (eq-eqb (length (full_nodes o.nodes)) 1 one)))
       | inr more ↦ omega (arith, less, more)
     ])
 
@@ -51,7 +32,8 @@ beside o n at fine =
     let left : List Standing = with_standing o.nodes n (down 0) in
     let k : ℕ = lowest_full left in
     let stands : standing_of left k ≡ Some full = lowest_stands left (some_left o n at fine) in
-    let other : k ≢ n = λ is. never (ap is_full (same_Some (down 0) full (sym (set_here o.nodes n full (down 0) at) ∙ subst (λ j. standing_of left j ≡ Some full) is stands))) in
+    let other : k ≢ n = λ is. never
+    (ap is_full (same_Some (down 0) full (sym (set_here o.nodes n full (down 0) at) ∙ subst (λ j. standing_of left j ≡ Some full) is stands))) in
     (k, (other, sym (set_else o.nodes n k full (down 0) at other) ∙ stands))
 
 -- ---- a client that wasn't opened has no records
@@ -83,7 +65,8 @@ left_leases w v l n e = (
 pub digested_border : (w : World) → WorldInvariant w → (c : ℕ) → w.border c (digested_by_all w c) ≡ true
 unfolding digested_by_all
 digested_border w s c =
-    least_of-is (λ k. w.border c k ≡ true) w.full (λ n. w.digested n c) (end_of_log w c) (s.coherent.end_border c) (λ n h. (s.coherent.order n c h).digested_border)
+    least_of-is (λ k. w.border c k ≡ true) w.full (λ n. w.digested n c) (end_of_log w c) (s.coherent.end_border c)
+    (λ n h. (s.coherent.order n c h).digested_border)
 
 abbrev pub dropped_world : World → World
 dropped_world w = record w {
@@ -95,7 +78,8 @@ dropped_world w = record w {
 pub drops_them : (w : World) → WorldInvariant w → Drops w (digested_by_all w) (dropped_world w)
 drops_them w s = grind (arith, digested_by_all-first, digested_border)
 
-full_can : (m : Machine) (n : ℕ) → MachineInvariant m → failure_fault m.members n ≡ None → standing_of m.members.nodes n ≡ Some full → (m' : Machine) × ((losses : List Loss) × Failing m n (failed losses) m')
+full_can : (m : Machine) (n : ℕ) → MachineInvariant m → failure_fault m.members n ≡ None → standing_of m.members.nodes n ≡ Some full →
+    (m' : Machine) × ((losses : List Loss) × Failing m n (failed losses) m')
 full_can m n h fine at =
     let here : Full m.world n = h.members.nodes_full n at in
     let (k, other) = beside m.members n at fine in
@@ -120,7 +104,8 @@ full_can m n h fine at =
       ),
     )
 
-again_can : (m : Machine) (n : ℕ) → failure_fault m.members n ≡ None → is_returning (standing_of m.members.nodes n) ≡ true → (m' : Machine) × ((losses : List Loss) × Failing m n (failed losses) m')
+again_can : (m : Machine) (n : ℕ) → failure_fault m.members n ≡ None → is_returning (standing_of m.members.nodes n) ≡ true →
+    (m' : Machine) × ((losses : List Loss) × Failing m n (failed losses) m')
 again_can m n fine was =
     let (u, o, e) = may_fail_again m.world m.members n was in (
       record { limit = m.limit; hot = m.hot; history = m.history ++ fails n [] ∷ []; world = u; leases = m.leases; members = o },
@@ -134,5 +119,6 @@ failed_as_stands m n h (Some full) at fine = full_can m n h fine at
 failed_as_stands m n h (Some (down since)) at fine = absurd (none-some WrongPhase (sym fine ∙ ap (failure_fault_of m.members) at))
 failed_as_stands m n h (Some (returning since donor stale)) at fine = again_can m n fine (ap is_returning at)
 
-pub failed_can : (m : Machine) (n : ℕ) → MachineInvariant m → failure_fault m.members n ≡ None → (m' : Machine) × ((losses : List Loss) × Failing m n (failed losses) m')
+pub failed_can : (m : Machine) (n : ℕ) → MachineInvariant m → failure_fault m.members n ≡ None →
+    (m' : Machine) × ((losses : List Loss) × Failing m n (failed losses) m')
 failed_can m n h fine = failed_as_stands m n h (standing_of m.members.nodes n) refl fine

@@ -1,11 +1,6 @@
 -- Where no fault stands: what holds of clients and nodes.
-use Rattle.std.proofs.Common.{◌≡◌, ℕ, true, false, Option, Some, None, refl, sym, arith}
-use Rattle.std.proofs.lemmas.Option.{none-some}
-use Rattle.assise_names.specs.declared.refusal.Refusal.{Refusal}
-use Rattle.assise_manager.specs.Standings.{Standing}
-use Rattle.assise_manager.specs.Standings.Standing.{full}
-use Rattle.assise_model_events.specs.Faults.{client_fault, or_else, unless_full}
-use Rattle.assise_model_events.specs.Machine.{Machine}
+use Rattle.assise_model_events.proofs.Common.{◌≡◌, ℕ, true, false, Option, Some, None, refl, sym, arith, none-some, Refusal, Standing, full, client_fault}
+use Rattle.assise_model_events.proofs.Common.{or_else, unless_full, Machine}
 
 -- neither of two faults stands
 pub first_none : (a b : Option Refusal) → or_else a b ≡ None → a ≡ None

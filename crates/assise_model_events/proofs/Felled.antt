@@ -1,34 +1,13 @@
 -- Nodes fail: a full one, whose clients' logs are cut, and one that was coming back.
-use Rattle.std.proofs.Common.{◌≡◌, ℕ, ◌+◌, ◌-◌, ◌≤◌, Option, Some, None, [], ◌∷◌, ◌++◌, length, refl, ap, sym, ◌∙◌, arith, length-append}
+use Rattle.assise_model_events.proofs.Common.{◌≡◌, ℕ, ◌+◌, ◌-◌, ◌≤◌, Option, Some, None, [], ◌∷◌, ◌++◌, length, refl, ap, sym, ◌∙◌, arith, length-append}
+use Rattle.assise_model_events.proofs.Common.{nat_cmp, length-map, length-take, length-drop, fails, failed_as, is_returning, Membership, Standing, standing_of}
+use Rattle.assise_model_events.proofs.Common.{full, down, returning, never, Rests, World, digested_by_all, records_between, drop_dropped, fail_sound, AreLeases}
+use Rattle.assise_model_events.proofs.Common.{leases_fail, logs_keep, drop_keeps, AreMembers, again_keeps, areas_keep, keeps_areas, returning_is, failure}
+use Rattle.assise_model_events.proofs.Common.{failure_again, rests, drops, losses_of, State, Answer, Leads, Machine, MachineInvariant, state_of, Failing}
+use Rattle.assise_model_events.proofs.Common.{IsFailed, IsFailedAgain}
 use Rattle.std.specs.FinSet as set
-use Rattle.std.specs.Ordering.{nat_cmp}
-use Rattle.std.proofs.lemmas.List.{length-map, length-take, length-drop}
-use Rattle.assise_history.specs.Entries.{fails}
-use Rattle.assise_manager.specs.Changes.{failed_as, is_returning}
-use Rattle.assise_manager.specs.Membership.{Membership}
-use Rattle.assise_manager.specs.Standings.{Standing, standing_of}
-use Rattle.assise_manager.specs.Standings.Standing.{full, down, returning}
-use Rattle.assise_manager.proofs.Nodes.{never}
-use Rattle.assise_model_world.specs.NodeSteps.{Rests}
-use Rattle.assise_model_world.specs.World.{World, digested_by_all, records_between}
-use Rattle.assise_model_world.proofs.DropKeeps.{drop_dropped}
-use Rattle.assise_model_world.proofs.FailureKeeps.{fail_sound}
-use Rattle.assise_model_leases.specs.Leases.{AreLeases}
-use Rattle.assise_model_leases.proofs.ClientEnds.{fail_keeps as leases_fail}
-use Rattle.assise_model_leases.proofs.QuietLeases.{logs_keep, drop_keeps}
-use Rattle.assise_model_members.specs.Members.{AreMembers}
-use Rattle.assise_model_members.proofs.NodeChanged.{again_keeps}
 use Rattle.assise_model_members.proofs.NodesFail.{fail_keeps as members_fail}
-use Rattle.assise_model_members.proofs.DigestNoted.{areas_keep, keeps_areas}
-use Rattle.assise_model_members.proofs.NodeStandings.{returning_is}
-use Rattle.assise_model_history.specs.Traces.EntryHappens.{failure, failure_again, quiet}
-use Rattle.assise_model_history.specs.Entered.NeedsNoEntry.{rests, drops}
-use Rattle.assise_model_history.specs.Lost.{losses_of}
-use Rattle.assise_model_history.specs.State.{State}
-use Rattle.assise_model_events.specs.Events.{Answer}
-use Rattle.assise_model_events.specs.Happenings.{Leads}
-use Rattle.assise_model_events.specs.Machine.{Machine, MachineInvariant, state_of}
-use Rattle.assise_model_events.specs.MemberEvents.{Failing, IsFailed, IsFailedAgain}
+use Rattle.assise_model_history.specs.Traces.EntryHappens.{quiet}
 use Rattle.assise_model_events.specs.MemberEvents.Failing.{is_failed, is_failed_again, lacks_memory, is_refused}
 use Rattle.assise_model_events.proofs.EventTraces.{leads_sound, leads_recorded, same_leads, same_holds}
 use Rattle.assise_model_events.proofs.ReturnKeeps.{as_many, rest_holds}
@@ -97,7 +76,8 @@ full_holds : (m m' : Machine) (n : ℕ) → MachineInvariant m → IsFailed m n 
 full_holds m m' n h e =
     let l : Leads m m' = full_leads m m' n e in
     let same : m'.members.epoch ≡ (failed_as m.members n e.inodes (standing_of m.members.nodes n)).epoch = ap (λ o. o.epoch) e.failure.members in
-    let epoch : (failed_as m.members n e.inodes (standing_of m.members.nodes n)).epoch ≤ m.members.epoch + 1 = failed_epoch m.members n e.inodes (standing_of m.members.nodes n) in
+    let epoch : (failed_as m.members n e.inodes (standing_of m.members.nodes n)).epoch ≤ m.members.epoch + 1 = failed_epoch m.members n e.inodes
+    (standing_of m.members.nodes n) in
     record {
       sound = leads_sound m m' h l;
       dropped = drop_dropped e.refreshed m'.world e.drops;

@@ -1,20 +1,10 @@
 -- Ready leases can go, and nodes that aren't full and whose clients hold nothing can give theirs up, where clients hold only so
 -- many inodes.
-use Rattle.std.proofs.Common.{◌≡◌, ◌⊎◌, ℕ, zero, suc, ◌≤◌, ◌<◌, nat_le, inl, inr, true, false, List, [], ◌∷◌, length, Some, None, refl, ap, sym, ◌∙◌, subst, arith, append-nil}
-use Rattle.std.proofs.lemmas.Bool.{and_parts, both_ways, cases_Bool, cases_eq, cases_lt}
-use Rattle.std.proofs.lemmas.Option.{none-some}
-use Rattle.assise_inode_table.specs.Effects.{contains}
-use Rattle.assise_lease_table.specs.declared.lease.Lease.{Lease}
-use Rattle.assise_lease_table.specs.Leases.{lease_of, without_holder}
-use Rattle.assise_lease_tree.specs.Levels.{is_busy, is_revoked}
-use Rattle.assise_lease_tree.specs.TwoLevels.{IsIdle, TwoLevels}
-use Rattle.assise_lease_tree.proofs.Lookups.{without_other, without_own}
-use Rattle.assise_model_world.specs.World.{World, Full, digested_by_all}
-use Rattle.assise_model_leases.specs.Leases.{Leases, client_lease}
-use Rattle.assise_model_leases.proofs.QuietLeases.{revoked_holder, holder_home}
-use Rattle.assise_model_events.specs.Events.{Answer, released}
-use Rattle.assise_model_events.specs.Machine.{MachineInvariant, Machine}
-use Rattle.assise_model_events.specs.NodeEvents.{Freed, Frees, Releasing, is_ready, leases_after, leases_freed, world_after}
+use Rattle.assise_model_events.proofs.Common.{◌≡◌, ◌⊎◌, ℕ, zero, suc, ◌≤◌, ◌<◌, nat_le, inl, inr, true, false, List, [], ◌∷◌, length, Some, None, refl, ap, sym}
+use Rattle.assise_model_events.proofs.Common.{◌∙◌, subst, arith, append-nil, and_parts, both_ways, cases_Bool, cases_eq, cases_lt, none-some, contains, Lease}
+use Rattle.assise_model_events.proofs.Common.{lease_of, without_holder, is_busy, is_revoked, IsIdle, TwoLevels, without_other, without_own, World, Full}
+use Rattle.assise_model_events.proofs.Common.{digested_by_all, Leases, client_lease, revoked_holder, holder_home, Answer, released, MachineInvariant, Machine}
+use Rattle.assise_model_events.proofs.Common.{Freed, Frees, Releasing, is_ready, leases_after, leases_freed, world_after}
 use Rattle.assise_model_events.specs.NodeEvents.Releasing.{is_released}
 use Rattle.assise_model_events.proofs.Ready.{LetOut, in_pairs, let_out, pairs}
 
@@ -59,7 +49,11 @@ pub record FreedAll (w : World) (l : Leases) (most : ℕ) : Type 0 where
   pub none : (n i : ℕ) → lease_of (l.levels.nodes i) n ≡ None → lease_of ((leases_freed l freed).levels.nodes i) n ≡ None
 
 abbrev without_node : Leases → ℕ → Leases
-without_node l n = record { levels = record { home = l.levels.home; clients = l.levels.clients; nodes = λ i. without_holder n (l.levels.nodes i) }; cut = l.cut }
+without_node l n = record {
+  levels = record { home = l.levels.home; clients = l.levels.clients; nodes = λ i. without_holder n (l.levels.nodes i) };
+  cut =
+      l.cut;
+}
 
 still_none : (ls : List Lease) (n k : ℕ) → lease_of ls k ≡ None → lease_of (without_holder n ls) k ≡ None
 still_none ls n k is = grind (arith, cases_eq, without_own, without_other)
@@ -102,18 +96,22 @@ free_all w l top (suc n) few =
 -- who holds a ready lease is a client
 ready_client : (m : Machine) (c i : ℕ) → MachineInvariant m → is_ready m.world m.leases c i ≡ true → c ≤ m.world.clients
 ready_client m c i h ready =
-    let revoked : is_revoked (client_lease m.leases c i) ≡ true = (and_parts (is_revoked (client_lease m.leases c i)) (nat_le (m.leases.cut c i) (digested_by_all m.world c)) ready).0 in
+    let revoked : is_revoked (client_lease m.leases c i) ≡ true =
+    (and_parts (is_revoked (client_lease m.leases c i)) (nat_le (m.leases.cut c i) (digested_by_all m.world c)) ready).0 in
     let home : m.leases.levels.home c ≡ Some (m.world.home c) = holder_home m.world m.leases c i h.leases (revoked_holder m.leases c i revoked) in
     elim (cases_lt m.world.clients c) [
-      | inl above ↦ absurd (none-some (m.world.home c) (sym (h.leases.strangers c (λ client. (let low : c ≤ m.world.clients = client.1 in omega (arith, low, above)))) ∙ home))
+      | inl above ↦ absurd (none-some (m.world.home c)
+          (sym (h.leases.strangers c (λ client. (let low : c ≤ m.world.clients = client.1 in omega (arith, low, above)))) ∙ home))
       | inr within ↦ omega (arith, within)
     ]
 
-none_left : (m : Machine) (top c i : ℕ) → MachineInvariant m → ((i : ℕ) → top < i → m.leases.levels.clients i ≡ []) → (r : LetOut m.world m.leases (pairs m.world.clients top)) →
+none_left : (m : Machine) (top c i : ℕ) → MachineInvariant m → ((i : ℕ) → top < i → m.leases.levels.clients i ≡ []) →
+    (r : LetOut m.world m.leases (pairs m.world.clients top)) →
     is_ready m.world m.leases c i ≡ true → client_lease (leases_after m.leases r.gone) c i ≡ None
 none_left m top c i h few r ready = grind (arith, cases_lt, in_pairs, ready_client)
 
-pub released_can : (m : Machine) (top : ℕ) → MachineInvariant m → ((i : ℕ) → top < i → m.leases.levels.clients i ≡ []) → (m' : Machine) × ((a : Answer) × Releasing m a m')
+pub released_can : (m : Machine) (top : ℕ) → MachineInvariant m → ((i : ℕ) → top < i → m.leases.levels.clients i ≡ []) →
+    (m' : Machine) × ((a : Answer) × Releasing m a m')
 released_can m top h few =
     let r : LetOut m.world m.leases (pairs m.world.clients top) = let_out m.world m.leases (pairs m.world.clients top) in
     let k : Leases = leases_after m.leases r.gone in

@@ -1,31 +1,35 @@
 -- What a call lacks can be answered.
-use Rattle.std.proofs.Common.{◌≡◌, ℕ, ◌<◌, true, List, [], length, None, refl, sym, append-nil}
-use Rattle.assise_names.specs.declared.call.Op.{Op}
-use Rattle.assise_names.specs.declared.reply.Reply.{Reply}
-use Rattle.assise_names.specs.declared.refusal.Refusal.TheVariants.{InodesSpent, LogFull, OutOfMemory}
-use Rattle.assise_record.specs.Records.{has_some}
-use Rattle.assise_model_world.specs.World.{call_makes_inode, step_at_home}
-use Rattle.assise_model_events.specs.ClientEvents.{Calling, is_spent, is_full, lacks_memory, Granted, HasServingLeases, KeepsGranted, call_of_client, last_leases, last_world}
-use Rattle.assise_model_events.specs.Events.{refused}
-use Rattle.assise_model_events.specs.Faults.{call_fault}
-use Rattle.assise_model_events.specs.Machine.{Machine}
+use Rattle.assise_model_events.proofs.Common.{◌≡◌, ℕ, ◌<◌, true, List, [], length, None, refl, sym, append-nil, Op, Reply, InodesSpent, LogFull, OutOfMemory}
+use Rattle.assise_model_events.proofs.Common.{has_some, call_makes_inode, step_at_home, Calling, is_spent, is_full, lacks_memory, Granted, HasServingLeases}
+use Rattle.assise_model_events.proofs.Common.{KeepsGranted, call_of_client, last_leases, last_world, refused, call_fault, Machine}
 use Rattle.assise_model_events.proofs.Answerable.{is_tried}
 
 -- the machine once the call's client got these leases
 abbrev pub with_granted : Machine → List Granted → Machine
-with_granted m gs = record { limit = m.limit; hot = m.hot; history = m.history; world = last_world m.world gs; leases = last_leases m.leases gs; members = m.members }
+with_granted m gs = record {
+  limit = m.limit;
+  hot = m.hot;
+  history = m.history;
+  world = last_world m.world gs;
+  leases = last_leases m.leases gs;
+  members =
+      m.members;
+}
 
 pub keeps_them : (m : Machine) (gs : List Granted) → KeepsGranted m gs (with_granted m gs)
 keeps_them m gs = record { world = refl; leases = refl; members = refl; adds = record { history = sym (append-nil m.history); limit = refl; hot = refl } }
 
-pub spent_can : (m : Machine) (c : ℕ) (op : Op) (reply : Reply) → call_fault m c op ≡ None → HasServingLeases m.world m.leases (call_of_client m.world c op reply) →
+pub spent_can : (m : Machine) (c : ℕ) (op : Op) (reply : Reply) → call_fault m c op ≡ None →
+    HasServingLeases m.world m.leases (call_of_client m.world c op reply) →
     call_makes_inode m.world (call_of_client m.world c op reply) ≡ true → m.world.made c ≡ 1048576 → Calling m c op (refused InodesSpent) m
 spent_can m c op reply fine served makes made =
     is_spent reply [] refl (record { tried = is_tried m c op reply fine; served = served; makes = makes; made = made }) (keeps_them m [])
 
-pub full_can : (m : Machine) (c : ℕ) (op : Op) (reply : Reply) → call_fault m c op ≡ None → HasServingLeases m.world m.leases (call_of_client m.world c op reply) →
+pub full_can : (m : Machine) (c : ℕ) (op : Op) (reply : Reply) → call_fault m c op ≡ None →
+    HasServingLeases m.world m.leases (call_of_client m.world c op reply) →
     (call_makes_inode m.world (call_of_client m.world c op reply) ≡ true → m.world.made c < 1048576) →
-    has_some (step_at_home m.world (call_of_client m.world c op reply)).effects ≡ true → length (m.world.records c) ≡ m.limit → Calling m c op (refused LogFull) m
+    has_some (step_at_home m.world (call_of_client m.world c op reply)).effects ≡ true → length (m.world.records c) ≡ m.limit →
+    Calling m c op (refused LogFull) m
 full_can m c op reply fine served makes some at_limit =
     is_full reply [] refl (record { tried = is_tried m c op reply fine; served = served; makes = makes; effects = some; at_limit = at_limit }) (keeps_them m [])
 

@@ -1,23 +1,9 @@
 -- The leases that a call takes, one after another: each is a step that no entry tells of, and leaves all but leases as it is.
-use Rattle.std.proofs.Common.{◌≡◌, ℕ, true, List, [], ◌∷◌, refl, sym, subst, ◌∙◌, arith}
-use Rattle.assise_inode_table.specs.Effects.{contains}
-use Rattle.assise_inode_table.specs.Traces.{NumberedCall}
-use Rattle.assise_model_world.specs.ClientSteps.{Acquires}
-use Rattle.assise_model_world.specs.Invariant.{WorldInvariant, AreDropped}
-use Rattle.assise_model_world.specs.Staying.{SameLogs, SameClients, SameNode, SameNodes}
-use Rattle.assise_model_world.specs.World.{World, Full}
-use Rattle.assise_model_world.proofs.ClientsStaying.{acquire_sound}
-use Rattle.assise_model_world.proofs.QuietSteps.{still_dropped}
-use Rattle.assise_model_leases.specs.Handing.{Grants}
-use Rattle.assise_model_leases.specs.Leases.{Leases, AreLeases}
+use Rattle.assise_model_events.proofs.Common.{◌≡◌, ℕ, true, List, [], ◌∷◌, refl, sym, subst, ◌∙◌, arith, contains, NumberedCall, Acquires, WorldInvariant}
+use Rattle.assise_model_events.proofs.Common.{AreDropped, SameLogs, SameClients, SameNode, SameNodes, World, Full, acquire_sound, still_dropped, Grants, Leases}
+use Rattle.assise_model_events.proofs.Common.{AreLeases, OtherAreasStay, IsTrace, last_of, acquires, State, Granted, Gets, last_world, last_leases, Leads}
+use Rattle.assise_model_events.proofs.Common.{Machine, MachineInvariant, Adds, state_of}
 use Rattle.assise_model_leases.proofs.GrantKeeps.{grant_acquires, grant_keeps}
-use Rattle.assise_model_members.specs.Returns.{OtherAreasStay}
-use Rattle.assise_model_history.specs.Traces.{IsTrace, last_of}
-use Rattle.assise_model_history.specs.Entered.{acquires}
-use Rattle.assise_model_history.specs.State.{State}
-use Rattle.assise_model_events.specs.ClientEvents.{Granted, Gets, last_world, last_leases}
-use Rattle.assise_model_events.specs.Happenings.{Leads}
-use Rattle.assise_model_events.specs.Machine.{Machine, MachineInvariant, Adds, state_of}
 use Rattle.assise_model_events.proofs.EventTraces.{leads_recorded, with_world, quietly}
 use Rattle.assise_model_events.proofs.Members.{members_rest, epochs_stay, logs_stay}
 
@@ -66,26 +52,29 @@ begins m h = record {
   others = λ k i away. refl;
 }
 
-module _ (m : Machine) (x : NumberedCall) (w : World) (l : Leases) (g : Granted) (r : Reached m w l) (e : Grants w l x.client g.inode g.mode g.world g.leases) where
-  acquired : Acquires w x.client g.inode g.mode g.world
-  acquired = grant_acquires w g.world l g.leases x.client g.inode g.mode r.leases e
+module _ (m : Machine) (x : NumberedCall) (w : World) (l : Leases) (g : Granted) (r : Reached m w l) (e : Grants w l x.client g.inode g.mode g.world g.leases)
+  where
+    acquired : Acquires w x.client g.inode g.mode g.world
+    acquired = grant_acquires w g.world l g.leases x.client g.inode g.mode r.leases e
 
-  pub one_more : OtherAreasStay w g.world → Reached m g.world g.leases
-  one_more others = record {
-    sound = acquire_sound w g.world x.client g.inode g.mode r.sound acquired;
-    dropped = still_dropped w g.world acquired.logs acquired.nodes r.dropped;
-    leases = grant_keeps w g.world l g.leases x.client g.inode g.mode r.leases e r.sound;
-    logs = logs_after m.world w g.world r.logs acquired.logs;
-    clients = clients_after m.world w g.world r.clients acquired.clients;
-    nodes = nodes_after m.world w g.world r.nodes acquired.nodes;
-    others = λ k i away. others k i (λ f. away (subst (λ ns. contains ns k ≡ true) r.nodes.full f)) ∙ r.others k i away;
-  }
+    pub one_more : OtherAreasStay w g.world → Reached m g.world g.leases
+    one_more others = record {
+      sound = acquire_sound w g.world x.client g.inode g.mode r.sound acquired;
+      dropped = still_dropped w g.world acquired.logs acquired.nodes r.dropped;
+      leases = grant_keeps w g.world l g.leases x.client g.inode g.mode r.leases e r.sound;
+      logs = logs_after m.world w g.world r.logs acquired.logs;
+      clients = clients_after m.world w g.world r.clients acquired.clients;
+      nodes = nodes_after m.world w g.world r.nodes acquired.nodes;
+      others = λ k i away. others k i (λ f. away (subst (λ ns. contains ns k ≡ true) r.nodes.full f)) ∙ r.others k i away;
+    }
 
-all_more : (m : Machine) (x : NumberedCall) (w : World) (l : Leases) (gs : List Granted) → Reached m w l → Gets x w l gs → Reached m (last_world w gs) (last_leases l gs)
+all_more : (m : Machine) (x : NumberedCall) (w : World) (l : Leases) (gs : List Granted) → Reached m w l → Gets x w l gs →
+    Reached m (last_world w gs) (last_leases l gs)
 all_more m x w l [] r none = r
 all_more m x w l (g ∷ gs) r (missing, grant, others, more) = all_more m x g.world g.leases gs (one_more m x w l g r grant others) more
 
-pub comes_to : (m : Machine) (x : NumberedCall) (gs : List Granted) → MachineInvariant m → Gets x m.world m.leases gs → Reached m (last_world m.world gs) (last_leases m.leases gs)
+pub comes_to : (m : Machine) (x : NumberedCall) (gs : List Granted) → MachineInvariant m → Gets x m.world m.leases gs →
+    Reached m (last_world m.world gs) (last_leases m.leases gs)
 comes_to m x gs h gets = all_more m x m.world m.leases gs (begins m h) gets
 
 -- ---- their trace
@@ -103,7 +92,8 @@ trace_from m x w l (g ∷ gs) rest r (missing, grant, others, more) c = (
   trace_from m x g.world g.leases gs rest (one_more m x w l g r grant others) more c,
 )
 
-last_from : (m : Machine) (w : World) (gs : List Granted) (rest : List State) → last_of (with_world m w) (states_of m gs rest) ≡ last_of (with_world m (last_world w gs)) rest
+last_from : (m : Machine) (w : World) (gs : List Granted) (rest : List State) → last_of (with_world m w) (states_of m gs rest)
+    ≡ last_of (with_world m (last_world w gs)) rest
 last_from m w [] rest = refl
 last_from m w (g ∷ gs) rest = last_from m g.world gs rest
 
@@ -113,7 +103,8 @@ leads_with m m' x gs rest h gets trace last = grind (arith, trace_from, begins, 
 
 -- ---- what holds there
 
-pub reached_holds : (m m' : Machine) → MachineInvariant m → Leads m m' → Reached m m'.world m'.leases → Adds m [] m' → m'.members ≡ m.members → MachineInvariant m'
+pub reached_holds : (m m' : Machine) → MachineInvariant m → Leads m m' → Reached m m'.world m'.leases → Adds m [] m' → m'.members ≡ m.members →
+    MachineInvariant m'
 reached_holds m m' h leads r adds members = record {
   sound = r.sound;
   dropped = r.dropped;

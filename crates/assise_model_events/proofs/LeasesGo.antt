@@ -1,20 +1,10 @@
 -- Leases that go: a client that got its leases crashes, and they are ready.
-use Rattle.std.proofs.Common.{◌≡◌, ℕ, suc, ◌<◌, max, nat_le, ◌&&◌, true, List, [], ◌∷◌, length, Some, refl, ap, sym, ◌∙◌, arith}
-use Rattle.std.proofs.lemmas.Bool.{and_parts, le-leb, true≢false}
-use Rattle.assise_names.specs.declared.mode.Mode.TheVariants.{Write}
-use Rattle.assise_names.specs.declared.refusal.Refusal.TheVariants.{OutOfMemory}
-use Rattle.assise_names.specs.declared.reply.Reply.TheVariants.{Done}
-use Rattle.assise_inode_table.specs.Traces.{NumberedCall}
-use Rattle.assise_lease_table.specs.Leases.{revoke, is_own, lease_of, new_lease}
-use Rattle.assise_lease_tree.specs.Levels.{is_revoked}
-use Rattle.assise_model_world.specs.World.{World, digested_by_all, end_of_log}
-use Rattle.assise_model_leases.specs.Leases.{Leases, client_lease}
-use Rattle.assise_model_history.proofs.LossReached.{IsNew, create_op, creation}
-use Rattle.assise_model_events.specs.ClientEvents.{Calling, Crashing, Granted, Gets, is_crashed, is_refused, lacks_memory, last_leases}
-use Rattle.assise_model_events.specs.Events.{Answer, crash, crashed, refused, released, try_call}
-use Rattle.assise_model_events.specs.Machine.{MachineInvariant, Machine}
-use Rattle.assise_model_events.specs.NodeEvents.{Releasing, is_ready, is_refused, is_released, lacks_memory}
-use Rattle.assise_model_events.specs.Reached.{Comes, IsReached}
+use Rattle.assise_model_events.proofs.Common.{◌≡◌, ℕ, suc, ◌<◌, max, nat_le, ◌&&◌, true, List, [], ◌∷◌, length, Some, refl, ap, sym, ◌∙◌, arith, and_parts}
+use Rattle.assise_model_events.proofs.Common.{le-leb, true≢false, Write, OutOfMemory, Done, NumberedCall, revoke, is_own, lease_of, new_lease, is_revoked}
+use Rattle.assise_model_events.proofs.Common.{World, digested_by_all, end_of_log, Leases, client_lease, IsNew, create_op, creation, Calling, Crashing, Granted}
+use Rattle.assise_model_events.proofs.Common.{Gets, is_crashed, is_refused, lacks_memory, last_leases, Answer, crash, crashed, refused, released, try_call}
+use Rattle.assise_model_events.proofs.Common.{MachineInvariant, Machine, Releasing, is_ready, is_released, Comes, IsReached}
+use Rattle.assise_model_events.specs.NodeEvents.{is_refused, lacks_memory}
 use Rattle.assise_model_events.proofs.Answerable.{crashed_can}
 use Rattle.assise_model_events.proofs.Trace.{HasLeases, IsOpen, is_open, leases_had, reaches, tried}
 use Rattle.assise_model_events.proofs.LackAnswerable.{keeps_them, with_granted}

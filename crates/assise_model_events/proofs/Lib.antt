@@ -1,3 +1,4 @@
+mod Common
 pub mod EventTraces
 pub mod EntriesTold
 pub mod Members

@@ -1,12 +1,6 @@
 -- What an event of clients leaves as it is: the members, and what they hold of areas.
-use Rattle.std.proofs.Common.{◌≡◌, ℕ, suc, ◌≤◌, List, length, arith, length-append}
-use Rattle.assise_history.specs.Entries.{EntryValue}
-use Rattle.assise_model_world.specs.World.{Full}
-use Rattle.assise_model_world.specs.Staying.{SameNodes}
-use Rattle.assise_model_members.specs.Members.{AreMembers}
-use Rattle.assise_model_members.proofs.DigestNoted.{areas_keep, keeps_areas}
-use Rattle.assise_model_events.specs.ClientEvents.{KeepsMembers}
-use Rattle.assise_model_events.specs.Machine.{Machine, MachineInvariant, Adds}
+use Rattle.assise_model_events.proofs.Common.{◌≡◌, ℕ, suc, ◌≤◌, List, length, arith, length-append, EntryValue, Full, SameNodes, AreMembers, areas_keep}
+use Rattle.assise_model_events.proofs.Common.{keeps_areas, KeepsMembers, Machine, MachineInvariant, Adds}
 
 -- the manager stays, and so do the areas of full nodes
 pub members_stay : (m m' : Machine) → MachineInvariant m → KeepsMembers m m' → m'.world.full ≡ m.world.full →
@@ -17,7 +11,8 @@ pub members_rest : (m m' : Machine) → MachineInvariant m → KeepsMembers m m'
 members_rest m m' h keeps nodes = members_stay m m' h keeps nodes.full (λ k i f. (nodes.same k f).area i)
 
 -- the history only grows
-pub epochs_stay : (m m' : Machine) (es : List EntryValue) → MachineInvariant m → m'.members ≡ m.members → Adds m es m' → m'.members.epoch ≤ suc (length m'.history)
+pub epochs_stay : (m m' : Machine) (es : List EntryValue) → MachineInvariant m → m'.members ≡ m.members → Adds m es m' →
+    m'.members.epoch ≤ suc (length m'.history)
 epochs_stay m m' es h same adds = rw (same, adds.history, length-append m.history es) (omega (arith, h.epochs))
 
 -- logs stay

@@ -1,30 +1,19 @@
 -- What happens to nodes comes from the start: node 2 fails, comes back, is filled and joins.
-use Rattle.std.proofs.Common.{◌≡◌, ◌≢◌, ℕ, suc, ◌-◌, ◌<◌, ◌==◌, inl, inr, take, false, true, cond, List, [], ◌∷◌, Some, None, refl, ap, sym, subst, ◌∙◌, arith}
+use Rattle.assise_model_events.proofs.Common.{◌≡◌, ◌≢◌, ℕ, suc, ◌-◌, ◌<◌, ◌==◌, inl, inr, take, false, true, cond, List, [], ◌∷◌, Some, None, refl, ap, sym}
+use Rattle.assise_model_events.proofs.Common.{subst, ◌∙◌, arith, cases_Bool, cases_eq, ne_eqb, same_Some, nat_cmp, Busy, LastNode, OutOfMemory, WrongPhase}
+use Rattle.assise_model_events.proofs.Common.{Loss, all_effects, contains, touched, all_full, failed_members, back_members, is_returning, join_fault, stale_of}
+use Rattle.assise_model_events.proofs.Common.{Membership, standing_of, never, Fails, kept_at_failure, World, end_of_log, records_between, same_stale}
+use Rattle.assise_model_events.proofs.Common.{with_raised, began, fail, failed, back, joined, left, raise, raised, refused, MachineInvariant, Machine, Failing}
+use Rattle.assise_model_events.proofs.Common.{IsRefilled, Joining, Raising, Refilling, Returning, count_of, stale_at, is_back, is_failed, is_failed_again}
+use Rattle.assise_model_events.proofs.Common.{is_raised, is_refilled, is_whole, Comes, IsReached}
 use Rattle.std.proofs.Math.Seq.{drop-nil, take-nil}
-use Rattle.std.proofs.lemmas.Bool.{cases_Bool, cases_eq, ne_eqb}
-use Rattle.std.proofs.lemmas.Option.{same_Some}
 use Rattle.std.specs.FinSet as set
 use Rattle.std.specs.Cmp.{nat_cmp_total}
-use Rattle.std.specs.Ordering.{nat_cmp}
-use Rattle.assise_names.specs.declared.refusal.Refusal.TheVariants.{Busy, LastNode, OutOfMemory, WrongPhase}
-use Rattle.assise_history.specs.declared.call.Loss.{Loss}
-use Rattle.assise_record.specs.Records.{all_effects}
-use Rattle.assise_inode_table.specs.Effects.{contains, touched}
-use Rattle.assise_manager.specs.Changes.{all_full, failed as failed_members, back as back_members, is_returning, join_fault, stale_of}
-use Rattle.assise_manager.specs.Membership.{Membership}
-use Rattle.assise_manager.specs.Standings.{full, down, returning, is_full, standing_of}
+use Rattle.assise_manager.specs.Standings.{full, down, returning, is_full}
 use Rattle.assise_manager.proofs.Sets.{Numbers, same, union-empty}
-use Rattle.assise_manager.proofs.Nodes.{never}
-use Rattle.assise_model_world.specs.NodeSteps.{Fails, kept_at_failure}
-use Rattle.assise_model_world.specs.World.{World, end_of_log, records_between}
 use Rattle.assise_model_members.proofs.StaleInodes.{refilled_stale}
-use Rattle.assise_model_members.proofs.NodeStandings.{same_stale}
 use Rattle.assise_manager.specs.declared.level.Level.TheVariants.{Plain}
-use Rattle.assise_manager.specs.Changes.{raised as with_raised}
-use Rattle.assise_model_events.specs.Events.{began, fail, failed, back, joined, left, raise, raised, refused}
-use Rattle.assise_model_events.specs.Machine.{MachineInvariant, Machine}
-use Rattle.assise_model_events.specs.MemberEvents.{Failing, IsRefilled, Joining, Raising, Refilling, Returning, count_of, stale_at, is_back, is_failed, is_failed_again, is_raised, is_refilled, is_whole, is_refused, lacks_memory}
-use Rattle.assise_model_events.specs.Reached.{Comes, IsReached}
+use Rattle.assise_model_events.specs.MemberEvents.{is_refused, lacks_memory}
 use Rattle.assise_model_events.proofs.NodeEventsPossible.{back_can, joined_can, refilled_can}
 use Rattle.assise_model_events.proofs.Trace.{reaches, start, start_holds, start_reached}
 use Rattle.assise_model_events.proofs.ReachedCreate.{HasFile, file_record, has_file}
@@ -48,10 +37,13 @@ pub record IsDown (limit : ℕ) (m : Machine) (inodes : Numbers) (m' : Machine) 
   pub touched_only : (i : ℕ) → set.contains inodes i ≡ true → (c : ℕ) × (contains (touched (all_effects (cut.records c))) i ≡ true)
   pub touched_all : (c i : ℕ) → contains (touched (all_effects (cut.records c))) i ≡ true → set.contains inodes i ≡ true
 
-of_failing : (limit : ℕ) (m m' : Machine) (losses : List Loss) → IsReached limit m → MachineInvariant m → m.members ≡ all_full 2 → Failing m 2 (failed losses) m' → (inodes : Numbers) × IsDown limit m inodes m'
+of_failing : (limit : ℕ) (m m' : Machine) (losses : List Loss) → IsReached limit m → MachineInvariant m → m.members ≡ all_full 2 →
+    Failing m 2 (failed losses) m' → (inodes : Numbers) × IsDown limit m inodes m'
 of_failing limit m m' losses r h is (is_refused why fault answer same) = cc
 of_failing limit m m' losses r h is (lacks_memory fine answer same) = cc
-of_failing limit m m' losses r h is (is_failed_again fine answer e) = (let was : is_returning (standing_of m.members.nodes 2) ≡ true = e.failure.was_returning in never (sym (ap (λ o. is_returning (standing_of o.nodes 2)) is) ∙ was))
+of_failing limit m m' losses r h is (is_failed_again fine answer e) =
+    (let was : is_returning (standing_of m.members.nodes 2) ≡ true = e.failure.was_returning in
+    never (sym (ap (λ o. is_returning (standing_of o.nodes 2)) is) ∙ was))
 of_failing limit m m' losses r h is (is_failed fine answer e) = (
   e.inodes,
   record {
@@ -65,7 +57,8 @@ of_failing limit m m' losses r h is (is_failed fine answer e) = (
   },
 )
 
-pub falls : (limit : ℕ) (m : Machine) → IsReached limit m → MachineInvariant m → m.members ≡ all_full 2 → (m' : Machine) × ((inodes : Numbers) × IsDown limit m inodes m')
+pub falls : (limit : ℕ) (m : Machine) → IsReached limit m → MachineInvariant m → m.members ≡ all_full 2 →
+    (m' : Machine) × ((inodes : Numbers) × IsDown limit m inodes m')
 falls limit m r h is = (let (m', (losses, e)) = failed_can m 2 h (rw is refl) in (m', of_failing limit m m' losses r h is e))
 
 -- ---- it comes back
@@ -76,7 +69,8 @@ pub record IsReturning (limit : ℕ) (stale : Numbers) (m : Machine) : Type 0 wh
   pub holds : MachineInvariant m
   pub nodes : m.members.nodes ≡ full ∷ returning 2 1 stale ∷ []
 
-of_returning : (limit : ℕ) (m m' : Machine) (inodes : Numbers) (count : ℕ) → IsReached limit m → MachineInvariant m → m.members ≡ with_down inodes → Returning m 2 (began count) m' → IsReturning limit inodes m'
+of_returning : (limit : ℕ) (m m' : Machine) (inodes : Numbers) (count : ℕ) → IsReached limit m → MachineInvariant m → m.members ≡ with_down inodes →
+    Returning m 2 (began count) m' → IsReturning limit inodes m'
 of_returning limit m m' inodes count r h is (is_refused why fault answer same) = cc
 of_returning limit m m' inodes count r h is (lacks_memory fine answer same) = cc
 of_returning limit m m' inodes count r h is (is_back fine answer e) = record {
@@ -88,7 +82,8 @@ of_returning limit m m' inodes count r h is (is_back fine answer e) = record {
 lacks_so_many : (limit : ℕ) (stale : Numbers) (m : Machine) → IsReturning limit stale m → stale_at m.members 2 ≡ set.len stale
 lacks_so_many limit stale m b = ap (λ ns. count_of (stale_of (standing_of ns 2))) b.nodes
 
-pub comes_back : (limit : ℕ) (m : Machine) (inodes : Numbers) → IsReached limit m → MachineInvariant m → m.members ≡ with_down inodes → (m' : Machine) × (IsReturning limit inodes m' × Returning m 2 (began (set.len inodes)) m')
+pub comes_back : (limit : ℕ) (m : Machine) (inodes : Numbers) → IsReached limit m → MachineInvariant m → m.members ≡ with_down inodes →
+    (m' : Machine) × (IsReturning limit inodes m' × Returning m 2 (began (set.len inodes)) m')
 comes_back limit m inodes r h is =
     let (m', e) = back_can m 2 h (rw is refl) in
     let b : IsReturning limit inodes m' = of_returning limit m m' inodes (stale_at m'.members 2) r h is e in
@@ -98,12 +93,14 @@ comes_back limit m inodes r h is =
 
 no_records : (m : Machine) (inodes : Numbers) (d : IsDown 0 (start 0) inodes m) (c : ℕ) → d.cut.records c ≡ []
 unfolding records_between
-no_records m inodes d c = d.fails.records c ∙ ap (take (kept_at_failure (start 0).world 2 c - 0)) (drop-nil (0 - 0)) ∙ take-nil (kept_at_failure (start 0).world 2 c - 0)
+no_records m inodes d c = d.fails.records c ∙ ap (take (kept_at_failure (start 0).world 2 c - 0)) (drop-nil (0 - 0))
+    ∙ take-nil (kept_at_failure (start 0).world 2 c - 0)
 
 -- no record touches an inode
 none_touched : (m : Machine) (inodes : Numbers) → IsDown 0 (start 0) inodes m → inodes ≡ set.empty
 none_touched m inodes d = same inodes set.empty (λ i. elim (cases_Bool (set.contains inodes i)) [
-  | inl there ↦ (let (c, touches) = d.touched_only i there in never (sym (ap (λ rs. contains (touched (all_effects rs)) i) (no_records m inodes d c)) ∙ touches))
+  | inl there ↦ (let (c, touches) = d.touched_only i there in
+      never (sym (ap (λ rs. contains (touched (all_effects rs)) i) (no_records m inodes d c)) ∙ touches))
   | inr none ↦ none ∙ sym (set.contains-empty nat_cmp i)
 ])
 
@@ -132,10 +129,12 @@ not_refilled_comes = record { limit = 0; before = start 0; reached = start_reach
 -- ---- what comes once node 2 is down
 
 pub not_failed_comes : Comes (λ m m'. Failing m 1 (refused LastNode) m')
-not_failed_comes = (let (m, d) = down_at_start in record { limit = 0; before = m; reached = d.reached; after = m; outcome = is_refused LastNode (rw d.members refl) refl refl })
+not_failed_comes = (let (m, d) = down_at_start in
+    record { limit = 0; before = m; reached = d.reached; after = m; outcome = is_refused LastNode (rw d.members refl) refl refl })
 
 pub not_back_for_memory_comes : Comes (λ m m'. Returning m 2 (refused OutOfMemory) m')
-not_back_for_memory_comes = (let (m, d) = down_at_start in record { limit = 0; before = m; reached = d.reached; after = m; outcome = lacks_memory (rw d.members refl) refl refl })
+not_back_for_memory_comes = (let (m, d) = down_at_start in
+    record { limit = 0; before = m; reached = d.reached; after = m; outcome = lacks_memory (rw d.members refl) refl refl })
 
 -- ---- what comes once it is back
 
@@ -145,7 +144,8 @@ not_full limit stale m b at = never (ap is_full (same_Some (returning 2 1 stale)
 may_join : (m : Machine) → IsReturning 0 set.empty m → join_fault m.members 2 ≡ None
 may_join m b = rw (b.nodes, set.len-empty nat_cmp) refl
 
-fails_again : (limit : ℕ) (stale : Numbers) (m m' : Machine) (losses : List Loss) → IsReturning limit stale m → Failing m 2 (failed losses) m' → Failing m 2 (failed []) m'
+fails_again : (limit : ℕ) (stale : Numbers) (m m' : Machine) (losses : List Loss) → IsReturning limit stale m → Failing m 2 (failed losses) m' →
+    Failing m 2 (failed []) m'
 fails_again limit stale m m' losses b h = grind (arith, not_full)
 
 pub failed_again_comes : Comes (λ m m'. (standing_of m.members.nodes 2 ≢ Some full) × Failing m 2 (failed []) m')
@@ -167,7 +167,8 @@ joined_comes =
     record { limit = 0; before = m; reached = b.reached; after = m'; outcome = e }
 
 pub not_joined_for_memory_comes : Comes (λ m m'. Joining m 2 (refused OutOfMemory) m')
-not_joined_for_memory_comes = (let (m, b) = back_at_start in record { limit = 0; before = m; reached = b.reached; after = m; outcome = lacks_memory (may_join m b) refl refl })
+not_joined_for_memory_comes =
+    (let (m, b) = back_at_start in record { limit = 0; before = m; reached = b.reached; after = m; outcome = lacks_memory (may_join m b) refl refl })
 
 -- ---- node 1 is raised
 
@@ -235,8 +236,17 @@ one_less k some = omega (arith, some)
 
 pub back_comes : (stale : ℕ) × Comes (λ m m'. Returning m 2 (began (suc stale)) m')
 back_comes =
-    let (m, b) = back_with_file in
-    (set.len b.stale - 1, record { limit = 1; before = b.before; reached = b.before_reached; after = m; outcome = subst (λ count. Returning b.before 2 (began count) m) (one_less (set.len b.stale) b.some) b.came })
+    let (m, b) = back_with_file in (
+      set.len b.stale - 1,
+      record {
+        limit = 1;
+        before = b.before;
+        reached = b.before_reached;
+        after = m;
+        outcome = subst (λ count. Returning b.before 2 (began count) m)
+            (one_less (set.len b.stale) b.some) b.came;
+      },
+    )
 
 pub busy_comes : Comes (λ m m'. Joining m 2 (refused Busy) m')
 busy_comes =
@@ -253,21 +263,33 @@ left_less limit stale m m' b e =
     let at : standing_of m.members.nodes 2 ≡ Some (returning 2 1 stale) = ap (λ ns. standing_of ns 2) b.nodes in
     let same_set : g.stale ≡ stale = same_stale (standing_of m.members.nodes 2) g.since 2 g.donor 1 g.stale stale g.stands at in
     let there : set.contains stale e.inode ≡ true = subst (λ s. set.contains s e.inode ≡ true) same_set g.lowest.there in
-    let after : standing_of m'.members.nodes 2 ≡ Some (returning 2 1 (set.remove stale e.inode)) = refilled_stale m.world m'.world m.members m'.members 2 e.inode 2 1 stale g at in
+    let after : standing_of m'.members.nodes 2 ≡ Some (returning 2 1 (set.remove stale e.inode)) = refilled_stale m.world m'.world m.members m'.members 2
+    e.inode 2 1 stale g at in
     ap (λ s. count_of (stale_of s)) after ∙ set.len-remove nat_cmp_total stale e.inode ∙ ap (λ t. cond t (set.len stale - 1) (set.len stale)) there
 
-gets_one : (limit : ℕ) (stale : Numbers) (m m' : Machine) (count : ℕ) → IsReturning limit stale m → 0 < set.len stale → Refilling m 2 (left count) m' → Refilling m 2 (left (set.len stale - 1)) m'
+gets_one : (limit : ℕ) (stale : Numbers) (m m' : Machine) (count : ℕ) → IsReturning limit stale m → 0 < set.len stale → Refilling m 2 (left count) m' →
+    Refilling m 2 (left (set.len stale - 1)) m'
 gets_one limit stale m m' count b some (is_refused why fault answer same) = cc
 gets_one limit stale m m' count b some (lacks_memory fine lacks answer same) = cc
-gets_one limit stale m m' count b some (is_whole fine none answer same) = (let lacks : stale_at m.members 2 ≡ set.len stale = lacks_so_many limit stale m b in absurd (omega (arith, none, lacks, some)))
+gets_one limit stale m m' count b some (is_whole fine none answer same) =
+    (let lacks : stale_at m.members 2 ≡ set.len stale = lacks_so_many limit stale m b in absurd (omega (arith, none, lacks, some)))
 gets_one limit stale m m' count b some (is_refilled fine answer e) = is_refilled fine (ap left (sym (left_less limit stale m m' b e))) e
 
 pub refilled_comes : (stale : ℕ) × Comes (λ m m'. (stale_at m.members 2 ≡ suc stale) × Refilling m 2 (left stale) m')
 refilled_comes =
     let (m, b) = back_with_file in
     let lacks : stale_at m.members 2 ≡ set.len b.stale = lacks_so_many 1 b.stale m b.state in
-    let (m', e) = refilled_can m 2 b.state.holds (rw b.state.nodes refl) (subst (λ k. 0 < k) (sym lacks) b.some) in
-    (set.len b.stale - 1, record { limit = 1; before = m; reached = b.state.reached; after = m'; outcome = (lacks ∙ one_less (set.len b.stale) b.some, gets_one 1 b.stale m m' (stale_at m'.members 2) b.state b.some e) })
+    let (m', e) = refilled_can m 2 b.state.holds (rw b.state.nodes refl) (subst (λ k. 0 < k) (sym lacks) b.some) in (
+      set.len b.stale - 1,
+      record {
+        limit = 1;
+        before = m;
+        reached = b.state.reached;
+        after = m';
+        outcome =
+            (lacks ∙ one_less (set.len b.stale) b.some, gets_one 1 b.stale m m' (stale_at m'.members 2) b.state b.some e);
+      },
+    )
 
 pub not_refilled_for_memory_comes : Comes (λ m m'. Refilling m 2 (refused OutOfMemory) m')
 not_refilled_for_memory_comes =

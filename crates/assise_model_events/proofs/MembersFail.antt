@@ -1,17 +1,6 @@
 -- Node 1 fails with a record that node 2 lacks: the call of the record is lost.
-use Rattle.std.proofs.Common.{◌≡◌, List, [], ◌∷◌, refl, arith}
-use Rattle.std.proofs.lemmas.Bool.{lt-ltb}
-use Rattle.assise_history.specs.declared.call.Loss.{Loss}
-use Rattle.assise_manager.proofs.Nodes.{never}
-use Rattle.assise_model_world.specs.NodeSteps.{kept_at_failure}
-use Rattle.assise_model_world.specs.World.{call_at, end_of_log}
-use Rattle.assise_model_world.proofs.WorldObserved.{least_of-below}
-use Rattle.assise_model_history.specs.Lost.{losses_of}
-use Rattle.assise_model_history.proofs.FailureList.{cut_there, is_left, least_kept, others_of}
-use Rattle.assise_model_events.specs.Events.{failed}
-use Rattle.assise_model_events.specs.Machine.{Machine}
-use Rattle.assise_model_events.specs.MemberEvents.{Failing}
-use Rattle.assise_model_events.specs.Reached.{Comes}
+use Rattle.assise_model_events.proofs.Common.{◌≡◌, List, [], ◌∷◌, refl, arith, lt-ltb, Loss, never, kept_at_failure, call_at, end_of_log, least_of-below}
+use Rattle.assise_model_events.proofs.Common.{losses_of, cut_there, is_left, least_kept, others_of, failed, Machine, Failing, Comes}
 use Rattle.assise_model_events.proofs.ReachedCreate.{HasFile, has_file}
 use Rattle.assise_model_events.proofs.Failable.{failed_can}
 

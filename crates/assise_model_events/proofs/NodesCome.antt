@@ -1,23 +1,14 @@
 -- Each outcome of what nodes do comes: frames and digests.
-use Rattle.std.proofs.Common.{◌≡◌, ℕ, ◌+◌, ◌<◌, ◌≤◌, length, true, [], ◌∷◌, None, refl, ap, sym, ◌∙◌, subst, arith}
-use Rattle.assise_names.specs.declared.call.Op.TheVariants.{Dsync}
-use Rattle.assise_names.specs.declared.durability.Durability.TheVariants.{Pessimistic}
-use Rattle.assise_names.specs.declared.refusal.Refusal.TheVariants.{OutOfMemory, StaleMessage, WrongPhase}
-use Rattle.assise_history.specs.Legal.{durability_of}
-use Rattle.assise_record.specs.LogFrame.{LogFrame}
+use Rattle.assise_model_events.proofs.Common.{◌≡◌, ℕ, ◌+◌, ◌<◌, ◌≤◌, length, true, [], ◌∷◌, None, refl, ap, sym, ◌∙◌, subst, arith, Dsync, Pessimistic}
+use Rattle.assise_model_events.proofs.Common.{OutOfMemory, StaleMessage, WrongPhase, durability_of, LogFrame, all_full, end_of_log, received_by_all}
+use Rattle.assise_model_events.proofs.Common.{received_by_all-below, received_by_all-end, end-same, Syncing, is_refused, is_replicating, is_synced}
+use Rattle.assise_model_events.proofs.Common.{lacks_memory, deliver, digested, hot_set, not_yet, received, refused, sent, try_call, IsTimelyDelivery}
+use Rattle.assise_model_events.proofs.Common.{client_fault, delivery_fault, node_fault, place_after, Dsyncing, MachineInvariant, Machine, with_hot, Delivering}
+use Rattle.assise_model_events.proofs.Common.{Digesting, IsDelivered, Sending, SettingHot, frames_to, is_delivered, is_sent, is_set, is_stale, part_of}
+use Rattle.assise_model_events.proofs.Common.{undigested, undigested_to, Comes, IsReached}
 use Rattle.assise_private_log.specs.Borders.{whole_count}
-use Rattle.assise_manager.specs.Changes.{all_full}
-use Rattle.assise_model_world.specs.World.{end_of_log, received_by_all}
-use Rattle.assise_model_world.proofs.WorldObserved.{received_by_all-below, received_by_all-end}
-use Rattle.assise_model_world.proofs.QuietSteps.{end-same}
-use Rattle.assise_model_events.specs.ClientEvents.{Syncing, is_refused, is_replicating, is_synced, lacks_memory}
-use Rattle.assise_model_events.specs.Events.{deliver, digested, hot_set, not_yet, received, refused, sent, try_call}
-use Rattle.assise_model_events.specs.Faults.{IsTimelyDelivery, client_fault, delivery_fault, node_fault, place_after}
-use Rattle.assise_model_events.specs.Happenings.{Dsyncing}
-use Rattle.assise_model_events.specs.Machine.{MachineInvariant, Machine, with_hot}
 use Rattle.assise_model_events.specs.MemberEvents.{is_refused, lacks_memory}
-use Rattle.assise_model_events.specs.NodeEvents.{Delivering, Digesting, IsDelivered, Sending, SettingHot, frames_to, is_delivered, is_refused, is_sent, is_set, is_stale, lacks_memory, part_of, undigested, undigested_to}
-use Rattle.assise_model_events.specs.Reached.{Comes, IsReached}
+use Rattle.assise_model_events.specs.NodeEvents.{is_refused, lacks_memory}
 use Rattle.assise_model_events.proofs.Answerable.{replicating_can}
 use Rattle.assise_model_events.proofs.Trace.{reaches, start, start_holds, start_reached}
 use Rattle.assise_model_events.proofs.ReachedCreate.{HasFile, file_record, has_file, has_file_as}

@@ -1,19 +1,9 @@
 -- A client is opened, and a client crashes.
-use Rattle.std.proofs.Common.{◌≡◌, ℕ, suc, ◌<◌, None, [], ◌∷◌, length, refl, ap, arith}
-use Rattle.std.proofs.lemmas.Bool.{leb-false}
-use Rattle.assise_names.specs.declared.durability.Durability.{Durability}
-use Rattle.assise_names.specs.declared.limits.TheConstants.{MOST_CLIENTS}
-use Rattle.assise_history.specs.Entries.{opens, crashes}
-use Rattle.assise_model_world.proofs.ClientsStaying.{open_dropped}
-use Rattle.assise_model_world.proofs.QuietSteps.{still_dropped}
-use Rattle.assise_model_leases.proofs.QuietLeases.{open_keeps}
-use Rattle.assise_model_leases.proofs.ClientEnds.{crash_keeps}
-use Rattle.assise_model_history.specs.Traces.{EntryHappens, opening, crash}
-use Rattle.assise_model_events.specs.ClientEvents.{Opening, is_opened, is_refused, lacks_memory, IsOpened, Crashing, is_crashed, IsCrashed}
-use Rattle.assise_model_events.specs.Events.{Answer}
-use Rattle.assise_model_events.specs.Faults.{open_fault}
-use Rattle.assise_model_events.specs.Happenings.{Leads}
-use Rattle.assise_model_events.specs.Machine.{Machine, MachineInvariant, state_of}
+use Rattle.assise_model_events.proofs.Common.{◌≡◌, ℕ, suc, ◌<◌, None, [], ◌∷◌, length, refl, ap, arith, leb-false, Durability, MOST_CLIENTS, opens, crashes}
+use Rattle.assise_model_events.proofs.Common.{open_dropped, still_dropped, open_keeps, crash_keeps, EntryHappens, opening, Opening, is_opened, is_refused}
+use Rattle.assise_model_events.proofs.Common.{lacks_memory, IsOpened, Crashing, is_crashed, IsCrashed, Answer, open_fault, Leads, Machine, MachineInvariant}
+use Rattle.assise_model_events.proofs.Common.{state_of}
+use Rattle.assise_model_history.specs.Traces.{crash}
 use Rattle.assise_model_events.proofs.EventTraces.{leads_sound, leads_recorded, same_leads, same_holds}
 use Rattle.assise_model_events.proofs.Members.{members_rest, epochs_stay, logs_stay}
 

@@ -1,17 +1,10 @@
 -- What happens at one node leaves the areas of all others.
-use Rattle.std.proofs.Common.{◌≡◌, ◌≢◌, ℕ, zero, suc, ap, ◌∙◌, arith}
-use Rattle.assise_names.specs.declared.call.Op.{Op}
-use Rattle.assise_names.specs.declared.reply.Reply.{Reply}
-use Rattle.assise_record.specs.LogFrame.{LogFrame}
-use Rattle.assise_manager.specs.Membership.{Membership}
-use Rattle.assise_model_world.specs.World.{World, Full}
-use Rattle.assise_model_events.specs.ClientEvents.{Calling}
-use Rattle.assise_model_events.specs.Events.{digested, received, replied}
-use Rattle.assise_model_events.specs.Machine.{Machine, MachineInvariant}
-use Rattle.assise_model_events.specs.NodeEvents.{Delivering, Digesting, DigestsTo}
+use Rattle.assise_model_events.proofs.Common.{◌≡◌, ◌≢◌, ℕ, zero, suc, ap, ◌∙◌, arith, Op, Reply, LogFrame, Membership, World, Full, Calling, digested, received}
+use Rattle.assise_model_events.proofs.Common.{replied, Machine, MachineInvariant, Delivering, Digesting, DigestsTo}
 use Rattle.assise_model_events.proofs.LeaseSteps.{comes_to, full_after}
 
-pub delivered_areas : (m m' : Machine) (f : LogFrame) (n k : ℕ) → Delivering m f n (received k) m' → (j i : ℕ) → Full m.world j → m'.world.area j i ≡ m.world.area j i
+pub delivered_areas : (m m' : Machine) (f : LogFrame) (n k : ℕ) → Delivering m f n (received k) m' → (j i : ℕ) → Full m.world j →
+    m'.world.area j i ≡ m.world.area j i
 delivered_areas m m' f n k h j i there = grind arith
 
 -- the same nodes are full after each client's part, and their areas stay
@@ -23,10 +16,13 @@ digests_areas : (n count : ℕ) (w₀ w : World) (o : Membership) (c : ℕ) (u :
     (j i : ℕ) → Full w j → j ≢ n → u.area j i ≡ w.area j i
 digests_areas n count w₀ w o zero u p (same, stay) j i there other = ap (λ x. x.area j i) same
 digests_areas n count w₀ w o (suc c) u p (v, (q, (before, step))) j i there other =
-    step.digests.digests.area_else j i (full_after w v j (digests_full n count w₀ w o c v q before) there) other ∙ digests_areas n count w₀ w o c v q before j i there other
+    step.digests.digests.area_else j i (full_after w v j (digests_full n count w₀ w o c v q before) there) other
+    ∙ digests_areas n count w₀ w o c v q before j i there other
 
-pub digested_areas : (m m' : Machine) (n count : ℕ) → Digesting m n (digested count) m' → (j i : ℕ) → Full m.world j → j ≢ n → m'.world.area j i ≡ m.world.area j i
+pub digested_areas : (m m' : Machine) (n count : ℕ) → Digesting m n (digested count) m' → (j i : ℕ) → Full m.world j → j ≢ n →
+    m'.world.area j i ≡ m.world.area j i
 digested_areas m m' n count h j i there other = grind (arith, full_after, digests_full, digests_areas)
 
-pub called_areas : (m m' : Machine) (c : ℕ) (op : Op) (reply : Reply) → MachineInvariant m → Calling m c op (replied reply) m' → (j i : ℕ) → Full m.world j → m'.world.area j i ≡ m.world.area j i
+pub called_areas : (m m' : Machine) (c : ℕ) (op : Op) (reply : Reply) → MachineInvariant m → Calling m c op (replied reply) m' → (j i : ℕ) → Full m.world j →
+    m'.world.area j i ≡ m.world.area j i
 called_areas m m' c op reply h s j i there = grind (arith, comes_to, full_after)

@@ -1,14 +1,7 @@
 -- A node is raised: nothing else changes.
-use Rattle.std.proofs.Common.{ℕ, arith, append-nil}
+use Rattle.assise_model_events.proofs.Common.{ℕ, arith, append-nil, Membership, raised_lawful, World, AreMembers, Answer, Leads, Machine, MachineInvariant}
+use Rattle.assise_model_events.proofs.Common.{Raising}
 use Rattle.assise_manager.specs.Changes.{raised}
-use Rattle.assise_manager.specs.Membership.{Membership}
-use Rattle.assise_manager.proofs.Lawful.{raised_lawful}
-use Rattle.assise_model_world.specs.World.{World}
-use Rattle.assise_model_members.specs.Members.{AreMembers}
-use Rattle.assise_model_events.specs.Events.{Answer}
-use Rattle.assise_model_events.specs.Happenings.{Leads}
-use Rattle.assise_model_events.specs.Machine.{Machine, MachineInvariant}
-use Rattle.assise_model_events.specs.MemberEvents.{Raising}
 use Rattle.assise_model_events.specs.MemberEvents.Raising.{is_raised, is_refused}
 use Rattle.assise_model_events.proofs.EventTraces.{ends_as, leads_recorded, leads_sound, same_holds, same_leads}
 

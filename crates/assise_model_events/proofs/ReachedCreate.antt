@@ -1,28 +1,9 @@
 -- Client 1, on the first of two nodes, creates a file.
-use Rattle.std.proofs.Common.{◌≡◌, ◌≢◌, ℕ, ◌<◌, ◌≤◌, inl, inr, true, false, List, [], ◌∷◌, ◌++◌, length, Some, refl, ap, sym, subst, ◌∙◌, arith}
-use Rattle.std.proofs.lemmas.Bool.{cases_eq}
-use Rattle.assise_names.specs.declared.durability.Durability.{Durability}
-use Rattle.assise_names.specs.declared.durability.Durability.TheVariants.{Pessimistic}
-use Rattle.assise_names.specs.declared.mode.Mode.TheVariants.{Write}
-use Rattle.assise_names.specs.declared.reply.Reply.TheVariants.{Done}
-use Rattle.assise_history.specs.Entries.{calls}
-use Rattle.assise_history.specs.Legal.{calls_made, durability_of}
-use Rattle.assise_history.proofs.ClientCounts.{durability-still}
-use Rattle.assise_record.specs.LogRecord.{LogRecord}
-use Rattle.assise_record.specs.Records.{record_of}
-use Rattle.assise_inode_table.specs.Effects.{contains}
-use Rattle.assise_lease_table.specs.Leases.{new_lease}
-use Rattle.assise_manager.specs.Changes.{all_full}
-use Rattle.assise_model_world.specs.ClientSteps.{MakesCall}
-use Rattle.assise_model_world.specs.World.{World, Full, end_of_log, step_at_home}
-use Rattle.assise_model_leases.specs.Handing.{CallsUnder}
-use Rattle.assise_model_leases.specs.Leases.{Leases}
-use Rattle.assise_model_leases.proofs.Possible.{may_call_under}
-use Rattle.assise_model_history.proofs.LossReached.{creation, create_op, first_step, step_is}
-use Rattle.assise_model_events.specs.ClientEvents.{Calling, Granted, IsAnswered, is_answered, last_leases, last_world}
-use Rattle.assise_model_events.specs.Events.{call_entry, replied, try_call}
-use Rattle.assise_model_events.specs.Machine.{MachineInvariant, Machine}
-use Rattle.assise_model_events.specs.Reached.{Comes, IsReached}
+use Rattle.assise_model_events.proofs.Common.{◌≡◌, ◌≢◌, ℕ, ◌<◌, ◌≤◌, inl, inr, true, false, List, [], ◌∷◌, ◌++◌, length, Some, refl, ap, sym, subst, ◌∙◌, arith}
+use Rattle.assise_model_events.proofs.Common.{cases_eq, Durability, Pessimistic, Write, Done, calls, calls_made, durability_of, durability-still, LogRecord}
+use Rattle.assise_model_events.proofs.Common.{record_of, contains, new_lease, all_full, MakesCall, World, Full, end_of_log, step_at_home, CallsUnder, Leases}
+use Rattle.assise_model_events.proofs.Common.{may_call_under, creation, create_op, first_step, step_is, Calling, Granted, IsAnswered, is_answered, last_leases}
+use Rattle.assise_model_events.proofs.Common.{last_world, call_entry, replied, try_call, MachineInvariant, Machine, Comes, IsReached}
 use Rattle.assise_model_events.proofs.EachEvent.{event_keeps}
 use Rattle.assise_model_events.proofs.Steady.{old_call, with_old_areas}
 use Rattle.assise_model_events.proofs.Trace.{HasLeases, IsOpen, is_open, is_open_as, leases_had, may, reaches, same_call, tried_creation}
@@ -95,7 +76,8 @@ module _ (limit : ℕ) (m : Machine) (room : 0 < limit) (o : IsOpen limit m) (gs
   calls_it = is_answered Done gs refl (subst (λ x. IsAnswered m x gs with_file) (same_call m o.world) answered)
 
   file_records : with_file.world.records 1 ≡ file_record ∷ []
-  file_records = made_call.records_own ∙ ap (λ rs. rs ++ record_of 0 (step_at_home w creation).effects) h.world.records ∙ ap (λ t. record_of 0 t.effects) (step_is w h.world)
+  file_records = made_call.records_own ∙ ap (λ rs. rs ++ record_of 0 (step_at_home w creation).effects) h.world.records
+      ∙ ap (λ t. record_of 0 t.effects) (step_is w h.world)
 
   file_first : with_file.world.first 1 ≡ 0
   file_first = made_call.first 1 ∙ h.world.first
@@ -135,7 +117,8 @@ module _ (limit : ℕ) (m : Machine) (room : 0 < limit) (o : IsOpen limit m) (gs
   border_at : (c k : ℕ) → k ≤ end_of_log with_file.world c → with_file.world.border c k ≡ true
   border_at c k low = elim (cases_eq c 1) [
     | inl is ↦ elim (cases_eq k 1) [
-      | inl last ↦ subst (λ d. with_file.world.border d k ≡ true) (sym is) (subst (λ j. with_file.world.border 1 j ≡ true) (file_end ∙ sym last) made_call.border_new)
+      | inl last ↦ subst (λ d. with_file.world.border d k ≡ true) (sym is)
+          (subst (λ j. with_file.world.border 1 j ≡ true) (file_end ∙ sym last) made_call.border_new)
       | inr before ↦ border_old c k (below_one c k is low before)
     ]
     | inr other ↦ border_old c k (subst (λ j. k ≤ j) (end_else c other) low)
@@ -170,8 +153,14 @@ module _ (limit : ℕ) (m : Machine) (room : 0 < limit) (o : IsOpen limit m) (gs
 pub has_file_as : (limit : ℕ) (u : Durability) → 0 < limit → (m : Machine) × (HasFile limit m × (durability_of 1 m.history ≡ u))
 has_file_as limit u room =
     let (m, (o, was)) = is_open_as limit u in
-    let (gs, h) = leases_had limit m o in
-    (with_file limit m room o gs h, (of_call limit m room o gs h, durability-still m.history (calls (record { client = 1; number = calls_made 1 m.history; op = create_op; reply = Done })) 1 refl ∙ was))
+    let (gs, h) = leases_had limit m o in (
+      with_file limit m room o gs h,
+      (
+        of_call limit m room o gs h,
+        durability-still m.history (calls (record { client = 1; number = calls_made 1 m.history; op = create_op; reply = Done }))
+            1 refl ∙ was,
+      ),
+    )
 
 pub has_file : (limit : ℕ) → 0 < limit → (m : Machine) × HasFile limit m
 has_file limit room = (let (m, f) = has_file_as limit Pessimistic room in (m, f.0))

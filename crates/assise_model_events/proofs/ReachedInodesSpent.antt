@@ -1,34 +1,16 @@
 -- Client 1 of two nodes creates a file and unlinks it, again and again, until it has made as many inodes as it may.
-use Rattle.std.proofs.Common.{◌≡◌, ◌≢◌, ℕ, zero, suc, ◌+◌, ◌<◌, ◌≤◌, true, false, if◌then◌else◌, List, [], ◌∷◌, length, Some, refl, ap, sym, subst, ◌∙◌, arith, eq-eqb}
-use Rattle.std.proofs.lemmas.Bool.{or_right}
-use Rattle.std.specs.List.{list_any}
-use Rattle.assise_names.specs.declared.call.Op.{Op}
-use Rattle.assise_names.specs.declared.mode.Mode.{Mode}
-use Rattle.assise_names.specs.declared.mode.Mode.TheVariants.{Read, Write}
-use Rattle.assise_names.specs.declared.refusal.Refusal.TheVariants.{InodesSpent}
-use Rattle.assise_names.specs.declared.reply.Reply.TheVariants.{Done}
-use Rattle.assise_record.specs.Records.{has_some}
-use Rattle.assise_inode_table.specs.Contents.{regular, directory}
-use Rattle.assise_inode_table.specs.Effects.{contains, touched, value_after, makes}
-use Rattle.assise_inode_table.specs.Numbers.{inode_number}
-use Rattle.assise_inode_table.specs.Traces.{NumberedCall}
-use Rattle.assise_lease_table.specs.Leases.{new_lease, serves}
-use Rattle.assise_lease_tree.specs.Levels.{clients_granted}
-use Rattle.assise_model_world.specs.World.{World, Full, call_makes_inode, step_at_home, view}
-use Rattle.assise_model_leases.specs.Handing.{Grants}
-use Rattle.assise_model_leases.specs.Leases.{Leases, client_lease}
-use Rattle.assise_model_leases.proofs.Possible.{may_grant}
-use Rattle.assise_model_members.specs.Returns.{OtherAreasStay}
-use Rattle.assise_model_history.proofs.LossReached.{create_op, create_step, creates, empty_root, no_links, of_either, sees_root}
-use Rattle.assise_model_events.specs.ClientEvents.{Calling, Granted, Gets, IsMissing, HasServingLeases, is_spent, last_leases, last_world}
-use Rattle.assise_model_events.specs.Events.{refused}
-use Rattle.assise_model_events.specs.Machine.{Machine}
-use Rattle.assise_model_events.specs.Reached.{Comes}
+use Rattle.assise_model_events.proofs.Common.{◌≡◌, ◌≢◌, ℕ, zero, suc, ◌+◌, ◌<◌, ◌≤◌, true, false, if◌then◌else◌, List, [], ◌∷◌, length, Some, refl, ap, sym}
+use Rattle.assise_model_events.proofs.Common.{subst, ◌∙◌, arith, eq-eqb, or_right, list_any, Op, Mode, Read, Write, InodesSpent, Done, has_some, regular}
+use Rattle.assise_model_events.proofs.Common.{directory, contains, touched, value_after, makes, inode_number, NumberedCall, new_lease, serves, clients_granted}
+use Rattle.assise_model_events.proofs.Common.{World, Full, call_makes_inode, step_at_home, view, Grants, Leases, client_lease, may_grant, OtherAreasStay}
+use Rattle.assise_model_events.proofs.Common.{create_op, create_step, creates, empty_root, no_links, of_either, sees_root, Calling, Granted, Gets, IsMissing}
+use Rattle.assise_model_events.proofs.Common.{HasServingLeases, is_spent, last_leases, last_world, refused, Machine, Comes}
 use Rattle.assise_model_events.proofs.Trace.{HasLeases, IsOpen, is_open, leases_had, one_client, same_call}
 use Rattle.assise_model_events.proofs.LeaseSteps.{Reached, comes_to}
 use Rattle.assise_model_events.proofs.Steady.{with_old_areas, old_grants}
 use Rattle.assise_model_events.proofs.LackAnswerable.{keeps_them, with_granted}
-use Rattle.assise_model_events.proofs.Rounds.{IsDone, MayDo, Runs, Stands, done, file_after_create, next_call, no_fault, one_link, reads_same, root_after_create, root_after_unlink, unlink_op, unlink_step, unlinks}
+use Rattle.assise_model_events.proofs.Rounds.{IsDone, MayDo, Runs, Stands, done, file_after_create, next_call, no_fault, one_link, reads_same}
+use Rattle.assise_model_events.proofs.Rounds.{root_after_create, root_after_unlink, unlink_op, unlink_step, unlinks}
 
 -- ---- leases that nobody has
 
@@ -87,7 +69,8 @@ record HasFile (limit made i : ℕ) (m : Machine) : Type 0 where
 serves_own : (l : Leases) (i : ℕ) (mode : Mode) → l.levels.clients i ≡ new_lease 1 Write ∷ [] → serves (client_lease l 1 i) mode ≡ true
 serves_own l i mode is = rw is refl
 
-creates_at : (m : Machine) (w : World) → w.home 1 ≡ 1 → view w 1 1 0 ≡ Some (directory no_links) → step_at_home w (next_call m create_op) ≡ create_step (next_call m create_op).fresh
+creates_at : (m : Machine) (w : World) → w.home 1 ≡ 1 → view w 1 1 0 ≡ Some (directory no_links) → step_at_home w (next_call m create_op)
+    ≡ create_step (next_call m create_op).fresh
 creates_at m w home root = creates (view w (w.home 1) 1) (next_call m create_op).fresh (subst (λ n. view w n 1 0 ≡ Some (directory no_links)) (sym home) root)
 
 file_not_root : (k : ℕ) → inode_number 1 k ≢ 0
@@ -154,7 +137,8 @@ module _ (limit made : ℕ) (m : Machine) (gs : List Granted) (h : MayCreate lim
     not_root = file_not_root (m.world.made 1);
     root = d.reads 0 ∙ ap (λ t. value_after 0 (view m.world 1 1 0) t.effects) creates_there ∙ ap (λ old. value_after 0 old (create_step fresh).effects) h.root
         ∙ root_after_create fresh (file_not_root (m.world.made 1));
-    file = d.reads fresh ∙ ap (λ t. value_after fresh (view m.world 1 1 fresh) t.effects) creates_there ∙ file_after_create fresh (view m.world 1 1 fresh) (file_not_root (m.world.made 1));
+    file = d.reads fresh ∙ ap (λ t. value_after fresh (view m.world 1 1 fresh) t.effects) creates_there ∙ file_after_create fresh (view m.world 1 1 fresh)
+        (file_not_root (m.world.made 1));
     root_held = ap (λ k. k.levels.clients 0) d.leases ∙ h.root_held;
     file_held = ap (λ k. k.levels.clients fresh) d.leases ∙ h.file_held;
     rest = subst (AreFree (suc made)) (sym d.leases) h.rest;
@@ -210,7 +194,8 @@ module _ (limit made i : ℕ) (m : Machine) (h : HasFile limit made i m) where
   unlinks_it : step_at_home m.world unlinking ≡ unlink_step i
   unlinks_it =
       let home : 1 ≡ m.world.home 1 = sym h.stands.runs.home in
-      unlinks (view m.world (m.world.home 1) 1) i unlinking.fresh (subst (λ n. view m.world n 1 0 ≡ Some (directory (one_link i))) home h.root) (subst (λ n. view m.world n 1 i ≡ Some (regular [])) home h.file)
+      unlinks (view m.world (m.world.home 1) 1) i unlinking.fresh (subst (λ n. view m.world n 1 0 ≡ Some (directory (one_link i))) home h.root)
+      (subst (λ n. view m.world n 1 i ≡ Some (regular [])) home h.file)
 
   holds_them : (j : ℕ) → contains (0 ∷ i ∷ []) j ≡ true → IsHeld m j
   holds_them j there = of_either (IsHeld m) 0 i j h.root_held h.file_held there
@@ -282,7 +267,8 @@ module _ (limit : ℕ) (m : Machine) (o : IsOpen limit m) (gs : List Granted) (h
   }
 
 -- it creates a file and unlinks it
-round : (limit made : ℕ) (m : Machine) (gs : List Granted) → suc (made + made) < limit → made < 1048576 → MayCreate limit made m gs → (m' : Machine) × HasMade limit (suc made) m'
+round : (limit made : ℕ) (m : Machine) (gs : List Granted) → suc (made + made) < limit → made < 1048576 → MayCreate limit made m gs →
+    (m' : Machine) × HasMade limit (suc made) m'
 round limit made m gs room small h =
     let (i, v, f) = creates_file limit made m gs h (omega (arith, room)) small in
     unlinks_file limit made i v f room
@@ -313,5 +299,12 @@ spent_comes =
     let (m, h) = made_so_many 2097152 1048575 (omega arith) (omega arith) in
     let gs : List Granted = next_lease 2097152 1048576 m h in (
       create_op,
-      record { limit = 2097152; before = m; reached = h.stands.reached; after = with_granted m gs; outcome = refused_at 2097152 m gs (creates_next 2097152 1048576 m h) },
+      record {
+        limit = 2097152;
+        before = m;
+        reached = h.stands.reached;
+        after = with_granted m gs;
+        outcome =
+            refused_at 2097152 m gs (creates_next 2097152 1048576 m h);
+      },
     )

@@ -1,14 +1,8 @@
 -- Leases that are ready can go, where clients hold no inode above some number.
-use Rattle.std.proofs.Common.{◌≡◌, ◌⊎◌, ℕ, zero, suc, ◌≤◌, inl, inr, true, false, List, [], ◌∷◌, None, refl, ap, sym, ◌∙◌, subst, arith, eq-eqb}
-use Rattle.std.proofs.lemmas.Bool.{and_parts, both_ways, cases_Bool, cases_eq, leb-true, ne_eqb}
-use Rattle.assise_lease_table.specs.Leases.{Among, without_holder}
-use Rattle.assise_lease_tree.specs.Levels.{nodes_released}
-use Rattle.assise_lease_tree.proofs.Lookups.{without_other, without_own}
-use Rattle.assise_model_world.specs.World.{World, end_of_log, digested_by_all}
-use Rattle.assise_model_leases.specs.Handing.{ReleasesReady}
-use Rattle.assise_model_leases.specs.Leases.{Leases, client_lease}
-use Rattle.assise_model_leases.proofs.Possible.{with_at, becomes, holding, holds_them}
-use Rattle.assise_model_events.specs.NodeEvents.{Gone, LetsGo, is_ready, leases_after}
+use Rattle.assise_model_events.proofs.Common.{◌≡◌, ◌⊎◌, ℕ, zero, suc, ◌≤◌, inl, inr, true, false, List, [], ◌∷◌, None, refl, ap, sym, ◌∙◌, subst, arith, eq-eqb}
+use Rattle.assise_model_events.proofs.Common.{and_parts, both_ways, cases_Bool, cases_eq, leb-true, ne_eqb, Among, without_holder, nodes_released}
+use Rattle.assise_model_events.proofs.Common.{without_other, without_own, World, end_of_log, digested_by_all, ReleasesReady, Leases, client_lease, with_at}
+use Rattle.assise_model_events.proofs.Common.{becomes, holding, holds_them, Gone, LetsGo, is_ready, leases_after}
 
 -- ---- all pairs of numbers up to two others
 
@@ -99,7 +93,8 @@ stays w l c i ps early r = record {
   empty = r.empty;
 }
 
-goes_first : (w : World) (l : Leases) (c i : ℕ) (ps : List (ℕ × ℕ)) → is_ready w l c i ≡ true → LetOut (holding w (let_go w l c i)) (let_go w l c i) ps → LetOut w l ((c, i) ∷ ps)
+goes_first : (w : World) (l : Leases) (c i : ℕ) (ps : List (ℕ × ℕ)) → is_ready w l c i ≡ true → LetOut (holding w (let_go w l c i)) (let_go w l c i) ps →
+    LetOut w l ((c, i) ∷ ps)
 goes_first w l c i ps now r = record {
   gone = record { client = c; inode = i; world = holding w (let_go w l c i); leases = let_go w l c i } ∷ r.gone;
   goes = (goes_now w l c i now, λ k j away. refl, r.goes);

@@ -1,29 +1,20 @@
 -- A dsync can coalesce.
-use Rattle.std.proofs.Common.{◌≡◌, ◌≢◌, ℕ, ◌+◌, ◌-◌, ◌<◌, ◌≤◌, ◌==◌, ◌&&◌, ◌||◌, not, nat_le, if◌then◌else◌, Bool, true, false, List, [], ◌∷◌, ◌++◌, None, length, take, drop, refl, ap, sym, subst, ◌∙◌, inl, inr, arith, append-nil}
-use Rattle.std.proofs.lemmas.Bool.{false≢true, cases_eq, cond-true, cond-false, eq-eqb, ne_eqb, le-leb, lt-leb, and_from, and_left, and_right, or_right}
-use Rattle.std.proofs.lemmas.List.{length-take}
-use Rattle.assise_record.specs.Groups.{AllHaveEffects, all_coalesced, are_whole}
-use Rattle.assise_record.specs.LogRecord.{LogRecord}
+use Rattle.assise_model_events.proofs.Common.{◌≡◌, ◌≢◌, ℕ, ◌+◌, ◌-◌, ◌<◌, ◌≤◌, ◌==◌, ◌&&◌, ◌||◌, not, nat_le, if◌then◌else◌, Bool, true, false, List, [], ◌∷◌}
+use Rattle.assise_model_events.proofs.Common.{◌++◌, None, length, take, drop, refl, ap, sym, subst, ◌∙◌, inl, inr, arith, append-nil, false≢true, cases_eq}
+use Rattle.assise_model_events.proofs.Common.{cond-true, cond-false, ne_eqb, le-leb, lt-leb, and_from, and_left, and_right, or_right, length-take}
+use Rattle.assise_model_events.proofs.Common.{AllHaveEffects, all_coalesced, are_whole, LogRecord, contains, GetsAll, HasNone, WorldInvariant, World, Full}
+use Rattle.assise_model_events.proofs.Common.{end_of_log, received_by_all, records_between, contains-filter, filter-contains, end_is, first-received_by_all}
+use Rattle.assise_model_events.proofs.Common.{received_by_all-end, Dsync, Pessimistic, Done, Syncing, is_refused, is_replicating, is_synced, lacks_memory}
+use Rattle.assise_model_events.proofs.Common.{Coalescing, IsCoalescing, coalesced_from, full_elsewhere, most_of, new_groups, not_yet, replied, client_fault}
+use Rattle.assise_model_events.proofs.Common.{MachineInvariant, Machine}
+use Rattle.std.proofs.lemmas.Bool.{eq-eqb}
 use Rattle.assise_record.proofs.GroupMarks.{groups-all, groups-are}
 use Rattle.assise_record.proofs.WholeGroups.{whole_none}
-use Rattle.assise_inode_table.specs.Effects.{contains}
-use Rattle.assise_model_world.specs.Coalescing.{GetsAll, HasNone}
 use Rattle.assise_model_world.specs.Regrouped.{Regroups}
-use Rattle.assise_model_world.specs.Invariant.{WorldInvariant}
-use Rattle.assise_model_world.specs.World.{World, Full, end_of_log, received_by_all, records_between}
-use Rattle.assise_model_world.proofs.FailureKeeps.{contains-filter, filter-contains}
 use Rattle.assise_model_world.proofs.Logs.{length-both}
-use Rattle.assise_model_world.proofs.WorldObserved.{end_is, first-received_by_all, received_by_all-end}
-use Rattle.assise_names.specs.declared.call.Op.TheVariants.{Dsync}
-use Rattle.assise_names.specs.declared.durability.Durability.TheVariants.{Pessimistic}
-use Rattle.assise_names.specs.declared.reply.Reply.TheVariants.{Done}
-use Rattle.assise_model_events.specs.ClientEvents.{Syncing, is_refused, is_replicating, is_synced, lacks_memory}
-use Rattle.assise_model_events.specs.Dsyncs.{Coalescing, IsCoalescing, coalesced_from, full_elsewhere, is_synced, most_of, new_groups}
-use Rattle.assise_model_events.specs.Events.{not_yet, replied}
-use Rattle.assise_model_events.specs.Faults.{client_fault}
+use Rattle.assise_model_events.specs.Dsyncs.{is_synced}
 use Rattle.assise_model_events.proofs.Answerable.{synced_can}
 use Rattle.assise_model_events.proofs.Faultless.{client_runs}
-use Rattle.assise_model_events.specs.Machine.{MachineInvariant, Machine}
 
 pub between_length : (w : World) (c s : ℕ) → w.first c ≤ s → s ≤ end_of_log w c → length (records_between w c s (end_of_log w c)) ≤ end_of_log w c
 unfolding records_between
@@ -53,7 +44,8 @@ module _ (w : World) (c : ℕ) (h : WorldInvariant w) where
   pub coalesced_high : coalesced_from w c ≤ end_of_log w c
   coalesced_high =
       (let t : most_of (full_elsewhere w c) (λ m. w.received m c) ≤ end_of_log w c =
-      most-below (full_elsewhere w c) (λ m. w.received m c) (end_of_log w c) (λ n k. (h.coherent.order n c (contains-filter (λ m. not (m == w.home c)) w.full n k)).known) in
+      most-below (full_elsewhere w c) (λ m. w.received m c) (end_of_log w c)
+      (λ n k. (h.coherent.order n c (contains-filter (λ m. not (m == w.home c)) w.full n k)).known) in
       omega (arith, t, h.goals c, received_by_all-end w c))
 
   pub coalesced_low : received_by_all w c ≤ coalesced_from w c
@@ -62,7 +54,8 @@ module _ (w : World) (c : ℕ) (h : WorldInvariant w) where
   pub coalesced_first : w.first c ≤ coalesced_from w c
   coalesced_first = omega (arith, first-received_by_all w h.coherent c, coalesced_low)
 
-module _ (w : World) (c : ℕ) (h : WorldInvariant w) (lives : w.lives c ≡ true) (some : AllHaveEffects (records_between w c (coalesced_from w c) (end_of_log w c))) where
+module _ (w : World) (c : ℕ) (h : WorldInvariant w) (lives : w.lives c ≡ true)
+    (some : AllHaveEffects (records_between w c (coalesced_from w c) (end_of_log w c))) where
   abbrev s : ℕ
   s = coalesced_from w c
 
@@ -151,7 +144,9 @@ module _ (w : World) (c : ℕ) (h : WorldInvariant w) (lives : w.lives c ≡ tru
   }
 
   -- areas stay, those of nodes that aren't full too, and no other full node gets a record
-  pub can_regroup : (v : World) × (Regroups w c (coalesced_from w c) (new_groups w c) v × (((n i : ℕ) → v.area n i ≡ w.area n i) × ((n : ℕ) → Full w n → n ≢ w.home c → HasNone w n c (coalesced_from w c) v)))
+  pub can_regroup : (v : World)
+      × (Regroups w c (coalesced_from w c) (new_groups w c) v
+      × (((n i : ℕ) → v.area n i ≡ w.area n i) × ((n : ℕ) → Full w n → n ≢ w.home c → HasNone w n c (coalesced_from w c) v)))
   can_regroup = (u, (regroups, (λ n i. refl, elsewhere)))
 
 can_coalesce : (m : Machine) (c : ℕ) → MachineInvariant m → m.world.lives c ≡ true → received_by_all m.world c < end_of_log m.world c →
@@ -179,7 +174,8 @@ as_coalescing m m' c (is_replicating fine is e) = cc
 as_coalescing m m' c (lacks_memory fine all is same) = cc
 as_coalescing m m' c (is_refused r fault is same) = cc
 
-pub coalescing_synced : (m : Machine) (c : ℕ) → MachineInvariant m → client_fault m c ≡ None → received_by_all m.world c ≡ end_of_log m.world c → (m' : Machine) × Coalescing m c (replied Done) m'
+pub coalescing_synced : (m : Machine) (c : ℕ) → MachineInvariant m → client_fault m c ≡ None → received_by_all m.world c ≡ end_of_log m.world c →
+    (m' : Machine) × Coalescing m c (replied Done) m'
 coalescing_synced m c h fine all =
     let (m', e) = synced_can m c Dsync Pessimistic refl h fine all in
     (m', as_coalescing m m' c e)

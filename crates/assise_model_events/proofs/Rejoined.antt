@@ -1,23 +1,9 @@
 -- A node that lacks no inode gets its donor's logs, and is full again.
-use Rattle.std.proofs.Common.{◌≡◌, ℕ, zero, suc, ◌+◌, ◌-◌, ◌≤◌, Some, List, [], ◌∷◌, length, refl, ap, ◌∙◌, arith, length-append}
-use Rattle.std.specs.List.{slice_get}
-use Rattle.std.proofs.lemmas.Option.{none-some}
-use Rattle.assise_history.specs.Entries.{returns}
-use Rattle.assise_manager.specs.Standings.{Standing, standing_of}
-use Rattle.assise_manager.specs.Standings.Standing.{full, returning}
-use Rattle.assise_model_world.specs.NodeSteps.{Joins}
-use Rattle.assise_model_world.specs.Invariant.{AreDropped}
-use Rattle.assise_model_world.specs.World.{World, Full, digested_by_all}
-use Rattle.assise_model_world.proofs.WorldObserved.{least_of-below, least_of-above, least_of-end}
-use Rattle.assise_model_world.proofs.QuietSteps.{end-same}
-use Rattle.assise_model_leases.proofs.QuietLeases.{logs_keep}
+use Rattle.assise_model_events.proofs.Common.{◌≡◌, ℕ, zero, suc, ◌+◌, ◌-◌, ◌≤◌, Some, List, [], ◌∷◌, length, refl, ap, ◌∙◌, arith, length-append, slice_get}
+use Rattle.assise_model_events.proofs.Common.{none-some, returns, Standing, standing_of, full, returning, Joins, AreDropped, World, Full, digested_by_all}
+use Rattle.assise_model_events.proofs.Common.{least_of-below, least_of-above, least_of-end, end-same, logs_keep, comeback, IsNode, Answer, Leads, Machine}
+use Rattle.assise_model_events.proofs.Common.{MachineInvariant, state_of, Joining}
 use Rattle.assise_model_members.proofs.JoinKeeps.{rejoin_joins, rejoin_keeps}
-use Rattle.assise_model_history.specs.Traces.EntryHappens.{comeback}
-use Rattle.assise_model_history.specs.State.{IsNode}
-use Rattle.assise_model_events.specs.Events.{Answer}
-use Rattle.assise_model_events.specs.Happenings.{Leads}
-use Rattle.assise_model_events.specs.Machine.{Machine, MachineInvariant, state_of}
-use Rattle.assise_model_events.specs.MemberEvents.{Joining}
 use Rattle.assise_model_events.specs.MemberEvents.Joining.{is_joined, lacks_memory, is_refused}
 use Rattle.assise_model_events.proofs.EventTraces.{leads_sound, leads_recorded, same_leads, same_holds}
 use Rattle.assise_model_events.proofs.ReturnKeeps.{as_many}

@@ -1,25 +1,9 @@
 -- What nodes do keeps the invariant: leases that may go do.
-use Rattle.std.proofs.Common.{◌≡◌, ℕ, List, [], ◌∷◌, length, true, false, refl, ap, sym, subst, ◌∙◌, arith}
-use Rattle.assise_inode_table.specs.Effects.{contains}
-use Rattle.std.proofs.lemmas.Bool.{cases_Bool, cases_eq}
-use Rattle.assise_lease_table.specs.Leases.{lease_of}
-use Rattle.assise_lease_tree.proofs.Lookups.{without_other}
-use Rattle.assise_model_world.specs.Invariant.{AreDropped}
-use Rattle.assise_model_world.specs.World.{World}
-use Rattle.assise_model_world.proofs.QuietSteps.{still_dropped}
-use Rattle.assise_model_history.specs.Traces.{IsTrace, last_of}
-use Rattle.assise_model_history.specs.Entered.NeedsNoEntry.{releases}
-use Rattle.assise_model_history.specs.State.{State}
-use Rattle.assise_model_leases.specs.Handing.{ReleasesReady}
-use Rattle.assise_model_leases.specs.Leases.{Leases, AreLeases, client_lease}
+use Rattle.assise_model_events.proofs.Common.{◌≡◌, ℕ, List, [], ◌∷◌, length, true, false, refl, ap, sym, subst, ◌∙◌, arith, contains, cases_Bool, cases_eq}
+use Rattle.assise_model_events.proofs.Common.{lease_of, without_other, AreDropped, World, still_dropped, IsTrace, last_of, releases, State, ReleasesReady}
+use Rattle.assise_model_events.proofs.Common.{Leases, AreLeases, client_lease, AreMembers, OtherAreasStay, Membership, Answer, Leads, Machine, MachineInvariant}
+use Rattle.assise_model_events.proofs.Common.{is_ready, Gone, LetsGo, world_after, leases_after, Freed, Frees, leases_freed, IsReleased, Releasing}
 use Rattle.assise_model_leases.proofs.LeasesGo.{goes, release_keeps, free_keeps}
-use Rattle.assise_model_members.specs.Members.{AreMembers}
-use Rattle.assise_model_members.specs.Returns.{OtherAreasStay}
-use Rattle.assise_manager.specs.Membership.{Membership}
-use Rattle.assise_model_events.specs.Events.{Answer}
-use Rattle.assise_model_events.specs.Happenings.{Leads}
-use Rattle.assise_model_events.specs.Machine.{Machine, MachineInvariant}
-use Rattle.assise_model_events.specs.NodeEvents.{is_ready, Gone, LetsGo, world_after, leases_after, Freed, Frees, leases_freed, IsReleased, Releasing}
 use Rattle.assise_model_events.specs.NodeEvents.Releasing.{is_released}
 use Rattle.assise_model_events.proofs.EventTraces.{with_world, quietly, ends_as}
 use Rattle.assise_model_events.proofs.DeliveryKeeps.{quiet_holds, areas_stay}
@@ -45,7 +29,8 @@ still_stand o w₀ w u l k c i s e others = record {
   full = e.holds.nodes.full ∙ s.full;
 }
 
-stand_after : (o : Membership) (w₀ w : World) (l : Leases) (gone : List Gone) → Stand o w₀ w l → LetsGo w l gone → Stand o w₀ (world_after w gone) (leases_after l gone)
+stand_after : (o : Membership) (w₀ w : World) (l : Leases) (gone : List Gone) → Stand o w₀ w l → LetsGo w l gone →
+    Stand o w₀ (world_after w gone) (leases_after l gone)
 stand_after o w₀ w l [] s t = s
 stand_after o w₀ w l (g ∷ gs) s (e, others, t) =
     stand_after o w₀ g.world g.leases gs (still_stand o w₀ w g.world l g.leases g.client g.inode s e others) t
@@ -55,7 +40,8 @@ abbrev states_of : Machine → List Gone → List State
 states_of m [] = []
 states_of m (g ∷ gs) = with_world m g.world ∷ states_of m gs
 
-trace_of : (m : Machine) (o : Membership) (w₀ w : World) (l : Leases) (gone : List Gone) → Stand o w₀ w l → LetsGo w l gone → IsTrace (with_world m w) (states_of m gone)
+trace_of : (m : Machine) (o : Membership) (w₀ w : World) (l : Leases) (gone : List Gone) → Stand o w₀ w l → LetsGo w l gone →
+    IsTrace (with_world m w) (states_of m gone)
 trace_of m o w₀ w l [] s t = tt
 trace_of m o w₀ w l (g ∷ gs) s (e, others, t) = (
   quietly m w g.world (releases g.client g.inode (goes w g.world l g.leases g.client g.inode s.leases e s.dropped)),
@@ -68,10 +54,12 @@ last_gone m w (g ∷ gs) = last_gone m g.world gs
 
 -- ---- what isn't ready stays
 
-one_stays : (w : World) (l : Leases) (c i : ℕ) (u : World) (k : Leases) → ReleasesReady w l c i u k → (d j : ℕ) → is_ready w l d j ≡ false → client_lease k d j ≡ client_lease l d j
+one_stays : (w : World) (l : Leases) (c i : ℕ) (u : World) (k : Leases) → ReleasesReady w l c i u k → (d j : ℕ) → is_ready w l d j ≡ false →
+    client_lease k d j ≡ client_lease l d j
 one_stays w l c i u k e d j unready = grind (arith, cases_eq, without_other)
 
-still_ready : (w : World) (l : Leases) (c i : ℕ) (u : World) (k : Leases) → AreDropped w → AreDropped u → ReleasesReady w l c i u k → (d j : ℕ) → client_lease k d j ≡ client_lease l d j →
+still_ready : (w : World) (l : Leases) (c i : ℕ) (u : World) (k : Leases) → AreDropped w → AreDropped u → ReleasesReady w l c i u k → (d j : ℕ) →
+    client_lease k d j ≡ client_lease l d j →
     is_ready u k d j ≡ is_ready w l d j
 unfolding AreDropped
 still_ready w l c i u k before after e d j same = grind (arith, cases_Bool)
@@ -133,5 +121,6 @@ release_leads m m' a h (is_released gone freed is e) = released_leads m m' gone 
 pub release_holds : (m m' : Machine) (a : Answer) → MachineInvariant m → Releasing m a m' → MachineInvariant m'
 release_holds m m' a h (is_released gone freed is e) = released_holds m m' gone freed h e
 
-pub unready_kept : (m m' : Machine) (a : Answer) → MachineInvariant m → Releasing m a m' → (c i : ℕ) → is_ready m.world m.leases c i ≡ false → client_lease m'.leases c i ≡ client_lease m.leases c i
+pub unready_kept : (m m' : Machine) (a : Answer) → MachineInvariant m → Releasing m a m' → (c i : ℕ) → is_ready m.world m.leases c i ≡ false →
+    client_lease m'.leases c i ≡ client_lease m.leases c i
 unready_kept m m' a h s c i unready = grind (arith, freed_same, unready_stays, begins)

@@ -1,21 +1,8 @@
 -- A node begins to come back, and is filled: nothing changes but what nodes have that aren't full.
-use Rattle.std.proofs.Common.{◌≡◌, ℕ, zero, suc, ◌+◌, ◌-◌, ◌≤◌, Option, List, [], ◌∷◌, length, refl, ap, ◌∙◌, arith, length-append}
-use Rattle.std.specs.List.{slice_set}
+use Rattle.assise_model_events.proofs.Common.{◌≡◌, ℕ, zero, suc, ◌+◌, ◌-◌, ◌≤◌, Option, List, [], ◌∷◌, length, refl, ap, ◌∙◌, arith, length-append, slice_set}
+use Rattle.assise_model_events.proofs.Common.{EntryValue, back_as, copied_as, Membership, Standing, standing_of, Rests, still_dropped, logs_keep, AreMembers}
+use Rattle.assise_model_events.proofs.Common.{back_keeps, refill_keeps, rests, Answer, Leads, Machine, MachineInvariant, Adds, Returning, Refilling}
 use Rattle.std.specs.FinSet as set
-use Rattle.assise_history.specs.Entries.{EntryValue}
-use Rattle.assise_manager.specs.Changes.{back_as, copied_as}
-use Rattle.assise_manager.specs.Membership.{Membership}
-use Rattle.assise_manager.specs.Standings.{Standing, standing_of}
-use Rattle.assise_model_world.specs.NodeSteps.{Rests}
-use Rattle.assise_model_world.proofs.QuietSteps.{still_dropped}
-use Rattle.assise_model_leases.proofs.QuietLeases.{logs_keep}
-use Rattle.assise_model_members.specs.Members.{AreMembers}
-use Rattle.assise_model_members.proofs.NodeChanged.{back_keeps, refill_keeps}
-use Rattle.assise_model_history.specs.Entered.NeedsNoEntry.{rests}
-use Rattle.assise_model_events.specs.Events.{Answer}
-use Rattle.assise_model_events.specs.Happenings.{Leads}
-use Rattle.assise_model_events.specs.Machine.{Machine, MachineInvariant, Adds}
-use Rattle.assise_model_events.specs.MemberEvents.{Returning, Refilling}
 use Rattle.assise_model_events.specs.MemberEvents.Returning.{is_back, lacks_memory, is_refused}
 use Rattle.assise_model_events.specs.MemberEvents.Refilling.{is_refilled, is_whole, lacks_memory as lacks_memory_there, is_refused as is_refused_there}
 use Rattle.assise_model_events.proofs.EventTraces.{leads_sound, leads_recorded, same_leads, same_holds, with_world, quietly, ends_as}
@@ -38,7 +25,8 @@ copied_many nodes n i s = grind (arith, as_many)
 
 -- ---- what a rest keeps
 
-pub rest_holds : (m m' : Machine) (entries : List EntryValue) → MachineInvariant m → Leads m m' → Rests m.world m'.world → m'.leases ≡ m.leases → Adds m entries m' →
+pub rest_holds : (m m' : Machine) (entries : List EntryValue) → MachineInvariant m → Leads m m' → Rests m.world m'.world → m'.leases ≡ m.leases →
+    Adds m entries m' →
     m'.members.epoch ≤ m.members.epoch + length entries → AreMembers m'.world m'.members → MachineInvariant m'
 rest_holds m m' entries h l e leases adds epoch members = record {
   sound = leads_sound m m' h l;

@@ -1,47 +1,26 @@
 -- What client 1 of two nodes does again and again: it creates a file in an empty root, and unlinks it.
-use Rattle.std.proofs.Common.{◌≡◌, ◌≢◌, ℕ, Bool, true, false, List, [], ◌∷◌, Option, Some, None, Result, Ok, cond, refl, ap, sym, ◌∙◌, eq-eqb, suc, ◌+◌, ◌<◌, ◌≤◌, not, inl, inr, if◌then◌else◌, ◌++◌, length, subst, arith, length-append}
-use Rattle.std.proofs.lemmas.Bool.{ne_eqb, and_parts, or_cases}
+use Rattle.assise_model_events.proofs.Common.{◌≡◌, ◌≢◌, ℕ, Bool, true, false, List, [], ◌∷◌, Option, Some, None, Result, Ok, cond, refl, ap, sym, ◌∙◌, eq-eqb}
+use Rattle.assise_model_events.proofs.Common.{suc, ◌+◌, ◌<◌, ◌≤◌, not, inl, inr, if◌then◌else◌, ◌++◌, length, subst, arith, length-append, ne_eqb, and_parts}
+use Rattle.assise_model_events.proofs.Common.{or_cases, Op, UnlinkCall, Done, Mode, Read, Write, LogRecord, same_name, all_effects, has_some, record_of}
+use Rattle.assise_model_events.proofs.Common.{Content, regular, directory, Links, Values, value_after, contains, touched, inode_number, NumberedCall, Lease}
+use Rattle.assise_model_events.proofs.Common.{serves, MakesCall, is_for_writing, World, Full, undigested_records, call_makes_inode, step_at_home, view}
+use Rattle.assise_model_events.proofs.Common.{MayCallUnder, CallsUnder, Leases, client_lease, is_held, is_written, may_call_under, create_step, no_links}
+use Rattle.assise_model_events.proofs.Common.{Calling, Granted, Gets, IsAnswered, HasServingLeases, call_of_client, is_answered, last_leases, last_world}
+use Rattle.assise_model_events.proofs.Common.{call_entry, replied, try_call, call_fault, is_too_large, Happens, MachineInvariant, Machine, IsReached}
 use Rattle.std.specs.Prelude.{ok_or}
 use Rattle.std.specs.Cmp.Lexicographic.{nat_list_cmp_total}
 use Rattle.std.specs.FinMap as map
-use Rattle.assise_names.specs.declared.call.Op.{Op}
-use Rattle.assise_names.specs.declared.call.Op.TheVariants.{Unlink as UnlinkCall}
-use Rattle.assise_names.specs.declared.reply.Reply.TheVariants.{Done}
 use Rattle.assise_names.specs.declared.reply.TreeError.{TreeError}
 use Rattle.assise_names.specs.declared.reply.TreeError.TheVariants.{NoEnt}
-use Rattle.assise_names.specs.declared.mode.Mode.{Mode}
-use Rattle.assise_names.specs.declared.mode.Mode.TheVariants.{Read, Write}
 use Rattle.assise_record.specs.declared.effect.Effect.TheVariants.{Unlink, Free}
 use Rattle.assise_record.specs.declared.effect.Effect.{Effect}
-use Rattle.assise_record.specs.LogRecord.{LogRecord}
-use Rattle.assise_seq_tree.specs.Tree.{same_name}
 use Rattle.assise_seq_tree.proofs.Sets.{same_itself}
-use Rattle.assise_record.specs.Records.{all_effects, has_some, record_of}
 use Rattle.assise_inode_table.specs.Calls.{as_regular, step, then_or_error, walk_from}
-use Rattle.assise_inode_table.specs.Contents.{Content, regular, directory, Links, Values}
-use Rattle.assise_inode_table.specs.Effects.{value_after, contains, touched}
 use Rattle.assise_inode_table.specs.Interaction.{Interaction, finish, visits_of, reply_of, effects_of, Step}
 use Rattle.assise_inode_table.specs.Reach.{link_of}
-use Rattle.assise_inode_table.specs.Numbers.{inode_number}
-use Rattle.assise_inode_table.specs.Traces.{NumberedCall}
 use Rattle.assise_inode_table.proofs.EffectValues.{contains-append}
 use Rattle.assise_digest.proofs.KeptStands.{value_after_one_more}
-use Rattle.assise_lease_table.specs.declared.lease.Lease.{Lease}
 use Rattle.assise_lease_table.specs.Modes.{strong}
-use Rattle.assise_lease_table.specs.Leases.{serves}
-use Rattle.assise_model_world.specs.ClientSteps.{MakesCall, is_for_writing}
-use Rattle.assise_model_world.specs.World.{World, Full, undigested_records, call_makes_inode, step_at_home, view}
-use Rattle.assise_model_leases.specs.Chances.{MayCallUnder}
-use Rattle.assise_model_leases.specs.Handing.{CallsUnder}
-use Rattle.assise_model_leases.specs.Leases.{Leases, client_lease, is_held, is_written}
-use Rattle.assise_model_leases.proofs.Possible.{may_call_under}
-use Rattle.assise_model_history.proofs.LossReached.{create_step, no_links}
-use Rattle.assise_model_events.specs.ClientEvents.{Calling, Granted, Gets, IsAnswered, HasServingLeases, call_of_client, is_answered, last_leases, last_world}
-use Rattle.assise_model_events.specs.Events.{call_entry, replied, try_call}
-use Rattle.assise_model_events.specs.Faults.{call_fault, is_too_large}
-use Rattle.assise_model_events.specs.Happenings.{Happens}
-use Rattle.assise_model_events.specs.Machine.{MachineInvariant, Machine}
-use Rattle.assise_model_events.specs.Reached.{IsReached}
 use Rattle.assise_model_events.proofs.Trace.{reaches}
 use Rattle.assise_model_events.proofs.EachEvent.{event_keeps}
 use Rattle.assise_model_events.proofs.LeaseSteps.{Reached, comes_to, full_after}

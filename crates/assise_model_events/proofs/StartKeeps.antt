@@ -1,18 +1,9 @@
 -- The invariant between events holds at the start.
-use Rattle.std.proofs.Common.{◌≡◌, ℕ, zero, suc, ◌<◌, ◌≤◌, List, length, Some, None, refl, ap, sym, ◌∙◌, arith}
-use Rattle.std.specs.List.{slice_get}
-use Rattle.assise_lease_tree.specs.TwoLevels.{nobody}
-use Rattle.assise_manager.specs.Changes.{fulls, all_full}
-use Rattle.assise_manager.specs.Standings.{full, standing_of}
-use Rattle.assise_manager.proofs.Lawful.{all_full_lawful}
-use Rattle.assise_model_world.specs.Runs.{begun}
-use Rattle.assise_model_world.proofs.StepLists.{begun_dropped}
-use Rattle.assise_model_leases.specs.Leases.{Leases, AreLeases}
-use Rattle.assise_model_members.specs.Members.{AreMembers, since_of}
-use Rattle.assise_model_members.proofs.NodeStandings.{none_failed}
-use Rattle.assise_model_history.specs.State.{begun_with, down_from}
-use Rattle.assise_model_history.proofs.TracesKeep.{begun_sound, begun_recorded, node_of, of_node}
-use Rattle.assise_model_events.specs.Machine.{MachineInvariant, begun_as, state_of}
+use Rattle.assise_model_events.proofs.Common.{◌≡◌, ℕ, zero, suc, ◌<◌, ◌≤◌, List, length, Some, None, refl, ap, sym, ◌∙◌, arith, slice_get, nobody, fulls}
+use Rattle.assise_model_events.proofs.Common.{all_full, standing_of, all_full_lawful, begun, begun_dropped, Leases, AreLeases, AreMembers, since_of}
+use Rattle.assise_model_events.proofs.Common.{none_failed, begun_with, down_from, begun_sound, begun_recorded, node_of, of_node, MachineInvariant, begun_as}
+use Rattle.assise_model_events.proofs.Common.{state_of}
+use Rattle.assise_manager.specs.Standings.{full}
 
 -- ---- full nodes
 

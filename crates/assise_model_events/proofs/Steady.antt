@@ -1,12 +1,5 @@
 -- Steps that keep all areas: the world that such a step leads to, with the areas that were there before.
-use Rattle.std.proofs.Common.{ℕ, arith}
-use Rattle.assise_names.specs.declared.mode.Mode.{Mode}
-use Rattle.assise_inode_table.specs.Traces.{NumberedCall}
-use Rattle.assise_model_world.specs.ClientSteps.{Crashes, MakesCall, Opens, RaisesGoals}
-use Rattle.assise_model_world.specs.NodeSteps.{Delivers}
-use Rattle.assise_model_world.specs.World.{World, end_of_log}
-use Rattle.assise_model_leases.specs.Handing.{Grants}
-use Rattle.assise_model_leases.specs.Leases.{Leases}
+use Rattle.assise_model_events.proofs.Common.{ℕ, arith, Mode, NumberedCall, Crashes, MakesCall, Opens, RaisesGoals, Delivers, World, end_of_log, Grants, Leases}
 
 abbrev pub with_old_areas : World → World → World
 with_old_areas w u = record u { area = w.area }

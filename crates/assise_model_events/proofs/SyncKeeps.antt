@@ -1,32 +1,13 @@
 -- A sync: its client's log is to be replicated, and where it is the call is answered.
-use Rattle.std.proofs.Common.{◌≡◌, ℕ, max, Some, true, false, [], ◌∷◌, length, refl, ap, sym, subst, ◌∙◌, arith}
-use Rattle.std.proofs.lemmas.Bool.{both_ways, false≢true}
-use Rattle.assise_names.specs.declared.call.Op.{Op}
-use Rattle.assise_names.specs.declared.call.Op.TheVariants.{Fsync}
-use Rattle.assise_names.specs.declared.durability.Durability.{Durability}
-use Rattle.assise_names.specs.declared.durability.Durability.TheVariants.{Pessimistic, Optimistic}
-use Rattle.assise_names.specs.declared.refusal.Refusal.{Refusal}
-use Rattle.assise_names.specs.declared.reply.Reply.{Reply}
-use Rattle.assise_history.specs.Legal.{durability_of, is_sync}
-use Rattle.assise_inode_table.specs.Traces.{NumberedCall}
-use Rattle.assise_model_world.specs.ClientSteps.{RaisesGoals}
-use Rattle.assise_model_world.specs.Invariant.{WorldInvariant}
-use Rattle.assise_model_world.specs.World.{World, Full, end_of_log, received_by_all, step_at_home, view}
-use Rattle.assise_inode_table.specs.Effects.{contains}
-use Rattle.assise_model_world.proofs.ClientsStaying.{raise_sound}
-use Rattle.assise_model_world.proofs.CallKeeps.{call_dropped}
-use Rattle.assise_model_world.proofs.WorldObserved.{received_by_all-end}
-use Rattle.assise_model_world.proofs.QuietSteps.{end-same, received_by_all-same, still_dropped}
-use Rattle.assise_model_leases.specs.Leases.{Leases, AreLeases}
-use Rattle.assise_model_leases.proofs.QuietLeases.{call_keeps, logs_keep}
-use Rattle.assise_model_history.specs.Entered.{raises_goals}
+use Rattle.assise_model_events.proofs.Common.{◌≡◌, ℕ, max, Some, true, false, [], ◌∷◌, length, refl, ap, sym, subst, ◌∙◌, arith, both_ways, false≢true, Op}
+use Rattle.assise_model_events.proofs.Common.{Fsync, Durability, Pessimistic, Optimistic, Refusal, Reply, durability_of, is_sync, NumberedCall, RaisesGoals}
+use Rattle.assise_model_events.proofs.Common.{WorldInvariant, World, Full, end_of_log, received_by_all, step_at_home, view, contains, raise_sound, call_dropped}
+use Rattle.assise_model_events.proofs.Common.{received_by_all-end, end-same, received_by_all-same, still_dropped, Leases, AreLeases, call_keeps, logs_keep}
+use Rattle.assise_model_events.proofs.Common.{raises_goals, Syncing, Noting, is_synced, is_replicating, is_noted, is_refused, lacks_memory, AnswersSync}
+use Rattle.assise_model_events.proofs.Common.{IsReplicating, IsNoted, goal_of_sync, call_of_client, Answer, call_entry, refused, client_fault, Dsyncing}
+use Rattle.assise_model_events.proofs.Common.{Fsyncing, Leads, Machine, MachineInvariant, state_of}
 use Rattle.assise_model_history.proofs.InodeMakers.{sync_still}
-use Rattle.assise_model_events.specs.ClientEvents.{Syncing, Noting, is_synced, is_replicating, is_noted, is_refused, lacks_memory, AnswersSync, IsReplicating, IsNoted, goal_of_sync, call_of_client}
-use Rattle.assise_model_events.specs.Events.{Answer, call_entry, refused}
-use Rattle.assise_model_events.specs.Faults.{client_fault}
 use Rattle.assise_model_events.specs.Dsyncs.{is_refused}
-use Rattle.assise_model_events.specs.Happenings.{Dsyncing, Fsyncing, Leads}
-use Rattle.assise_model_events.specs.Machine.{Machine, MachineInvariant, state_of}
 use Rattle.assise_model_events.proofs.AnsweredCall.{call_happens, logs_answered}
 use Rattle.assise_model_events.proofs.EventTraces.{leads_sound, leads_recorded, same_leads, same_holds, with_world, quietly, ends_as}
 use Rattle.assise_model_events.proofs.Members.{members_stay, members_rest, epochs_stay, logs_stay}
@@ -62,7 +43,8 @@ awaited_keeps m m' c h e = record {
 
 -- ---- it is answered
 
-module _ (m m' : Machine) (c : ℕ) (op : Op) (u : Durability) (sync : is_sync op u ≡ true) (reply : Reply) (h : MachineInvariant m) (e : AnswersSync m (call_of_client m.world c op reply) m') where
+module _ (m m' : Machine) (c : ℕ) (op : Op) (u : Durability) (sync : is_sync op u ≡ true) (reply : Reply) (h : MachineInvariant m)
+    (e : AnswersSync m (call_of_client m.world c op reply) m') where
   abbrev x : NumberedCall
   x = call_of_client m.world c op reply
 
@@ -74,7 +56,11 @@ module _ (m m' : Machine) (c : ℕ) (op : Op) (u : Durability) (sync : is_sync o
     states = with_world m e.between ∷ state_of m' ∷ [];
     trace = (
       quietly m m.world e.between (raises_goals (goal_of_sync m.world c) e.raises),
-      (call_happens m m' e.between x h refl e.call.call (λ is. raise_replicated m.world e.between (goal_of_sync m.world c) c e.raises e.replicated) e.adds e.keeps.members, tt),
+      (
+        call_happens m m' e.between x h refl e.call.call (λ is. raise_replicated m.world e.between (goal_of_sync m.world c) c e.raises e.replicated) e.adds
+            e.keeps.members,
+        tt,
+      ),
     );
     last = refl;
   }
@@ -89,19 +75,24 @@ module _ (m m' : Machine) (c : ℕ) (op : Op) (u : Durability) (sync : is_sync o
     recorded = leads_recorded m m' h synced_leads;
     leases = subst (λ l. AreLeases m'.world l) (sym e.leases)
         (call_keeps e.between m'.world m.leases x (raise_leases m.world e.between m.leases (goal_of_sync m.world c) e.raises h.leases) e.call);
-    members = members_stay m m' h e.keeps (e.call.call.full ∙ e.raises.nodes.full) (λ k i f. e.call.call.area k i (was_full k f) ∙ (e.raises.nodes.same k f).area i);
+    members = members_stay m m' h e.keeps (e.call.call.full ∙ e.raises.nodes.full)
+        (λ k i f. e.call.call.area k i (was_full k f) ∙ (e.raises.nodes.same k f).area i);
     epochs = epochs_stay m m' (call_entry m.history c op reply) h e.keeps.members e.adds;
-    logs = logs_answered m m' e.between x h e.raises.logs.records e.call.call (λ some. (let none : (step_at_home e.between x).effects ≡ [] = sync_still (view e.between (e.between.home c) c) op x.fresh u sync in let never : false ≡ true = rw none at some in absurd (false≢true never))) e.adds.limit;
+    logs = logs_answered m m' e.between x h e.raises.logs.records e.call.call
+        (λ some. (let none : (step_at_home e.between x).effects ≡ [] = sync_still (view e.between (e.between.home c) c) op x.fresh u sync in
+        let never : false ≡ true = rw none at some in absurd (false≢true never))) e.adds.limit;
     clients = rw (e.call.call.clients.clients, e.raises.clients.clients) h.clients;
   }
 
-pub syncing_leads : (m m' : Machine) (c : ℕ) (op : Op) (u : Durability) (a : Answer) → is_sync op u ≡ true → MachineInvariant m → Syncing m c op a m' → Leads m m'
+pub syncing_leads : (m m' : Machine) (c : ℕ) (op : Op) (u : Durability) (a : Answer) → is_sync op u ≡ true → MachineInvariant m → Syncing m c op a m' →
+    Leads m m'
 syncing_leads m m' c op u a sync h (is_synced reply fine is e) = synced_leads m m' c op u sync reply h e
 syncing_leads m m' c op u a sync h (is_replicating fine is e) = awaited_leads m m' c e
 syncing_leads m m' c op u a sync h (lacks_memory fine all is same) = same_leads m m' same
 syncing_leads m m' c op u a sync h (is_refused r fault is same) = same_leads m m' same
 
-pub syncing_keeps : (m m' : Machine) (c : ℕ) (op : Op) (u : Durability) (a : Answer) → is_sync op u ≡ true → MachineInvariant m → Syncing m c op a m' → MachineInvariant m'
+pub syncing_keeps : (m m' : Machine) (c : ℕ) (op : Op) (u : Durability) (a : Answer) → is_sync op u ≡ true → MachineInvariant m → Syncing m c op a m' →
+    MachineInvariant m'
 syncing_keeps m m' c op u a sync h (is_synced reply fine is e) = synced_keeps m m' c op u sync reply h e
 syncing_keeps m m' c op u a sync h (is_replicating fine is e) = awaited_keeps m m' c h e
 syncing_keeps m m' c op u a sync h (lacks_memory fine all is same) = same_holds m m' same h
@@ -109,14 +100,19 @@ syncing_keeps m m' c op u a sync h (is_refused r fault is same) = same_holds m m
 
 -- ---- it waits for nothing
 
-module _ (m m' : Machine) (c : ℕ) (reply : Reply) (never : is_sync Fsync (durability_of c m.history) ≡ false) (h : MachineInvariant m) (e : IsNoted m (call_of_client m.world c Fsync reply) m') where
+module _ (m m' : Machine) (c : ℕ) (reply : Reply) (never : is_sync Fsync (durability_of c m.history) ≡ false) (h : MachineInvariant m)
+    (e : IsNoted m (call_of_client m.world c Fsync reply) m') where
   abbrev y : NumberedCall
   y = call_of_client m.world c Fsync reply
 
   noted_leads : Leads m m'
   noted_leads = record {
     states = state_of m' ∷ [];
-    trace = (call_happens m m' m.world y h refl e.call.call (λ is. absurd (both_ways (is_sync Fsync (durability_of c m.history)) never is)) e.adds e.keeps.members, tt);
+    trace = (
+      call_happens m m' m.world y h refl e.call.call (λ is. absurd (both_ways (is_sync Fsync (durability_of c m.history)) never is)) e.adds
+          e.keeps.members,
+      tt,
+    );
     last = refl;
   }
 
@@ -135,7 +131,8 @@ module _ (m m' : Machine) (c : ℕ) (reply : Reply) (never : is_sync Fsync (dura
 pub noting_leads : (m m' : Machine) (c : ℕ) (a : Answer) → is_sync Fsync (durability_of c m.history) ≡ false → MachineInvariant m → Noting m c a m' → Leads m m'
 noting_leads m m' c a never h s = grind (arith, noted_leads, same_leads)
 
-pub noting_keeps : (m m' : Machine) (c : ℕ) (a : Answer) → is_sync Fsync (durability_of c m.history) ≡ false → MachineInvariant m → Noting m c a m' → MachineInvariant m'
+pub noting_keeps : (m m' : Machine) (c : ℕ) (a : Answer) → is_sync Fsync (durability_of c m.history) ≡ false → MachineInvariant m → Noting m c a m' →
+    MachineInvariant m'
 noting_keeps m m' c a never h (is_noted reply fine is e) = noted_keeps m m' c reply never h e
 noting_keeps m m' c a never h (lacks_memory fine is same) = same_holds m m' same h
 noting_keeps m m' c a never h (is_refused r fault is same) = same_holds m m' same h

@@ -1,32 +1,11 @@
 -- How two nodes begin: client 1 is opened on node 1, and gets the leases that it needs to create a file.
-use Rattle.std.proofs.Common.{◌≡◌, ◌≢◌, ℕ, true, List, [], ◌∷◌, ◌++◌, Option, Some, None, refl, ap, sym, subst, ◌∙◌, arith}
-use Rattle.std.proofs.lemmas.Bool.{or_right}
-use Rattle.assise_names.specs.declared.durability.Durability.{Durability}
-use Rattle.assise_names.specs.declared.durability.Durability.TheVariants.{Pessimistic}
-use Rattle.assise_names.specs.declared.mode.Mode.{Mode}
-use Rattle.assise_names.specs.declared.mode.Mode.TheVariants.{Read, Write}
-use Rattle.assise_names.specs.declared.reply.Reply.TheVariants.{Done}
-use Rattle.assise_history.specs.Legal.{durability_of}
-use Rattle.assise_record.specs.Records.{has_some}
-use Rattle.assise_inode_table.specs.Effects.{contains, touched}
-use Rattle.assise_lease_table.specs.declared.lease.Lease.{Lease}
-use Rattle.assise_lease_table.specs.Leases.{new_lease}
-use Rattle.assise_lease_tree.specs.Levels.{clients_granted, in_way, nodes_granted}
-use Rattle.assise_lease_tree.specs.TwoLevels.{is_free_for}
-use Rattle.assise_manager.specs.Changes.{all_full}
-use Rattle.assise_model_world.specs.World.{World, Full, step_at_home}
-use Rattle.assise_model_leases.specs.Chances.{MayCallUnder}
-use Rattle.assise_model_leases.specs.Handing.{Grants}
-use Rattle.assise_model_leases.specs.Leases.{Leases, client_lease, is_held, is_written}
-use Rattle.assise_model_leases.proofs.Possible.{may_grant}
-use Rattle.assise_model_members.specs.Returns.{OtherAreasStay}
-use Rattle.assise_model_history.proofs.LossReached.{IsNew, creation, create_op, first_step, made_number, may_create, of_either, step_is}
-use Rattle.assise_model_events.specs.ClientEvents.{Opening, Granted, Gets, IsFirstMissing, IsMissing, HasServingLeases, IsTried, call_of_client, is_opened, is_refused, lacks_memory, last_leases, last_world}
-use Rattle.assise_model_events.specs.Events.{Answer, ClusterEvent, open_client, opened}
-use Rattle.assise_model_events.specs.Faults.{call_fault}
-use Rattle.assise_model_events.specs.Happenings.{AllHappen, Happens}
-use Rattle.assise_model_events.specs.Machine.{MachineInvariant, Machine, begun_as}
-use Rattle.assise_model_events.specs.Reached.{IsReached}
+use Rattle.assise_model_events.proofs.Common.{◌≡◌, ◌≢◌, ℕ, true, List, [], ◌∷◌, ◌++◌, Option, Some, None, refl, ap, sym, subst, ◌∙◌, arith, or_right}
+use Rattle.assise_model_events.proofs.Common.{Durability, Pessimistic, Mode, Read, Write, Done, durability_of, has_some, contains, touched, Lease, new_lease}
+use Rattle.assise_model_events.proofs.Common.{clients_granted, in_way, nodes_granted, is_free_for, all_full, World, Full, step_at_home, MayCallUnder, Grants}
+use Rattle.assise_model_events.proofs.Common.{Leases, client_lease, is_held, is_written, may_grant, OtherAreasStay, IsNew, creation, create_op, first_step}
+use Rattle.assise_model_events.proofs.Common.{made_number, may_create, of_either, step_is, Opening, Granted, Gets, IsFirstMissing, IsMissing, HasServingLeases}
+use Rattle.assise_model_events.proofs.Common.{IsTried, call_of_client, is_opened, is_refused, lacks_memory, last_leases, last_world, Answer, ClusterEvent}
+use Rattle.assise_model_events.proofs.Common.{open_client, opened, call_fault, AllHappen, Happens, MachineInvariant, Machine, begun_as, IsReached}
 use Rattle.assise_model_events.proofs.Answerable.{opened_can}
 use Rattle.assise_model_events.proofs.StartKeeps.{begun_holds}
 use Rattle.assise_model_events.proofs.EachEvent.{event_keeps}
@@ -35,7 +14,8 @@ use Rattle.assise_model_events.proofs.Steady.{old_grants, with_old_areas}
 
 -- ---- what happens is reached
 
-happens_next : (m v m' : Machine) (es : List (ClusterEvent × Answer)) (e : ClusterEvent) (a : Answer) → AllHappen m es v → Happens v e a m' → AllHappen m (es ++ (e, a) ∷ []) m'
+happens_next : (m v m' : Machine) (es : List (ClusterEvent × Answer)) (e : ClusterEvent) (a : Answer) → AllHappen m es v → Happens v e a m' →
+    AllHappen m (es ++ (e, a) ∷ []) m'
 happens_next m v m' [] e a same h = (m', (subst (λ u. Happens u e a m') same h, refl))
 happens_next m v m' ((f, b) ∷ es) e a (u, (first, rest)) h = (u, (first, happens_next u v m' es e a rest h))
 
@@ -182,7 +162,8 @@ record GotOne (m : Machine) (w : World) (l : Leases) (i : ℕ) (mode : Mode) (u 
   pub clients : k.levels.clients i ≡ clients_granted 1 mode (l.levels.clients i)
   pub nodes : k.levels.nodes i ≡ nodes_granted l.levels.home (l.levels.clients i) 1 mode (l.levels.nodes i)
 
-gets_one : (m : Machine) (w : World) (l : Leases) (i : ℕ) (mode : Mode) → IsNew m.world → Reached m w l → is_free_for l.levels 1 (w.home 1) i mode ≡ true → (u : World) × (k : Leases) × GotOne m w l i mode u k
+gets_one : (m : Machine) (w : World) (l : Leases) (i : ℕ) (mode : Mode) → IsNew m.world → Reached m w l → is_free_for l.levels 1 (w.home 1) i mode ≡ true →
+    (u : World) × (k : Leases) × GotOne m w l i mode u k
 gets_one m w l i mode new r free =
     let n : IsNew w = still_new m w l new r in
     let (v, k, got) = may_grant w l 1 i mode (record { lives_on = n.lives; running = n.runs; free = free }) in
@@ -266,10 +247,12 @@ module _ (limit : ℕ) (m : Machine) (o : IsOpen limit m) where
     home_known = root.2.grant.granted.home 1 ∙ own.2.grant.granted.home 1 ∙ read.2.grant.granted.home 1 ∙ o.home_known;
     clients_root = root.2.clients ∙ ap (clients_granted 1 Write) still_clients ∙ client_raised;
     nodes_root =
-        root.2.nodes ∙ ap (nodes_granted own.1.levels.home (own.1.levels.clients 0) 1 Write) still_nodes ∙ node_raised own.1.levels.home (own.1.levels.clients 0);
+        root.2.nodes ∙ ap (nodes_granted own.1.levels.home (own.1.levels.clients 0) 1 Write) still_nodes
+        ∙ node_raised own.1.levels.home (own.1.levels.clients 0);
     clients_own = root.2.grant.granted.clients.elsewhere made_number own_not_root ∙ own_clients;
     clients_else = λ i rest file.
-        root.2.grant.granted.clients.elsewhere i rest ∙ own.2.grant.granted.clients.elsewhere i file ∙ read.2.grant.granted.clients.elsewhere i rest ∙ o.clients_none i;
+        root.2.grant.granted.clients.elsewhere i rest ∙ own.2.grant.granted.clients.elsewhere i file ∙ read.2.grant.granted.clients.elsewhere i rest
+        ∙ o.clients_none i;
     nodes_else = λ i rest file.
         root.2.grant.granted.nodes.elsewhere i rest ∙ own.2.grant.granted.nodes.elsewhere i file ∙ read.2.grant.granted.nodes.elsewhere i rest ∙ o.nodes_none i;
   }

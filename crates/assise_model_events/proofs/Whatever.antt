@@ -1,24 +1,12 @@
 -- Whatever happens, one event after another.
-use Rattle.std.proofs.Common.{◌≡◌, ℕ, ◌<◌, true, false, List, [], ◌∷◌, ◌++◌, refl, ap, sym, subst, ◌∙◌, arith, append_assoc, append-nil}
-use Rattle.assise_seq_tree.specs.Tree.{opening as opening_tree}
-use Rattle.assise_history.specs.declared.call.Loss.{Loss}
-use Rattle.assise_history.specs.Entries.{EntryValue, fails}
-use Rattle.assise_history.specs.Kept.{IsRun, kept}
-use Rattle.assise_history.specs.Legal.{IsFair, IsLegal}
+use Rattle.assise_model_events.proofs.Common.{◌≡◌, ℕ, ◌<◌, true, false, List, [], ◌∷◌, ◌++◌, refl, ap, sym, subst, ◌∙◌, arith, append_assoc, append-nil}
+use Rattle.assise_model_events.proofs.Common.{opening_tree, Loss, EntryValue, fails, IsRun, kept, IsFair, IsLegal, contains, touched, Each, first_unreplicated}
+use Rattle.assise_model_events.proofs.Common.{steps, client_lease, is_written, IsTrace, IsLasting, IsSafe, last_of, State, trace_lasts, kept_of, Answer}
+use Rattle.assise_model_events.proofs.Common.{ClusterEvent, all_entries, entries_of, AllHappen, Leads, Machine, MachineInvariant, begun_as, state_of}
 use Rattle.assise_history.proofs.OneMore.{follows_in}
-use Rattle.assise_inode_table.specs.Effects.{contains, touched}
-use Rattle.assise_inode_table.specs.Traces.{Each}
 use Rattle.assise_inode_table.proofs.PairwiseLists.{each-map}
-use Rattle.assise_model_world.specs.World.{first_unreplicated, steps}
 use Rattle.assise_model_world.proofs.Replicated.{handed_over}
 use Rattle.assise_model_world.proofs.RegionAlone.{first_undigested-below}
-use Rattle.assise_model_leases.specs.Leases.{client_lease, is_written}
-use Rattle.assise_model_history.specs.Traces.{IsTrace, IsLasting, IsSafe, last_of}
-use Rattle.assise_model_history.specs.State.{State}
-use Rattle.assise_model_history.proofs.TracesKeep.{trace_lasts, kept_of}
-use Rattle.assise_model_events.specs.Events.{Answer, ClusterEvent, all_entries, entries_of}
-use Rattle.assise_model_events.specs.Happenings.{AllHappen, Leads}
-use Rattle.assise_model_events.specs.Machine.{Machine, MachineInvariant, begun_as, state_of}
 use Rattle.assise_model_events.proofs.EventTraces.{same_leads}
 use Rattle.assise_model_events.proofs.StartKeeps.{begun_holds}
 use Rattle.assise_model_events.proofs.EachEvent.{event_told, event_leads, event_keeps}
@@ -29,7 +17,8 @@ pub all_keep : (m m' : Machine) (es : List (ClusterEvent × Answer)) → Machine
 all_keep m m' [] h e = subst MachineInvariant (sym e) h
 all_keep m m' ((e, a) ∷ es) h (v, (step, rest)) = all_keep v m' es (event_keeps m v e a h step) rest
 
-pub reached_holds : (nodes limit hot : ℕ) (es : List (ClusterEvent × Answer)) (m : Machine) → 0 < nodes → AllHappen (begun_as nodes limit hot) es m → MachineInvariant m
+pub reached_holds : (nodes limit hot : ℕ) (es : List (ClusterEvent × Answer)) (m : Machine) → 0 < nodes → AllHappen (begun_as nodes limit hot) es m →
+    MachineInvariant m
 reached_holds nodes limit hot es m some run = all_keep (begun_as nodes limit hot) m es (begun_holds nodes limit hot some) run
 
 -- ---- the history
@@ -38,15 +27,18 @@ pub all_told : (m m' : Machine) (es : List (ClusterEvent × Answer)) → AllHapp
 all_told m m' [] e = ap (λ x. x.history) e ∙ sym (append-nil m.history)
 all_told m m' ((e, a) ∷ es) (v, (step, rest)) =
     let told : v.history ≡ m.history ++ entries_of m.history e a = event_told m v e a step in
-    all_told v m' es rest ∙ ap (λ h. h ++ all_entries h es) told ∙ append_assoc m.history (entries_of m.history e a) (all_entries (m.history ++ entries_of m.history e a) es)
+    all_told v m' es rest ∙ ap (λ h. h ++ all_entries h es) told ∙ append_assoc m.history (entries_of m.history e a)
+    (all_entries (m.history ++ entries_of m.history e a) es)
 
 pub safe : (m : Machine) → MachineInvariant m → IsSafe (state_of m)
 safe m h = kept_of (state_of m) h.sound h.recorded
 
-pub only_tails : (m : Machine) → MachineInvariant m → (before later : List EntryValue) (n : ℕ) (losses : List Loss) → m.history ≡ before ++ fails n losses ∷ later → IsFair before n losses
+pub only_tails : (m : Machine) → MachineInvariant m → (before later : List EntryValue) (n : ℕ) (losses : List Loss) →
+    m.history ≡ before ++ fails n losses ∷ later → IsFair before n losses
 only_tails m h before later n losses split = follows_in m.history before later (fails n losses) h.recorded.legal split
 
-pub remaining : (m : Machine) → MachineInvariant m → (before later : List EntryValue) (e : EntryValue) → m.history ≡ before ++ e ∷ later → IsRun opening_tree (kept (before ++ e ∷ []))
+pub remaining : (m : Machine) → MachineInvariant m → (before later : List EntryValue) (e : EntryValue) → m.history ≡ before ++ e ∷ later →
+    IsRun opening_tree (kept (before ++ e ∷ []))
 unfolding IsLegal
 remaining m h before later e split = (h.recorded.legal before later e split).run
 

@@ -1,20 +1,8 @@
 -- Each thing that an entry tells of can happen.
-use Rattle.std.proofs.Common.{◌≡◌, ℕ, suc, true, false, [], ◌∷◌, ◌++◌, refl}
-use Rattle.assise_names.specs.declared.call.Op.TheVariants.{Fsync}
-use Rattle.assise_names.specs.declared.durability.Durability.{Durability}
-use Rattle.assise_names.specs.declared.reply.Reply.TheVariants.{Done}
-use Rattle.assise_history.specs.Entries.{EntryValue, opens, calls, crashes, fails, returns}
-use Rattle.assise_history.specs.Legal.{syncs}
-use Rattle.assise_inode_table.specs.Numbers.{inode_number}
-use Rattle.assise_inode_table.specs.Traces.{NumberedCall}
-use Rattle.assise_model_world.specs.Chances.{MayMakeCall, MayFail}
-use Rattle.assise_model_world.specs.Invariant.{WorldInvariant}
-use Rattle.assise_model_world.specs.World.{World, Full, end_of_log, received_by_all}
-use Rattle.assise_model_world.proofs.Possible.{may_open, may_call, may_crash, may_fail, may_join, may_rest}
-use Rattle.assise_model_history.specs.Entered.{AddsEntry, IsOpening, IsCall, IsCrash, IsFailure, IsFailureAgain, IsReturn}
-use Rattle.assise_model_history.specs.Lost.{losses_of}
-use Rattle.assise_model_history.specs.Numbered.{plain_call}
-use Rattle.assise_model_history.specs.State.{State, IsNode}
+use Rattle.assise_model_history.proofs.Common.{◌≡◌, ℕ, suc, true, false, [], ◌∷◌, ◌++◌, refl, Fsync, Durability, Done, EntryValue, opens, calls, crashes, fails}
+use Rattle.assise_model_history.proofs.Common.{returns, syncs, inode_number, NumberedCall, MayMakeCall, MayFail, WorldInvariant, World, Full, end_of_log}
+use Rattle.assise_model_history.proofs.Common.{received_by_all, may_open, may_call, may_crash, may_fail, may_join, may_rest, AddsEntry, IsOpening, IsCall}
+use Rattle.assise_model_history.proofs.Common.{IsCrash, IsFailure, IsFailureAgain, IsReturn, losses_of, plain_call, State, IsNode}
 
 -- the entry is written down
 abbrev told : State → EntryValue → World → State
@@ -29,7 +17,8 @@ can_open s n u full =
     let e : EntryValue = opens (suc s.world.clients) n u in
     (told s e v.0, record { adds = adds_it s e v.0; world = v.1 })
 
-pub can_call : (s : State) (x : NumberedCall) → WorldInvariant s.world → MayMakeCall s.world x → (syncs s.history (plain_call x) ≡ true → received_by_all s.world x.client ≡ end_of_log s.world x.client) → (t : State) × IsCall s x t
+pub can_call : (s : State) (x : NumberedCall) → WorldInvariant s.world → MayMakeCall s.world x →
+    (syncs s.history (plain_call x) ≡ true → received_by_all s.world x.client ≡ end_of_log s.world x.client) → (t : State) × IsCall s x t
 can_call s x sound may replicated =
     let u = may_call s.world x sound may in
     (told s (calls (plain_call x)) u.0, record { adds = adds_it s (calls (plain_call x)) u.0; world = u.1; replicated = replicated })
@@ -38,7 +27,8 @@ can_call s x sound may replicated =
 abbrev fsync_of : World → ℕ → NumberedCall
 fsync_of w c = record { client = c; number = w.next c; op = Fsync; reply = Done; fresh = inode_number c (w.made c) }
 
-pub can_fsync : (s : State) (c : ℕ) → WorldInvariant s.world → s.world.lives c ≡ true → s.world.crashed c ≡ false → received_by_all s.world c ≡ end_of_log s.world c → (x : NumberedCall) × ((x.client ≡ c) × (x.op ≡ Fsync) × ((t : State) × IsCall s x t))
+pub can_fsync : (s : State) (c : ℕ) → WorldInvariant s.world → s.world.lives c ≡ true → s.world.crashed c ≡ false → received_by_all s.world c
+    ≡ end_of_log s.world c → (x : NumberedCall) × ((x.client ≡ c) × (x.op ≡ Fsync) × ((t : State) × IsCall s x t))
 can_fsync s c sound lives running all = (
   fsync_of s.world c,
   (

@@ -1,19 +1,9 @@
 -- A trace from the start in which there is each kind of entry.
-use Rattle.std.proofs.Common.{◌≡◌, ◌≤◌, true, false, List, [], ◌∷◌, ◌++◌, refl, ap, ◌∙◌, arith}
-use Rattle.assise_names.specs.declared.durability.Durability.TheVariants.{Pessimistic}
-use Rattle.assise_history.specs.declared.call.Loss.{Loss}
-use Rattle.assise_history.specs.Entries.{opens, calls, crashes, fails, returns}
-use Rattle.assise_history.specs.Legal.{is_sync}
-use Rattle.assise_inode_table.specs.Traces.{NumberedCall}
-use Rattle.assise_model_world.specs.Invariant.{WorldInvariant}
-use Rattle.assise_model_world.specs.World.{Full, end_of_log, received_by_all}
-use Rattle.assise_model_world.proofs.WorldObserved.{received_by_all-end}
+use Rattle.assise_model_history.proofs.Common.{◌≡◌, ◌≤◌, true, false, List, [], ◌∷◌, ◌++◌, refl, ap, ◌∙◌, arith, Pessimistic, Loss, opens, calls, crashes}
+use Rattle.assise_model_history.proofs.Common.{fails, returns, is_sync, NumberedCall, WorldInvariant, Full, end_of_log, received_by_all, received_by_all-end}
+use Rattle.assise_model_history.proofs.Common.{plain_call, State, IsNode, begun_with, losses_of, IsOpening, IsCall, IsCrash, IsFailure, IsReturn, opening, call}
+use Rattle.assise_model_history.proofs.Common.{crash, failure, comeback, IsTrace, last_of, IsEventful}
 use Rattle.assise_model_world.proofs.QuietSteps.{end-same}
-use Rattle.assise_model_history.specs.Numbered.{plain_call}
-use Rattle.assise_model_history.specs.State.{State, IsNode, begun_with}
-use Rattle.assise_model_history.specs.Lost.{losses_of}
-use Rattle.assise_model_history.specs.Entered.{IsOpening, IsCall, IsCrash, IsFailure, IsReturn}
-use Rattle.assise_model_history.specs.Traces.{opening, call, crash, failure, comeback, IsTrace, last_of, IsEventful}
 use Rattle.assise_model_history.proofs.EntriesPossible.{can_open, can_fsync, can_crash, can_fail, can_return}
 use Rattle.assise_model_history.proofs.TracesKeep.{begun_sound, happens_sound}
 
@@ -48,7 +38,8 @@ client_received =
 
 -- it makes an fsync
 fsynced : (x : NumberedCall) × ((x.client ≡ 1) × (is_sync x.op Pessimistic ≡ true) × ((t : State) × IsCall with_client x t))
-fsynced = let f = can_fsync with_client 1 client_sound client_lives client_runs client_received in (f.0, (f.1.0, ap (λ op. is_sync op Pessimistic) f.1.1, f.1.2))
+fsynced = let f = can_fsync with_client 1 client_sound client_lives client_runs client_received in
+    (f.0, (f.1.0, ap (λ op. is_sync op Pessimistic) f.1.1, f.1.2))
 
 abbrev with_fsync : State
 with_fsync = fsynced.1.2.0

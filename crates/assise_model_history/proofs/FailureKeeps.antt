@@ -1,31 +1,18 @@
 -- Failures and returns keep what the history says of the state.
-use Rattle.std.proofs.Common.{◌≡◌, ◌≢◌, ℕ, zero, suc, ◌+◌, ◌-◌, ◌<◌, ◌≤◌, Bool, true, false, not, ◌&&◌, nat_le, ◌==◌, List, [], ◌∷◌, ◌++◌, filter, length, Contains, refl, ap, sym, subst, ◌∙◌, inl, inr, arith, eq-eqb, ne_eqb}
-use Rattle.std.specs.List.{list_any}
-use Rattle.std.proofs.lemmas.Bool.{cases_Bool, cases_eq, cases_lt, and_parts, and_from, eqb-true, ltb-true, ltb-false, leb-true, le-leb, false_from_ne_true, or_left, or_right, both_ways}
-use Rattle.std.proofs.lemmas.List.Elements.{Contains-append_cases}
-use Rattle.assise_history.specs.declared.call.Loss.{Loss}
-use Rattle.assise_history.specs.Entries.{opens, fails, returns}
-use Rattle.assise_history.specs.Kept.{loses}
-use Rattle.assise_history.specs.Legal.{IsDown, IsFair, IsOn, IsPastSyncs, is_failure_of}
-use Rattle.assise_history.proofs.OneMore.{legal-failure, legal-return}
-use Rattle.assise_history.proofs.TestedElements.{Passes, passes_from, not_nil}
-use Rattle.assise_history.proofs.LivesOneMore.{down-failed, down-push, down-last}
-use Rattle.assise_record.specs.Records.{Ascending, call_of}
-use Rattle.assise_inode_table.specs.Traces.{NumberedCall, below}
+use Rattle.assise_model_history.proofs.Common.{◌≡◌, ◌≢◌, ℕ, zero, suc, ◌+◌, ◌-◌, ◌<◌, ◌≤◌, Bool, true, false, not, ◌&&◌, nat_le, ◌==◌, List, [], ◌∷◌, ◌++◌}
+use Rattle.assise_model_history.proofs.Common.{filter, length, Contains, refl, ap, sym, subst, ◌∙◌, inl, inr, arith, eq-eqb, ne_eqb, list_any, cases_Bool}
+use Rattle.assise_model_history.proofs.Common.{cases_eq, cases_lt, and_parts, and_from, ltb-true, ltb-false, leb-true, le-leb, false_from_ne_true, or_left}
+use Rattle.assise_model_history.proofs.Common.{or_right, both_ways, Contains-append_cases, Loss, opens, fails, returns, loses, IsDown, IsFair, IsOn}
+use Rattle.assise_model_history.proofs.Common.{IsPastSyncs, is_failure_of, legal-failure, legal-return, Passes, passes_from, not_nil, down-failed, down-push}
+use Rattle.assise_model_history.proofs.Common.{down-last, Ascending, call_of, NumberedCall, below, Fails, kept_at_failure, fails_node, joins_node, rests_all}
+use Rattle.assise_model_history.proofs.Common.{Counted, WorldInvariant, World, Full, IsClient, end_of_log, received_by_all, first_unreplicated, call_at}
+use Rattle.assise_model_history.proofs.Common.{call_at-mono, call_at-end, first-received_by_all, step_sound, step_falls, IsFailure, IsFailureAgain, IsReturn}
+use Rattle.assise_model_history.proofs.Common.{losses_of, IsFirstLost, plain_call, kept_numbered, State, WasOpened, IsRecorded}
+use Rattle.std.proofs.lemmas.Bool.{eqb-true}
 use Rattle.assise_inode_table.proofs.PairwiseLists.{each-map}
 use Rattle.assise_record.specs.LogRecord.{LogRecord}
-use Rattle.assise_model_world.specs.NodeSteps.{Fails, kept_at_failure}
-use Rattle.assise_model_world.specs.Runs.{fails as fails_node, joins as joins_node, rests as rests_all}
-use Rattle.assise_model_world.specs.Invariant.{Counted, WorldInvariant}
-use Rattle.assise_model_world.specs.World.{World, Full, IsClient, end_of_log, received_by_all, first_unreplicated, call_at}
 use Rattle.assise_model_world.proofs.FailureKeeps.{kept_low}
 use Rattle.assise_model_world.proofs.Logs.{at_top}
-use Rattle.assise_model_world.proofs.WorldObserved.{call_at-mono, call_at-end, first-received_by_all}
-use Rattle.assise_model_world.proofs.StepLists.{step_sound, step_falls}
-use Rattle.assise_model_history.specs.Entered.{IsFailure, IsFailureAgain, IsReturn}
-use Rattle.assise_model_history.specs.Lost.{losses_of, IsFirstLost}
-use Rattle.assise_model_history.specs.Numbered.{plain_call, kept_numbered}
-use Rattle.assise_model_history.specs.State.{State, WasOpened, IsRecorded}
 use Rattle.assise_model_history.proofs.OneEntryMore.{AreUp, or_false, and_true, opened_more, opened_aside, full_moves}
 use Rattle.assise_model_history.proofs.FailureList.{one_in, in_midst, first_loss, IsLossTo, listed_to, is_loss, losses_ascend, exactly_lost}
 use Rattle.assise_model_history.proofs.NumberedCalls.{filter_like, kept_fail, kept_fail_none, kept_return}
@@ -61,19 +48,23 @@ any_of p (y ∷ ys) x h passes =
     ]
 
 -- and one from there on is
-is_taken : (w : World) (n : ℕ) (x : NumberedCall) → IsClient w x.client → x.number < w.next x.client → cut_call w n x.client ≤ x.number → loses (losses_of w n) (plain_call x) ≡ true
+is_taken : (w : World) (n : ℕ) (x : NumberedCall) → IsClient w x.client → x.number < w.next x.client → cut_call w n x.client ≤ x.number →
+    loses (losses_of w n) (plain_call x) ≡ true
 is_taken w n x client few from =
     let c : ℕ = x.client in
     elim (cases_lt (kept_at_failure w n c) (end_of_log w c)) [
       | inl some ↦
-          let listed : Contains (losses_of w n) (first_loss w n c) = is_loss w n w.clients (first_loss w n c) record { low = client.0; high = client.1; some = some; first = refl } in
-          any_of (takes x) (losses_of w n) (first_loss w n c) listed (and_from (c == c) (nat_le (cut_call w n c) x.number) (eq-eqb c c refl) (le-leb (cut_call w n c) x.number from))
+          let listed : Contains (losses_of w n) (first_loss w n c) = is_loss w n w.clients (first_loss w n c) record
+          { low = client.0; high = client.1; some = some; first = refl } in
+          any_of (takes x) (losses_of w n) (first_loss w n c) listed
+          (and_from (c == c) (nat_le (cut_call w n c) x.number) (eq-eqb c c refl) (le-leb (cut_call w n c) x.number from))
       | inr none ↦
           let top : cut_call w n c ≡ w.next c = call_at-end w c (kept_at_failure w n c) none in
           absurd (omega (arith, top, few, from))
     ]
 
-same_test : (w : World) (n : ℕ) (x : NumberedCall) → IsClient w x.client → x.number < w.next x.client → below (cut_call w n) x ≡ not (loses (losses_of w n) (plain_call x))
+same_test : (w : World) (n : ℕ) (x : NumberedCall) → IsClient w x.client → x.number < w.next x.client →
+    below (cut_call w n) x ≡ not (loses (losses_of w n) (plain_call x))
 same_test w n x client few = grind (arith, cases_Bool, not_taken, ltb-true, is_taken, ltb-false)
 
 same_filter : (w : World) (n : ℕ) → WorldInvariant w → filter (below (cut_call w n)) w.calls ≡ filter (λ x. not (loses (losses_of w n) (plain_call x))) w.calls
@@ -84,9 +75,11 @@ pub failure_takes : (w w' : World) (n : ℕ) → WorldInvariant w → Fails w n 
 failure_takes w w' n s e = e.calls ∙ same_filter w n s
 
 -- so what is left are the kept calls
-failure_calls : (s : State) (n : ℕ) (s' : State) → WorldInvariant s.world → IsRecorded s → IsFailure s n s' → s'.world.calls ≡ kept_numbered (s.history ++ fails n (losses_of s.world n) ∷ [])
+failure_calls : (s : State) (n : ℕ) (s' : State) → WorldInvariant s.world → IsRecorded s → IsFailure s n s' →
+    s'.world.calls ≡ kept_numbered (s.history ++ fails n (losses_of s.world n) ∷ [])
 failure_calls s n s' sound r e =
-    failure_takes s.world s'.world n sound e.world ∙ ap (λ xs. filter (λ x. not (loses (losses_of s.world n) (plain_call x))) xs) r.calls ∙ sym (kept_fail s.history n (losses_of s.world n))
+    failure_takes s.world s'.world n sound e.world ∙ ap (λ xs. filter (λ x. not (loses (losses_of s.world n) (plain_call x))) xs) r.calls
+    ∙ sym (kept_fail s.history n (losses_of s.world n))
 
 -- a call that is listed was answered
 call_inside : (rs : List LogRecord) (k d : ℕ) → Ascending rs d → k < length rs → call_of rs k d < d
@@ -102,8 +95,10 @@ loss_answered w n l s h =
     let o : IsLossTo w n w.clients l = listed_to w n w.clients l h in
     let some : k < w.first c + length (w.records c) = o.some in
     let first : l.first ≡ call_of (w.records c) (k - w.first c) (w.next c) = o.first in
-    let low : w.first c ≤ k = (let a : w.first c ≤ received_by_all w c = first-received_by_all w s.coherent c in let b : received_by_all w c ≤ k = kept_low w n c in omega (arith, a, b)) in
-    let inside : call_of (w.records c) (k - w.first c) (w.next c) < w.next c = call_inside (w.records c) (k - w.first c) (w.next c) (s.coherent.ascending c) (omega (arith, some, low)) in
+    let low : w.first c ≤ k = (let a : w.first c ≤ received_by_all w c = first-received_by_all w s.coherent c in
+    let b : received_by_all w c ≤ k = kept_low w n c in omega (arith, a, b)) in
+    let inside : call_of (w.records c) (k - w.first c) (w.next c) < w.next c = call_inside (w.records c) (k - w.first c) (w.next c) (s.coherent.ascending c)
+    (omega (arith, some, low)) in
     omega (arith, first, inside)
 
 -- ---- the failure is fair
@@ -114,7 +109,8 @@ past_syncs s n l sound r h before since x split client sync =
     let c : ℕ = l.client in
     let o : IsLossTo s.world n s.world.clients l = listed_to s.world n s.world.clients l h in
     let low : x.number < call_at s.world c (received_by_all s.world c) = r.synced c before since x split client sync in
-    let up : call_at s.world c (received_by_all s.world c) ≤ call_at s.world c (kept_at_failure s.world n c) = call_at-mono s.world c (received_by_all s.world c) (kept_at_failure s.world n c) sound.coherent (kept_low s.world n c) in
+    let up : call_at s.world c (received_by_all s.world c) ≤ call_at s.world c (kept_at_failure s.world n c) =
+    call_at-mono s.world c (received_by_all s.world c) (kept_at_failure s.world n c) sound.coherent (kept_low s.world n c) in
     let first : l.first ≡ call_at s.world c (kept_at_failure s.world n c) = o.first in
     omega (arith, low, up, first)
 
@@ -124,7 +120,13 @@ was_on s n l sound r h =
     let was : WasOpened s.history s.world l.client = r.opened l.client (sound.opened l.client f.lives) in
     let o = was.opened in
     record {
-      opened = record { durability = o.durability; before = o.before; since = o.since; split = subst (λ m. s.history ≡ o.before ++ opens l.client m o.durability ∷ o.since) f.home o.split };
+      opened = record {
+        durability = o.durability;
+        before = o.before;
+        since = o.since;
+        split =
+            subst (λ m. s.history ≡ o.before ++ opens l.client m o.durability ∷ o.since) f.home o.split;
+      };
       no_failure = subst (λ m. list_any (is_failure_of m) o.since ≡ false) f.home (no_failure s l.client was f.lives);
     }
 
@@ -142,9 +144,11 @@ and_false : (b : Bool) → (b && false) ≡ false
 and_false true = refl
 and_false false = refl
 
-failure_opened : (s : State) (n : ℕ) (s' : State) → IsRecorded s → IsFailure s n s' → (c : ℕ) → IsClient s.world c → WasOpened (s.history ++ fails n (losses_of s.world n) ∷ []) s'.world c
+failure_opened : (s : State) (n : ℕ) (s' : State) → IsRecorded s → IsFailure s n s' → (c : ℕ) → IsClient s.world c →
+    WasOpened (s.history ++ fails n (losses_of s.world n) ∷ []) s'.world c
 failure_opened s n s' r e c client =
-    opened_more s.history (fails n (losses_of s.world n)) s.world s'.world c (e.world.home c) (e.world.crashed c ∙ sym (or_false (s.world.crashed c))) lives (r.opened c client)
+    opened_more s.history (fails n (losses_of s.world n)) s.world s'.world c (e.world.home c) (e.world.crashed c ∙ sym (or_false (s.world.crashed c))) lives
+    (r.opened c client)
   where
     lives : s'.world.lives c ≡ (s.world.lives c && not (s.world.home c == n))
     lives = elim (cases_eq (s.world.home c) n) [
@@ -182,9 +186,11 @@ failure_recorded s n s' sound r e =
 pub nothing_fair : (s : State) (n : ℕ) → IsFair s.history n []
 nothing_fair s n = search (absurd, not_nil, arith) parts 3
 
-again_opened : (s : State) (n : ℕ) (s' : State) → WorldInvariant s.world → IsRecorded s → IsFailureAgain s n s' → (c : ℕ) → IsClient s.world c → WasOpened (s.history ++ fails n [] ∷ []) s'.world c
+again_opened : (s : State) (n : ℕ) (s' : State) → WorldInvariant s.world → IsRecorded s → IsFailureAgain s n s' → (c : ℕ) → IsClient s.world c →
+    WasOpened (s.history ++ fails n [] ∷ []) s'.world c
 again_opened s n s' sound r e c client =
-    opened_more s.history (fails n []) s.world s'.world c (e.world.clients.home c) (e.world.clients.crashed c ∙ sym (or_false (s.world.crashed c))) (e.world.clients.lives c ∙ lives) (r.opened c client)
+    opened_more s.history (fails n []) s.world s'.world c (e.world.clients.home c) (e.world.clients.crashed c ∙ sym (or_false (s.world.crashed c)))
+    (e.world.clients.lives c ∙ lives) (r.opened c client)
   where
     -- a client that lives there would have a full home
     lives : s.world.lives c ≡ (s.world.lives c && not (s.world.home c == n))
@@ -202,7 +208,8 @@ pub failure_again_recorded : (s : State) (n : ℕ) (s' : State) → WorldInvaria
 failure_again_recorded s n s' sound r e =
     let left = same_run s.world (s.history ++ fails n [] ∷ []) sound (r.calls ∙ sym (kept_fail_none s.history n)) in
     recorded_aside s (fails n []) s' tt r e.adds (legal-failure s.history n [] r.legal (nothing_fair s n) left)
-    (e.world.logs.calls ∙ r.calls ∙ sym (kept_fail_none s.history n)) (counts_of s.world s'.world e.world.logs e.world.clients.clients) (again_opened s n s' sound r e)
+    (e.world.logs.calls ∙ r.calls ∙ sym (kept_fail_none s.history n)) (counts_of s.world s'.world e.world.logs e.world.clients.clients)
+    (again_opened s n s' sound r e)
     (step_falls s.world s'.world sound (rests_all e.world)) (again_nodes s n s' r e)
 
 -- ---- a return

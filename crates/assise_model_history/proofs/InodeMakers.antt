@@ -1,19 +1,10 @@
 -- Which calls make an inode, and that a sync does nothing.
-use Rattle.std.proofs.Common.{◌≡◌, ℕ, true, false, List, [], ap, arith}
-use Rattle.std.specs.List.{list_any}
+use Rattle.assise_model_history.proofs.Common.{◌≡◌, ℕ, true, false, List, [], ap, arith, list_any, Op, Durability, Done, Error, is_sync, step, Values, makes}
+use Rattle.assise_model_history.proofs.Common.{Step, makes_inode}
 use Rattle.std.proofs.lemmas.Bool.{eq-eqb}
-use Rattle.assise_names.specs.declared.call.Op.{Op}
-use Rattle.assise_names.specs.declared.durability.Durability.{Durability}
 use Rattle.assise_names.specs.declared.reply.Reply.{Reply}
-use Rattle.assise_names.specs.declared.reply.Reply.TheVariants.{Done, Error}
 use Rattle.assise_names.specs.declared.reply.TreeError.{TreeError}
 use Rattle.assise_record.specs.declared.effect.Effect.{Effect}
-use Rattle.assise_history.specs.Legal.{is_sync}
-use Rattle.assise_inode_table.specs.Calls.{step}
-use Rattle.assise_inode_table.specs.Contents.{Values}
-use Rattle.assise_inode_table.specs.Effects.{makes}
-use Rattle.assise_inode_table.specs.Interaction.{Step}
-use Rattle.assise_inode_table.specs.Numbers.{makes_inode}
 use Rattle.assise_inode_table.proofs.CallEnds.{HoldsWhereDone, call_ends}
 
 -- an inode is made exactly where the reply says so

@@ -1,3 +1,4 @@
+mod Common
 pub mod NumberedCalls
 pub mod InodeMakers
 pub mod OneEntryMore

@@ -1,40 +1,20 @@
 -- A trace from the start in which a failure takes a call.
-use Rattle.std.proofs.Common.{◌≡◌, inl, inr, ℕ, ◌-◌, ◌≤◌, true, false, ◌||◌, ◌==◌, List, [], ◌∷◌, ◌++◌, refl, ap, sym, subst, ◌∙◌, arith, eqb-true, Some, Ok, cond, is_some}
-use Rattle.std.proofs.lemmas.Bool.{or_cases, or_right, lt-ltb}
+use Rattle.assise_model_history.proofs.Common.{◌≡◌, inl, inr, ℕ, ◌-◌, ◌≤◌, true, false, ◌||◌, ◌==◌, List, [], ◌∷◌, ◌++◌, refl, ap, sym, subst, ◌∙◌, arith}
+use Rattle.assise_model_history.proofs.Common.{eqb-true, Some, Ok, cond, is_some, or_cases, or_right, lt-ltb, Op, Create, Done, Pessimistic, no_entries, opens}
+use Rattle.assise_model_history.proofs.Common.{calls, fails, kept, record_of, room_among, step, directory, Links, Values, contains, touched, Step, NumberedCall}
+use Rattle.assise_model_history.proofs.Common.{MayMakeCall, Acquires, kept_at_failure, WorldInvariant, World, Full, opening_values, end_of_log, call_at}
+use Rattle.assise_model_history.proofs.Common.{undigested_records, view, step_at_home, least_of-below, may_acquire, opening, call, failure, quiet, IsTrace}
+use Rattle.assise_model_history.proofs.Common.{last_of, IsLossy, IsOpening, IsCall, IsFailure, IsUntold, acquires, is_cut, losses_to, losses_of, plain_call}
+use Rattle.assise_model_history.proofs.Common.{State, begun_with}
 use Rattle.std.proofs.Math.Seq.{drop-nil}
 use Rattle.std.specs.Cmp.{nat_cmp_total}
 use Rattle.std.specs.Cmp.Lexicographic.{slice_cmp}
 use Rattle.std.specs.FinMap as map
 use Rattle.std.specs.Ordering.{nat_cmp}
-use Rattle.assise_names.specs.declared.call.Op.{Op}
-use Rattle.assise_names.specs.declared.call.Op.TheVariants.{Create}
 use Rattle.assise_names.specs.declared.mode.Mode.TheVariants.{Write}
-use Rattle.assise_names.specs.declared.reply.Reply.TheVariants.{Done}
-use Rattle.assise_names.specs.declared.durability.Durability.TheVariants.{Pessimistic}
-use Rattle.assise_seq_tree.specs.Tree.{no_entries}
-use Rattle.assise_history.specs.Entries.{opens, calls, fails}
-use Rattle.assise_history.specs.Kept.{kept}
 use Rattle.assise_record.specs.declared.effect.Effect.TheVariants.{NewFile, Link}
-use Rattle.assise_record.specs.Records.{record_of}
-use Rattle.assise_inode_table.specs.Calls.{room_among, step}
-use Rattle.assise_inode_table.specs.Contents.{directory, Links, Values}
-use Rattle.assise_inode_table.specs.Effects.{contains, touched}
-use Rattle.assise_inode_table.specs.Interaction.{Step}
-use Rattle.assise_inode_table.specs.Traces.{NumberedCall}
 use Rattle.assise_inode_table.proofs.EffectValues.{same_number}
 use Rattle.assise_inode_table.proofs.DirectoryNames.{names_are_keys}
-use Rattle.assise_model_world.specs.Chances.{MayMakeCall}
-use Rattle.assise_model_world.specs.ClientSteps.{Acquires}
-use Rattle.assise_model_world.specs.NodeSteps.{kept_at_failure}
-use Rattle.assise_model_world.specs.Invariant.{WorldInvariant}
-use Rattle.assise_model_world.specs.World.{World, Full, opening_values, end_of_log, call_at, undigested_records, view, step_at_home}
-use Rattle.assise_model_world.proofs.WorldObserved.{least_of-below}
-use Rattle.assise_model_world.proofs.Possible.{may_acquire}
-use Rattle.assise_model_history.specs.Traces.{opening, call, failure, quiet, IsTrace, last_of, IsLossy}
-use Rattle.assise_model_history.specs.Entered.{IsOpening, IsCall, IsFailure, IsUntold, acquires}
-use Rattle.assise_model_history.specs.Lost.{is_cut, losses_to, losses_of}
-use Rattle.assise_model_history.specs.Numbered.{plain_call}
-use Rattle.assise_model_history.specs.State.{State, begun_with}
 use Rattle.assise_model_history.proofs.EntriesPossible.{can_open, can_call, can_fail}
 use Rattle.assise_model_history.proofs.FailureList.{cut_there, least_kept, others_of, is_left}
 use Rattle.assise_model_history.proofs.TracesKeep.{begun_sound, happens_sound}
@@ -168,7 +148,8 @@ abbrev pub no_links : Links
 no_links = map.empty
 
 pub empty_root : opening_values 0 ≡ Some (directory no_links)
-empty_root = map.get-insert nat_cmp_total map.empty 0 (directory no_links) 0 ∙ ap (λ b. cond b (Some (directory no_links)) (map.get {R = nat_cmp} map.empty 0)) (same_number 0 0)
+empty_root = map.get-insert nat_cmp_total map.empty 0 (directory no_links) 0 ∙ ap (λ b. cond b (Some (directory no_links)) (map.get {R = nat_cmp} map.empty 0))
+    (same_number 0 0)
 
 pub room : room_among (97 ∷ []) no_links ≡ Ok tt
 room =
@@ -189,7 +170,8 @@ step_is w n = creates (view w (w.home 1) 1) made_number (sees_root w n ∙ empty
 pub of_either : (P : ℕ → Type 0) (a b i : ℕ) → P a → P b → contains (a ∷ b ∷ []) i ≡ true → P i
 of_either P a b i at_a at_b there = grind (arith, or_cases, eqb-true)
 
-pub may_create : (w : World) → IsNew w → ((i : ℕ) → contains (made_number ∷ 0 ∷ []) i ≡ true → w.holds 1 i ≡ true) → ((i : ℕ) → contains (made_number ∷ 0 ∷ []) i ≡ true → w.writes 1 i ≡ true) → MayMakeCall w creation
+pub may_create : (w : World) → IsNew w → ((i : ℕ) → contains (made_number ∷ 0 ∷ []) i ≡ true → w.holds 1 i ≡ true) →
+    ((i : ℕ) → contains (made_number ∷ 0 ∷ []) i ≡ true → w.writes 1 i ≡ true) → MayMakeCall w creation
 may_create w n holds writes =
     let is : step_at_home w creation ≡ first_step = step_is w n in
     record {
@@ -234,14 +216,17 @@ file_full : with_file.world.full ≡ 2 ∷ 1 ∷ []
 file_full = created.1.world.full ∙ leases_new.full
 
 file_received : with_file.world.received 2 1 ≡ 0
-file_received = created.1.world.received_else 2 1 (rw leases_new.full refl) (λ is own. (let two : 2 ≡ 1 = is ∙ leases_new.home in omega (arith, two))) ∙ leases_new.received
+file_received = created.1.world.received_else 2 1 (rw leases_new.full refl) (λ is own. (let two : 2 ≡ 1 = is ∙ leases_new.home in omega (arith, two)))
+    ∙ leases_new.received
 
 file_cut : kept_at_failure with_file.world 1 1 ≡ 0
 file_cut =
     let w : World = with_file.world in
-    let at : kept_at_failure w 1 1 ≡ least_kept w 1 1 = cut_there w 1 1 (created.1.world.clients.lives 1 ∙ leases_new.lives) (created.1.world.clients.home 1 ∙ leases_new.home) in
+    let at : kept_at_failure w 1 1 ≡ least_kept w 1 1 = cut_there w 1 1 (created.1.world.clients.lives 1 ∙ leases_new.lives)
+    (created.1.world.clients.home 1 ∙ leases_new.home) in
     let two_full : Full w 2 = rw file_full refl in
-    let low : least_kept w 1 1 ≤ w.received 2 1 = least_of-below (others_of w 1) (λ k. w.received k 1) (end_of_log w 1) 2 (is_left w.full 1 2 two_full (λ same. cc)) in
+    let low : least_kept w 1 1 ≤ w.received 2 1 = least_of-below (others_of w 1) (λ k. w.received k 1) (end_of_log w 1) 2
+    (is_left w.full 1 2 two_full (λ same. cc)) in
     let none : w.received 2 1 ≡ 0 = file_received in
     omega (arith, at, low, none)
 

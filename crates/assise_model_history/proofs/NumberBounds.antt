@@ -1,10 +1,6 @@
 -- How high numbers of calls and records can be.
-use Rattle.std.proofs.Common.{ℕ, ◌≤◌, arith, length}
+use Rattle.assise_model_history.proofs.Common.{ℕ, ◌≤◌, arith, length, is_call_of, WorldInvariant, end_of_log, State, IsRecorded}
 use Rattle.std.proofs.lemmas.List.Sums.{length-filter, count_by-le-length}
-use Rattle.assise_history.specs.Legal.{is_call_of}
-use Rattle.assise_model_world.specs.Invariant.{WorldInvariant}
-use Rattle.assise_model_world.specs.World.{end_of_log}
-use Rattle.assise_model_history.specs.State.{State, IsRecorded}
 
 pub calls_below : (s : State) (c : ℕ) → IsRecorded s → s.world.next c ≤ length s.history
 calls_below s c r = omega (arith, r.next c, length-filter (is_call_of c) s.history, count_by-le-length (is_call_of c) s.history)

@@ -1,15 +1,9 @@
 -- The numbered calls of a history, one entry more.
-use Rattle.std.proofs.Common.{◌≡◌, ◌↔◌, ℕ, zero, suc, Bool, true, false, not, List, [], ◌∷◌, ◌++◌, if◌then◌else◌, filter, map, Contains, refl, ap, sym, subst, ◌∙◌, inl, inr, arith, append_assoc, append-nil}
-use Rattle.std.proofs.lemmas.Bool.{cases_Bool}
-use Rattle.std.proofs.lemmas.List.Elements.{Contains-append_right, Contains-append_cases}
-use Rattle.assise_history.specs.declared.call.Call.{Call}
-use Rattle.assise_history.specs.declared.call.Loss.{Loss}
-use Rattle.assise_names.specs.declared.durability.Durability.{Durability}
-use Rattle.assise_history.specs.Entries.{EntryValue, opens, calls, crashes, fails, returns}
-use Rattle.assise_history.specs.Kept.{is_lost, loses, kept}
-use Rattle.assise_inode_table.specs.Traces.{NumberedCall, Each}
+use Rattle.assise_model_history.proofs.Common.{◌≡◌, ◌↔◌, ℕ, zero, suc, Bool, true, false, not, List, [], ◌∷◌, ◌++◌, if◌then◌else◌, filter, map, Contains, refl}
+use Rattle.assise_model_history.proofs.Common.{ap, sym, subst, ◌∙◌, inl, inr, arith, append_assoc, append-nil, cases_Bool, Contains-append_right}
+use Rattle.assise_model_history.proofs.Common.{Contains-append_cases, Call, Loss, Durability, EntryValue, opens, calls, crashes, fails, returns, is_lost, loses}
+use Rattle.assise_model_history.proofs.Common.{kept, NumberedCall, Each, numbered_in, plain_call, all_after, kept_after, kept_numbered, IsKeptAs}
 use Rattle.assise_history.proofs.Runs.{is_lost-append}
-use Rattle.assise_model_history.specs.Numbered.{numbered_in, plain_call, all_after, kept_after, kept_numbered, IsKeptAs}
 
 -- lists that pass a test
 
@@ -26,12 +20,18 @@ filter_like p q (x ∷ xs) h = rw h.0 (ap (λ ys. if q x then x ∷ ys else ys) 
 numbered_parts_from : (prefix g h : List EntryValue) → all_after prefix (g ++ h) ≡ all_after prefix g ++ all_after (prefix ++ g) h
 numbered_parts_from prefix [] h = ap (λ f. all_after f h) (sym (append-nil prefix))
 numbered_parts_from prefix (calls x ∷ es) h =
-    ap (λ xs. numbered_in prefix x ∷ xs) (numbered_parts_from (prefix ++ calls x ∷ []) es h ∙ ap (λ f. all_after (prefix ++ calls x ∷ []) es ++ all_after f h) (append_assoc prefix (calls x ∷ []) es))
-numbered_parts_from prefix (opens c n u ∷ es) h = numbered_parts_from (prefix ++ opens c n u ∷ []) es h ∙ ap (λ f. all_after (prefix ++ opens c n u ∷ []) es ++ all_after f h) (append_assoc prefix (opens c n u ∷ []) es)
-numbered_parts_from prefix (crashes c ∷ es) h = numbered_parts_from (prefix ++ crashes c ∷ []) es h ∙ ap (λ f. all_after (prefix ++ crashes c ∷ []) es ++ all_after f h) (append_assoc prefix (crashes c ∷ []) es)
+    ap (λ xs. numbered_in prefix x ∷ xs)
+    (numbered_parts_from (prefix ++ calls x ∷ []) es h ∙ ap (λ f. all_after (prefix ++ calls x ∷ []) es ++ all_after f h)
+    (append_assoc prefix (calls x ∷ []) es))
+numbered_parts_from prefix (opens c n u ∷ es) h = numbered_parts_from (prefix ++ opens c n u ∷ []) es h
+    ∙ ap (λ f. all_after (prefix ++ opens c n u ∷ []) es ++ all_after f h) (append_assoc prefix (opens c n u ∷ []) es)
+numbered_parts_from prefix (crashes c ∷ es) h = numbered_parts_from (prefix ++ crashes c ∷ []) es h
+    ∙ ap (λ f. all_after (prefix ++ crashes c ∷ []) es ++ all_after f h) (append_assoc prefix (crashes c ∷ []) es)
 numbered_parts_from prefix (fails n losses ∷ es) h =
-    numbered_parts_from (prefix ++ fails n losses ∷ []) es h ∙ ap (λ f. all_after (prefix ++ fails n losses ∷ []) es ++ all_after f h) (append_assoc prefix (fails n losses ∷ []) es)
-numbered_parts_from prefix (returns n ∷ es) h = numbered_parts_from (prefix ++ returns n ∷ []) es h ∙ ap (λ f. all_after (prefix ++ returns n ∷ []) es ++ all_after f h) (append_assoc prefix (returns n ∷ []) es)
+    numbered_parts_from (prefix ++ fails n losses ∷ []) es h ∙ ap (λ f. all_after (prefix ++ fails n losses ∷ []) es ++ all_after f h)
+    (append_assoc prefix (fails n losses ∷ []) es)
+numbered_parts_from prefix (returns n ∷ es) h = numbered_parts_from (prefix ++ returns n ∷ []) es h
+    ∙ ap (λ f. all_after (prefix ++ returns n ∷ []) es ++ all_after f h) (append_assoc prefix (returns n ∷ []) es)
 
 pub numbered_parts : (g h : List EntryValue) → all_after [] (g ++ h) ≡ all_after [] g ++ all_after g h
 numbered_parts g h = numbered_parts_from [] g h
@@ -42,14 +42,19 @@ left_by h xs = filter (λ x. not (is_lost h (plain_call x))) xs
 
 kept_parts_from : (prefix g h : List EntryValue) → kept_after prefix (g ++ h) ≡ left_by h (kept_after prefix g) ++ kept_after (prefix ++ g) h
 kept_parts_from prefix [] h = ap (λ f. kept_after f h) (sym (append-nil prefix))
-kept_parts_from prefix (opens c n u ∷ es) h = kept_parts_from (prefix ++ opens c n u ∷ []) es h ∙ ap (λ f. left_by h (kept_after (prefix ++ opens c n u ∷ []) es) ++ kept_after f h) (append_assoc prefix (opens c n u ∷ []) es)
-kept_parts_from prefix (crashes c ∷ es) h = kept_parts_from (prefix ++ crashes c ∷ []) es h ∙ ap (λ f. left_by h (kept_after (prefix ++ crashes c ∷ []) es) ++ kept_after f h) (append_assoc prefix (crashes c ∷ []) es)
+kept_parts_from prefix (opens c n u ∷ es) h = kept_parts_from (prefix ++ opens c n u ∷ []) es h
+    ∙ ap (λ f. left_by h (kept_after (prefix ++ opens c n u ∷ []) es) ++ kept_after f h) (append_assoc prefix (opens c n u ∷ []) es)
+kept_parts_from prefix (crashes c ∷ es) h = kept_parts_from (prefix ++ crashes c ∷ []) es h
+    ∙ ap (λ f. left_by h (kept_after (prefix ++ crashes c ∷ []) es) ++ kept_after f h) (append_assoc prefix (crashes c ∷ []) es)
 kept_parts_from prefix (fails n losses ∷ es) h =
-    kept_parts_from (prefix ++ fails n losses ∷ []) es h ∙ ap (λ f. left_by h (kept_after (prefix ++ fails n losses ∷ []) es) ++ kept_after f h) (append_assoc prefix (fails n losses ∷ []) es)
-kept_parts_from prefix (returns n ∷ es) h = kept_parts_from (prefix ++ returns n ∷ []) es h ∙ ap (λ f. left_by h (kept_after (prefix ++ returns n ∷ []) es) ++ kept_after f h) (append_assoc prefix (returns n ∷ []) es)
+    kept_parts_from (prefix ++ fails n losses ∷ []) es h ∙ ap (λ f. left_by h (kept_after (prefix ++ fails n losses ∷ []) es) ++ kept_after f h)
+    (append_assoc prefix (fails n losses ∷ []) es)
+kept_parts_from prefix (returns n ∷ es) h = kept_parts_from (prefix ++ returns n ∷ []) es h
+    ∙ ap (λ f. left_by h (kept_after (prefix ++ returns n ∷ []) es) ++ kept_after f h) (append_assoc prefix (returns n ∷ []) es)
 kept_parts_from prefix (calls x ∷ es) h =
     let here : kept_after (prefix ++ calls x ∷ []) (es ++ h) ≡ left_by h (kept_after (prefix ++ calls x ∷ []) es) ++ kept_after (prefix ++ calls x ∷ es) h =
-    kept_parts_from (prefix ++ calls x ∷ []) es h ∙ ap (λ f. left_by h (kept_after (prefix ++ calls x ∷ []) es) ++ kept_after f h) (append_assoc prefix (calls x ∷ []) es) in
+    kept_parts_from (prefix ++ calls x ∷ []) es h ∙ ap (λ f. left_by h (kept_after (prefix ++ calls x ∷ []) es) ++ kept_after f h)
+    (append_assoc prefix (calls x ∷ []) es) in
     let both : is_lost (es ++ h) x ≡ (if is_lost es x then true else is_lost h x) = is_lost-append es h x in
     elim (cases_Bool (is_lost es x)) [
       | inl gone ↦ rw (both, gone) here
@@ -79,7 +84,8 @@ kept_crash h c = kept_parts h (crashes c ∷ []) ∙ nothing_more (kept_numbered
 pub kept_return : (h : List EntryValue) (n : ℕ) → kept_numbered (h ++ returns n ∷ []) ≡ kept_numbered h
 kept_return h n = kept_parts h (returns n ∷ []) ∙ nothing_more (kept_numbered h)
 
-pub kept_fail : (h : List EntryValue) (n : ℕ) (losses : List Loss) → kept_numbered (h ++ fails n losses ∷ []) ≡ filter (λ x. not (loses losses (plain_call x))) (kept_numbered h)
+pub kept_fail : (h : List EntryValue) (n : ℕ) (losses : List Loss) → kept_numbered (h ++ fails n losses ∷ []) ≡ filter (λ x. not (loses losses (plain_call x)))
+    (kept_numbered h)
 kept_fail h n losses = grind (arith, kept_parts, append-nil, filter_like)
 
 pub kept_fail_none : (h : List EntryValue) (n : ℕ) → kept_numbered (h ++ fails n [] ∷ []) ≡ kept_numbered h
@@ -135,19 +141,31 @@ kept_as_from prefix (calls x ∷ es) y h =
       | inr left ↦
           let all : Contains (numbered_in prefix x ∷ kept_after (prefix ++ calls x ∷ []) es) y = rw left at h in
           elim (Contains-append_cases (numbered_in prefix x ∷ []) (kept_after (prefix ++ calls x ∷ []) es) y all) [
-            | inl here ↦ record { before = []; later = es; plain = x; split = refl; safe = left; numbered = sym (one_of y (numbered_in prefix x) here) ∙ ap (λ f. numbered_in f x) (sym (append-nil prefix)) }
+            | inl here ↦ record {
+              before = [];
+              later = es;
+              plain = x;
+              split = refl;
+              safe = left;
+              numbered = sym (one_of y (numbered_in prefix x) here)
+                  ∙ ap (λ f. numbered_in f x) (sym (append-nil prefix));
+            }
             | inr there ↦ later_on prefix es (calls x) y (kept_as_from (prefix ++ calls x ∷ []) es y there)
           ]
     ]
 
 kept_as : (h : List EntryValue) (y : NumberedCall) → Contains (kept_numbered h) y → IsKeptAs h y
-kept_as h y is = let k = kept_as_from [] h y is in record { before = k.before; later = k.later; plain = k.plain; split = k.split; safe = k.safe; numbered = k.numbered }
+kept_as h y is = let k = kept_as_from [] h y is in
+    record { before = k.before; later = k.later; plain = k.plain; split = k.split; safe = k.safe; numbered = k.numbered }
 
 kept_there : (h : List EntryValue) (y : NumberedCall) → IsKeptAs h y → Contains (kept_numbered h) y
 kept_there h y k =
-    let there : kept_numbered h ≡ left_by (calls k.plain ∷ k.later) (kept_numbered k.before) ++ kept_after k.before (calls k.plain ∷ k.later) = ap kept_numbered k.split ∙ kept_parts k.before (calls k.plain ∷ k.later) in
-    let first : Contains (kept_after k.before (calls k.plain ∷ k.later)) y = rw k.safe (first_in (kept_after (k.before ++ calls k.plain ∷ []) k.later) y (numbered_in k.before k.plain) (sym k.numbered)) in
-    subst (λ xs. Contains xs y) (sym there) (Contains-append_right (left_by (calls k.plain ∷ k.later) (kept_numbered k.before)) (kept_after k.before (calls k.plain ∷ k.later)) y first)
+    let there : kept_numbered h ≡ left_by (calls k.plain ∷ k.later) (kept_numbered k.before) ++ kept_after k.before (calls k.plain ∷ k.later) =
+    ap kept_numbered k.split ∙ kept_parts k.before (calls k.plain ∷ k.later) in
+    let first : Contains (kept_after k.before (calls k.plain ∷ k.later)) y =
+    rw k.safe (first_in (kept_after (k.before ++ calls k.plain ∷ []) k.later) y (numbered_in k.before k.plain) (sym k.numbered)) in
+    subst (λ xs. Contains xs y) (sym there)
+    (Contains-append_right (left_by (calls k.plain ∷ k.later) (kept_numbered k.before)) (kept_after k.before (calls k.plain ∷ k.later)) y first)
 
 pub kept_exactly : (h : List EntryValue) (y : NumberedCall) → Contains (kept_numbered h) y ↔ IsKeptAs h y
 kept_exactly h y = (kept_as h y, kept_there h y)

@@ -1,19 +1,10 @@
 -- What is said of a history, one entry more.
-use Rattle.std.proofs.Common.{◌≡◌, ℕ, suc, ◌+◌, ◌<◌, ◌≤◌, Bool, true, false, not, ◌&&◌, ◌||◌, List, [], ◌∷◌, ◌++◌, filter, length, refl, ap, sym, subst, ◌∙◌, arith, append_assoc}
-use Rattle.std.specs.List.{list_any}
+use Rattle.assise_model_history.proofs.Common.{◌≡◌, ℕ, suc, ◌+◌, ◌<◌, ◌≤◌, Bool, true, false, not, ◌&&◌, ◌||◌, List, [], ◌∷◌, ◌++◌, filter, length, refl, ap}
+use Rattle.assise_model_history.proofs.Common.{sym, subst, ◌∙◌, arith, append_assoc, list_any, filter-append, Call, Durability, EntryValue, opens, calls}
+use Rattle.assise_model_history.proofs.Common.{crashes, fails, returns, IsDown, IsPastSyncs, is_call_of, is_crash_of, is_failure_of, is_opening, is_return_of}
+use Rattle.assise_model_history.proofs.Common.{syncs, down-push, down-last, past_syncs-push, contains, SameClients, World, Full, is_making_of, WasOpened}
 use Rattle.std.proofs.lemmas.List.{length-append}
-use Rattle.std.proofs.lemmas.List.Elements.{filter-append}
 use Rattle.std.proofs.lemmas.List.Folds.{list_any-append}
-use Rattle.assise_history.specs.declared.call.Call.{Call}
-use Rattle.assise_names.specs.declared.durability.Durability.{Durability}
-use Rattle.assise_history.specs.Entries.{EntryValue, opens, calls, crashes, fails, returns}
-use Rattle.assise_history.specs.Legal.{IsDown, IsPastSyncs, is_call_of, is_crash_of, is_failure_of, is_opening, is_return_of, syncs}
-use Rattle.assise_history.proofs.LivesOneMore.{down-push, down-last, past_syncs-push}
-use Rattle.assise_inode_table.specs.Effects.{contains}
-use Rattle.assise_model_world.specs.Staying.{SameClients}
-use Rattle.assise_model_world.specs.World.{World, Full}
-use Rattle.assise_model_history.specs.Numbered.{is_making_of}
-use Rattle.assise_model_history.specs.State.{WasOpened}
 
 -- ---- counts
 
@@ -77,29 +68,40 @@ any_push : (p : EntryValue → Bool) (h : List EntryValue) (e : EntryValue) → 
 any_push p h e = list_any-append p h (e ∷ []) ∙ ap (λ b. list_any p h || b) (or_false (p e))
 
 -- the entry may be the client's crash or its node's failure
-pub opened_more : (h : List EntryValue) (e : EntryValue) (w w' : World) (c : ℕ) → w'.home c ≡ w.home c → w'.crashed c ≡ (w.crashed c || is_crash_of c e) → w'.lives c ≡ (w.lives c && not (is_failure_of (w.home c) e)) → WasOpened h w c → WasOpened (h ++ e ∷ []) w' c
+pub opened_more : (h : List EntryValue) (e : EntryValue) (w w' : World) (c : ℕ) → w'.home c ≡ w.home c → w'.crashed c ≡ (w.crashed c || is_crash_of c e) →
+    w'.lives c ≡ (w.lives c && not (is_failure_of (w.home c) e)) → WasOpened h w c → WasOpened (h ++ e ∷ []) w' c
 opened_more h e w w' c home crashed lives was = let o = was.opened in record {
   opened = search (append_assoc, arith) parts 3;
   crashed = crashed ∙ ap (λ b. b || is_crash_of c e) was.crashed ∙ sym (any_push (is_crash_of c) o.since e);
   lives = subst (λ n. w'.lives c ≡ not (list_any (is_failure_of n) (o.since ++ e ∷ []))) (sym home)
-      (lives ∙ ap (λ b. b && not (is_failure_of (w.home c) e)) was.lives ∙ sym (not_or (list_any (is_failure_of (w.home c)) o.since) (is_failure_of (w.home c) e)) ∙ ap not (sym (any_push (is_failure_of (w.home c)) o.since e)));
+      (lives ∙ ap (λ b. b && not (is_failure_of (w.home c) e)) was.lives
+      ∙ sym (not_or (list_any (is_failure_of (w.home c)) o.since) (is_failure_of (w.home c) e))
+      ∙ ap not (sym (any_push (is_failure_of (w.home c)) o.since e)));
 }
 
 -- it is neither
-pub opened_aside : (h : List EntryValue) (e : EntryValue) (w w' : World) (c : ℕ) → SameClients w w' → is_crash_of c e ≡ false → is_failure_of (w.home c) e ≡ false → WasOpened h w c → WasOpened (h ++ e ∷ []) w' c
+pub opened_aside : (h : List EntryValue) (e : EntryValue) (w w' : World) (c : ℕ) → SameClients w w' → is_crash_of c e ≡ false → is_failure_of (w.home c) e
+    ≡ false → WasOpened h w c → WasOpened (h ++ e ∷ []) w' c
 opened_aside h e w w' c same crash failure o =
     opened_more h e w w' c (same.home c) (same.crashed c ∙ rw crash (sym (or_false (w.crashed c)))) (same.lives c ∙ rw failure (sym (and_true (w.lives c)))) o
 
 -- there is none
 pub opened_still : (h : List EntryValue) (w w' : World) (c : ℕ) → SameClients w w' → WasOpened h w c → WasOpened h w' c
 opened_still h w w' c same was = let o = was.opened in record {
-  opened = record { durability = o.durability; before = o.before; since = o.since; split = subst (λ n. h ≡ o.before ++ opens c n o.durability ∷ o.since) (sym (same.home c)) o.split };
+  opened = record {
+    durability = o.durability;
+    before = o.before;
+    since = o.since;
+    split = subst (λ n. h ≡ o.before ++ opens c n o.durability ∷ o.since)
+        (sym (same.home c)) o.split;
+  };
   crashed = same.crashed c ∙ was.crashed;
   lives = subst (λ n. w'.lives c ≡ not (list_any (is_failure_of n) o.since)) (sym (same.home c)) (same.lives c ∙ was.lives);
 }
 
 -- it is the client's opening
-pub opened_now : (h : List EntryValue) (w' : World) (c n : ℕ) (u : Durability) → w'.home c ≡ n → w'.crashed c ≡ false → w'.lives c ≡ true → WasOpened (h ++ opens c n u ∷ []) w' c
+pub opened_now : (h : List EntryValue) (w' : World) (c n : ℕ) (u : Durability) → w'.home c ≡ n → w'.crashed c ≡ false → w'.lives c ≡ true →
+    WasOpened (h ++ opens c n u ∷ []) w' c
 opened_now h w' c n u home crashed lives = record {
   opened = record { durability = u; before = h; since = []; split = subst (λ m. h ++ opens c n u ∷ [] ≡ h ++ opens c m u ∷ []) (sym home) refl };
   crashed = crashed;
@@ -118,7 +120,8 @@ pub full_moves : (w w' : World) (n : ℕ) → w'.full ≡ w.full → Full w' n �
 full_moves w w' n same full = subst (λ ns. contains ns n ≡ true) same full
 
 -- the same nodes are full, and down
-pub up_same : (k : ℕ) (h h' : List EntryValue) (w w' : World) → w'.full ≡ w.full → ((n : ℕ) → IsDown h' n → IsDown h n) → ((n : ℕ) → IsDown h n → IsDown h' n) → AreUp k h w → AreUp k h' w'
+pub up_same : (k : ℕ) (h h' : List EntryValue) (w w' : World) → w'.full ≡ w.full → ((n : ℕ) → IsDown h' n → IsDown h n) → ((n : ℕ) → IsDown h n → IsDown h' n) →
+    AreUp k h w → AreUp k h' w'
 up_same k h h' w w' same back forth a = search (full_moves, arith) parts 3
 
 down_before : (h : List EntryValue) (e : EntryValue) (n : ℕ) → IsOfClient e → IsDown (h ++ e ∷ []) n → IsDown h n
@@ -137,5 +140,6 @@ Synced h c j = IsPastSyncs h (record { client = c; first = j })
 pub synced_still : (h : List EntryValue) (c i j : ℕ) → i ≤ j → Synced h c i → Synced h c j
 synced_still h c i j le old before since x split client sync = let less : x.number < i = old before since x split client sync in omega (arith, less, le)
 
-pub synced_more : (h : List EntryValue) (e : EntryValue) (c i j : ℕ) → i ≤ j → ((x : Call) → e ≡ calls x → x.client ≡ c → syncs h x ≡ true → x.number < j) → Synced h c i → Synced (h ++ e ∷ []) c j
+pub synced_more : (h : List EntryValue) (e : EntryValue) (c i j : ℕ) → i ≤ j → ((x : Call) → e ≡ calls x → x.client ≡ c → syncs h x ≡ true → x.number < j) →
+    Synced h c i → Synced (h ++ e ∷ []) c j
 synced_more h e c i j le new old = past_syncs-push h e (record { client = c; first = j }) new (synced_still h c i j le old)

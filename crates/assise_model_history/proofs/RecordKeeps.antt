@@ -1,39 +1,30 @@
 -- Openings, calls, crashes, and what is quiet, keep what the history says of the state.
-use Rattle.std.proofs.Common.{◌≡◌, ℕ, suc, ◌<◌, ◌≤◌, true, false, ◌||◌, ◌==◌, List, [], ◌∷◌, ◌++◌, map, refl, ap, sym, subst, ◌∙◌, inl, inr, arith, append-nil, eq-eqb, ne_eqb}
-use Rattle.std.specs.List.{list_any}
-use Rattle.std.proofs.lemmas.Bool.{cases_Bool, cases_eq, not-true, or_right}
-use Rattle.assise_seq_tree.specs.Tree.{opening as opening_tree}
+use Rattle.assise_model_history.proofs.Common.{◌≡◌, ℕ, suc, ◌<◌, ◌≤◌, true, false, ◌||◌, ◌==◌, List, [], ◌∷◌, ◌++◌, map, refl, ap, sym, subst, ◌∙◌, inl, inr}
+use Rattle.assise_model_history.proofs.Common.{arith, append-nil, eq-eqb, ne_eqb, list_any, cases_Bool, cases_eq, not-true, or_right, opening_tree, AreAnswered}
+use Rattle.assise_model_history.proofs.Common.{tree_after_calls, Call, Durability, EntryValue, opens, calls, crashes, kept, IsRun, exchange, tree_after}
+use Rattle.assise_model_history.proofs.Common.{IsAlive, IsLegal, IsNextCall, MayOpen, calls_made, clients_opened, is_call_of, is_failure_of, is_opening}
+use Rattle.assise_model_history.proofs.Common.{is_sync, durability_of, syncs, legal-open, legal-call, legal-crash, inode_number, makes_inode, NumberedCall}
+use Rattle.assise_model_history.proofs.Common.{exchanges, ops, MakesCall, Moves, NoneFalls, opens_client, makes_call, crashes_client, raises_goals, releases}
+use Rattle.assise_model_history.proofs.Common.{delivers, digests, drops, coalesces, rests, WorldInvariant, SameLogs, SameClients, World, Full, IsClient}
+use Rattle.assise_model_history.proofs.Common.{end_of_log, received_by_all, first_unreplicated, view, tree, call_makes_inode, received_by_all-below}
+use Rattle.assise_model_history.proofs.Common.{received_by_all-end, least_of-above, step_falls, AddsEntry, IsOpening, IsCall, IsCrash, NeedsNoEntry, IsUntold}
+use Rattle.assise_model_history.proofs.Common.{is_making_of, made_in, numbered_in, plain_call, kept_numbered, State, WasOpened, IsRecorded}
 use Rattle.assise_seq_tree.specs.Answer.{answer}
-use Rattle.assise_seq_tree.specs.Runs.{AreAnswered, tree_after_calls}
-use Rattle.assise_history.specs.declared.call.Call.{Call}
-use Rattle.assise_names.specs.declared.durability.Durability.{Durability}
-use Rattle.assise_history.specs.Entries.{EntryValue, opens, calls, crashes}
-use Rattle.assise_history.specs.Kept.{kept, IsRun, exchange, tree_after}
-use Rattle.assise_history.specs.Legal.{IsAlive, IsLegal, IsNextCall, MayOpen, calls_made, clients_opened, is_call_of, is_failure_of, is_opening, is_sync, durability_of, syncs}
-use Rattle.assise_history.proofs.OneMore.{legal-open, legal-call, legal-crash}
-use Rattle.assise_inode_table.specs.Numbers.{inode_number, makes_inode}
-use Rattle.assise_inode_table.specs.Traces.{NumberedCall, exchanges, ops}
-use Rattle.assise_model_world.specs.ClientSteps.{MakesCall}
-use Rattle.assise_model_world.specs.Runs.{Moves, NoneFalls, opens as opens_client, makes_call, crashes as crashes_client, raises_goals, acquires, releases, delivers, digests, drops, coalesces, rests}
-use Rattle.assise_model_world.specs.Invariant.{WorldInvariant}
-use Rattle.assise_model_world.specs.Staying.{SameLogs, SameClients}
-use Rattle.assise_model_world.specs.World.{World, Full, IsClient, end_of_log, received_by_all, first_unreplicated, view, tree, call_makes_inode}
+use Rattle.assise_model_world.specs.Runs.{acquires}
 use Rattle.assise_model_world.proofs.CallKeeps.{call_reply}
 use Rattle.assise_model_world.proofs.Replicated.{next_unreplicated}
-use Rattle.assise_model_world.proofs.WorldObserved.{received_by_all-below, received_by_all-end, least_of-above}
-use Rattle.assise_model_world.proofs.StepLists.{step_falls}
 use Rattle.assise_model_history.specs.Entered as entered
-use Rattle.assise_model_history.specs.Entered.{AddsEntry, IsOpening, IsCall, IsCrash, NeedsNoEntry, IsUntold}
-use Rattle.assise_model_history.specs.Numbered.{is_making_of, made_in, numbered_in, plain_call, kept_numbered}
-use Rattle.assise_model_history.specs.State.{State, WasOpened, IsRecorded}
-use Rattle.assise_model_history.proofs.OneEntryMore.{count_same, count_more, IsAside, aside_opening, aside_call, aside_making, aside_no_call, or_false, and_true, opened_more, opened_aside, opened_now, opened_still, AreUp, up_same, up_client, synced_more, synced_still}
+use Rattle.assise_model_history.proofs.OneEntryMore.{count_same, count_more, IsAside, aside_opening, aside_call, aside_making, aside_no_call, or_false}
+use Rattle.assise_model_history.proofs.OneEntryMore.{and_true, opened_more, opened_aside, opened_now, opened_still, AreUp, up_same, up_client, synced_more}
+use Rattle.assise_model_history.proofs.OneEntryMore.{synced_still}
 use Rattle.assise_model_history.proofs.InodeMakers.{makes_where_done, sync_still}
 use Rattle.assise_model_history.proofs.NumberedCalls.{kept_call, kept_open, kept_crash, kept_plain}
 
 -- ---- one state after another
 
 -- with the nodes and the history that it has
-with_history : (s : State) (k : ℕ) (h : List EntryValue) → s.nodes ≡ k → s.history ≡ h → IsRecorded (record { nodes = k; history = h; world = s.world }) → IsRecorded s
+with_history : (s : State) (k : ℕ) (h : List EntryValue) → s.nodes ≡ k → s.history ≡ h → IsRecorded (record { nodes = k; history = h; world = s.world }) →
+    IsRecorded s
 with_history s k h nodes same r = grind arith
 
 nodes_of : (s : State) → IsRecorded s → AreUp s.nodes s.history s.world
@@ -53,7 +44,8 @@ client_before w w' c same h = (h.0, subst (λ k. c ≤ k) same h.1)
 
 -- an entry more that is neither an opening nor a call
 pub recorded_aside : (s : State) (e : EntryValue) (s' : State) → IsAside e → IsRecorded s → AddsEntry s e s' → IsLegal (s.history ++ e ∷ []) →
-    s'.world.calls ≡ kept_numbered (s.history ++ e ∷ []) → SameCounts s.world s'.world → ((c : ℕ) → IsClient s.world c → WasOpened (s.history ++ e ∷ []) s'.world c) →
+    s'.world.calls ≡ kept_numbered (s.history ++ e ∷ []) → SameCounts s.world s'.world →
+    ((c : ℕ) → IsClient s.world c → WasOpened (s.history ++ e ∷ []) s'.world c) →
     NoneFalls s.world s'.world → AreUp s.nodes (s.history ++ e ∷ []) s'.world → IsRecorded s'
 recorded_aside s e s' a r adds legal same counts opened falls nodes = with_history s' s.nodes (s.history ++ e ∷ []) adds.nodes adds.entry record {
   legal = legal;
@@ -65,15 +57,18 @@ recorded_aside s e s' a r adds legal same counts opened falls nodes = with_histo
   nodes = nodes.nodes;
   up = nodes.up;
   down = nodes.down;
-  synced = λ c. synced_more s.history e c (first_unreplicated s.world c) (first_unreplicated s'.world c) (falls.unreplicated c) (λ x is client sync. absurd (aside_no_call e x a is)) (r.synced c);
+  synced = λ c. synced_more s.history e c (first_unreplicated s.world c) (first_unreplicated s'.world c) (falls.unreplicated c)
+      (λ x is client sync. absurd (aside_no_call e x a is)) (r.synced c);
 }
 
 -- ---- an opening
 
 pub opening_fits : (s : State) (n : ℕ) (u : Durability) (s' : State) → IsRecorded s → IsOpening s n u s' → MayOpen s.history (suc s.world.clients) n
-opening_fits s n u s' r e = record { next = (let count : s.world.clients ≡ clients_opened s.history = r.count in omega (arith, count)); up = r.up n e.world.full_node }
+opening_fits s n u s' r e = record
+    { next = (let count : s.world.clients ≡ clients_opened s.history = r.count in omega (arith, count)); up = r.up n e.world.full_node }
 
-opening_of : (s : State) (n : ℕ) (u : Durability) (s' : State) → IsRecorded s → IsOpening s n u s' → (c : ℕ) → IsClient s'.world c → WasOpened (s.history ++ opens (suc s.world.clients) n u ∷ []) s'.world c
+opening_of : (s : State) (n : ℕ) (u : Durability) (s' : State) → IsRecorded s → IsOpening s n u s' → (c : ℕ) → IsClient s'.world c →
+    WasOpened (s.history ++ opens (suc s.world.clients) n u ∷ []) s'.world c
 opening_of s n u s' r e c client = grind (arith, cases_eq, opened_now, opened_more, or_false, and_true)
 
 pub opening_recorded : (s : State) (n : ℕ) (u : Durability) (s' : State) → WorldInvariant s.world → IsRecorded s → IsOpening s n u s' → IsRecorded s'
@@ -92,7 +87,8 @@ opening_recorded s n u s' sound r e =
       nodes = nodes.nodes;
       up = nodes.up;
       down = nodes.down;
-      synced = λ c. synced_more s.history entry c (first_unreplicated s.world c) (first_unreplicated s'.world c) (falls.unreplicated c) (λ x is client sync. cc) (r.synced c);
+      synced = λ c. synced_more s.history entry c (first_unreplicated s.world c) (first_unreplicated s'.world c) (falls.unreplicated c) (λ x is client sync. cc)
+          (r.synced c);
     }
 
 -- ---- a call
@@ -109,40 +105,52 @@ exchanges_plain (x ∷ xs) = ap (λ ps. (x.op, x.reply) ∷ ps) (exchanges_plain
 pub same_tree : (w : World) (h : List EntryValue) → w.calls ≡ kept_numbered h → tree w ≡ tree_after opening_tree (kept h)
 unfolding tree
 same_tree w h same =
-    ap (λ os. tree_after_calls opening_tree os) (sym (ops_plain w.calls) ∙ ap (λ xs. map (λ x. x.op) (map plain_call xs)) same ∙ ap (λ cs. map (λ x. x.op) cs) (kept_plain h))
+    ap (λ os. tree_after_calls opening_tree os) (sym (ops_plain w.calls) ∙ ap (λ xs. map (λ x. x.op) (map plain_call xs)) same
+    ∙ ap (λ cs. map (λ x. x.op) cs) (kept_plain h))
 
 -- and its calls are a run
 pub same_run : (w : World) (h : List EntryValue) → WorldInvariant w → w.calls ≡ kept_numbered h → IsRun opening_tree (kept h)
 same_run w h sound same =
-    subst (λ ps. AreAnswered opening_tree ps) (sym (exchanges_plain w.calls) ∙ ap (λ xs. map exchange (map plain_call xs)) same ∙ ap (λ cs. map exchange cs) (kept_plain h)) sound.coherent.answered
+    subst (λ ps. AreAnswered opening_tree ps) (sym (exchanges_plain w.calls) ∙ ap (λ xs. map exchange (map plain_call xs)) same
+    ∙ ap (λ cs. map exchange cs) (kept_plain h)) sound.coherent.answered
 
 -- a client that lives lost no node since its opening
-pub no_failure : (s : State) (c : ℕ) (o : WasOpened s.history s.world c) → s.world.lives c ≡ true → list_any (is_failure_of (s.world.home c)) o.opened.since ≡ false
+pub no_failure : (s : State) (c : ℕ) (o : WasOpened s.history s.world c) → s.world.lives c ≡ true → list_any (is_failure_of (s.world.home c)) o.opened.since
+    ≡ false
 no_failure s c o lives = not-true (list_any (is_failure_of (s.world.home c)) o.opened.since) (sym o.lives ∙ lives)
 
 pub call_fits : (s : State) (x : NumberedCall) (s' : State) → WorldInvariant s.world → IsRecorded s → IsCall s x s' → IsNextCall s.history (plain_call x)
 call_fits s x s' sound r e =
     let o : WasOpened s.history s.world x.client = r.opened x.client (sound.opened x.client e.world.lives) in
     record {
-      ready = record { node = s.world.home x.client; opened = o.opened; no_crash = sym o.crashed ∙ e.world.running; no_failure = no_failure s x.client o e.world.lives };
+      ready = record {
+        node = s.world.home x.client;
+        opened = o.opened;
+        no_crash = sym o.crashed ∙ e.world.running;
+        no_failure =
+            no_failure s x.client o e.world.lives;
+      };
       number = e.world.number ∙ r.next x.client;
     }
 
-pub call_answered : (s : State) (x : NumberedCall) (s' : State) → WorldInvariant s.world → IsRecorded s → IsCall s x s' → x.reply ≡ (answer (tree_after opening_tree (kept s.history)) x.op).0
+pub call_answered : (s : State) (x : NumberedCall) (s' : State) → WorldInvariant s.world → IsRecorded s → IsCall s x s' →
+    x.reply ≡ (answer (tree_after opening_tree (kept s.history)) x.op).0
 call_answered s x s' sound r e = call_reply s.world s'.world x sound e.world ∙ ap (λ t. (answer t x.op).0) (same_tree s.world s.history r.calls)
 
 -- the call has its number
 same_number : (s : State) (x : NumberedCall) (s' : State) → IsRecorded s → IsCall s x s' → numbered_in s.history (plain_call x) ≡ x
 same_number s x s' r e = ap (λ f. record x { fresh = f }) (sym (e.world.fresh ∙ ap (inode_number x.client) (r.made x.client)))
 
-call_next : (s : State) (x : NumberedCall) (s' : State) → IsRecorded s → IsCall s x s' → (c : ℕ) → s'.world.next c ≡ calls_made c (s.history ++ calls (plain_call x) ∷ [])
+call_next : (s : State) (x : NumberedCall) (s' : State) → IsRecorded s → IsCall s x s' → (c : ℕ) →
+    s'.world.next c ≡ calls_made c (s.history ++ calls (plain_call x) ∷ [])
 call_next s x s' r e c = grind (arith, cases_eq, calls, count_more, eq-eqb, count_same, ne_eqb)
 
 -- whether it made an inode is seen from its reply
 made_seen : (w w' : World) (x : NumberedCall) → MakesCall w x w' → makes_inode x.op x.reply ≡ call_makes_inode w x
 made_seen w w' x e = ap (makes_inode x.op) e.reply ∙ sym (makes_where_done (view w (w.home x.client) x.client) x.op x.fresh)
 
-call_made : (s : State) (x : NumberedCall) (s' : State) → IsRecorded s → IsCall s x s' → (c : ℕ) → s'.world.made c ≡ made_in c (s.history ++ calls (plain_call x) ∷ [])
+call_made : (s : State) (x : NumberedCall) (s' : State) → IsRecorded s → IsCall s x s' → (c : ℕ) →
+    s'.world.made c ≡ made_in c (s.history ++ calls (plain_call x) ∷ [])
 call_made s x s' r e c = grind (arith, calls, cases_eq, cases_Bool, eq-eqb, made_seen, count_more, count_same, ne_eqb)
 
 -- a sync has no record
@@ -151,18 +159,23 @@ unfolding end_of_log
 sync_end w w' x u e sync = grind (arith, sync_still, append-nil)
 
 -- what a full node has of the client grows
-call_receives : (w w' : World) (x : NumberedCall) (n : ℕ) → MakesCall w x w' → Full w n → end_of_log w x.client ≤ w.received n x.client → end_of_log w' x.client ≡ end_of_log w x.client → end_of_log w' x.client ≤ w'.received n x.client
+call_receives : (w w' : World) (x : NumberedCall) (n : ℕ) → MakesCall w x w' → Full w n → end_of_log w x.client ≤ w.received n x.client →
+    end_of_log w' x.client ≡ end_of_log w x.client → end_of_log w' x.client ≤ w'.received n x.client
 call_receives w w' x n e full had same = grind (arith, cases_eq)
 
 -- and all full nodes still have the others
-sync_received : (w w' : World) (x : NumberedCall) (u : Durability) → MakesCall w x w' → is_sync x.op u ≡ true → received_by_all w x.client ≡ end_of_log w x.client → received_by_all w' x.client ≡ end_of_log w' x.client
+sync_received : (w w' : World) (x : NumberedCall) (u : Durability) → MakesCall w x w' → is_sync x.op u ≡ true → received_by_all w x.client
+    ≡ end_of_log w x.client → received_by_all w' x.client ≡ end_of_log w' x.client
 unfolding received_by_all
 sync_received w w' x u e sync all = grind (arith, sync_end, received_by_all-end, least_of-above, received_by_all-below, call_receives)
 
-pub sync_replicated : (s : State) (x : NumberedCall) (s' : State) → IsCall s x s' → syncs s.history (plain_call x) ≡ true → first_unreplicated s'.world x.client ≡ s'.world.next x.client
-sync_replicated s x s' e sync = next_unreplicated s'.world x.client (sync_received s.world s'.world x (durability_of x.client s.history) e.world sync (e.replicated sync))
+pub sync_replicated : (s : State) (x : NumberedCall) (s' : State) → IsCall s x s' → syncs s.history (plain_call x) ≡ true → first_unreplicated s'.world x.client
+    ≡ s'.world.next x.client
+sync_replicated s x s' e sync =
+    next_unreplicated s'.world x.client (sync_received s.world s'.world x (durability_of x.client s.history) e.world sync (e.replicated sync))
 
-call_synced : (s : State) (x : NumberedCall) (s' : State) → IsCall s x s' → (c : ℕ) (y : Call) → calls (plain_call x) ≡ calls y → y.client ≡ c → syncs s.history y ≡ true → y.number < first_unreplicated s'.world c
+call_synced : (s : State) (x : NumberedCall) (s' : State) → IsCall s x s' → (c : ℕ) (y : Call) → calls (plain_call x) ≡ calls y → y.client ≡ c →
+    syncs s.history y ≡ true → y.number < first_unreplicated s'.world c
 call_synced s x s' e c y is client sync = grind (arith, sync_replicated)
 
 pub call_recorded : (s : State) (x : NumberedCall) (s' : State) → WorldInvariant s.world → IsRecorded s → IsCall s x s' → IsRecorded s'
@@ -172,15 +185,18 @@ call_recorded s x s' sound r e =
     let nodes : AreUp s.nodes (s.history ++ entry ∷ []) s'.world = up_client s.nodes s.history entry s.world s'.world tt e.world.full (nodes_of s r) in
     with_history s' s.nodes (s.history ++ entry ∷ []) e.adds.nodes e.adds.entry record {
       legal = legal-call s.history (plain_call x) r.legal (call_fits s x s' sound r e) (call_answered s x s' sound r e);
-      calls = e.world.calls ∙ ap (λ xs. xs ++ x ∷ []) r.calls ∙ ap (λ y. kept_numbered s.history ++ y ∷ []) (sym (same_number s x s' r e)) ∙ sym (kept_call s.history (plain_call x));
+      calls = e.world.calls ∙ ap (λ xs. xs ++ x ∷ []) r.calls ∙ ap (λ y. kept_numbered s.history ++ y ∷ []) (sym (same_number s x s' r e))
+          ∙ sym (kept_call s.history (plain_call x));
       count = e.world.clients.clients ∙ r.count ∙ sym (count_same is_opening s.history entry refl);
-      opened = λ c client. opened_aside s.history entry s.world s'.world c e.world.clients refl refl (r.opened c (client_before s.world s'.world c e.world.clients.clients client));
+      opened = λ c client. opened_aside s.history entry s.world s'.world c e.world.clients refl refl
+          (r.opened c (client_before s.world s'.world c e.world.clients.clients client));
       next = call_next s x s' r e;
       made = call_made s x s' r e;
       nodes = nodes.nodes;
       up = nodes.up;
       down = nodes.down;
-      synced = λ c. synced_more s.history entry c (first_unreplicated s.world c) (first_unreplicated s'.world c) (falls.unreplicated c) (call_synced s x s' e c) (r.synced c);
+      synced = λ c. synced_more s.history entry c (first_unreplicated s.world c) (first_unreplicated s'.world c) (falls.unreplicated c) (call_synced s x s' e c)
+          (r.synced c);
     }
 
 -- ---- a crash
@@ -190,7 +206,8 @@ crash_fits s c s' sound r e =
     let o : WasOpened s.history s.world c = r.opened c (sound.opened c e.world.lives) in
     record { node = s.world.home c; opened = o.opened; no_crash = sym o.crashed ∙ e.world.running }
 
-crash_opened : (s : State) (c : ℕ) (s' : State) → IsRecorded s → IsCrash s c s' → (d : ℕ) → IsClient s.world d → WasOpened (s.history ++ crashes c ∷ []) s'.world d
+crash_opened : (s : State) (c : ℕ) (s' : State) → IsRecorded s → IsCrash s c s' → (d : ℕ) → IsClient s.world d →
+    WasOpened (s.history ++ crashes c ∷ []) s'.world d
 crash_opened s c s' r e d client =
     opened_more s.history (crashes c) s.world s'.world d (e.world.home d) crashed (e.world.lives_same d ∙ sym (and_true (s.world.lives d))) (r.opened d client)
   where

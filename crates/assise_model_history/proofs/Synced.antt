@@ -1,18 +1,9 @@
 -- What was synced is kept.
-use Rattle.std.proofs.Common.{◌≡◌, ℕ, ◌<◌, true, false, List, [], ◌∷◌, ◌++◌, Contains, refl, ap, sym, subst, ◌∙◌, ◌⊎◌, inl, inr, arith, append_assoc, eq-eqb}
-use Rattle.std.specs.List.{list_any}
-use Rattle.std.proofs.lemmas.Bool.{both_ways}
-use Rattle.assise_history.specs.declared.call.Call.{Call}
-use Rattle.assise_history.specs.declared.call.Loss.{Loss}
-use Rattle.assise_history.specs.Entries.{EntryValue, opens, calls, fails}
-use Rattle.assise_history.specs.Kept.{kept, IsTaken}
-use Rattle.assise_history.specs.Legal.{IsFair, IsLegal, IsNextCall, IsOn, MayCall, MayLose, is_failure_of}
-use Rattle.assise_history.proofs.Legality.{prefix_in}
+use Rattle.assise_model_history.proofs.Common.{◌≡◌, ℕ, ◌<◌, true, false, List, [], ◌∷◌, ◌++◌, Contains, refl, ap, sym, subst, ◌∙◌, ◌⊎◌, inl, inr, arith}
+use Rattle.assise_model_history.proofs.Common.{append_assoc, eq-eqb, list_any, both_ways, Call, Loss, EntryValue, opens, calls, fails, kept, IsTaken, IsFair}
+use Rattle.assise_model_history.proofs.Common.{IsLegal, IsNextCall, IsOn, MayCall, MayLose, is_failure_of, prefix_in, follows_in, passes_at, SamePlace}
+use Rattle.assise_model_history.proofs.Common.{one_place, WasSynced}
 use Rattle.assise_history.proofs.Lost.{kept_from}
-use Rattle.assise_history.proofs.OneMore.{follows_in}
-use Rattle.assise_history.proofs.TestedElements.{passes_at}
-use Rattle.assise_history.proofs.LivesOneMore.{SamePlace, one_place}
-use Rattle.assise_model_history.specs.Traces.{WasSynced}
 
 -- where two entries of a list stand to one another
 record Between {X : Type 0} (before since : List X) (x : X) (prefix behind : List X) (y : X) : Type 0 where
@@ -25,7 +16,8 @@ record Same {X : Type 0} (before since : List X) (x : X) (prefix behind : List X
   entry_is : x ≡ y
   behind_is : since ≡ behind
 
-placed : {X : Type 0} (before since : List X) (x : X) (prefix behind : List X) (y : X) → before ++ x ∷ since ≡ prefix ++ y ∷ behind → Same before since x prefix behind y ⊎ Between before since x prefix behind y ⊎ Between prefix behind y before since x
+placed : {X : Type 0} (before since : List X) (x : X) (prefix behind : List X) (y : X) → before ++ x ∷ since ≡ prefix ++ y ∷ behind →
+    Same before since x prefix behind y ⊎ Between before since x prefix behind y ⊎ Between prefix behind y before since x
 placed [] since x [] behind y h = inl record { prefix_is = refl; entry_is = cc; behind_is = cc }
 placed [] since x (f ∷ prefix) behind y h =
     let here : f ≡ x = cc in
@@ -47,22 +39,27 @@ placed (b ∷ before) since x (f ∷ prefix) behind y h =
     ]
 
 -- a client whose node failed, since it was opened there, makes no call
-failed_since : (h prefix rest : List EntryValue) (c n : ℕ) (losses : List Loss) → IsLegal h → h ≡ prefix ++ fails n losses ∷ rest → IsOn prefix c n → MayCall h c → ⊥
+failed_since : (h prefix rest : List EntryValue) (c n : ℕ) (losses : List Loss) → IsLegal h → h ≡ prefix ++ fails n losses ∷ rest → IsOn prefix c n →
+    MayCall h c → ⊥
 failed_since h prefix rest c n losses legal split on may =
     let o = on.opened in
     let now = may.opened in
     let since : List EntryValue = o.since ++ fails n losses ∷ rest in
-    let there : h ≡ o.before ++ opens c n o.durability ∷ since = split ∙ ap (λ es. es ++ fails n losses ∷ rest) o.split ∙ append_assoc o.before (opens c n o.durability ∷ o.since) (fails n losses ∷ rest) in
-    let same : SamePlace o.before since n o.durability now.before now.since may.node now.durability = one_place h legal c n may.node o.durability now.durability o.before since now.before now.since there now.split in
+    let there : h ≡ o.before ++ opens c n o.durability ∷ since = split ∙ ap (λ es. es ++ fails n losses ∷ rest) o.split
+    ∙ append_assoc o.before (opens c n o.durability ∷ o.since) (fails n losses ∷ rest) in
+    let same : SamePlace o.before since n o.durability now.before now.since may.node now.durability = one_place h legal c n may.node o.durability now.durability
+    o.before since now.before now.since there now.split in
     let some : list_any (is_failure_of n) since ≡ true = passes_at (is_failure_of n) o.since rest (fails n losses) (eq-eqb n n refl) in
-    let none : list_any (is_failure_of n) since ≡ false = subst (λ m. list_any (is_failure_of m) since ≡ false) (sym same.node) (subst (λ es. list_any (is_failure_of may.node) es ≡ false) (sym same.rest) may.no_failure) in
+    let none : list_any (is_failure_of n) since ≡ false = subst (λ m. list_any (is_failure_of m) since ≡ false) (sym same.node)
+    (subst (λ es. list_any (is_failure_of may.node) es ≡ false) (sym same.rest) may.no_failure) in
     both_ways (list_any (is_failure_of n) since) none some
 
 -- no failure takes it, neither before the sync nor after it
 not_taken : (h before since : List EntryValue) (y : Call) → IsLegal h → h ≡ before ++ calls y ∷ since → WasSynced h y → IsTaken since y → ⊥
 not_taken h before since y legal split f t =
     let prefix : List EntryValue = before ++ calls y ∷ t.before in
-    let failed : h ≡ prefix ++ fails t.node t.losses ∷ t.behind = split ∙ ap (λ es. before ++ calls y ∷ es) t.split ∙ sym (append_assoc before (calls y ∷ t.before) (fails t.node t.losses ∷ t.behind)) in
+    let failed : h ≡ prefix ++ fails t.node t.losses ∷ t.behind = split ∙ ap (λ es. before ++ calls y ∷ es) t.split
+    ∙ sym (append_assoc before (calls y ∷ t.before) (fails t.node t.losses ∷ t.behind)) in
     let fair : IsFair prefix t.node t.losses = follows_in h prefix t.behind (fails t.node t.losses) legal failed in
     let may : MayLose prefix t.node t.loss = fair.each t.lower t.higher t.loss t.listed in
     let same : f.sync.client ≡ t.loss.client = f.client ∙ sym t.client in
@@ -75,9 +72,11 @@ not_taken h before since y legal split f t =
         | inr p ↦
             let next : IsNextCall f.before f.sync = follows_in h f.before f.since (calls f.sync) legal f.split in
             let ready : MayCall f.before t.loss.client = subst (λ c. MayCall f.before c) same next.ready in
-            failed_since f.before prefix p.rest t.loss.client t.node t.losses (prefix_in h f.before (calls f.sync ∷ f.since) legal f.split) p.prefix_is may.on ready
+            failed_since f.before prefix p.rest t.loss.client t.node t.losses (prefix_in h f.before (calls f.sync ∷ f.since) legal f.split) p.prefix_is may.on
+            ready
       ]
     ]
 
 pub synced_kept : (h before since : List EntryValue) (y : Call) → IsLegal h → h ≡ before ++ calls y ∷ since → WasSynced h y → Contains (kept h) y
-synced_kept h before since y legal split f = kept_from h y record { before = before; later = since; split = split; safe = not_taken h before since y legal split f }
+synced_kept h before since y legal split f =
+    kept_from h y record { before = before; later = since; split = split; safe = not_taken h before since y legal split f }

@@ -1,27 +1,16 @@
 -- Whatever happens.
-use Rattle.std.proofs.Common.{◌≡◌, ℕ, zero, suc, ◌<◌, ◌≤◌, true, false, if◌then◌else◌, List, [], ◌∷◌, ◌++◌, filter, map, Contains, refl, ap, sym, subst, ◌∙◌, inl, inr, arith, append_assoc, append-nil, eqb-true, ◌==◌}
-use Rattle.std.proofs.lemmas.Bool.{cases_Bool, cases_eq, lt-ltb, or_left, or_right, eq-eqb}
-use Rattle.std.proofs.lemmas.List.Elements.{Contains-append_right, Contains-append_cases}
-use Rattle.assise_seq_tree.specs.Tree.{opening as opening_tree}
-use Rattle.assise_seq_tree.specs.Runs.{AreAnswered, tree_after_calls}
-use Rattle.assise_history.specs.declared.call.Call.{Call}
-use Rattle.assise_history.specs.Entries.{EntryValue, calls, fails}
-use Rattle.assise_history.specs.Legal.{IsFair}
-use Rattle.assise_history.proofs.Legality.{legal-nil}
-use Rattle.assise_history.proofs.OneMore.{follows_in}
-use Rattle.assise_history.proofs.TestedElements.{not_nil}
-use Rattle.assise_history.proofs.LivesOneMore.{down-nil}
-use Rattle.assise_inode_table.specs.Effects.{contains}
+use Rattle.assise_model_history.proofs.Common.{◌≡◌, ℕ, zero, suc, ◌<◌, ◌≤◌, true, false, if◌then◌else◌, List, [], ◌∷◌, ◌++◌, filter, map, Contains, refl, ap}
+use Rattle.assise_model_history.proofs.Common.{sym, subst, ◌∙◌, inl, inr, arith, append_assoc, append-nil, eqb-true, ◌==◌, cases_Bool, cases_eq, lt-ltb}
+use Rattle.assise_model_history.proofs.Common.{or_left, or_right, Contains-append_right, Contains-append_cases, opening_tree, AreAnswered, tree_after_calls}
+use Rattle.assise_model_history.proofs.Common.{Call, EntryValue, calls, fails, IsFair, legal-nil, follows_in, not_nil, down-nil, contains, NumberedCall}
+use Rattle.assise_model_history.proofs.Common.{exchanges, ops, below, Moves, NoneFalls, StayReplicated, Runs, last, opens_client, makes_call, crashes_client}
+use Rattle.assise_model_history.proofs.Common.{fails_node, joins_node, rests_all, WorldInvariant, World, first_unreplicated, calls_replicated, alone_at}
+use Rattle.assise_model_history.proofs.Common.{every_run, step_sound, run_falls, run_stays, EntryHappens, opening, call, crash, failure, failure_again}
+use Rattle.assise_model_history.proofs.Common.{comeback, quiet, IsTrace, last_of, numbered_replicated, WasSynced, IsSafe, IsLasting, plain_call, kept_numbered}
+use Rattle.assise_model_history.proofs.Common.{State, IsRecorded, down_from, begun_with}
+use Rattle.std.proofs.lemmas.Bool.{eq-eqb}
 use Rattle.assise_inode_table.specs.Spelled.{Spells}
-use Rattle.assise_inode_table.specs.Traces.{NumberedCall, exchanges, ops, below}
-use Rattle.assise_model_world.specs.Runs.{Moves, NoneFalls, StayReplicated, Runs, last, opens as opens_client, makes_call, crashes as crashes_client, fails as fails_node, joins as joins_node, rests as rests_all}
-use Rattle.assise_model_world.specs.Invariant.{WorldInvariant}
-use Rattle.assise_model_world.specs.World.{World, first_unreplicated, calls_replicated, alone_at}
 use Rattle.assise_model_world.proofs.RegionAlone.{rebuilds_tree, rebuilds_run}
-use Rattle.assise_model_world.proofs.StepLists.{every_run, step_sound, run_falls, run_stays}
-use Rattle.assise_model_history.specs.Traces.{EntryHappens, opening, call, crash, failure, failure_again, comeback, quiet, IsTrace, last_of, numbered_replicated, WasSynced, IsSafe, IsLasting}
-use Rattle.assise_model_history.specs.Numbered.{plain_call, kept_numbered}
-use Rattle.assise_model_history.specs.State.{State, IsRecorded, down_from, begun_with}
 use Rattle.assise_model_history.proofs.FailureKeeps.{failure_recorded, failure_again_recorded, return_recorded}
 use Rattle.assise_model_history.proofs.Synced.{synced_kept}
 use Rattle.assise_model_history.proofs.FailureList.{one_in}
@@ -111,7 +100,8 @@ replicated_same s r = ap (λ xs. filter (below (first_unreplicated s.world)) xs)
 first_of : (xs : List Call) (y x : Call) → x ≡ y → Contains (x ∷ xs) y
 first_of xs y x same = (0, omega arith, same)
 
-among_low : (a : ℕ → ℕ) (xs : List NumberedCall) (y : Call) → y.number < a y.client → Contains (map plain_call xs) y → Contains (map plain_call (filter (below a) xs)) y
+among_low : (a : ℕ → ℕ) (xs : List NumberedCall) (y : Call) → y.number < a y.client → Contains (map plain_call xs) y →
+    Contains (map plain_call (filter (below a) xs)) y
 among_low a [] y low h = absurd (omega (arith, h.1))
 among_low a (x ∷ xs) y low h =
     elim (Contains-append_cases (plain_call x ∷ []) (map plain_call xs) y h) [
@@ -129,13 +119,15 @@ among_low a (x ∷ xs) y low h =
           ]
     ]
 
-synced_replicated : (s : State) (before since : List EntryValue) (y : Call) → IsRecorded s → s.history ≡ before ++ calls y ∷ since → WasSynced s.history y → Contains (map plain_call (numbered_replicated s)) y
+synced_replicated : (s : State) (before since : List EntryValue) (y : Call) → IsRecorded s → s.history ≡ before ++ calls y ∷ since → WasSynced s.history y →
+    Contains (map plain_call (numbered_replicated s)) y
 synced_replicated s before since y r split f = grind (arith, among_low, kept_plain, synced_kept)
 
 pub kept_of : (s : State) → WorldInvariant s.world → IsRecorded s → IsSafe s
 kept_of s sound r = record {
   legal = r.legal;
-  rebuilt = λ n full. subst (λ xs. Spells (alone_at s.world n) (tree_after_calls opening_tree (ops xs))) (replicated_same s r) (rebuilds_tree s.world n sound full);
+  rebuilt = λ n full. subst (λ xs. Spells (alone_at s.world n) (tree_after_calls opening_tree (ops xs))) (replicated_same s r)
+      (rebuilds_tree s.world n sound full);
   run = subst (λ xs. AreAnswered opening_tree (exchanges xs)) (replicated_same s r) (rebuilds_run s.world sound);
   synced = λ before since y split f. synced_replicated s before since y r split f;
   fair = λ before later n lower higher l split.
@@ -143,7 +135,8 @@ kept_of s sound r = record {
       (fair.each lower higher l refl).past;
 }
 
-stays_replicated : (s t : State) → IsRecorded s → IsRecorded t → StayReplicated s.world t.world → filter (below (first_unreplicated s.world)) (kept_numbered t.history) ≡ numbered_replicated s
+stays_replicated : (s t : State) → IsRecorded s → IsRecorded t → StayReplicated s.world t.world →
+    filter (below (first_unreplicated s.world)) (kept_numbered t.history) ≡ numbered_replicated s
 unfolding StayReplicated
 stays_replicated s t r q stay = ap (λ xs. filter (below (first_unreplicated s.world)) xs) (sym q.calls) ∙ stay ∙ replicated_same s r
 

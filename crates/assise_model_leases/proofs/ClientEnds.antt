@@ -1,21 +1,10 @@
 -- A client that crashes, or whose node fails, has only revoked leases from then on.
-use Rattle.std.proofs.Common.{◌≡◌, ◌≢◌, ℕ, ◌==◌, ◌≤◌, inl, inr, Bool, true, List, Some, refl, ap, sym, ◌∙◌, subst, arith, eq-eqb, ne_eqb}
-use Rattle.std.proofs.lemmas.Bool.{and_right, both_ways, cases_eq}
-use Rattle.assise_lease_table.specs.declared.lease.Lease.{Lease}
-use Rattle.assise_lease_table.specs.LeaseMaps.{SameLeases}
-use Rattle.assise_lease_table.specs.Leases.{lease_of, revoke, revoked_if, is_own, compatible}
+use Rattle.assise_model_leases.proofs.Common.{◌≡◌, ◌≢◌, ℕ, ◌==◌, ◌≤◌, inl, inr, Bool, true, List, Some, refl, ap, sym, ◌∙◌, subst, arith, eq-eqb, ne_eqb}
+use Rattle.assise_model_leases.proofs.Common.{and_right, both_ways, cases_eq, Lease, SameLeases, lease_of, revoke, revoked_if, is_own, compatible, among_map}
+use Rattle.assise_model_leases.proofs.Common.{map_among, any_among, among_any, Homes, Under, AskedBelow, is_revoked, is_node, lives, TwoLevels, LevelsInvariant}
+use Rattle.assise_model_leases.proofs.Common.{revoked_lawful, kept_at_failure, WorldInvariant, World, end_of_log, part-whole, CrashesWith, FailsWithLeases}
+use Rattle.assise_model_leases.proofs.Common.{Leases, client_lease, IsRevokedLease, CoversFrom, AreLeases, is_held, lease_among}
 use Rattle.assise_lease_table.proofs.LeaseChanges.{revoke_fits}
-use Rattle.assise_lease_table.proofs.Elements.{among_map, map_among, any_among, among_any}
-use Rattle.assise_lease_tree.specs.Levels.{Homes, Under, AskedBelow, is_revoked, is_node, lives}
-use Rattle.assise_lease_tree.specs.TwoLevels.{TwoLevels, LevelsInvariant}
-use Rattle.assise_lease_tree.proofs.Steps.{revoked_lawful}
-use Rattle.assise_model_world.specs.NodeSteps.{kept_at_failure}
-use Rattle.assise_model_world.specs.Invariant.{WorldInvariant}
-use Rattle.assise_model_world.specs.World.{World, end_of_log}
-use Rattle.assise_model_world.proofs.WorldObserved.{part-whole}
-use Rattle.assise_model_leases.specs.Handing.{CrashesWith, FailsWithLeases}
-use Rattle.assise_model_leases.specs.Leases.{Leases, client_lease, IsRevokedLease, CoversFrom, AreLeases, is_held}
-use Rattle.assise_lease_tree.proofs.ClientHomes.{lease_among}
 use Rattle.assise_model_leases.proofs.LookUps.{revoked_one, revoke_of, held_one, written_one, still_revoked, now_revoked, was_revoked}
 use Rattle.assise_model_leases.proofs.CutsCover.{covers_same, covers_end}
 use Rattle.assise_model_leases.proofs.QuietLeases.{holder_home}
@@ -32,10 +21,12 @@ module _ (w u : World) (l k : Leases) (c : ℕ) (a : AreLeases w l) (e : Crashes
   -- other clients' leases are revoked only if they were
   was_other : (d j : ℕ) → d ≢ c → IsRevokedLease k d j → IsRevokedLease l d j
   was_other d j other h =
-      was_revoked (is_own c) (client_lease l d j) (λ b is. ne_eqb b.holder c (λ own. other (sym (lease_among (l.levels.clients j) d b is).1 ∙ own))) (ap is_revoked (sym (lease d j)) ∙ h)
+      was_revoked (is_own c) (client_lease l d j) (λ b is. ne_eqb b.holder c (λ own. other (sym (lease_among (l.levels.clients j) d b is).1 ∙ own)))
+      (ap is_revoked (sym (lease d j)) ∙ h)
 
   own_revoked : (j : ℕ) → is_held (client_lease l c j) ≡ true → IsRevokedLease k c j
-  own_revoked j h = ap is_revoked (lease c j) ∙ now_revoked (is_own c) (client_lease l c j) (λ b is. eq-eqb b.holder c (lease_among (l.levels.clients j) c b is).1) h
+  own_revoked j h = ap is_revoked (lease c j)
+      ∙ now_revoked (is_own c) (client_lease l c j) (λ b is. eq-eqb b.holder c (lease_among (l.levels.clients j) c b is).1) h
 
   stays : (d j : ℕ) → IsRevokedLease l d j → IsRevokedLease k d j
   stays d j h = ap is_revoked (lease d j) ∙ still_revoked (is_own c) (client_lease l d j) h
@@ -44,7 +35,8 @@ module _ (w u : World) (l k : Leases) (c : ℕ) (a : AreLeases w l) (e : Crashes
   crash_keeps s = record {
     lawful = revoked_lawful l.levels a.lawful k.levels c e.revoked;
     held = search (same_held, lease, written_one, arith) parts 3;
-    homes = λ d o. e.revoked.home d ∙ a.homes d (o.0, (let n : u.clients ≡ w.clients = e.crash.clients in omega (arith, o.1, n))) ∙ ap (λ m. Some m) (sym (e.crash.home d));
+    homes = λ d o. e.revoked.home d ∙ a.homes d (o.0, (let n : u.clients ≡ w.clients = e.crash.clients in omega (arith, o.1, n)))
+        ∙ ap (λ m. Some m) (sym (e.crash.home d));
     strangers = λ d no. e.revoked.home d ∙ a.strangers d (λ o. no (o.0, (let n : u.clients ≡ w.clients = e.crash.clients in omega (arith, o.1, n))));
     covered = λ d j h. covers_same w u d j (k.cut d j) (e.crash.logs.records d) (e.crash.logs.first d) (elim (cases_eq d c) [
       | inl own ↦ subst (λ d. CoversFrom w d j (k.cut d j)) (sym own) (rw (e.cut_here j) (covers_end w c j))
@@ -78,13 +70,16 @@ module _ (home : Homes) (choice : Lease → Bool) (cs ns : List Lease) where
   chosen_asked asked m in_m revoked =
       let old = asked m in_m revoked in
       let b = any_among (λ z. lives home z.holder m.holder) cs old.0 in (
-        among_any (λ z. lives home z.holder m.holder) (revoke choice cs) (revoked_if (choice b.0) b.0) (map_among (λ z. revoked_if (choice z) z) cs b.0 b.1) b.2,
+        among_any (λ z. lives home z.holder m.holder) (revoke choice cs) (revoked_if (choice b.0) b.0) (map_among (λ z. revoked_if (choice z) z) cs b.0 b.1)
+            b.2,
         λ x in_x there.
             let was = among_map (λ z. revoked_if (choice z) z) cs x in_x in
-            ap (λ (z : Lease). z.revoked) was.2 ∙ still_revoked choice (Some was.0) (old.1 was.0 was.1 (sym (ap (λ (z : Lease). lives home z.holder m.holder) was.2) ∙ there)),
+            ap (λ (z : Lease). z.revoked) was.2
+            ∙ still_revoked choice (Some was.0) (old.1 was.0 was.1 (sym (ap (λ (z : Lease). lives home z.holder m.holder) was.2) ∙ there)),
       )
 
-chosen_lawful : (old new : TwoLevels) (choice : Lease → Bool) → LevelsInvariant old → ((c : ℕ) → new.home c ≡ old.home c) → ((i : ℕ) → new.clients i ≡ revoke choice (old.clients i)) → SameLeases old.nodes new.nodes →
+chosen_lawful : (old new : TwoLevels) (choice : Lease → Bool) → LevelsInvariant old → ((c : ℕ) → new.home c ≡ old.home c) →
+    ((i : ℕ) → new.clients i ≡ revoke choice (old.clients i)) → SameLeases old.nodes new.nodes →
     LevelsInvariant new
 chosen_lawful old new choice lawful home clients nodes =
     let homes : new.home ≡ old.home = λ i c. home c i in
@@ -93,10 +88,12 @@ chosen_lawful old new choice lawful home clients nodes =
       nodes_compatible = λ i. ap compatible (nodes i) ∙ lawful.nodes_compatible i;
       under = λ i. subst (λ h. Under h (new.clients i) (new.nodes i)) (sym homes)
           (subst (λ cs. Under old.home cs (new.nodes i)) (sym (clients i))
-          (subst (λ ns. Under old.home (revoke choice (old.clients i)) ns) (sym (nodes i)) (chosen_under old.home choice (old.clients i) (old.nodes i) (lawful.under i))));
+          (subst (λ ns. Under old.home (revoke choice (old.clients i)) ns) (sym (nodes i))
+          (chosen_under old.home choice (old.clients i) (old.nodes i) (lawful.under i))));
       asked = λ i. subst (λ h. AskedBelow h (new.clients i) (new.nodes i)) (sym homes)
           (subst (λ cs. AskedBelow old.home cs (new.nodes i)) (sym (clients i))
-          (subst (λ ns. AskedBelow old.home (revoke choice (old.clients i)) ns) (sym (nodes i)) (chosen_asked old.home choice (old.clients i) (old.nodes i) (lawful.asked i))));
+          (subst (λ ns. AskedBelow old.home (revoke choice (old.clients i)) ns) (sym (nodes i))
+          (chosen_asked old.home choice (old.clients i) (old.nodes i) (lawful.asked i))));
     }
 
 -- ---- a failure
@@ -118,10 +115,12 @@ module _ (w u : World) (l k : Leases) (n : ℕ) (a : AreLeases w l) (e : FailsWi
 
   -- whether a holder's lease is among those that are revoked
   there_is : (d j : ℕ) (b : Lease) → client_lease l d j ≡ Some b → there b ≡ (w.home d == n)
-  there_is d j b is = ap (λ z. lives l.levels.home z n) (lease_among (l.levels.clients j) d b is).1 ∙ ap (λ o. is_node o n) (holder_home w l d j a (ap is_held is))
+  there_is d j b is = ap (λ z. lives l.levels.home z n) (lease_among (l.levels.clients j) d b is).1
+      ∙ ap (λ o. is_node o n) (holder_home w l d j a (ap is_held is))
 
   was_away : (d j : ℕ) → w.home d ≢ n → IsRevokedLease k d j → IsRevokedLease l d j
-  was_away d j other h = was_revoked there (client_lease l d j) (λ b is. there_is d j b is ∙ ne_eqb (w.home d) n other) (ap is_revoked (sym (lease_now d j)) ∙ h)
+  was_away d j other h = was_revoked there (client_lease l d j) (λ b is. there_is d j b is ∙ ne_eqb (w.home d) n other)
+      (ap is_revoked (sym (lease_now d j)) ∙ h)
 
   stays_now : (d j : ℕ) → IsRevokedLease l d j → IsRevokedLease k d j
   stays_now d j h = ap is_revoked (lease_now d j) ∙ still_revoked there (client_lease l d j) h
@@ -133,7 +132,8 @@ module _ (w u : World) (l k : Leases) (n : ℕ) (a : AreLeases w l) (e : FailsWi
   fail_keeps s = record {
     lawful = chosen_lawful l.levels k.levels there a.lawful e.home e.clients e.nodes;
     held = search (held_now, lease_now, written_one, there, arith) parts 3;
-    homes = λ d o. e.home d ∙ a.homes d (o.0, (let m : u.clients ≡ w.clients = e.fails.clients in omega (arith, o.1, m))) ∙ ap (λ m. Some m) (sym (e.fails.home d));
+    homes = λ d o. e.home d ∙ a.homes d (o.0, (let m : u.clients ≡ w.clients = e.fails.clients in omega (arith, o.1, m)))
+        ∙ ap (λ m. Some m) (sym (e.fails.home d));
     strangers = λ d no. e.home d ∙ a.strangers d (λ o. no (o.0, (let m : u.clients ≡ w.clients = e.fails.clients in omega (arith, o.1, m))));
     covered = λ d j h. elim (cases_eq (w.home d) n) [
       | inl here ↦ rw (e.cut_here d j here) (covers_end u d j)

@@ -1,21 +1,14 @@
 -- Which changes of a client's log its cuts stay covering through.
-use Rattle.std.proofs.Common.{◌≡◌, ℕ, ◌+◌, ◌-◌, ◌≤◌, false, List, [], ◌∷◌, ◌++◌, take, drop, length, refl, ap, ◌∙◌, subst, arith, zero, suc}
+use Rattle.assise_model_leases.proofs.Common.{◌≡◌, ℕ, ◌+◌, ◌-◌, ◌≤◌, false, List, [], ◌∷◌, ◌++◌, take, drop, length, refl, ap, ◌∙◌, subst, arith, zero, suc}
+use Rattle.assise_model_leases.proofs.Common.{both_ways, false_from_ne_true, LogRecord, all_effects, touched, contains, WorldInvariant, Drops, World}
+use Rattle.assise_model_leases.proofs.Common.{end_of_log, digested_by_all, records_between, drop-of_drop, contains-drop, contains-take, length-both, end-else}
+use Rattle.assise_model_leases.proofs.Common.{least_of-end, client_records_from, CoversFrom}
 use Rattle.std.proofs.Math.ListN.{drop_of_length-le}
 use Rattle.std.proofs.lemmas.List.{drop-take, length-drop, length-take-le}
-use Rattle.std.proofs.lemmas.Bool.{both_ways, false_from_ne_true}
-use Rattle.assise_record.specs.LogRecord.{LogRecord}
-use Rattle.assise_record.specs.Records.{all_effects}
 use Rattle.assise_record.proofs.Records.{all_effects-append}
-use Rattle.assise_inode_table.specs.Effects.{touched, contains}
 use Rattle.assise_inode_table.proofs.EffectValues.{contains-both}
 use Rattle.assise_model_world.specs.Coalescing.{Coalesces}
-use Rattle.assise_model_world.specs.Invariant.{WorldInvariant}
 use Rattle.assise_model_world.proofs.CoalescedTail.{touch_all}
-use Rattle.assise_model_world.specs.NodeSteps.{Drops}
-use Rattle.assise_model_world.specs.World.{World, end_of_log, digested_by_all, records_between}
-use Rattle.assise_model_world.proofs.Logs.{drop-of_drop, contains-drop, contains-take, length-both}
-use Rattle.assise_model_world.proofs.WorldObserved.{end-else, least_of-end}
-use Rattle.assise_model_leases.specs.Leases.{client_records_from, CoversFrom}
 
 -- records that don't touch the inode
 abbrev pub Spare : List LogRecord → ℕ → Type 0
@@ -58,7 +51,8 @@ drop_taken rs k n le = ap (λ m. drop k (take m rs)) (omega (arith, le)) ∙ dro
 -- ---- a call
 
 -- the record of a call that doesn't change the inode
-pub covers_call : (w u : World) (c i k : ℕ) (l : List LogRecord) → u.first c ≡ w.first c → u.records c ≡ w.records c ++ l → Spare l i → CoversFrom w c i k → CoversFrom u c i k
+pub covers_call : (w u : World) (c i k : ℕ) (l : List LogRecord) → u.first c ≡ w.first c → u.records c ≡ w.records c ++ l → Spare l i → CoversFrom w c i k →
+    CoversFrom u c i k
 unfolding client_records_from end_of_log
 covers_call w u c i k l first records none v = grind (arith, length-both, drop_append, spare_both)
 
@@ -70,17 +64,25 @@ covers_drop w u f c i k e v = grind (arith, least_of-end, length-drop, drop-of_d
 
 -- ---- records that give way to others
 
-pub covers_coalesced : (w u : World) (c s : ℕ) (new : List LogRecord) (was : ℕ → ℕ) → WorldInvariant w → (i k : ℕ) → Coalesces w c s new was u → k ≤ s → CoversFrom w c i k → CoversFrom u c i k
+pub covers_coalesced : (w u : World) (c s : ℕ) (new : List LogRecord) (was : ℕ → ℕ) → WorldInvariant w → (i k : ℕ) → Coalesces w c s new was u → k ≤ s →
+    CoversFrom w c i k → CoversFrom u c i k
 unfolding client_records_from end_of_log records_between
 covers_coalesced w u c s new was so i k e below v =
     let rs : List LogRecord = w.records c in
     let high : s ≤ w.first c + length (w.records c) = e.high in
     let n : length (take (s - w.first c) (w.records c)) ≡ s - w.first c = length-take-le (s - w.first c) (w.records c) (omega (arith, high)) in
-    let b : length (take (s - w.first c) (w.records c) ++ new) ≡ length (take (s - w.first c) (w.records c)) + length new = length-both (take (s - w.first c) (w.records c)) new in
-    let old : Spare (records_between w c s (end_of_log w c)) i = spare_take (drop (s - w.first c) (w.records c)) (end_of_log w c - s) i (spare_later (w.records c) (k - w.first c) (s - w.first c) i (omega (arith, below)) v.untouched) in
+    let b : length (take (s - w.first c) (w.records c) ++ new) ≡ length (take (s - w.first c) (w.records c)) + length new =
+    length-both (take (s - w.first c) (w.records c)) new in
+    let old : Spare (records_between w c s (end_of_log w c)) i = spare_take (drop (s - w.first c) (w.records c)) (end_of_log w c - s) i
+    (spare_later (w.records c) (k - w.first c) (s - w.first c) i (omega (arith, below)) v.untouched) in
     record {
       to_end = rw (e.first c, e.records_own) (omega (arith, below, n, b));
-      untouched = rw (e.first c, e.records_own, drop_append (take (s - w.first c) (w.records c)) new (k - w.first c) (omega (arith, below, n)), drop_taken (w.records c) (k - w.first c) (s - w.first c) (omega (arith, below)))
+      untouched = rw (
+        e.first c,
+        e.records_own,
+        drop_append (take (s - w.first c) (w.records c)) new (k - w.first c) (omega (arith, below, n)),
+        drop_taken (w.records c) (k - w.first c) (s - w.first c) (omega (arith, below)),
+      )
           (spare_both (take (s - w.first c - (k - w.first c)) (drop (k - w.first c) (w.records c))) new i
           (spare_take (drop (k - w.first c) (w.records c)) (s - w.first c - (k - w.first c)) i v.untouched) (touch_all w u c s new was so.coherent e i ∙ old));
     }

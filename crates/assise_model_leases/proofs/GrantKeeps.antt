@@ -1,23 +1,11 @@
 -- A lease is granted against which nobody stands.
-use Rattle.std.proofs.Common.{◌≡◌, ◌≢◌, ℕ, ◌==◌, inl, inr, Bool, true, false, not, ◌&&◌, ◌||◌, List, Option, Some, None, refl, ap, sym, ◌∙◌, subst, arith}
-use Rattle.std.specs.List.{list_any}
-use Rattle.std.proofs.lemmas.Bool.{both_ways, cases_eq, ne_eqb}
-use Rattle.assise_names.specs.declared.mode.Mode.{Mode}
-use Rattle.assise_names.specs.declared.mode.Mode.TheVariants.{Read, Write}
-use Rattle.assise_lease_table.specs.declared.lease.Lease.{Lease}
-use Rattle.assise_lease_table.specs.Leases.{Among, lease_of, new_lease, is_rival}
-use Rattle.assise_lease_table.specs.Modes.{against, strong}
-use Rattle.assise_lease_table.proofs.Elements.{any_among, none_among, both_true}
-use Rattle.assise_lease_tree.specs.Levels.{Homes, Under, carries, in_way, is_revoked, lives, raised_mode, clients_granted}
-use Rattle.assise_lease_tree.proofs.Steps.{nobody_in_way, granted_lawful}
-use Rattle.assise_lease_tree.proofs.ClientHomes.{weaker_against}
-use Rattle.assise_model_world.specs.ClientSteps.{IsModeFree, Acquires, is_for_writing}
-use Rattle.assise_model_world.specs.Invariant.{WorldInvariant}
-use Rattle.assise_model_world.specs.World.{World}
-use Rattle.assise_model_leases.specs.Handing.{Grants}
-use Rattle.assise_model_leases.specs.Leases.{Leases, client_lease, IsRevokedLease, AreLeases, is_held, is_written}
-use Rattle.assise_lease_tree.proofs.ClientHomes.{lease_among}
-use Rattle.assise_lease_tree.proofs.Lookups.{with_own, with_other}
+use Rattle.assise_model_leases.proofs.Common.{◌≡◌, ◌≢◌, ℕ, ◌==◌, inl, inr, Bool, true, false, not, ◌&&◌, ◌||◌, List, Option, Some, None, refl, ap, sym, ◌∙◌}
+use Rattle.assise_model_leases.proofs.Common.{subst, arith, list_any, both_ways, cases_eq, Mode, Read, Write, Lease, Among, lease_of, new_lease, is_rival}
+use Rattle.assise_model_leases.proofs.Common.{against, strong, any_among, none_among, both_true, Homes, Under, carries, in_way, is_revoked, lives, raised_mode}
+use Rattle.assise_model_leases.proofs.Common.{clients_granted, nobody_in_way, granted_lawful, weaker_against, IsModeFree, Acquires, is_for_writing}
+use Rattle.assise_model_leases.proofs.Common.{WorldInvariant, World, Grants, Leases, client_lease, IsRevokedLease, AreLeases, is_held, is_written, lease_among}
+use Rattle.assise_model_leases.proofs.Common.{with_own, with_other}
+use Rattle.std.proofs.lemmas.Bool.{ne_eqb}
 use Rattle.assise_model_leases.proofs.CutsCover.{covers_same}
 use Rattle.assise_model_leases.proofs.QuietLeases.{still_client, was_client}
 
@@ -41,7 +29,8 @@ module _ (home : Homes) (cs ns : List Lease) (c n : ℕ) (mode : Mode) (under : 
   others_agree : (b : Lease) → Among cs b → b.holder ≢ c → against mode b.mode ≡ false
   unfolding in_way
   others_agree b in_b other =
-      let none = and_false (not (b.holder == c)) _ (none_among (in_way home ns c n mode) cs nobody b in_b) (not_false (b.holder == c) (ne_eqb b.holder c other)) in
+      let none = and_false (not (b.holder == c)) _ (none_among (in_way home ns c n mode) cs nobody b in_b) (not_false (b.holder == c) (ne_eqb b.holder c other))
+      in
       let parts = or_false (lives home b.holder n && against mode b.mode) (list_any (λ k. lives home b.holder k.holder && is_rival n mode k) ns) none in
       let k = any_among (carries home b) ns (under b in_b) in
       let below = both_true (lives home b.holder k.0.holder) (strong k.0.mode b.mode) k.2 in
@@ -49,7 +38,8 @@ module _ (home : Homes) (cs ns : List Lease) (c n : ℕ) (mode : Mode) (under : 
         | inl here ↦ and_false (lives home b.holder n) (against mode b.mode) parts.0 (subst (λ m. lives home b.holder m ≡ true) here below.0)
         | inr away ↦ weaker_against mode k.0.mode b.mode below.1
             (and_false (not (k.0.holder == n)) (against mode k.0.mode)
-            (and_false (lives home b.holder k.0.holder) (is_rival n mode k.0) (none_among (λ k. lives home b.holder k.holder && is_rival n mode k) ns parts.1 k.0 k.1) below.0)
+            (and_false (lives home b.holder k.0.holder) (is_rival n mode k.0)
+            (none_among (λ k. lives home b.holder k.holder && is_rival n mode k) ns parts.1 k.0 k.1) below.0)
             (not_false (k.0.holder == n) (ne_eqb k.0.holder n away)))
       ]
 
@@ -71,8 +61,10 @@ module _ (w u : World) (l k : Leases) (c i : ℕ) (mode : Mode) (a : AreLeases w
   others_free d b other is = grind (arith, lease_among, others_agree, nobody_in_way)
 
   granted_free : (m : Mode) → mode ≡ m → IsModeFree w c i m
-  granted_free Read is = λ d other. a.held.writes d i ∙ not_written (client_lease l d i) (λ b h. subst (λ m. against m b.mode ≡ false) is (others_free d b other h))
-  granted_free Write is = λ d other. a.held.holds d i ∙ not_held (client_lease l d i) (λ b h. subst (λ m. against m b.mode ≡ false) is (others_free d b other h))
+  granted_free Read is = λ d other. a.held.writes d i
+      ∙ not_written (client_lease l d i) (λ b h. subst (λ m. against m b.mode ≡ false) is (others_free d b other h))
+  granted_free Write is = λ d other. a.held.holds d i
+      ∙ not_held (client_lease l d i) (λ b h. subst (λ m. against m b.mode ≡ false) is (others_free d b other h))
 
   abbrev given : Lease
   given = new_lease c (raised_mode mode (client_lease l c i))
@@ -90,7 +82,10 @@ module _ (w u : World) (l k : Leases) (c i : ℕ) (mode : Mode) (a : AreLeases w
 
   -- the lease that is granted isn't revoked
   was_revoked : (d j : ℕ) → IsRevokedLease k d j → IsRevokedLease l d j
-  was_revoked d j h = ap is_revoked (sym (elsewhere d j (λ own at. both_ways (is_revoked (client_lease k d j)) (subst (λ j. is_revoked (client_lease k d j) ≡ false) (sym at) (subst (λ d. is_revoked (client_lease k d i) ≡ false) (sym own) (ap is_revoked here))) h))) ∙ h
+  was_revoked d j h = ap is_revoked
+      (sym (elsewhere d j (λ own at. both_ways (is_revoked (client_lease k d j))
+      (subst (λ j. is_revoked (client_lease k d j) ≡ false) (sym at) (subst (λ d. is_revoked (client_lease k d i) ≡ false) (sym own) (ap is_revoked here))) h)))
+      ∙ h
 
   pub grant_keeps : WorldInvariant w → AreLeases u k
   grant_keeps s = record {

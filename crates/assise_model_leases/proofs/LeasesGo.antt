@@ -1,17 +1,8 @@
 -- Leases go: a client's, once what lies before its cut is digested everywhere, and those of a node without clients that hold.
-use Rattle.std.proofs.Common.{◌≡◌, ℕ, ◌-◌, true, false, Some, None, ap, sym, ◌∙◌, subst, arith}
-use Rattle.std.proofs.lemmas.Bool.{cases_eq}
-use Rattle.assise_record.specs.Records.{all_effects}
-use Rattle.assise_inode_table.specs.Effects.{touched, contains}
-use Rattle.assise_lease_table.specs.Leases.{lease_of}
-use Rattle.assise_lease_tree.specs.Levels.{is_revoked}
-use Rattle.assise_lease_tree.proofs.Steps.{released_lawful, freed_lawful}
-use Rattle.assise_model_world.specs.ClientSteps.{Releases}
-use Rattle.assise_model_world.specs.Invariant.{AreDropped}
-use Rattle.assise_model_world.specs.World.{World}
-use Rattle.assise_model_leases.specs.Handing.{ReleasesReady, FreesNode}
-use Rattle.assise_model_leases.specs.Leases.{Leases, client_lease, IsRevokedLease, client_records_from, AreLeases, is_held, is_written}
-use Rattle.assise_lease_tree.proofs.Lookups.{without_own, without_other}
+use Rattle.assise_model_leases.proofs.Common.{◌≡◌, ℕ, ◌-◌, true, false, Some, None, ap, sym, ◌∙◌, subst, arith, cases_eq, all_effects, touched, contains}
+use Rattle.assise_model_leases.proofs.Common.{lease_of, is_revoked, released_lawful, freed_lawful, Releases, AreDropped, World, ReleasesReady, FreesNode}
+use Rattle.assise_model_leases.proofs.Common.{Leases, client_lease, IsRevokedLease, client_records_from, AreLeases, is_held, is_written, without_own}
+use Rattle.assise_model_leases.proofs.Common.{without_other}
 use Rattle.assise_model_leases.proofs.CutsCover.{covers_same}
 use Rattle.assise_model_leases.proofs.QuietLeases.{still_client, was_client, holder_home, revoked_holder}
 
@@ -32,7 +23,8 @@ module _ (w u : World) (l k : Leases) (c i : ℕ) (a : AreLeases w l) (e : Relea
 
   -- a lease that is left was there
   was_there : (d j : ℕ) → is_held (client_lease k d j) ≡ true → client_lease k d j ≡ client_lease l d j
-  was_there d j h = elsewhere d j (λ own at. absurd (none_held (subst (λ j. is_held (client_lease k c j) ≡ true) at (subst (λ d. is_held (client_lease k d j) ≡ true) own h))))
+  was_there d j h = elsewhere d j
+      (λ own at. absurd (none_held (subst (λ j. is_held (client_lease k c j) ≡ true) at (subst (λ d. is_held (client_lease k d j) ≡ true) own h))))
     where
       none_held : is_held (client_lease k c i) ≡ true → ⊥
       none_held t = (let f : false ≡ true = rw gone at t in cc)
@@ -62,7 +54,8 @@ free_keeps w l k n a e = record {
   strangers = λ d no. e.freed.home d ∙ a.strangers d no;
   covered = λ d j h. rw (e.cuts d j) (a.covered d j (ap is_revoked (sym (same d j)) ∙ h));
   goals = λ d j lives h. rw (e.cuts d j) (a.goals d j lives (ap is_revoked (sym (same d j)) ∙ h));
-  borders = λ d j h low. subst (λ m. w.border d m ≡ true) (sym (e.cuts d j)) (a.borders d j (ap is_revoked (sym (same d j)) ∙ h) (omega (arith, low, e.cuts d j)));
+  borders = λ d j h low. subst (λ m. w.border d m ≡ true) (sym (e.cuts d j))
+      (a.borders d j (ap is_revoked (sym (same d j)) ∙ h) (omega (arith, low, e.cuts d j)));
   crashed = λ d j over h. ap is_revoked (same d j) ∙ a.crashed d j over (ap is_held (sym (same d j)) ∙ h);
   failed = λ d j over h. ap is_revoked (same d j) ∙ a.failed d j over (ap is_held (sym (same d j)) ∙ h);
 }

@@ -1,3 +1,4 @@
+mod Common
 pub mod LookUps
 pub mod Waiters
 pub mod CutsCover

@@ -1,10 +1,6 @@
 -- What a look-up finds once leases are revoked, put or taken away.
-use Rattle.std.proofs.Common.{◌≡◌, ℕ, ◌==◌, Bool, true, false, cond, List, [], ◌∷◌, Option, Some, None, refl}
-use Rattle.assise_names.specs.declared.mode.Mode.{Mode}
-use Rattle.assise_lease_table.specs.declared.lease.Lease.{Lease}
-use Rattle.assise_lease_table.specs.Leases.{lease_of, serves, revoke, revoked_if}
-use Rattle.assise_lease_tree.specs.Levels.{is_revoked}
-use Rattle.assise_model_leases.specs.Leases.{is_held, is_written}
+use Rattle.assise_model_leases.proofs.Common.{◌≡◌, ℕ, ◌==◌, Bool, true, false, cond, List, [], ◌∷◌, Option, Some, None, refl, Mode, Lease, lease_of, serves}
+use Rattle.assise_model_leases.proofs.Common.{revoke, revoked_if, is_revoked, is_held, is_written}
 
 -- ---- one lease
 
@@ -55,11 +51,13 @@ still_revoked choice None h = h
 still_revoked choice (Some a) h = (elim (choice a) as (λ b. cond b true a.revoked ≡ true) [ true ↦ refl | false ↦ h ])
 
 -- what is chosen is revoked
-pub now_revoked : (choice : Lease → Bool) (o : Option Lease) → ((a : Lease) → o ≡ Some a → choice a ≡ true) → is_held o ≡ true → is_revoked (revoked_one choice o) ≡ true
+pub now_revoked : (choice : Lease → Bool) (o : Option Lease) → ((a : Lease) → o ≡ Some a → choice a ≡ true) → is_held o ≡ true →
+    is_revoked (revoked_one choice o) ≡ true
 now_revoked choice None f h = cc
 now_revoked choice (Some a) f h = rw (f a refl) refl
 
 -- what isn't chosen is revoked only if it was
-pub was_revoked : (choice : Lease → Bool) (o : Option Lease) → ((a : Lease) → o ≡ Some a → choice a ≡ false) → is_revoked (revoked_one choice o) ≡ true → is_revoked o ≡ true
+pub was_revoked : (choice : Lease → Bool) (o : Option Lease) → ((a : Lease) → o ≡ Some a → choice a ≡ false) → is_revoked (revoked_one choice o) ≡ true →
+    is_revoked o ≡ true
 was_revoked choice None f h = h
 was_revoked choice (Some a) f h = rw (f a refl) at h

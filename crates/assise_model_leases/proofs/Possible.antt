@@ -1,25 +1,15 @@
 -- Each step of leases can be made: the state to which it leads.
-use Rattle.std.proofs.Common.{◌≡◌, ℕ, suc, ◌≤◌, ◌==◌, ◌&&◌, not, inl, inr, Bool, true, false, if◌then◌else◌, List, Option, Some, None, refl, ap, sym, ◌∙◌, arith, eq-eqb}
-use Rattle.std.specs.List.{list_any}
-use Rattle.std.proofs.lemmas.Bool.{and_from, and_parts, both_ways, cases_Bool, eqb-true, false_from_ne_true}
-use Rattle.assise_names.specs.declared.mode.Mode.{Mode}
-use Rattle.assise_inode_table.specs.Traces.{NumberedCall}
-use Rattle.assise_lease_table.specs.declared.lease.Lease.{Lease}
-use Rattle.assise_lease_table.specs.LeaseMaps.{Becomes}
-use Rattle.assise_lease_table.specs.Leases.{Among, lease_of, new_lease, without_holder, revoke, revoked_if, is_own, serves}
-use Rattle.assise_lease_table.proofs.Elements.{any_among, among_any, map_among}
-use Rattle.assise_lease_tree.specs.Levels.{Homes, AskedBelow, in_way, is_free, is_revoked, lives, raised_mode, clients_granted, nodes_granted, nodes_asked, nodes_released}
-use Rattle.assise_lease_tree.specs.TwoLevels.{TwoLevels, IsGranted, IsAskedFor, IsIdle}
-use Rattle.assise_lease_tree.proofs.ClientHomes.{strong_raised}
+use Rattle.assise_model_leases.proofs.Common.{◌≡◌, ℕ, suc, ◌≤◌, ◌==◌, ◌&&◌, not, inl, inr, Bool, true, false, if◌then◌else◌, List, Option, Some, None, refl, ap}
+use Rattle.assise_model_leases.proofs.Common.{sym, ◌∙◌, arith, eq-eqb, list_any, and_from, and_parts, both_ways, cases_Bool, eqb-true, false_from_ne_true, Mode}
+use Rattle.assise_model_leases.proofs.Common.{NumberedCall, Lease, Becomes, Among, lease_of, new_lease, without_holder, revoke, revoked_if, is_own, serves}
+use Rattle.assise_model_leases.proofs.Common.{any_among, among_any, map_among, Homes, AskedBelow, in_way, is_free, is_revoked, lives, raised_mode}
+use Rattle.assise_model_leases.proofs.Common.{clients_granted, nodes_granted, nodes_asked, nodes_released, TwoLevels, IsGranted, IsAskedFor, IsIdle}
+use Rattle.assise_model_leases.proofs.Common.{strong_raised, WorldInvariant, World, Full, end_of_log, HoldsAsLeased, Asks, CallsUnder, CrashesWith}
+use Rattle.assise_model_leases.proofs.Common.{FailsWithLeases, FreesNode, Grants, OpensAt, ReleasesReady, asked_goal, AreLeases, Leases, is_held, is_written}
+use Rattle.assise_model_leases.proofs.Common.{client_lease, lease_among, with_own, with_other}
 use Rattle.assise_model_world.specs.Chances.{MayFail}
-use Rattle.assise_model_world.specs.Invariant.{WorldInvariant}
-use Rattle.assise_model_world.specs.World.{World, Full, end_of_log}
 use Rattle.assise_model_world.proofs.Possible.{chosen, passed, may_open, may_call, may_raise, may_crash, may_fail}
 use Rattle.assise_model_leases.specs.Chances.{MayAsk, MayCallUnder, MayGrant, MayRelease}
-use Rattle.assise_model_leases.specs.Handing.{HoldsAsLeased, Asks, CallsUnder, CrashesWith, FailsWithLeases, FreesNode, Grants, OpensAt, ReleasesReady, asked_goal}
-use Rattle.assise_model_leases.specs.Leases.{AreLeases, Leases, is_held, is_written, client_lease}
-use Rattle.assise_lease_tree.proofs.ClientHomes.{lease_among}
-use Rattle.assise_lease_tree.proofs.Lookups.{with_own, with_other}
 use Rattle.assise_model_leases.proofs.LookUps.{still_revoked}
 use Rattle.assise_model_leases.proofs.CutsCover.{covers_end}
 
@@ -87,7 +77,8 @@ module _ (home : Homes) (cs ns : List Lease) (c n : ℕ) (mode : Mode) (below : 
   SomeRevoked = list_any (λ b. b.revoked) (revoke (in_way home ns c n mode) cs) ≡ true
 
   found_revoked : (b : Lease) → Among cs b → (revoked_if (in_way home ns c n mode b) b).revoked ≡ true → SomeRevoked
-  found_revoked b a h = among_any (λ (z : Lease). z.revoked) (revoke (in_way home ns c n mode) cs) (revoked_if (in_way home ns c n mode b) b) (map_among (λ z. revoked_if (in_way home ns c n mode z) z) cs b a) h
+  found_revoked b a h = among_any (λ (z : Lease). z.revoked) (revoke (in_way home ns c n mode) cs) (revoked_if (in_way home ns c n mode b) b)
+      (map_among (λ z. revoked_if (in_way home ns c n mode z) z) cs b a) h
 
   was_found : (b : Lease) → Among cs b → b.revoked ≡ true → SomeRevoked
   was_found b a h = found_revoked b a (still_revoked (in_way home ns c n mode) (Some b) h)

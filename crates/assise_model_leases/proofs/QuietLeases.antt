@@ -1,24 +1,10 @@
 -- What holds of leases through steps that leave them, and through a client more.
-use Rattle.std.proofs.Common.{◌≡◌, ◌≢◌, ℕ, suc, ◌≤◌, ◌⊎◌, inl, inr, true, List, Some, None, ap, sym, ◌∙◌, subst, arith}
-use Rattle.std.proofs.lemmas.Bool.{both_ways, cases_eq, cases_lt, false_from_ne_true}
-use Rattle.assise_record.specs.LogRecord.{LogRecord}
-use Rattle.assise_record.specs.Records.{all_effects, record_of}
-use Rattle.assise_inode_table.specs.Effects.{touched, contains}
-use Rattle.assise_inode_table.specs.Traces.{NumberedCall}
-use Rattle.assise_names.specs.declared.mode.Mode.TheVariants.{Write}
-use Rattle.assise_lease_table.specs.Leases.{lease_of, serves}
-use Rattle.assise_lease_table.proofs.Elements.{any_among, both_true}
-use Rattle.assise_lease_tree.specs.Levels.{is_revoked, carries, lives}
-use Rattle.assise_lease_tree.proofs.Steps.{enrolled_lawful}
-use Rattle.assise_lease_table.specs.Modes.{strong}
-use Rattle.assise_model_world.specs.NodeSteps.{Drops}
-use Rattle.assise_model_world.specs.Invariant.{WorldInvariant}
+use Rattle.assise_model_leases.proofs.Common.{◌≡◌, ◌≢◌, ℕ, suc, ◌≤◌, ◌⊎◌, inl, inr, true, List, Some, None, ap, sym, ◌∙◌, subst, arith, both_ways, cases_eq}
+use Rattle.assise_model_leases.proofs.Common.{cases_lt, false_from_ne_true, LogRecord, all_effects, record_of, touched, contains, NumberedCall, Write, lease_of}
+use Rattle.assise_model_leases.proofs.Common.{serves, any_among, both_true, is_revoked, carries, lives, enrolled_lawful, strong, Drops, WorldInvariant, World}
+use Rattle.assise_model_leases.proofs.Common.{IsClient, step_at_home, of_fresh, OpensAt, CallsUnder, CoalescesUnder, Leases, client_lease, IsRevokedLease}
+use Rattle.assise_model_leases.proofs.Common.{CoversFrom, AreLeases, is_held, lease_among, home_of}
 use Rattle.assise_model_world.specs.Staying.{SameLogs, SameClients, KeepsLeases}
-use Rattle.assise_model_world.specs.World.{World, IsClient, step_at_home}
-use Rattle.assise_model_world.proofs.Logs.{of_fresh}
-use Rattle.assise_model_leases.specs.Handing.{OpensAt, CallsUnder, CoalescesUnder}
-use Rattle.assise_model_leases.specs.Leases.{Leases, client_lease, IsRevokedLease, CoversFrom, AreLeases, is_held}
-use Rattle.assise_lease_tree.proofs.ClientHomes.{lease_among, home_of}
 use Rattle.assise_model_leases.proofs.LookUps.{held_some, revoked_held, revoked_serves}
 use Rattle.assise_model_leases.proofs.CutsCover.{covers_same, covers_call, covers_drop, covers_coalesced}
 
@@ -59,7 +45,8 @@ module _ (w u : World) (l : Leases) (a : AreLeases w l) (same : SameClients w u)
   was_client c o = (o.0, (let e : u.clients ≡ w.clients = same.clients in omega (arith, o.1, e)))
 
   -- and leases do, and cuts cover
-  still_leases : KeepsLeases w u → ((c i : ℕ) → IsRevokedLease l c i → CoversFrom u c i (l.cut c i)) → ((c i : ℕ) → w.lives c ≡ true → IsRevokedLease l c i → l.cut c i ≤ u.goal c) →
+  still_leases : KeepsLeases w u → ((c i : ℕ) → IsRevokedLease l c i → CoversFrom u c i (l.cut c i)) →
+      ((c i : ℕ) → w.lives c ≡ true → IsRevokedLease l c i → l.cut c i ≤ u.goal c) →
       ((c i : ℕ) → IsRevokedLease l c i → u.first c ≤ l.cut c i → u.border c (l.cut c i) ≡ true) → AreLeases u l
   still_leases leases covered goals borders = grind (arith, still_client, was_client)
 
@@ -67,12 +54,14 @@ module _ (w u : World) (l : Leases) (a : AreLeases w l) (same : SameClients w u)
 
 pub logs_keep : (w u : World) (l : Leases) → SameLogs w u → SameClients w u → KeepsLeases w u → ((c : ℕ) → w.goal c ≤ u.goal c) → AreLeases w l → AreLeases u l
 logs_keep w u l logs clients leases goals a =
-    still_leases w u l a clients leases (λ c i h. covers_same w u c i (l.cut c i) (logs.records c) (logs.first c) (a.covered c i h)) (λ c i lives h. omega (arith, a.goals c i lives h, goals c))
+    still_leases w u l a clients leases (λ c i h. covers_same w u c i (l.cut c i) (logs.records c) (logs.first c) (a.covered c i h))
+    (λ c i lives h. omega (arith, a.goals c i lives h, goals c))
     (λ c i h low. logs.border c (l.cut c i) ∙ a.borders c i h (subst (λ k. k ≤ l.cut c i) (logs.first c) low))
 
 pub drop_keeps : (w u : World) (l : Leases) (f : ℕ → ℕ) → AreLeases w l → Drops w f u → AreLeases u l
 drop_keeps w u l f a e =
-    still_leases w u l a e.clients e.leases (λ c i h. covers_drop w u f c i (l.cut c i) e (a.covered c i h)) (λ c i lives h. rw (e.goals c) (a.goals c i lives h))
+    still_leases w u l a e.clients e.leases (λ c i h. covers_drop w u f c i (l.cut c i) e (a.covered c i h))
+    (λ c i lives h. rw (e.goals c) (a.goals c i lives h))
     (λ c i h low.
     let high : f c ≤ l.cut c i = subst (λ k. k ≤ l.cut c i) (e.first c) low in
     e.border c (l.cut c i) high ∙ a.borders c i h (omega (arith, e.low c, high)))
@@ -92,10 +81,12 @@ call_keeps w u l x a e =
     covered i h =
         covers_call w u x.client i (l.cut x.client i) (record_of x.number (step_at_home w x).effects) (e.call.first x.client) e.call.records_own
         (false_from_ne_true (contains (touched (all_effects (record_of x.number (step_at_home w x).effects))) i)
-        (λ t. both_ways (serves (client_lease l x.client i) Write) (revoked_serves (client_lease l x.client i) Write h) (e.changed i (of_fresh x.number (step_at_home w x).effects i t))))
+        (λ t. both_ways (serves (client_lease l x.client i) Write) (revoked_serves (client_lease l x.client i) Write h)
+        (e.changed i (of_fresh x.number (step_at_home w x).effects i t))))
         (a.covered x.client i h)
 
-pub coalesced_keeps : (w u : World) (l : Leases) (c s : ℕ) (new : List LogRecord) (was : ℕ → ℕ) → WorldInvariant w → AreLeases w l → CoalescesUnder w l c s new was u → AreLeases u l
+pub coalesced_keeps : (w u : World) (l : Leases) (c s : ℕ) (new : List LogRecord) (was : ℕ → ℕ) → WorldInvariant w → AreLeases w l →
+    CoalescesUnder w l c s new was u → AreLeases u l
 coalesced_keeps w u l c s new was so a e =
     still_leases w u l a e.coalesces.clients e.coalesces.leases
     (λ d i h. elim (cases_eq d c) [
@@ -141,7 +132,8 @@ open_keeps w u l k n a e = record {
       (let old : c ≢ suc w.clients = holder_old c i (revoked_holder l c i (was c i h)) in
       rw (e.cuts c i, e.opens.goal_else c old) (a.goals c i (sym (e.opens.lives_else c old) ∙ lives) (was c i h)));
   borders = λ c i h low.
-      rw (e.cuts c i) (e.opens.logs.border c (l.cut c i) ∙ a.borders c i (was c i h) (subst (λ k. k ≤ l.cut c i) (e.opens.logs.first c) (subst (λ k. u.first c ≤ k) (e.cuts c i) low)));
+      rw (e.cuts c i) (e.opens.logs.border c (l.cut c i)
+      ∙ a.borders c i (was c i h) (subst (λ k. k ≤ l.cut c i) (e.opens.logs.first c) (subst (λ k. u.first c ≤ k) (e.cuts c i) low)));
   crashed = λ c i over h.
       (let held : is_held (client_lease l c i) ≡ true = ap is_held (sym (lease c i)) ∙ h in
       let old : c ≢ suc w.clients = holder_old c i held in

@@ -1,23 +1,15 @@
 -- Who waits for whom.
-use Rattle.std.proofs.Common.{◌≡◌, ◌≢◌, ℕ, ◌==◌, ◌≤◌, Bool, true, false, cond, not, ◌&&◌, Option, Some, None, refl, ap, sym, ◌∙◌, arith, eq-eqb, subst}
-use Rattle.std.proofs.lemmas.Bool.{both_ways}
-use Rattle.assise_names.specs.declared.mode.Mode.{Mode}
-use Rattle.assise_lease_table.specs.declared.lease.Lease.{Lease}
-use Rattle.assise_lease_table.specs.Leases.{lease_of}
-use Rattle.assise_lease_table.proofs.Elements.{both_true, not_true}
-use Rattle.assise_lease_tree.specs.Levels.{in_way, is_revoked}
-use Rattle.assise_model_world.specs.Invariant.{WorldInvariant}
-use Rattle.assise_model_world.specs.World.{World, digested_by_all, received_by_all}
-use Rattle.assise_model_world.proofs.WorldObserved.{least_of-above}
-use Rattle.assise_model_leases.specs.Handing.{Asks, is_newly_revoked}
-use Rattle.assise_model_leases.specs.Leases.{AreLeases, IsRevokedLease, Leases, client_lease}
-use Rattle.assise_lease_tree.proofs.ClientHomes.{lease_among}
+use Rattle.assise_model_leases.proofs.Common.{◌≡◌, ◌≢◌, ℕ, ◌==◌, ◌≤◌, Bool, true, false, cond, not, ◌&&◌, Option, Some, None, refl, ap, sym, ◌∙◌, arith, eq-eqb}
+use Rattle.assise_model_leases.proofs.Common.{subst, both_ways, Mode, Lease, lease_of, both_true, not_true, in_way, is_revoked, WorldInvariant, World}
+use Rattle.assise_model_leases.proofs.Common.{digested_by_all, received_by_all, least_of-above, Asks, is_newly_revoked, AreLeases, IsRevokedLease, Leases}
+use Rattle.assise_model_leases.proofs.Common.{client_lease, lease_among}
 use Rattle.assise_model_leases.proofs.LookUps.{revoked_one, revoke_of}
 
 -- ---- what is asked for
 
 -- a lease that is revoked now and wasn't was chosen
-chosen_one : (choice : Lease → Bool) (o : Option Lease) → (not (is_revoked o) && is_revoked (revoked_one choice o)) ≡ true → (a : Lease) × (o ≡ Some a) × (choice a ≡ true)
+chosen_one : (choice : Lease → Bool) (o : Option Lease) → (not (is_revoked o) && is_revoked (revoked_one choice o)) ≡ true → (a : Lease) × (o ≡ Some a)
+    × (choice a ≡ true)
 chosen_one choice None h = cc
 chosen_one choice (Some a) h = (a, refl, was a.revoked (choice a) h)
   where
@@ -54,10 +46,12 @@ module _ (w u : World) (l k : Leases) (c i : ℕ) (mode : Mode) (e : Asks w l c 
 
 -- ---- what is ready to go
 
-pub ready_alive : (w : World) (l : Leases) (c i : ℕ) → AreLeases w l → IsRevokedLease l c i → w.lives c ≡ true → w.goal c ≤ digested_by_all w c → l.cut c i ≤ digested_by_all w c
+pub ready_alive : (w : World) (l : Leases) (c i : ℕ) → AreLeases w l → IsRevokedLease l c i → w.lives c ≡ true → w.goal c ≤ digested_by_all w c →
+    l.cut c i ≤ digested_by_all w c
 ready_alive w l c i a revoked lives done = omega (arith, a.goals c i lives revoked, done)
 
-pub ready_left : (w : World) (l : Leases) (c i : ℕ) → WorldInvariant w → AreLeases w l → IsRevokedLease l c i → w.lives c ≡ false → received_by_all w c ≤ digested_by_all w c →
+pub ready_left : (w : World) (l : Leases) (c i : ℕ) → WorldInvariant w → AreLeases w l → IsRevokedLease l c i → w.lives c ≡ false →
+    received_by_all w c ≤ digested_by_all w c →
     l.cut c i ≤ digested_by_all w c
 unfolding received_by_all
 ready_left w l c i s a revoked dead done = grind (arith, least_of-above)

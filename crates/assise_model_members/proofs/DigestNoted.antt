@@ -1,24 +1,13 @@
 -- A digest at a full node, what leaves all areas, and the start.
-use Rattle.std.proofs.Common.{◌≡◌, ◌≢◌, inl, inr, ℕ, ◌<◌, true, false, Some, sym, ap, ◌∙◌, subst, arith}
-use Rattle.std.specs.Option.{option_map}
-use Rattle.std.specs.Ordering.{nat_cmp}
+use Rattle.assise_model_members.proofs.Common.{◌≡◌, ◌≢◌, inl, inr, ℕ, ◌<◌, true, false, Some, sym, ap, ◌∙◌, subst, arith, option_map, nat_cmp, contains-union}
+use Rattle.assise_model_members.proofs.Common.{nat_cmp_total, cases_eq, cases_Bool, or_parts, both_ways, none-some, contains, World, Full, since_of, AreMembers}
+use Rattle.assise_model_members.proofs.Common.{OtherAreasStay, KeepsAreas, DigestsNoted, fulls, all_full, noted, stale_again, donor_of, Membership}
+use Rattle.assise_model_members.proofs.Common.{written_since, standing_of, full_nodes, full, returning, noted_lawful, all_full_lawful, donor_full}
 use Rattle.std.specs.FinSet as set
-use Rattle.std.specs.FinSet.{contains-union}
-use Rattle.std.specs.Cmp.{nat_cmp_total}
-use Rattle.std.proofs.lemmas.Bool.{cases_eq, cases_Bool, or_parts, both_ways}
-use Rattle.std.proofs.lemmas.Option.{none-some}
-use Rattle.assise_inode_table.specs.Effects.{contains}
 use Rattle.assise_inode_table.proofs.EffectValues.{untouched}
 use Rattle.assise_model_world.specs.Runs.{begun}
-use Rattle.assise_model_world.specs.World.{World, Full}
-use Rattle.assise_model_members.specs.Members.{since_of, AreMembers}
-use Rattle.assise_model_members.specs.Returns.{OtherAreasStay, KeepsAreas, DigestsNoted}
-use Rattle.assise_manager.specs.Changes.{fulls, all_full, noted, stale_again, donor_of}
-use Rattle.assise_manager.specs.Membership.{Membership, written_since}
-use Rattle.assise_manager.specs.Standings.{standing_of, full_nodes}
-use Rattle.assise_manager.specs.Standings.Standing.{full, returning}
-use Rattle.assise_manager.proofs.Lawful.{noted_lawful, all_full_lawful, donor_full}
-use Rattle.assise_model_members.proofs.NodeStandings.{mapped_at, full_listed, listed_full, away_not_full, cases_donor, full_no_donor, filled_from, since_listed, none_failed, noted_here, noted_else, same_donor, same_stale}
+use Rattle.assise_model_members.proofs.NodeStandings.{mapped_at, full_listed, listed_full, away_not_full, cases_donor, full_no_donor, filled_from, since_listed}
+use Rattle.assise_model_members.proofs.NodeStandings.{none_failed, noted_here, noted_else, same_donor, same_stale}
 use Rattle.assise_model_members.proofs.Written.{outside, noted_still, noted_now}
 
 -- ---- a digest
@@ -59,7 +48,8 @@ module _ (w u : World) (m m' : Membership) (n c p : ℕ) (inodes : set.FinSet na
       let old : since_of (standing_of m.nodes k) ≡ Some e = sym (since_same k) ∙ at in
       let quiet : set.contains inodes i ≡ false = outside inodes (written_since after e) (noted_now m n inodes e (since_listed m k e a.lawful old)) i none in
       let before : Full w f = was_full f ff in
-      area_away k e i old ∙ a.due k e f i old before (outside (written_since m e) (written_since after e) (noted_still m n inodes e) i none) ∙ sym (area_quiet f i before quiet)
+      area_away k e i old ∙ a.due k e f i old before (outside (written_since m e) (written_since after e) (noted_still m n inodes e) i none)
+      ∙ sym (area_quiet f i before quiet)
 
   filling : (k since donor i : ℕ) (stale : set.FinSet nat_cmp) → standing_of after.nodes k ≡ Some (returning since donor stale) →
       set.contains stale i ≡ false → u.area k i ≡ u.area donor i
@@ -69,13 +59,15 @@ module _ (w u : World) (m m' : Membership) (n c p : ℕ) (inodes : set.FinSet na
             let (first, old, is) = filled_from (standing_of m.nodes k) n here in
             let stands : standing_of after.nodes k ≡ Some (returning first n (set.union old inodes)) = again_stands k first old is in
             let both : (set.contains old i ≡ false) × (set.contains inodes i ≡ false) = or_parts (set.contains old i) (set.contains inodes i)
-            (sym (contains-union nat_cmp_total old inodes i) ∙ ap (λ s. set.contains s i) (same_stale (standing_of after.nodes k) first since n donor (set.union old inodes) stale stands at) ∙ none) in
+            (sym (contains-union nat_cmp_total old inodes i)
+            ∙ ap (λ s. set.contains s i) (same_stale (standing_of after.nodes k) first since n donor (set.union old inodes) stale stands at) ∙ none) in
             area_away k first i (ap since_of is) ∙ a.filling k first n i old is both.0 ∙ sym (area_quiet n i g.digests.full_node both.1)
             ∙ ap (λ d. u.area d i) (same_donor (standing_of after.nodes k) first since n donor (set.union old inodes) stale stands at)
         | inr from ↦
             let before : standing_of m.nodes k ≡ Some (returning since donor stale) = sym (kept_stands k from) ∙ at in
             area_away k since i (ap since_of before) ∙ a.filling k since donor i stale before none
-            ∙ sym (g.digests.area_else donor i (a.nodes_full donor (donor_full m k since donor stale a.lawful before)) (λ is. from (ap donor_of before ∙ ap Some is)))
+            ∙ sym (g.digests.area_else donor i (a.nodes_full donor (donor_full m k since donor stale a.lawful before))
+            (λ is. from (ap donor_of before ∙ ap Some is)))
       ]
 
   pub digest_keeps : AreMembers u m'

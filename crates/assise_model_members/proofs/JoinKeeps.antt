@@ -1,18 +1,9 @@
 -- A node that lacks no inode is full again.
-use Rattle.std.proofs.Common.{◌≡◌, ◌≢◌, inl, inr, ℕ, false, cond, Option, Some, None, [], ◌∷◌, ◌++◌, refl, sym, ap, ◌∙◌, subst, eqb-true, arith}
-use Rattle.std.specs.Ordering.{nat_cmp}
+use Rattle.assise_model_members.proofs.Common.{◌≡◌, ◌≢◌, inl, inr, ℕ, false, cond, Option, Some, None, [], ◌∷◌, ◌++◌, refl, sym, ap, ◌∙◌, subst, eqb-true}
+use Rattle.assise_model_members.proofs.Common.{arith, nat_cmp, empty_of_len, contains-empty, cases_eq, Joins, World, Full, since_of, AreMembers, Rejoins}
+use Rattle.assise_model_members.proofs.Common.{joined, join_fault_of, Membership, written_since, Standing, standing_of, full, returning, joined_lawful}
+use Rattle.assise_model_members.proofs.Common.{donor_full}
 use Rattle.std.specs.FinSet as set
-use Rattle.std.specs.FinSet.{empty_of_len, contains-empty}
-use Rattle.std.proofs.lemmas.Bool.{cases_eq}
-use Rattle.assise_model_world.specs.NodeSteps.{Joins}
-use Rattle.assise_model_world.specs.World.{World, Full}
-use Rattle.assise_model_members.specs.Members.{since_of, AreMembers}
-use Rattle.assise_model_members.specs.Returns.{Rejoins}
-use Rattle.assise_manager.specs.Changes.{joined, join_fault_of}
-use Rattle.assise_manager.specs.Membership.{Membership, written_since}
-use Rattle.assise_manager.specs.Standings.{Standing, standing_of}
-use Rattle.assise_manager.specs.Standings.Standing.{full, returning}
-use Rattle.assise_manager.proofs.Lawful.{joined_lawful, donor_full}
 use Rattle.assise_model_members.proofs.NodeStandings.{set_here, set_else, away_not_full, not_all}
 use Rattle.assise_model_members.proofs.Written.{outside, still_written}
 
@@ -47,7 +38,8 @@ module _ (w u : World) (m m' : Membership) (n : ℕ) (a : AreMembers w m) (g : R
   other k e at is = away_not_full (standing_of after.nodes k) e at (subst (λ k. standing_of after.nodes k ≡ Some full) (sym is) own)
 
   -- where some node still isn't full, the lists stay
-  fewer : (k e i : ℕ) → since_of (standing_of after.nodes k) ≡ Some e → set.contains (written_since after e) i ≡ false → set.contains (written_since m e) i ≡ false
+  fewer : (k e i : ℕ) → since_of (standing_of after.nodes k) ≡ Some e → set.contains (written_since after e) i ≡ false → set.contains (written_since m e) i
+      ≡ false
   fewer k e i at none =
       outside (written_since m e) (written_since after e)
       (still_written m after set.empty refl (ap (λ b. cond b [] (m.written ++ set.empty ∷ [])) (not_all after.nodes k e at)) e) i none

@@ -1,3 +1,4 @@
+mod Common
 pub mod NodeStandings
 pub mod Written
 pub mod NodesFail

@@ -1,21 +1,11 @@
 -- One node that isn't full is changed: it fails again, begins to come back, or is filled.
-use Rattle.std.proofs.Common.{◌≡◌, ◌≢◌, inl, inr, ℕ, false, true, not, cond, Some, None, refl, sym, ap, ◌∙◌, subst, arith}
-use Rattle.std.specs.Prelude.{◌&&◌}
-use Rattle.std.specs.Ordering.{nat_cmp}
+use Rattle.assise_model_members.proofs.Common.{◌≡◌, ◌≢◌, inl, inr, ℕ, false, true, not, cond, Some, None, refl, sym, ap, ◌∙◌, subst, arith, ◌&&◌, nat_cmp}
+use Rattle.assise_model_members.proofs.Common.{contains-remove, nat_cmp_total, unsigned_tied, cases_eq, both_ways, ne_eqb, none-some, same_Some, contains}
+use Rattle.assise_model_members.proofs.Common.{World, Full, since_of, AreMembers, FailsAgain, BeginsReturn, Refills, with_node, failed_as, failure_fault_of}
+use Rattle.assise_model_members.proofs.Common.{back_as, copied_as, filling_fault_of, donor_of, stale_of, Membership, IsMembership, written_since, lowest_full}
+use Rattle.assise_model_members.proofs.Common.{Standing, standing_of, full, down, returning, failed_lawful, back_lawful, copied_lawful, stale_written}
+use Rattle.assise_model_members.proofs.Common.{donor_full}
 use Rattle.std.specs.FinSet as set
-use Rattle.std.specs.FinSet.{contains-remove}
-use Rattle.std.specs.Cmp.{nat_cmp_total, unsigned_tied}
-use Rattle.std.proofs.lemmas.Bool.{cases_eq, both_ways, ne_eqb}
-use Rattle.std.proofs.lemmas.Option.{none-some, same_Some}
-use Rattle.assise_inode_table.specs.Effects.{contains}
-use Rattle.assise_model_world.specs.World.{World, Full}
-use Rattle.assise_model_members.specs.Members.{since_of, AreMembers}
-use Rattle.assise_model_members.specs.Returns.{FailsAgain, BeginsReturn, Refills}
-use Rattle.assise_manager.specs.Changes.{with_node, failed_as, failure_fault_of, back_as, copied_as, filling_fault_of, donor_of, stale_of}
-use Rattle.assise_manager.specs.Membership.{Membership, IsMembership, written_since, lowest_full}
-use Rattle.assise_manager.specs.Standings.{Standing, standing_of}
-use Rattle.assise_manager.specs.Standings.Standing.{full, down, returning}
-use Rattle.assise_manager.proofs.Lawful.{failed_lawful, back_lawful, copied_lawful, stale_written, donor_full}
 use Rattle.assise_model_members.proofs.NodeStandings.{set_here, set_else, lowest_stands, away_not_full, returning_is, down_is}
 
 -- ---- any such change
@@ -32,7 +22,8 @@ record IsChange (w u : World) (m : Membership) (n since : ℕ) (old s : Standing
   pub fills : (since donor i : ℕ) (stale : set.FinSet nat_cmp) → s ≡ returning since donor stale → set.contains stale i ≡ false → u.area n i ≡ u.area donor i
 
 -- a full node is another
-full_other : (w : World) (m : Membership) (n k since : ℕ) (old : Standing) → AreMembers w m → standing_of m.nodes n ≡ Some old → since_of (Some old) ≡ Some since →
+full_other : (w : World) (m : Membership) (n k since : ℕ) (old : Standing) → AreMembers w m → standing_of m.nodes n ≡ Some old →
+    since_of (Some old) ≡ Some since →
     Full w k → k ≢ n
 full_other w m n k since old a stood away f is =
     away_not_full (standing_of m.nodes k) since (ap (λ j. since_of (standing_of m.nodes j)) is ∙ ap since_of stood ∙ away) (a.full_nodes k f)
@@ -50,7 +41,8 @@ module _ (w u : World) (m : Membership) (n since : ℕ) (old s : Standing) (a : 
   other_full : (k : ℕ) → Full w k → k ≢ n
   other_full k f = full_other w m n k since old a g.stood g.was_away f
 
-  due : (k e f i : ℕ) → since_of (standing_of (with_node m n s).nodes k) ≡ Some e → Full u f → set.contains (written_since m e) i ≡ false → u.area k i ≡ u.area f i
+  due : (k e f i : ℕ) → since_of (standing_of (with_node m n s).nodes k) ≡ Some e → Full u f → set.contains (written_since m e) i ≡ false →
+      u.area k i ≡ u.area f i
   due k e f i at ff none = grind (arith, was_full, other_full, cases_eq, same_Some, here, elsewhere)
 
   filling : (k first donor i : ℕ) (stale : set.FinSet nat_cmp) → standing_of (with_node m n s).nodes k ≡ Some (returning first donor stale) →
@@ -59,7 +51,9 @@ module _ (w u : World) (m : Membership) (n since : ℕ) (old s : Standing) (a : 
       elim (cases_eq k n) [
         | inl is ↦
             subst (λ k. u.area k i ≡ u.area donor i) (sym is)
-            (g.fills first donor i stale (same_Some s (returning first donor stale) (sym here ∙ subst (λ k. standing_of (with_node m n s).nodes k ≡ Some (returning first donor stale)) is at)) none)
+            (g.fills first donor i stale
+            (same_Some s (returning first donor stale)
+            (sym here ∙ subst (λ k. standing_of (with_node m n s).nodes k ≡ Some (returning first donor stale)) is at)) none)
         | inr differs ↦
             let before : standing_of m.nodes k ≡ Some (returning first donor stale) = sym (elsewhere k differs) ∙ at in
             g.area_else k i differs ∙ a.filling k first donor i stale before none
@@ -72,7 +66,8 @@ module _ (w u : World) (m : Membership) (n since : ℕ) (old s : Standing) (a : 
     full_nodes = λ k f. elsewhere k (other_full k (was_full k f)) ∙ a.full_nodes k (was_full k f);
     nodes_full = λ k at.
         elim (cases_eq k n) [
-          | inl is ↦ absurd (away_not_full (standing_of (with_node m n s).nodes n) since (ap since_of here ∙ g.is_away) (subst (λ k. standing_of (with_node m n s).nodes k ≡ Some full) is at))
+          | inl is ↦ absurd (away_not_full (standing_of (with_node m n s).nodes n) since (ap since_of here ∙ g.is_away)
+              (subst (λ k. standing_of (with_node m n s).nodes k ≡ Some full) is at))
           | inr differs ↦ subst (λ ns. contains ns k ≡ true) (sym g.full) (a.nodes_full k (sym (elsewhere k differs) ∙ at))
         ];
     due = due;
@@ -82,7 +77,8 @@ module _ (w u : World) (m : Membership) (n since : ℕ) (old s : Standing) (a : 
 -- ---- a node that comes back fails again
 
 module _ (w u : World) (m m' : Membership) (n : ℕ) (g : FailsAgain w m n u m') where
-  pub again_stands : (since donor : ℕ) (stale : set.FinSet nat_cmp) → standing_of m.nodes n ≡ Some (returning since donor stale) → m' ≡ with_node m n (down since)
+  pub again_stands : (since donor : ℕ) (stale : set.FinSet nat_cmp) → standing_of m.nodes n ≡ Some (returning since donor stale) →
+      m' ≡ with_node m n (down since)
   again_stands since donor stale is = g.members ∙ ap (failed_as m n set.empty) is
 
   pub again_keeps : AreMembers w m → AreMembers u m'
@@ -114,8 +110,10 @@ module _ (w u : World) (m m' : Membership) (n : ℕ) (g : BeginsReturn w m n u m
       let written : set.FinSet nat_cmp = written_since m since in
       let same : m' ≡ with_node m n (returning since low written) = back_is since is in
       let low_full : Full w low = a.nodes_full low (lowest_stands m.nodes a.lawful.some_full) in
-      let stale : stale_of (standing_of m'.nodes n) ≡ Some written = ap (λ o. stale_of (standing_of o.nodes n)) same ∙ ap stale_of (set_here m.nodes n (down since) (returning since low written) is) in
-      let unwritten : (i : ℕ) → set.contains written i ≡ false → u.area n i ≡ w.area n i = λ i none. g.area_here written stale i ∙ ap (λ b. cond b None (w.area n i)) none in
+      let stale : stale_of (standing_of m'.nodes n) ≡ Some written = ap (λ o. stale_of (standing_of o.nodes n)) same
+      ∙ ap stale_of (set_here m.nodes n (down since) (returning since low written) is) in
+      let unwritten : (i : ℕ) → set.contains written i ≡ false → u.area n i ≡ w.area n i = λ i none. g.area_here written stale i
+      ∙ ap (λ b. cond b None (w.area n i)) none in
       subst (AreMembers u) (sym same)
       (change_keeps w u m n since (down since) (returning since low written) a (record {
         stood = is;
@@ -126,8 +124,10 @@ module _ (w u : World) (m m' : Membership) (n : ℕ) (g : BeginsReturn w m n u m
         area_else = g.area_else;
         unwritten = unwritten;
         fills = λ first from i lacks e none.
-            (let clean : set.contains written i ≡ false = subst (λ t. set.contains t i ≡ false) (sym (same_Some written lacks (ap (λ s. stale_of (Some s)) e))) none in
-            unwritten i clean ∙ a.due n since low i (ap since_of is) low_full clean ∙ sym (g.area_else low i (full_other w m n low since (down since) a is refl low_full))
+            (let clean : set.contains written i ≡ false = subst (λ t. set.contains t i ≡ false) (sym (same_Some written lacks (ap (λ s. stale_of (Some s)) e)))
+            none in
+            unwritten i clean ∙ a.due n since low i (ap since_of is) low_full clean
+            ∙ sym (g.area_else low i (full_other w m n low since (down since) a is refl low_full))
             ∙ ap (λ d. u.area d i) (same_Some low from (ap (λ s. donor_of (Some s)) e)));
       })))
 
@@ -156,9 +156,11 @@ module _ (w u : World) (m m' : Membership) (n i : ℕ) (g : Refills w m n i u m'
         full = g.rests.nodes.full;
         area_else = λ k j differs. g.area_else k j (λ is _. differs is);
         unwritten = λ j none. g.area_else n j (λ _ is. both_ways (set.contains (written_since m g.since) j) none
-            (subst (λ j. set.contains (written_since m g.since) j ≡ true) (sym is) (stale_written m n g.since g.donor g.stale a.lawful g.stands i g.lowest.there)));
+            (subst (λ j. set.contains (written_since m g.since) j ≡ true) (sym is)
+            (stale_written m n g.since g.donor g.stale a.lawful g.stands i g.lowest.there)));
         fills = λ first from j lacks e none.
-            (let clean : set.contains (set.remove g.stale i) j ≡ false = subst (λ t. set.contains t j ≡ false) (sym (same_Some (set.remove g.stale i) lacks (ap (λ s. stale_of (Some s)) e))) none in
+            (let clean : set.contains (set.remove g.stale i) j ≡ false =
+            subst (λ t. set.contains t j ≡ false) (sym (same_Some (set.remove g.stale i) lacks (ap (λ s. stale_of (Some s)) e))) none in
             elim (cases_eq j i) [
               | inl is ↦ subst (λ j. u.area n j ≡ w.area g.donor j) (sym is) g.area_here
               | inr differs ↦ g.area_else n j (λ _ is. differs is) ∙ a.filling n g.since g.donor j g.stale g.stands (removed_else g.stale i j differs clean)

@@ -1,23 +1,14 @@
 -- How nodes stand before and after a change.
-use Rattle.std.proofs.Common.{Bool, ◌≡◌, ◌≢◌, ◌⊎◌, inl, inr, ℕ, zero, suc, ◌+◌, ◌-◌, ◌<◌, true, false, cond, Option, Some, None, List, [], ◌∷◌, map, length, refl, sym, ap, ◌∙◌, arith, eq-eqb}
-use Rattle.std.specs.Prelude.{◌==◌}
-use Rattle.std.specs.List.{list_all, list_any, slice_get, slice_set, slice_index_or}
-use Rattle.std.specs.Option.{option_map}
-use Rattle.std.specs.Ordering.{nat_cmp}
+use Rattle.assise_model_members.proofs.Common.{Bool, ◌≡◌, ◌≢◌, ◌⊎◌, inl, inr, ℕ, zero, suc, ◌+◌, ◌-◌, ◌<◌, true, false, cond, Option, Some, None, List, [], ◌∷◌}
+use Rattle.assise_model_members.proofs.Common.{map, length, refl, sym, ap, ◌∙◌, arith, eq-eqb, ◌==◌, list_all, list_any, slice_get, slice_set, slice_index_or}
+use Rattle.assise_model_members.proofs.Common.{option_map, nat_cmp, len-empty, cases_eq, or_left, or_right, ne_eqb, cond_both, both_ways, false_from_ne_true}
+use Rattle.assise_model_members.proofs.Common.{none-some, same_Some, slice_get-map, contains, since_of, BadNode, Busy, WrongPhase, LastNode, fulls}
+use Rattle.assise_model_members.proofs.Common.{refilled_from, stale_again, donor_of, stale_of, is_returning, failure_fault, failure_fault_of, return_fault_of}
+use Rattle.assise_model_members.proofs.Common.{join_fault_of, Membership, IsMembership, first_listed, lowest_full, Standing, standing_of, with_standing}
+use Rattle.assise_model_members.proofs.Common.{full_from, full_nodes, is_full, full, down, returning, down_listed, return_listed, list_there}
 use Rattle.std.specs.FinSet as set
-use Rattle.std.specs.FinSet.{len-empty}
-use Rattle.std.proofs.lemmas.Bool.{cases_eq, or_left, or_right, ne_eqb, cond_both, both_ways, false_from_ne_true}
-use Rattle.std.proofs.lemmas.Option.{none-some, same_Some, slice_get-map}
-use Rattle.assise_inode_table.specs.Effects.{contains}
-use Rattle.assise_model_members.specs.Members.{since_of}
 use Rattle.assise_names.specs.declared.refusal.Refusal.{Refusal}
-use Rattle.assise_names.specs.declared.refusal.Refusal.TheVariants.{BadNode, Busy, WrongPhase, LastNode}
-use Rattle.assise_manager.specs.Changes.{fulls, refilled_from, stale_again, donor_of, stale_of, is_returning, failure_fault, failure_fault_of, return_fault_of, join_fault_of}
-use Rattle.assise_manager.specs.Membership.{Membership, IsMembership, first_listed, lowest_full}
-use Rattle.assise_manager.specs.Standings.{Standing, standing_of, with_standing, full_from, full_nodes, is_full}
-use Rattle.assise_manager.specs.Standings.Standing.{full, down, returning}
 use Rattle.assise_manager.proofs.Nodes.{never, full_there, first_there, others_stay, one_full_less, slice_get_set, full_from_map, list_all_place}
-use Rattle.assise_manager.proofs.Lawful.{down_listed, return_listed, list_there}
 
 -- ---- places
 
@@ -121,7 +112,8 @@ pub down_is : (o : Option Standing) → return_fault_of o ≡ None → (since : 
 down_is o e = grind (arith, none-some)
 
 -- a node whose joining isn't refused
-pub returning_may_join : (o : Option Standing) → join_fault_of o ≡ None → (since donor : ℕ) × (stale : set.FinSet nat_cmp) × (o ≡ Some (returning since donor stale))
+pub returning_may_join : (o : Option Standing) → join_fault_of o ≡ None → (since donor : ℕ) × (stale : set.FinSet nat_cmp)
+    × (o ≡ Some (returning since donor stale))
 returning_may_join None e = absurd (none-some BadNode (sym e))
 returning_may_join (Some full) e = absurd (none-some WrongPhase (sym e))
 returning_may_join (Some (down since)) e = absurd (none-some WrongPhase (sym e))
@@ -136,7 +128,8 @@ busy_lacks (Some (returning since donor stale)) e =
     (stale, refl, λ is. never (ap is_busy (sym (ap (λ b. cond b None (Some Busy)) (eq-eqb (set.len stale) 0 (ap set.len is ∙ len-empty nat_cmp))) ∙ e)))
 
 -- a node that isn't full
-pub since_is : (o : Option Standing) (e : ℕ) → since_of o ≡ Some e → (o ≡ Some (down e)) ⊎ ((donor : ℕ) × (stale : set.FinSet nat_cmp) × (o ≡ Some (returning e donor stale)))
+pub since_is : (o : Option Standing) (e : ℕ) → since_of o ≡ Some e →
+    (o ≡ Some (down e)) ⊎ ((donor : ℕ) × (stale : set.FinSet nat_cmp) × (o ≡ Some (returning e donor stale)))
 since_is None e at = absurd (none-some e at)
 since_is (Some full) e at = absurd (none-some e at)
 since_is (Some (down since)) e at = inl (ap (λ s. Some (down s)) (same_Some since e at))
@@ -162,7 +155,8 @@ none_failed count (suc place) = fulls_at count place
 
 -- ---- who was filled from a failed node starts over
 
-pub refilled_here : (written : ℕ → set.FinSet nat_cmp) (low n since : ℕ) (stale : set.FinSet nat_cmp) (o : Option Standing) → o ≡ Some (returning since n stale) →
+pub refilled_here : (written : ℕ → set.FinSet nat_cmp) (low n since : ℕ) (stale : set.FinSet nat_cmp) (o : Option Standing) →
+    o ≡ Some (returning since n stale) →
     option_map (refilled_from written low n) o ≡ Some (returning since low (written since))
 refilled_here written low n since stale o at = grind (arith, eq-eqb)
 
@@ -173,7 +167,8 @@ pub refilled_full : (written : ℕ → set.FinSet nat_cmp) (low n : ℕ) (s : St
 refilled_full written low n s = grind (arith, cond_both)
 
 -- the same nodes are full, so the same is the lowest
-pub same_lowest : (written : ℕ → set.FinSet nat_cmp) (low n : ℕ) (nodes : List Standing) → lowest_full (map (refilled_from written low n) nodes) ≡ lowest_full nodes
+pub same_lowest : (written : ℕ → set.FinSet nat_cmp) (low n : ℕ) (nodes : List Standing) → lowest_full (map (refilled_from written low n) nodes)
+    ≡ lowest_full nodes
 same_lowest written low n nodes = ap (λ l. slice_index_or l 0 0) (full_from_map (refilled_from written low n) (refilled_full written low n) 1 nodes)
 
 -- ---- what was written at a donor is stale again

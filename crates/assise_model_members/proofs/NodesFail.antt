@@ -1,27 +1,17 @@
 -- Nodes fail.
-use Rattle.std.proofs.Common.{◌≡◌, ◌≢◌, inl, inr, ℕ, ◌+◌, ◌-◌, ◌≤◌, true, false, cond, Some, None, refl, sym, ap, ◌∙◌, subst, take, drop, arith}
-use Rattle.std.specs.Prelude.{◌==◌, Bool, List, ◌∷◌, [], filter}
-use Rattle.std.specs.Option.{option_map}
+use Rattle.assise_model_members.proofs.Common.{◌≡◌, ◌≢◌, inl, inr, ℕ, ◌+◌, ◌-◌, ◌≤◌, true, false, cond, Some, None, refl, sym, ap, ◌∙◌, subst, take, drop}
+use Rattle.assise_model_members.proofs.Common.{arith, ◌==◌, filter, option_map, nat_cmp, cases_eq, cases_Bool, or_cases, or_left, or_right, both_ways}
+use Rattle.assise_model_members.proofs.Common.{false_from_ne_true, none-some, same_Some, all_effects, touched, contains, Fails, kept_at_failure, World, Full}
+use Rattle.assise_model_members.proofs.Common.{received_by_all, records_between, contains-take, take-of_take, since_of, AreMembers, FailsWithMembers, failed_as}
+use Rattle.assise_model_members.proofs.Common.{with_epoch, with_new_donor, refilled_from, donor_of, stale_of, Membership, IsMembership, written_since}
+use Rattle.assise_model_members.proofs.Common.{lowest_full, standing_of, full, down, returning, failed_lawful, donor_full}
+use Rattle.std.specs.Prelude.{Bool, List, ◌∷◌, []}
 use Rattle.std.specs.FinSet as set
-use Rattle.std.specs.Ordering.{nat_cmp}
-use Rattle.std.proofs.lemmas.Bool.{cases_eq, cases_Bool, or_cases, or_left, or_right, both_ways, false_from_ne_true}
-use Rattle.std.proofs.lemmas.Option.{none-some, same_Some}
-use Rattle.assise_record.specs.Records.{all_effects}
-use Rattle.assise_inode_table.specs.Effects.{touched, contains}
-use Rattle.assise_model_world.specs.NodeSteps.{Fails, kept_at_failure}
 use Rattle.assise_model_world.specs.Invariant.{WorldInvariant}
-use Rattle.assise_model_world.specs.World.{World, Full, received_by_all, records_between}
 use Rattle.assise_model_world.proofs.AreasAgree.{same_areas}
-use Rattle.assise_model_world.proofs.Logs.{contains-take, take-of_take}
 use Rattle.assise_model_world.proofs.WorldObserved.{least_of-above, received_by_all-below, received_by_all-end}
-use Rattle.assise_model_members.specs.Members.{since_of, AreMembers}
-use Rattle.assise_model_members.specs.Returns.{FailsWithMembers}
-use Rattle.assise_manager.specs.Changes.{failed_as, with_epoch, with_new_donor, refilled_from, donor_of, stale_of}
-use Rattle.assise_manager.specs.Membership.{Membership, IsMembership, written_since, lowest_full}
-use Rattle.assise_manager.specs.Standings.{standing_of}
-use Rattle.assise_manager.specs.Standings.Standing.{full, down, returning}
-use Rattle.assise_manager.proofs.Lawful.{failed_lawful, donor_full}
-use Rattle.assise_model_members.proofs.NodeStandings.{mapped_at, set_here, set_else, lowest_stands, may_fail_beside, away_not_full, cases_donor, full_no_donor, filled_from, refilled_here, refilled_else, same_lowest, same_donor, same_stale}
+use Rattle.assise_model_members.proofs.NodeStandings.{mapped_at, set_here, set_else, lowest_stands, may_fail_beside, away_not_full, cases_donor, full_no_donor}
+use Rattle.assise_model_members.proofs.NodeStandings.{filled_from, refilled_here, refilled_else, same_lowest, same_donor, same_stale}
 use Rattle.assise_model_members.proofs.Written.{outside, still_written, now_written}
 
 -- ---- what is kept
@@ -56,14 +46,16 @@ untouched w v n i f none c =
     (contains-take (records_between w c (w.first c) (kept_at_failure w n c)) (received_by_all w c - w.first c) i
     (subst (λ rs. contains (touched (all_effects rs)) i ≡ true) (sym shorter) h))))
   where
-    shorter : take (received_by_all w c - w.first c) (records_between w c (w.first c) (kept_at_failure w n c)) ≡ records_between w c (w.first c) (received_by_all w c)
+    shorter : take (received_by_all w c - w.first c) (records_between w c (w.first c) (kept_at_failure w n c)) ≡ records_between w c (w.first c)
+        (received_by_all w c)
     shorter =
         take-of_take (drop (w.first c - w.first c) (w.records c)) 0 (received_by_all w c - w.first c) (kept_at_failure w n c - w.first c)
         (omega (arith, kept_is_high w n c))
 
 -- ---- a full node fails
 
-module _ (w v u : World) (m m' : Membership) (n : ℕ) (inodes : set.FinSet nat_cmp) (s : WorldInvariant w) (a : AreMembers w m) (g : FailsWithMembers w m n inodes v u m') where
+module _ (w v u : World) (m m' : Membership) (n : ℕ) (inodes : set.FinSet nat_cmp) (s : WorldInvariant w) (a : AreMembers w m)
+    (g : FailsWithMembers w m n inodes v u m') where
   abbrev begun : Membership
   begun = with_epoch m n inodes
 
@@ -92,10 +84,12 @@ module _ (w v u : World) (m m' : Membership) (n : ℕ) (inodes : set.FinSet nat_
 
   -- how nodes stand then
   own : standing_of after.nodes n ≡ Some (down (m.epoch + 1))
-  own = mapped_at (refilled_from (written_since begun) low n) begun.nodes n ∙ ap (option_map (refilled_from (written_since begun) low n)) (set_here m.nodes n full (down (m.epoch + 1)) stood)
+  own = mapped_at (refilled_from (written_since begun) low n) begun.nodes n ∙ ap (option_map (refilled_from (written_since begun) low n))
+      (set_here m.nodes n full (down (m.epoch + 1)) stood)
 
   other : (k : ℕ) → k ≢ n → standing_of after.nodes k ≡ option_map (refilled_from (written_since begun) low n) (standing_of m.nodes k)
-  other k differs = mapped_at (refilled_from (written_since begun) low n) begun.nodes k ∙ ap (option_map (refilled_from (written_since begun) low n)) (set_else m.nodes n k full (down (m.epoch + 1)) stood differs)
+  other k differs = mapped_at (refilled_from (written_since begun) low n) begun.nodes k ∙ ap (option_map (refilled_from (written_since begun) low n))
+      (set_else m.nodes n k full (down (m.epoch + 1)) stood differs)
 
   kept_stands : (k : ℕ) → k ≢ n → donor_of (standing_of m.nodes k) ≢ Some n → standing_of after.nodes k ≡ standing_of m.nodes k
   kept_stands k differs from = other k differs ∙ refilled_else (written_since begun) low n (standing_of m.nodes k) from
@@ -141,7 +135,8 @@ module _ (w v u : World) (m m' : Membership) (n : ℕ) (inodes : set.FinSet nat_
         | inl lost ↦
             let (since, stale, is) = filled_from (standing_of m.nodes k) n lost in
             let same : e ≡ since = same_Some e since (sym at ∙ ap since_of is) in
-            g.over k (written_since after since) lost (ap (λ o. stale_of (standing_of o.nodes k)) is_after ∙ ap stale_of (over_stands k since stale differs is)) i
+            g.over k (written_since after since) lost (ap (λ o. stale_of (standing_of o.nodes k)) is_after ∙ ap stale_of (over_stands k since stale differs is))
+            i
             ∙ ap (λ b. cond b None (w.area k i)) (subst (λ e. set.contains (written_since after e) i ≡ false) same none)
         | inr from ↦ g.area_else k i from
       ]
@@ -153,7 +148,8 @@ module _ (w v u : World) (m m' : Membership) (n : ℕ) (inodes : set.FinSet nat_
         | inl is ↦
             let new : m.epoch + 1 ≡ e = same_Some (m.epoch + 1) e (sym (ap since_of own) ∙ subst (λ k. since_of (standing_of after.nodes k) ≡ Some e) is at) in
             subst (λ k. u.area k i ≡ u.area f i) (sym is)
-            (area_full n i g.fails.full_node ∙ failed_same f i before (subst (λ e. set.contains (written_since after e) i ≡ false) (sym new) none) ∙ sym (area_full f i before))
+            (area_full n i g.fails.full_node ∙ failed_same f i before (subst (λ e. set.contains (written_since after e) i ≡ false) (sym new) none)
+            ∙ sym (area_full f i before))
         | inr differs ↦
             let old : since_of (standing_of m.nodes k) ≡ Some e = since_before k e differs at in
             area_due k e i differs old none ∙ a.due k e f i old before (fewer e i none) ∙ sym (area_full f i before)
@@ -162,23 +158,27 @@ module _ (w v u : World) (m m' : Membership) (n : ℕ) (inodes : set.FinSet nat_
   low_full : Full u low
   low_full =
       (let stands : standing_of after.nodes (lowest_full after.nodes) ≡ Some full = lowest_stands after.nodes lawful_after.some_full in
-      subst (Full u) same_low (let b = full_before (lowest_full after.nodes) stands in world_full (lowest_full after.nodes) (a.nodes_full (lowest_full after.nodes) b.1) b.0))
+      subst (Full u) same_low (let b = full_before (lowest_full after.nodes) stands in
+      world_full (lowest_full after.nodes) (a.nodes_full (lowest_full after.nodes) b.1) b.0))
 
   filling : (k since donor i : ℕ) (stale : set.FinSet nat_cmp) → standing_of after.nodes k ≡ Some (returning since donor stale) →
       set.contains stale i ≡ false → u.area k i ≡ u.area donor i
   filling k since donor i stale at none =
       elim (cases_eq k n) [
-        | inl is ↦ absurd (none-some donor (sym (ap donor_of own) ∙ ap donor_of (subst (λ k. standing_of after.nodes k ≡ Some (returning since donor stale)) is at)))
+        | inl is ↦ absurd (none-some donor
+            (sym (ap donor_of own) ∙ ap donor_of (subst (λ k. standing_of after.nodes k ≡ Some (returning since donor stale)) is at)))
         | inr differs ↦ elim (cases_donor (donor_of (standing_of m.nodes k)) n) [
           | inl lost ↦
               let (first, old, is) = filled_from (standing_of m.nodes k) n lost in
               let stands : standing_of after.nodes k ≡ Some (returning first low (written_since after first)) = over_stands k first old differs is in
               due k first donor i (ap since_of stands)
               (subst (Full u) (same_donor (standing_of after.nodes k) first since low donor (written_since after first) stale stands at) low_full)
-              (subst (λ t. set.contains t i ≡ false) (sym (same_stale (standing_of after.nodes k) first since low donor (written_since after first) stale stands at)) none)
+              (subst (λ t. set.contains t i ≡ false)
+              (sym (same_stale (standing_of after.nodes k) first since low donor (written_since after first) stale stands at)) none)
           | inr from ↦
               let before : standing_of m.nodes k ≡ Some (returning since donor stale) = sym (kept_stands k differs from) ∙ at in
-              g.area_else k i from ∙ a.filling k since donor i stale before none ∙ sym (area_full donor i (a.nodes_full donor (donor_full m k since donor stale a.lawful before)))
+              g.area_else k i from ∙ a.filling k since donor i stale before none
+              ∙ sym (area_full donor i (a.nodes_full donor (donor_full m k since donor stale a.lawful before)))
         ]
       ]
 

@@ -1,22 +1,9 @@
 -- What a node may lack while it comes back.
-use Rattle.std.proofs.Common.{◌≡◌, ◌≢◌, ◌⊎◌, ℕ, true, Some, ap, ◌∙◌, arith}
-use Rattle.std.specs.Prelude.{◌↔◌}
-use Rattle.std.specs.Ordering.{nat_cmp}
+use Rattle.assise_model_members.proofs.Common.{◌≡◌, ◌≢◌, ◌⊎◌, ℕ, true, Some, ap, ◌∙◌, arith, ◌↔◌, nat_cmp, contains-union, nat_cmp_total, or_cases, or_left}
+use Rattle.assise_model_members.proofs.Common.{or_right, true_from_ne_false, same_Some, all_effects, touched, contains, World, undigested_below, since_of}
+use Rattle.assise_model_members.proofs.Common.{AreMembers, FailsAgain, DigestsNoted, BeginsReturn, Refills, stale_again, Membership, written_since, lowest_full}
+use Rattle.assise_model_members.proofs.Common.{standing_of, down, returning, with_node_full}
 use Rattle.std.specs.FinSet as set
-use Rattle.std.specs.FinSet.{contains-union}
-use Rattle.std.specs.Cmp.{nat_cmp_total}
-use Rattle.std.proofs.lemmas.Bool.{or_cases, or_left, or_right, true_from_ne_false}
-use Rattle.std.proofs.lemmas.Option.{same_Some}
-use Rattle.assise_record.specs.Records.{all_effects}
-use Rattle.assise_inode_table.specs.Effects.{touched, contains}
-use Rattle.assise_model_world.specs.World.{World, undigested_below}
-use Rattle.assise_model_members.specs.Members.{since_of, AreMembers}
-use Rattle.assise_model_members.specs.Returns.{FailsAgain, DigestsNoted, BeginsReturn, Refills}
-use Rattle.assise_manager.specs.Changes.{stale_again}
-use Rattle.assise_manager.specs.Membership.{Membership, written_since, lowest_full}
-use Rattle.assise_manager.specs.Standings.{standing_of}
-use Rattle.assise_manager.specs.Standings.Standing.{down, returning}
-use Rattle.assise_manager.proofs.Lawful.{with_node_full}
 use Rattle.assise_model_members.proofs.NodeStandings.{mapped_at, set_here, down_is, returning_is, noted_here, noted_else, same_since, same_donor, same_stale}
 use Rattle.assise_model_members.proofs.NodeChanged.{again_stands, back_is, refill_is}
 

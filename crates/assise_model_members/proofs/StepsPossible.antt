@@ -1,30 +1,20 @@
 -- Each step can be made.
-use Rattle.std.proofs.Common.{◌≡◌, ◌≢◌, inl, inr, ℕ, zero, suc, ◌-◌, ◌<◌, ◌≤◌, true, false, Option, Some, None, List, [], ◌∷◌, refl, sym, ap, ◌∙◌, subst, eq-eqb, eqb-true, arith}
-use Rattle.std.specs.Prelude.{◌==◌, if◌then◌else◌}
-use Rattle.std.specs.List.{list_any}
-use Rattle.std.specs.Ordering.{nat_cmp, eq_by_cmp}
+use Rattle.assise_model_members.proofs.Common.{◌≡◌, ◌≢◌, inl, inr, ℕ, zero, suc, ◌-◌, ◌<◌, ◌≤◌, true, false, Option, Some, None, List, [], ◌∷◌, refl, sym, ap}
+use Rattle.assise_model_members.proofs.Common.{◌∙◌, subst, eq-eqb, eqb-true, arith, ◌==◌, if◌then◌else◌, list_any, nat_cmp, eq_by_cmp, contains-from_list_nat}
+use Rattle.assise_model_members.proofs.Common.{contains-union, contains-empty, contains-items, same_set, nat_cmp-IsAntisymmetric, nat_cmp_total, unsigned_tied}
+use Rattle.assise_model_members.proofs.Common.{cases_eq, cases_lt, or_cases, or_left, or_right, Busy, all_effects, touched, contains, Fails, Rests}
+use Rattle.assise_model_members.proofs.Common.{kept_at_failure, World, Full, records_between, undigested_below, contains-take, contains-drop, since_of}
+use Rattle.assise_model_members.proofs.Common.{AreMembers, FailsWithMembers, FailsAgain, DigestsNoted, BeginsReturn, Refills, Rejoins, failed, back}
+use Rattle.assise_model_members.proofs.Common.{with_copied, joined, noted, donor_of, stale_of, is_returning, return_fault, join_fault, IsLowest, Membership}
+use Rattle.assise_model_members.proofs.Common.{standing_of, full}
 use Rattle.std.specs.FinSet as set
-use Rattle.std.specs.FinSet.{contains-from_list_nat, contains-union, contains-empty, contains-items, same_set, nat_cmp-IsAntisymmetric}
-use Rattle.std.specs.Cmp.{nat_cmp_total, unsigned_tied}
-use Rattle.std.proofs.lemmas.Bool.{cases_eq, cases_lt, or_cases, or_left, or_right}
-use Rattle.assise_names.specs.declared.refusal.Refusal.TheVariants.{Busy}
 use Rattle.assise_record.specs.LogRecord.{LogRecord}
-use Rattle.assise_record.specs.Records.{all_effects}
 use Rattle.assise_inode_table.specs.Contents.{Content, Values}
-use Rattle.assise_inode_table.specs.Effects.{touched, contains}
 use Rattle.assise_inode_table.specs.Traces.{below}
 use Rattle.assise_model_world.specs.Chances.{MayDigest}
-use Rattle.assise_model_world.specs.NodeSteps.{Fails, Rests, kept_at_failure}
-use Rattle.assise_model_world.specs.World.{World, Full, records_between, undigested_below}
-use Rattle.assise_model_world.proofs.Logs.{contains-take, contains-drop}
-use Rattle.assise_model_world.proofs.Possible.{FullAlso, at_one, at_one-here, at_one-else, chosen, chosen_at, cut_world, digested_world, one_more_full, passed, passed_at, world_digests, world_fails}
+use Rattle.assise_model_world.proofs.Possible.{FullAlso, at_one, at_one-here, at_one-else, chosen, chosen_at, cut_world, digested_world, one_more_full, passed}
+use Rattle.assise_model_world.proofs.Possible.{passed_at, world_digests, world_fails}
 use Rattle.assise_model_members.specs.Chances.{MayFailWith, MayRefill}
-use Rattle.assise_model_members.specs.Members.{since_of, AreMembers}
-use Rattle.assise_model_members.specs.Returns.{FailsWithMembers, FailsAgain, DigestsNoted, BeginsReturn, Refills, Rejoins}
-use Rattle.assise_manager.specs.Changes.{failed, back, with_copied, joined, noted, donor_of, stale_of, is_returning, return_fault, join_fault, IsLowest}
-use Rattle.assise_manager.specs.Membership.{Membership}
-use Rattle.assise_manager.specs.Standings.{standing_of}
-use Rattle.assise_manager.specs.Standings.Standing.{full}
 use Rattle.assise_model_members.proofs.NodeStandings.{away_not_full, full_no_donor, down_is, lacks_is, returning_may_join, busy_lacks}
 
 -- a set of a list's numbers has those that are in the list
@@ -51,7 +41,8 @@ abbrev left_over : ℕ → Option ℕ → Option (set.FinSet nat_cmp) → ℕ �
 left_over n None stale i old = old
 left_over n (Some donor) stale i old = if donor == n then left_of stale i old else old
 
-left_over-else : (n : ℕ) (donor : Option ℕ) (stale : Option (set.FinSet nat_cmp)) (i : ℕ) (old : Option Content) → donor ≢ Some n → left_over n donor stale i old ≡ old
+left_over-else : (n : ℕ) (donor : Option ℕ) (stale : Option (set.FinSet nat_cmp)) (i : ℕ) (old : Option Content) → donor ≢ Some n →
+    left_over n donor stale i old ≡ old
 left_over-else n None stale i old differs = refl
 left_over-else n (Some donor) stale i old differs = passed donor n (left_of stale i old) old (λ is. differs (ap Some is))
 
@@ -82,7 +73,8 @@ abbrev touched_to : World → ℕ → ℕ → set.FinSet nat_cmp
 touched_to w n zero = set.from_list (touched (all_effects (kept_records w n zero)))
 touched_to w n (suc c) = set.union (set.from_list (touched (all_effects (kept_records w n (suc c))))) (touched_to w n c)
 
-touched_some : (w : World) (n most i : ℕ) → set.contains (touched_to w n most) i ≡ true → (c : ℕ) × (contains (touched (all_effects (kept_records w n c))) i ≡ true)
+touched_some : (w : World) (n most i : ℕ) → set.contains (touched_to w n most) i ≡ true →
+    (c : ℕ) × (contains (touched (all_effects (kept_records w n c))) i ≡ true)
 touched_some w n zero i h = (zero, sym (listed_as (touched (all_effects (kept_records w n zero))) i) ∙ h)
 touched_some w n (suc most) i h =
     let own : set.FinSet nat_cmp = set.from_list (touched (all_effects (kept_records w n (suc most)))) in
@@ -91,7 +83,8 @@ touched_some w n (suc most) i h =
       | inr there ↦ touched_some w n most i there
     ]
 
-touched_there : (w : World) (n most c i : ℕ) → c ≤ most → contains (touched (all_effects (kept_records w n c))) i ≡ true → set.contains (touched_to w n most) i ≡ true
+touched_there : (w : World) (n most c i : ℕ) → c ≤ most → contains (touched (all_effects (kept_records w n c))) i ≡ true → set.contains (touched_to w n most) i
+    ≡ true
 touched_there w n zero c i low h =
     (let is : c ≡ 0 = omega arith in
     listed_as (touched (all_effects (kept_records w n zero))) i ∙ subst (λ c. contains (touched (all_effects (kept_records w n c))) i ≡ true) is h)
@@ -110,7 +103,8 @@ none_kept : (w : World) (n c i : ℕ) → w.records c ≡ [] → contains (touch
 unfolding records_between
 none_kept w n c i none h = grind (arith, contains-drop, contains-take)
 
-pub may_list : (w : World) (n most : ℕ) → Full w n → (k : ℕ) × ((k ≢ n) × Full w k) → ((c : ℕ) → most < c → w.records c ≡ []) → (inodes : set.FinSet nat_cmp) × MayFailWith w n inodes
+pub may_list : (w : World) (n most : ℕ) → Full w n → (k : ℕ) × ((k ≢ n) × Full w k) → ((c : ℕ) → most < c → w.records c ≡ []) → (inodes : set.FinSet nat_cmp)
+    × MayFailWith w n inodes
 may_list w n most f survivor few = (
   touched_to w n most,
   record {
@@ -136,7 +130,8 @@ may_fail_again w m n was = (
 
 -- ---- a digest
 
-pub may_digest : (w : World) (m : Membership) (n c p : ℕ) → MayDigest w n c p → (inodes : set.FinSet nat_cmp) × (u : World) × (o : Membership) × DigestsNoted w m n c p inodes u o
+pub may_digest : (w : World) (m : Membership) (n c p : ℕ) → MayDigest w n c p → (inodes : set.FinSet nat_cmp) × (u : World) × (o : Membership)
+    × DigestsNoted w m n c p inodes u o
 may_digest w m n c p may =
     (let inodes : set.FinSet nat_cmp = set.from_list (touched (all_effects (undigested_below w n c p))) in (
       inodes,
@@ -215,7 +210,8 @@ low_for i x xs here there q h =
       | inr later ↦ there q later
     ]
 
-least_in : (x : ℕ) (xs : List ℕ) → (i : ℕ) × (list_any (eq_by_cmp nat_cmp i) (x ∷ xs) ≡ true) × ((q : ℕ) → list_any (eq_by_cmp nat_cmp q) (x ∷ xs) ≡ true → i ≤ q)
+least_in : (x : ℕ) (xs : List ℕ) → (i : ℕ) × (list_any (eq_by_cmp nat_cmp i) (x ∷ xs) ≡ true)
+    × ((q : ℕ) → list_any (eq_by_cmp nat_cmp q) (x ∷ xs) ≡ true → i ≤ q)
 least_in x [] = (x, or_left (eq_by_cmp nat_cmp x x) false (same_tied x), low_for x x [] (omega arith) (λ q h. cc))
 least_in x (y ∷ ys) =
     (let (i, there, low) = least_in y ys in

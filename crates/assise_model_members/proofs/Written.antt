@@ -1,11 +1,9 @@
 -- What was written since an epoch, before and after a change.
-use Rattle.std.proofs.Common.{◌≡◌, ℕ, zero, suc, ◌+◌, ◌-◌, ◌<◌, ◌≤◌, false, List, [], ◌∷◌, ◌++◌, drop, length, ap, ◌∙◌, arith}
+use Rattle.assise_model_members.proofs.Common.{◌≡◌, ℕ, zero, suc, ◌+◌, ◌-◌, ◌<◌, ◌≤◌, false, List, [], ◌∷◌, ◌++◌, drop, length, ap, ◌∙◌, arith, both_ways}
+use Rattle.assise_model_members.proofs.Common.{false_from_ne_true, with_written, noted, Membership, first_listed, all_inodes, written_since, Within}
+use Rattle.assise_model_members.proofs.Common.{union_right, later_within, length_with_written, noted_keeps, noted_there}
 use Rattle.std.specs.FinSet as set
-use Rattle.std.proofs.lemmas.Bool.{both_ways, false_from_ne_true}
 use Rattle.std.proofs.lemmas.List.{length-append}
-use Rattle.assise_manager.specs.Changes.{with_written, noted}
-use Rattle.assise_manager.specs.Membership.{Membership, first_listed, all_inodes, written_since}
-use Rattle.assise_manager.proofs.Lawful.{Within, union_right, later_within, length_with_written, noted_keeps, noted_there}
 use Rattle.assise_manager.proofs.Sets.{Numbers, all_push}
 
 -- what isn't in the greater set isn't in the smaller

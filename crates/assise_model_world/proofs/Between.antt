@@ -1,7 +1,5 @@
 -- What all full nodes have digested, all have.
-use Rattle.std.proofs.Common.{ℕ, ◌≤◌, arith}
-use Rattle.assise_model_world.specs.Invariant.{CallsInvariant}
-use Rattle.assise_model_world.specs.World.{World, digested_by_all, received_by_all}
+use Rattle.assise_model_world.proofs.Common.{ℕ, ◌≤◌, arith, CallsInvariant, World, digested_by_all, received_by_all}
 use Rattle.assise_model_world.proofs.WorldObserved.{least_of-below, least_of-above, least_of-end, received_by_all-below}
 
 -- every Full node has digested no more than all have received

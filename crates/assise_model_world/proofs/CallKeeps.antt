@@ -1,39 +1,27 @@
 -- A call keeps the invariant.
-use Rattle.std.proofs.Common.{◌≡◌, ℕ, suc, ◌+◌, ◌-◌, ◌<◌, ◌≤◌, ◌≢◌, inl, inr, Bool, true, false, List, [], ◌∷◌, ◌++◌, if◌then◌else◌, Option, Some, None, IsSome, refl, ap, sym, ◌∙◌, subst, ◌||◌, nat_lt, nat_le, arith, take, length}
-use Rattle.std.specs.List.{list_any}
-use Rattle.std.proofs.lemmas.Bool.{both_ways, le-ltb, cases_Bool, ltb-true, leb-true, lt-ltb, le-leb, ne_eqb, cases_eq, or_left, or_cases, or_parts, false_from_ne_true, cases_lt}
-use Rattle.std.proofs.lemmas.Bool.Decides.{nat_tests}
-use Rattle.assise_seq_tree.specs.Tree.{opening as opening_tree}
-use Rattle.assise_seq_tree.specs.Answer.{answer}
-use Rattle.assise_seq_tree.specs.Runs.{AreAnswered, tree_after_calls}
-use Rattle.assise_record.specs.declared.effect.Effect.{Effect}
-use Rattle.assise_record.specs.LogRecord.{LogRecord}
-use Rattle.assise_record.specs.Records.{all_effects, has_some, record_of, Ascending}
-use Rattle.assise_record.proofs.Records.{all_effects-append, all_effects-one, ascending-append}
-use Rattle.assise_inode_table.specs.Contents.{Content}
-use Rattle.assise_inode_table.specs.Effects.{value_after, touched, contains, after, makes}
-use Rattle.assise_inode_table.specs.Interaction.{Step}
-use Rattle.assise_inode_table.specs.Late.{late_value}
-use Rattle.assise_inode_table.specs.Spelled.{Spells}
-use Rattle.assise_inode_table.specs.Traces.{NumberedCall, trace, step_of, values_after_calls, AllMakeNew, exchanges, ops, Each, NumbersAscend, below, window}
-use Rattle.assise_inode_table.specs.Unseen.{Clear, Unseen}
-use Rattle.assise_model_world.specs.Runs.{NoneFalls, StayReplicated}
-use Rattle.assise_model_world.specs.Invariant.{WorldInvariant, AreDropped, IsMadeBy, IsMade, StandFor, Stands, Counted, Numbered, AreMade, Guarded, Compatible, IsOrdered, Areas, CallsInvariant}
-use Rattle.assise_model_world.specs.ClientSteps.{MakesCall}
-use Rattle.assise_model_world.specs.World.{IsClient, calls_replicated, step_at_home, World, Full, opening_values, least_of, end_of_log, digested_by_all, received_by_all, records_between, call_at, first_undigested_at, first_undigested, first_unreplicated, steps, now, tree, value_below}
-use Rattle.assise_inode_table.proofs.Lateness.{in_window}
-use Rattle.assise_inode_table.proofs.EffectValues.{value_after-append, contains-both}
-use Rattle.assise_inode_table.proofs.PairwiseLists.{each-map, each-both}
-use Rattle.assise_inode_table.proofs.CallSteps.{step_replies, step_spells}
-use Rattle.assise_model_world.proofs.Lists.{each-snoc, pairs-snoc, unseen-raise, value-cong, value-snoc, has-none, trace-snoc, values-snoc, answered-snoc, tree-snoc, new-snoc}
+use Rattle.assise_model_world.proofs.Common.{◌≡◌, ℕ, suc, ◌+◌, ◌-◌, ◌<◌, ◌≤◌, ◌≢◌, inl, inr, Bool, true, false, List, [], ◌∷◌, ◌++◌, if◌then◌else◌, Option}
+use Rattle.assise_model_world.proofs.Common.{Some, None, IsSome, refl, ap, sym, ◌∙◌, subst, ◌||◌, nat_lt, nat_le, arith, take, length, list_any, both_ways}
+use Rattle.assise_model_world.proofs.Common.{le-ltb, cases_Bool, ltb-true, leb-true, lt-ltb, le-leb, ne_eqb, cases_eq, or_left, or_cases, or_parts}
+use Rattle.assise_model_world.proofs.Common.{false_from_ne_true, cases_lt, nat_tests, opening_tree, answer, AreAnswered, tree_after_calls, Effect, LogRecord}
+use Rattle.assise_model_world.proofs.Common.{all_effects, has_some, record_of, Ascending, all_effects-append, all_effects-one, ascending-append, Content}
+use Rattle.assise_model_world.proofs.Common.{value_after, touched, contains, after, makes, Step, late_value, Spells, NumberedCall, trace, step_of}
+use Rattle.assise_model_world.proofs.Common.{values_after_calls, AllMakeNew, exchanges, ops, Each, NumbersAscend, below, window, Clear, Unseen, NoneFalls}
+use Rattle.assise_model_world.proofs.Common.{StayReplicated, WorldInvariant, AreDropped, IsMadeBy, IsMade, StandFor, Stands, Counted, Numbered, AreMade}
+use Rattle.assise_model_world.proofs.Common.{Guarded, Compatible, IsOrdered, Areas, CallsInvariant, MakesCall, IsClient, calls_replicated, step_at_home, World}
+use Rattle.assise_model_world.proofs.Common.{Full, opening_values, least_of, end_of_log, digested_by_all, received_by_all, records_between, call_at}
+use Rattle.assise_model_world.proofs.Common.{first_undigested_at, first_undigested, first_unreplicated, steps, now, tree, value_below, in_window}
+use Rattle.assise_model_world.proofs.Common.{value_after-append, contains-both, each-map, each-both, step_replies, step_spells, contains-append, append-nil}
+use Rattle.assise_model_world.proofs.Common.{take_all, take-append-le}
+use Rattle.assise_model_world.proofs.Lists.{each-snoc, pairs-snoc, unseen-raise, value-cong, value-snoc, has-none, trace-snoc, values-snoc, answered-snoc}
+use Rattle.assise_model_world.proofs.Lists.{tree-snoc, new-snoc}
 use Rattle.assise_model_world.proofs.Logs.{in_window_from, windows_agree, take-of_append, at-grows, at-same, at-push, of_fresh, length-both, drop-prefix}
-use Rattle.assise_model_world.proofs.WorldObserved.{least_of-same, least_of-most, least_of-below, least_of-above, least_of-end, call_at-mono, next-top, part_of, call_at-end, received_by_all-end, IsCounted, all_counted, guarded_all, part-append, part_none, end-else, part-else, area_at, disjoint}
+use Rattle.assise_model_world.proofs.WorldObserved.{least_of-same, least_of-most, least_of-below, least_of-above, least_of-end, call_at-mono, next-top, part_of}
+use Rattle.assise_model_world.proofs.WorldObserved.{call_at-end, received_by_all-end, IsCounted, all_counted, guarded_all, part-append, part_none, end-else}
+use Rattle.assise_model_world.proofs.WorldObserved.{part-else, area_at, disjoint}
 use Rattle.assise_model_world.proofs.Views.{clear_from, true_step}
 use Rattle.assise_model_world.proofs.QuietSteps.{held-same, made_more, made_by_more}
 use Rattle.assise_model_world.proofs.InodeNumbers.{made_here}
-use Rattle.assise_inode_table.proofs.EffectValues.{contains-append}
 use Rattle.assise_model_world.proofs.Replicated.{log_of_home}
-use Rattle.std.proofs.lemmas.List.{append-nil, take_all, take-append-le}
 use Rattle.std.proofs.lemmas.List.Elements.{filter-append}
 
 module _ (w w' : World) (y : NumberedCall) (sound : WorldInvariant w) (e : MakesCall w y w') where
@@ -48,7 +36,9 @@ module _ (w w' : World) (y : NumberedCall) (sound : WorldInvariant w) (e : Makes
 
   -- the step over what the client reads is that
   is_planned : step_at_home w y ≡ planned
-  is_planned = true_step w y sound e.lives (λ i t. e.held i (contains-append (step_at_home w y).visits (touched (step_at_home w y).effects) i ∙ or_left (contains (step_at_home w y).visits i) (contains (touched (step_at_home w y).effects) i) t))
+  is_planned = true_step w y sound e.lives
+      (λ i t. e.held i (contains-append (step_at_home w y).visits (touched (step_at_home w y).effects) i ∙ or_left (contains (step_at_home w y).visits i)
+      (contains (touched (step_at_home w y).effects) i) t))
 
   held : (i : ℕ) → contains (planned.visits ++ touched planned.effects) i ≡ true → w.holds y.client i ≡ true
   held = subst (λ t. (i : ℕ) → contains (t.visits ++ touched t.effects) i ≡ true → w.holds y.client i ≡ true) is_planned e.held
@@ -97,7 +87,8 @@ module _ (w w' : World) (y : NumberedCall) (sound : WorldInvariant w) (e : Makes
   spelled-commit =
       subst (λ xs. Spells (values_after_calls opening_values xs) (tree_after_calls opening_tree (ops xs))) (sym e.calls)
       (subst (λ v. Spells v (tree_after_calls opening_tree (ops (w.calls ++ y ∷ [])))) (sym (values-snoc opening_values w.calls y))
-      (subst (Spells (after (now w) planned.effects)) (sym (tree-snoc opening_tree w.calls y)) (step_spells (now w) (tree w) y.op y.fresh s.spelled (λ _. is_new))))
+      (subst (Spells (after (now w) planned.effects)) (sym (tree-snoc opening_tree w.calls y))
+      (step_spells (now w) (tree w) y.op y.fresh s.spelled (λ _. is_new))))
 
   -- ---- numbers of inodes
 
@@ -115,7 +106,8 @@ module _ (w w' : World) (y : NumberedCall) (sound : WorldInvariant w) (e : Makes
   numbered-commit =
       subst (Each (λ x. list_any (makes x.0.fresh) x.1.effects ≡ true → IsMadeBy w' x.0.client x.0.fresh)) (sym steps-commit)
       (each-snoc (λ x. list_any (makes x.0.fresh) x.1.effects ≡ true → IsMadeBy w' x.0.client x.0.fresh) (steps w) (y, planned)
-      (each-map (λ x. list_any (makes x.0.fresh) x.1.effects ≡ true → IsMadeBy w x.0.client x.0.fresh) (λ x. list_any (makes x.0.fresh) x.1.effects ≡ true → IsMadeBy w' x.0.client x.0.fresh) (steps w)
+      (each-map (λ x. list_any (makes x.0.fresh) x.1.effects ≡ true → IsMadeBy w x.0.client x.0.fresh)
+      (λ x. list_any (makes x.0.fresh) x.1.effects ≡ true → IsMadeBy w' x.0.client x.0.fresh) (steps w)
       (λ x g t. made_by_more w w' x.0.client x.0.fresh made-up (g t)) s.fresh_calls)
       made_now)
 
@@ -158,7 +150,8 @@ module _ (w w' : World) (y : NumberedCall) (sound : WorldInvariant w) (e : Makes
   end-commit d =
       elim (cases_eq d y.client) [
         | inl own ↦ subst (λ d. w.first d + length (w.records d) ≤ w'.first d + length (w'.records d)) (sym own)
-            (rw (e.first y.client, records_own) (let l : length (w.records y.client) ≤ length (w.records y.client ++ record_of y.number planned.effects) = longer (w.records y.client) (record_of y.number planned.effects) in omega (arith, l)))
+            (rw (e.first y.client, records_own) (let l : length (w.records y.client) ≤ length (w.records y.client ++ record_of y.number planned.effects) =
+            longer (w.records y.client) (record_of y.number planned.effects) in omega (arith, l)))
         | inr other ↦ rw (e.first d, e.records_else d other) (omega arith)
       ]
     where
@@ -167,14 +160,16 @@ module _ (w w' : World) (y : NumberedCall) (sound : WorldInvariant w) (e : Makes
       longer (r ∷ rs) zs = (let l : length rs ≤ length (rs ++ zs) = longer rs zs in omega (arith, l))
 
   -- what full nodes received: at home all, elsewhere what they had
-  received-is : (P : ℕ → ℕ → ℕ → Type 0) → P (w.home y.client) y.client (end_of_log w' y.client) → ((n d : ℕ) → Full w n → P n d (w.received n d)) → (n d : ℕ) → Full w n → P n d (w'.received n d)
+  received-is : (P : ℕ → ℕ → ℕ → Type 0) → P (w.home y.client) y.client (end_of_log w' y.client) → ((n d : ℕ) → Full w n → P n d (w.received n d)) → (n d : ℕ) →
+      Full w n → P n d (w'.received n d)
   received-is P here others n d f = grind (arith, cases_eq)
 
   known-commit : (n d : ℕ) → Full w n → w'.received n d ≤ end_of_log w' d
   known-commit = received-is (λ n d k. k ≤ end_of_log w' d) (omega arith) (λ n d f. omega (arith, (s.order n d f).known, end-commit d))
 
   border-commit : (n d : ℕ) → Full w n → w'.border d (w'.received n d) ≡ true
-  border-commit = received-is (λ n d k. w'.border d k ≡ true) e.border_new (λ n d f. e.border_old d (w.received n d) (s.order n d f).known ∙ (s.order n d f).received_border)
+  border-commit = received-is (λ n d k. w'.border d k ≡ true) e.border_new
+      (λ n d f. e.border_old d (w.received n d) (s.order n d f).known ∙ (s.order n d f).received_border)
 
   received-up : (n d : ℕ) → Full w n → w.received n d ≤ w'.received n d
   received-up n d f = grind (arith, cases_eq, end-commit)
@@ -198,13 +193,15 @@ module _ (w w' : World) (y : NumberedCall) (sound : WorldInvariant w) (e : Makes
   first_undigested-commit : (d : ℕ) → first_undigested w d ≤ first_undigested w' d
   unfolding first_undigested
   first_undigested-commit d =
-      let a : call_at w d (digested_by_all w d) ≤ call_at w d (digested_by_all w' d) = call_at-mono w d (digested_by_all w d) (digested_by_all w' d) s (digested_by_all-commit d) in
+      let a : call_at w d (digested_by_all w d) ≤ call_at w d (digested_by_all w' d) = call_at-mono w d (digested_by_all w d) (digested_by_all w' d) s
+      (digested_by_all-commit d) in
       omega (arith, a, call_at-commit d (digested_by_all w' d))
 
   first_unreplicated-commit : (d : ℕ) → first_unreplicated w d ≤ first_unreplicated w' d
   unfolding first_unreplicated
   first_unreplicated-commit d =
-      let a : call_at w d (received_by_all w d) ≤ call_at w d (received_by_all w' d) = call_at-mono w d (received_by_all w d) (received_by_all w' d) s (received_by_all-commit d) in
+      let a : call_at w d (received_by_all w d) ≤ call_at w d (received_by_all w' d) = call_at-mono w d (received_by_all w d) (received_by_all w' d) s
+      (received_by_all-commit d) in
       omega (arith, a, call_at-commit d (received_by_all w' d))
 
   before-same : (d k n : ℕ) → n < w.next d → nat_lt n (call_at w' d k) ≡ nat_lt n (call_at w d k)
@@ -227,7 +224,8 @@ module _ (w w' : World) (y : NumberedCall) (sound : WorldInvariant w) (e : Makes
       let same : late_value (below b) i (opening_values i) xs ≡ late_value (below a) i (opening_values i) xs =
       value-cong (below b) (below a) i (opening_values i) xs
       (each-map (λ x. IsCounted w x.0) (λ x. below b x.0 ≡ below a x.0) xs
-      (λ x h. subst (λ k. nat_lt x.0.number (call_at w' x.0.client k) ≡ nat_lt x.0.number (call_at w x.0.client (w.digested m x.0.client))) (sym (e.digested m x.0.client full))
+      (λ x h. subst (λ k. nat_lt x.0.number (call_at w' x.0.client k) ≡ nat_lt x.0.number (call_at w x.0.client (w.digested m x.0.client)))
+      (sym (e.digested m x.0.client full))
       (before-same x.0.client (w.digested m x.0.client) x.0.number h.1)) (all_counted w s)) in
       let v : Option Content = late_value (below b) i (opening_values i) xs in
       let o : IsOrdered w m y.client = s.order m y.client full in
@@ -249,7 +247,8 @@ module _ (w w' : World) (y : NumberedCall) (sound : WorldInvariant w) (e : Makes
       turn : (n a b : ℕ) → nat_lt n a ≡ nat_lt n b → nat_le a n ≡ nat_le b n
       turn n a b t = grind (arith, nat_tests)
 
-  old_window : (c j k : ℕ) (x : NumberedCall) → x.number < w.next x.client → window c (call_at w' c j) (call_at w' c k) x ≡ window c (call_at w c j) (call_at w c k) x
+  old_window : (c j k : ℕ) (x : NumberedCall) → x.number < w.next x.client → window c (call_at w' c j) (call_at w' c k) x ≡ window c (call_at w c j)
+      (call_at w c k) x
   old_window c j k x h = grind (arith, cases_eq, after-same, before-same, ne_eqb)
 
   part-commit : (j k : ℕ) → w.first y.client ≤ j → j ≤ k → k ≤ end_of_log w y.client → records_between w' y.client j k ≡ records_between w y.client j k
@@ -346,7 +345,8 @@ module _ (w w' : World) (y : NumberedCall) (sound : WorldInvariant w) (e : Makes
       (leb-true (call_at w' c j) x.0.number (after-same c j x.0.number l ∙ le-leb (call_at w c j) x.0.number a), omega (arith, b, N, K))))) (all_counted w s) in
       record {
         value = λ i v.
-            ap (λ rs. value_after i v (all_effects rs)) now_is ∙ ap (λ es. value_after i v es) (all_effects-append (records_between w c j E) (r ∷ [])) ∙ value_after-append i v (all_effects (records_between w c j E)) (all_effects (r ∷ []))
+            ap (λ rs. value_after i v (all_effects rs)) now_is ∙ ap (λ es. value_after i v es) (all_effects-append (records_between w c j E) (r ∷ []))
+            ∙ value_after-append i v (all_effects (records_between w c j E)) (all_effects (r ∷ []))
             ∙ ap (λ es. value_after i (value_after i v (all_effects (records_between w c j E))) es) (all_effects-one y.number planned.effects)
             ∙ ap (λ z. value_after i z planned.effects) (t.value i v ∙ sym (value-cong u (window c (call_at w c j) (call_at w c E)) i v (steps w) old))
             ∙ sym (rw in_it)
@@ -354,8 +354,11 @@ module _ (w w' : World) (y : NumberedCall) (sound : WorldInvariant w) (e : Makes
             ∙ ap (λ l. late_value u i v l) (sym steps-commit);
         touch = λ i q.
             (let split : (contains (touched (all_effects (records_between w c j E))) i || contains (touched (all_effects (r ∷ []))) i) ≡ false =
-            sym (contains-both (all_effects (records_between w c j E)) (all_effects (r ∷ [])) i) ∙ ap (λ es. contains (touched es) i) (sym (all_effects-append (records_between w c j E) (r ∷ []))) ∙ ap (λ rs. contains (touched (all_effects rs)) i) (sym now_is) ∙ q in
-            let parts : (contains (touched (all_effects (records_between w c j E))) i ≡ false) × (contains (touched (all_effects (r ∷ []))) i ≡ false) = or_parts (contains (touched (all_effects (records_between w c j E))) i) (contains (touched (all_effects (r ∷ []))) i) split in
+            sym (contains-both (all_effects (records_between w c j E)) (all_effects (r ∷ [])) i)
+            ∙ ap (λ es. contains (touched es) i) (sym (all_effects-append (records_between w c j E) (r ∷ [])))
+            ∙ ap (λ rs. contains (touched (all_effects rs)) i) (sym now_is) ∙ q in
+            let parts : (contains (touched (all_effects (records_between w c j E))) i ≡ false) × (contains (touched (all_effects (r ∷ []))) i ≡ false) =
+            or_parts (contains (touched (all_effects (records_between w c j E))) i) (contains (touched (all_effects (r ∷ []))) i) split in
             subst (λ l. Each (λ x. u x.0 ≡ true → contains (touched x.1.effects) i ≡ false) l) (sym steps-commit)
             (each-snoc (λ x. u x.0 ≡ true → contains (touched x.1.effects) i ≡ false) (steps w) (y, planned)
             (each-both (λ x. window c (call_at w c j) (call_at w c E) x.0 ≡ true → contains (touched x.1.effects) i ≡ false)
@@ -383,7 +386,8 @@ module _ (w w' : World) (y : NumberedCall) (sound : WorldInvariant w) (e : Makes
                   subst (λ k. StandFor w' c j k) is
                   (elim (cases_lt (end_of_log w c) j) [
                     | inr before ↦ part_over has j (sym (e.border_old c j before) ∙ bj) low_w before
-                    | inl beyond ↦ (let je : end_of_log w' c ≡ j = omega (arith, end-grown has) in subst (λ j. StandFor w' c j (end_of_log w' c)) je (part_none w' c (end_of_log w' c) (omega arith)))
+                    | inl beyond ↦ (let je : end_of_log w' c ≡ j = omega (arith, end-grown has) in
+                        subst (λ j. StandFor w' c j (end_of_log w' c)) je (part_none w' c (end_of_log w' c) (omega arith)))
                   ])
             ]
       ]
@@ -392,7 +396,8 @@ module _ (w w' : World) (y : NumberedCall) (sound : WorldInvariant w) (e : Makes
   unfolding Stands
   stands-commit d j k bj bk low le high =
       elim (cases_eq d y.client) [
-        | inl own ↦ subst (λ d. w'.border d j ≡ true → w'.border d k ≡ true → w'.first d ≤ j → k ≤ end_of_log w' d → StandFor w' d j k) (sym own) (stands-own j k le) bj bk low high
+        | inl own ↦ subst (λ d. w'.border d j ≡ true → w'.border d k ≡ true → w'.first d ≤ j → k ≤ end_of_log w' d → StandFor w' d j k) (sym own)
+            (stands-own j k le) bj bk low high
         | inr other ↦
             let high_w : k ≤ end_of_log w d = rw (end-else w w' d (e.first d) (e.records_else d other)) at high in
             part_stays d j k (part-else w w' d j k (e.first d) (e.records_else d other))
@@ -406,8 +411,10 @@ module _ (w w' : World) (y : NumberedCall) (sound : WorldInvariant w) (e : Makes
         | inl own ↦ subst (λ d. Ascending (w'.records d) (w'.next d)) (sym own)
             (rw (records_own, e.next_own)
             (elim (cases_Bool (has_some planned.effects)) [
-              | inl has ↦ rw has (ascending-append (w.records y.client) (record { call = y.number; effects = planned.effects } ∷ []) (suc y.number) (subst (λ n. Ascending (w.records y.client) n) (sym e.number) (s.ascending y.client)) (omega arith, tt))
-              | inr none ↦ rw none (ascending-append (w.records y.client) [] (suc y.number) (ascending-up (w.records y.client) (w.next y.client) (suc y.number) (omega (arith, e.number)) (s.ascending y.client)) tt)
+              | inl has ↦ rw has (ascending-append (w.records y.client) (record { call = y.number; effects = planned.effects } ∷ []) (suc y.number)
+                  (subst (λ n. Ascending (w.records y.client) n) (sym e.number) (s.ascending y.client)) (omega arith, tt))
+              | inr none ↦ rw none (ascending-append (w.records y.client) [] (suc y.number)
+                  (ascending-up (w.records y.client) (w.next y.client) (suc y.number) (omega (arith, e.number)) (s.ascending y.client)) tt)
             ]))
         | inr other ↦ rw (e.records_else d other, e.next_else d other) (s.ascending d)
       ]
@@ -424,13 +431,15 @@ module _ (w w' : World) (y : NumberedCall) (sound : WorldInvariant w) (e : Makes
   unseen-commit =
       subst (λ xs. Unseen (first_undigested w') xs) (sym steps-commit)
       (unseen-raise (first_undigested w) (first_undigested w') (steps w ++ (y, planned) ∷ []) first_undigested-commit
-      (pairs-snoc (λ x z. first_undigested w x.0.client ≤ x.0.number → z.0.client ≢ x.0.client → Clear (touched x.1.effects) (z.1.visits ++ touched z.1.effects))
+      (pairs-snoc (λ x z. first_undigested w x.0.client ≤ x.0.number → z.0.client ≢ x.0.client →
+      Clear (touched x.1.effects) (z.1.visits ++ touched z.1.effects))
       (steps w) (y, planned) s.unseen
       (each-map (λ x. (i : ℕ) → first_undigested w x.0.client ≤ x.0.number → w.writes x.0.client i ≡ false → contains (touched x.1.effects) i ≡ false)
       (λ x. first_undigested w x.0.client ≤ x.0.number → y.client ≢ x.0.client → Clear (touched x.1.effects) (planned.visits ++ touched planned.effects))
       (steps w)
       (λ x guarded late other. clear_from (touched x.1.effects) (planned.visits ++ touched planned.effects)
-      (λ i t. guarded i late (false_from_ne_true (w.writes x.0.client i) (λ k. disjoint w s.compatible x.0.client y.client i (λ same. other (sym same)) k (held i t)))))
+      (λ i t. guarded i late (false_from_ne_true (w.writes x.0.client i)
+      (λ k. disjoint w s.compatible x.0.client y.client i (λ same. other (sym same)) k (held i t)))))
       (guarded_all w s))))
 
   pub call_coherent : CallsInvariant w'
@@ -501,7 +510,8 @@ module _ (w w' : World) (y : NumberedCall) (sound : WorldInvariant w) (e : Makes
       | inl new ↦ elim (cases_eq d y.client) [
         | inl own ↦ subst (λ d. end_of_log w d < k → k ≤ end_of_log w' d → w'.border d k ≡ true) (sym own)
             (λ past top. (let last : k ≡ end_of_log w' y.client = omega (arith, past, top, one_more) in ap (w'.border y.client) last ∙ e.border_new)) new to
-        | inr other ↦ (let still : end_of_log w' d ≡ end_of_log w d = end-else w w' d (e.first d) (e.records_else d other) in absurd (omega (arith, new, to, still)))
+        | inr other ↦ (let still : end_of_log w' d ≡ end_of_log w d = end-else w w' d (e.first d) (e.records_else d other) in
+            absurd (omega (arith, new, to, still)))
       ]
     ];
     unused = λ d h. (let other : d ≢ y.client = λ is. omega (arith, is, e.clients.clients, (sound.opened y.client e.lives).1, h) in
@@ -533,8 +543,10 @@ module _ (w w' : World) (y : NumberedCall) (sound : WorldInvariant w) (e : Makes
       e.first c ∙ d c
       ∙ least_of-same w.full (λ n. w.digested n c) (λ n. w'.digested n c) (end_of_log w c) (λ n h. sym (e.digested n c h))
       ∙ elim (cases_eq c y.client) [
-        | inl own ↦ subst (λ c. least_of w.full (λ n. w'.digested n c) (end_of_log w c) ≡ least_of w'.full (λ n. w'.digested n c) (end_of_log w' c)) (sym own) (longer y.client)
-        | inr other ↦ ap (least_of w.full (λ n. w'.digested n c)) (sym (end-else w w' c (e.first c) (e.records_else c other))) ∙ ap (λ ns. least_of ns (λ n. w'.digested n c) (end_of_log w' c)) (sym e.full)
+        | inl own ↦ subst (λ c. least_of w.full (λ n. w'.digested n c) (end_of_log w c) ≡ least_of w'.full (λ n. w'.digested n c) (end_of_log w' c)) (sym own)
+            (longer y.client)
+        | inr other ↦ ap (least_of w.full (λ n. w'.digested n c)) (sym (end-else w w' c (e.first c) (e.records_else c other)))
+            ∙ ap (λ ns. least_of ns (λ n. w'.digested n c) (end_of_log w' c)) (sym e.full)
       ]
     where
       home : Full w (w.home y.client)
@@ -543,6 +555,7 @@ module _ (w w' : World) (y : NumberedCall) (sound : WorldInvariant w) (e : Makes
       longer : (c : ℕ) → least_of w.full (λ n. w'.digested n c) (end_of_log w c) ≡ least_of w'.full (λ n. w'.digested n c) (end_of_log w' c)
       longer c =
           let o : IsOrdered w (w.home y.client) c = s.order (w.home y.client) c home in
-          let low : w'.digested (w.home y.client) c ≤ end_of_log w c = rw (e.digested (w.home y.client) c home) (omega (arith, o.replicated, received_by_all-end w c)) in
+          let low : w'.digested (w.home y.client) c ≤ end_of_log w c = rw (e.digested (w.home y.client) c home)
+          (omega (arith, o.replicated, received_by_all-end w c)) in
           least_of-most w.full (λ n. w'.digested n c) (end_of_log w c) (end_of_log w' c) (w.home y.client) home low (end-commit c)
           ∙ ap (λ ns. least_of ns (λ n. w'.digested n c) (end_of_log w' c)) (sym e.full)

@@ -1,19 +1,15 @@
 -- Steps of clients other than calls: opening, goals, crashes, leases.
-use Rattle.std.proofs.Common.{◌≡◌, ◌≢◌, ℕ, suc, ◌⊎◌, Bool, true, false, sym, ◌∙◌, refl, arith}
-use Rattle.std.proofs.lemmas.Bool.{both_ways, cases_eq, or_cases}
-use Rattle.assise_names.specs.declared.mode.Mode.{Mode}
+use Rattle.assise_model_world.proofs.Common.{◌≡◌, ◌≢◌, ℕ, suc, ◌⊎◌, Bool, true, false, sym, ◌∙◌, refl, arith, both_ways, cases_eq, or_cases, Mode, Opens}
+use Rattle.assise_model_world.proofs.Common.{RaisesGoals, Crashes, is_for_writing, IsModeFree, Acquires, Releases, Rests, NoneFalls, Guarded, Compatible}
+use Rattle.assise_model_world.proofs.Common.{WritesAreHeld, CallsInvariant, WorldInvariant, AreDropped, World, IsClient}
 use Rattle.assise_names.specs.declared.mode.Mode.TheVariants.{Read, Write}
-use Rattle.assise_model_world.specs.ClientSteps.{Opens, RaisesGoals, Crashes, is_for_writing, IsModeFree, Acquires, Releases}
-use Rattle.assise_model_world.specs.NodeSteps.{Rests}
-use Rattle.assise_model_world.specs.Runs.{NoneFalls}
-use Rattle.assise_model_world.specs.Invariant.{Guarded, Compatible, WritesAreHeld, CallsInvariant, WorldInvariant, AreDropped}
-use Rattle.assise_model_world.specs.World.{World, IsClient}
 use Rattle.assise_model_world.proofs.QuietSteps.{end-same, still_coherent, still_sound, still_falls, still_dropped, held-same, guarded-same, compatible-same}
 
 -- ---- a client more
 
 open_coherent : (w w' : World) (n : ℕ) → WorldInvariant w → Opens w n w' → CallsInvariant w'
-open_coherent w w' n s e = still_coherent w w' s.coherent e.logs e.nodes (rw e.clients (omega arith)) (guarded-same w w' s.coherent e.logs.records e.leases) (compatible-same w w' s.coherent e.leases)
+open_coherent w w' n s e = still_coherent w w' s.coherent e.logs e.nodes (rw e.clients (omega arith)) (guarded-same w w' s.coherent e.logs.records e.leases)
+    (compatible-same w w' s.coherent e.leases)
 
 -- the new client wasn't there
 new_dead : (w w' : World) (n : ℕ) → WorldInvariant w → Opens w n w' → w.lives (suc w.clients) ≡ false

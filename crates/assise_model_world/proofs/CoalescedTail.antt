@@ -1,25 +1,17 @@
 -- Last records give way to others with the same net effect.
-use Rattle.std.proofs.Common.{◌≡◌, ℕ, zero, suc, ◌+◌, ◌-◌, ◌<◌, ◌≤◌, ◌≢◌, inl, inr, true, false, List, [], ◌∷◌, ◌++◌, refl, ap, sym, ◌∙◌, subst, ◌||◌, arith, take, drop, length}
-use Rattle.std.proofs.lemmas.List.{take_all, take-append-le, take-take}
-use Rattle.std.proofs.lemmas.Bool.{both_ways, cases_eq, or_right, or_cases, cases_lt}
-use Rattle.assise_seq_tree.specs.Tree.{opening as opening_tree}
-use Rattle.assise_seq_tree.specs.Runs.{AreAnswered}
-use Rattle.assise_record.specs.LogRecord.{LogRecord}
-use Rattle.assise_record.specs.Records.{all_effects, call_of, Ascending}
-use Rattle.assise_record.proofs.Records.{all_effects-append, ascending-append}
-use Rattle.assise_inode_table.specs.Effects.{value_after, touched, contains, SameNetEffect}
-use Rattle.assise_inode_table.specs.Late.{late_value}
-use Rattle.assise_inode_table.specs.Traces.{AllMakeNew, exchanges, NumbersAscend, below, window}
-use Rattle.assise_inode_table.specs.Unseen.{Unseen}
-use Rattle.assise_model_world.specs.Coalescing.{Coalesces}
-use Rattle.assise_model_world.specs.Runs.{NoneFalls}
-use Rattle.assise_model_world.specs.Invariant.{WorldInvariant, AreDropped, StandFor, Stands, Guarded, Compatible, IsOrdered, Areas, CallsInvariant}
-use Rattle.assise_model_world.specs.Staying.{KeepsLeases}
-use Rattle.assise_model_world.specs.World.{World, Full, opening_values, least_of, end_of_log, digested_by_all, received_by_all, records_between, call_at, first_undigested_at, first_undigested, first_unreplicated, steps, value_below}
-use Rattle.assise_inode_table.proofs.EffectValues.{value_after-append, contains-both}
+use Rattle.assise_model_world.proofs.Common.{◌≡◌, ℕ, zero, suc, ◌+◌, ◌-◌, ◌<◌, ◌≤◌, ◌≢◌, inl, inr, true, false, List, [], ◌∷◌, ◌++◌, refl, ap, sym, ◌∙◌, subst}
+use Rattle.assise_model_world.proofs.Common.{◌||◌, arith, take, drop, length, take_all, take-append-le, take-take, both_ways, cases_eq, or_right, or_cases}
+use Rattle.assise_model_world.proofs.Common.{cases_lt, opening_tree, AreAnswered, LogRecord, all_effects, call_of, Ascending, all_effects-append}
+use Rattle.assise_model_world.proofs.Common.{ascending-append, value_after, touched, contains, SameNetEffect, late_value, AllMakeNew, exchanges, NumbersAscend}
+use Rattle.assise_model_world.proofs.Common.{below, window, Unseen, Coalesces, NoneFalls, WorldInvariant, AreDropped, StandFor, Stands, Guarded, Compatible}
+use Rattle.assise_model_world.proofs.Common.{IsOrdered, Areas, CallsInvariant, KeepsLeases, World, Full, opening_values, least_of, end_of_log, digested_by_all}
+use Rattle.assise_model_world.proofs.Common.{received_by_all, records_between, call_at, first_undigested_at, first_undigested, first_unreplicated, steps}
+use Rattle.assise_model_world.proofs.Common.{value_below, value_after-append, contains-both}
 use Rattle.assise_model_world.proofs.Lists.{unseen-raise, below-same}
 use Rattle.assise_model_world.proofs.Logs.{at_mono, take-of_take, take-of_append, length-both, drop-prefix, contains-take, at-take}
-use Rattle.assise_model_world.proofs.WorldObserved.{least_of-same, least_of-most, least_of-below, least_of-above, least_of-end, part_of, digested_by_all-first, first-received_by_all, part-whole, part-append, part_moves, call_at-same, steps-same, end-else, part-else, area_at}
+use Rattle.assise_model_world.proofs.WorldObserved.{least_of-same, least_of-most, least_of-below, least_of-above, least_of-end, part_of, digested_by_all-first}
+use Rattle.assise_model_world.proofs.WorldObserved.{first-received_by_all, part-whole, part-append, part_moves, call_at-same, steps-same, end-else, part-else}
+use Rattle.assise_model_world.proofs.WorldObserved.{area_at}
 use Rattle.assise_model_world.proofs.Between.{digested_by_all-received_by_all}
 use Rattle.assise_model_world.proofs.QuietSteps.{held-same, spelled-same, are_made-same, numbered-same, counted-same}
 use Rattle.assise_model_world.proofs.Logs.{take-all, at-before, at-seam}
@@ -40,7 +32,8 @@ in_end : (w : World) (c s : ℕ) → s ≤ end_of_log w c → s - w.first c ≤ 
 unfolding end_of_log
 in_end w c s h = omega arith
 
-prefix-length : (w w' : World) (c s : ℕ) (new : List LogRecord) (was : ℕ → ℕ) → CallsInvariant w → Coalesces w c s new was w' → length (take (s - w.first c) (w.records c)) ≡ s - w.first c
+prefix-length : (w w' : World) (c s : ℕ) (new : List LogRecord) (was : ℕ → ℕ) → CallsInvariant w → Coalesces w c s new was w' →
+    length (take (s - w.first c) (w.records c)) ≡ s - w.first c
 prefix-length w w' c s new was so e = length-prefix (s - w.first c) (w.records c) (within e.high)
   where
     within : s ≤ end_of_log w c → s - w.first c ≤ length (w.records c)
@@ -50,38 +43,46 @@ end-coalesce : (w w' : World) (c s : ℕ) (new : List LogRecord) (was : ℕ → 
 unfolding end_of_log
 end-coalesce w w' c s new was so e =
     rw (e.first c, e.records_own)
-    (let a : length (take (s - w.first c) (w.records c) ++ new) ≡ length (take (s - w.first c) (w.records c)) + length new = length-both (take (s - w.first c) (w.records c)) new in
+    (let a : length (take (s - w.first c) (w.records c) ++ new) ≡ length (take (s - w.first c) (w.records c)) + length new =
+    length-both (take (s - w.first c) (w.records c)) new in
     omega (arith, a, prefix-length w w' c s new was so e, first-received_by_all w so c, e.low))
 
-call_at-coalesce : (w w' : World) (c s : ℕ) (new : List LogRecord) (was : ℕ → ℕ) → CallsInvariant w → Coalesces w c s new was w' → (k : ℕ) → w.first c ≤ k → k ≤ s → call_at w' c k ≡ call_at w c k
+call_at-coalesce : (w w' : World) (c s : ℕ) (new : List LogRecord) (was : ℕ → ℕ) → CallsInvariant w → Coalesces w c s new was w' → (k : ℕ) → w.first c ≤ k →
+    k ≤ s → call_at w' c k ≡ call_at w c k
 unfolding call_at
 call_at-coalesce w w' c s new was so e k low high =
     let n : ℕ = s - w.first c in
     let len : length (take n (w.records c)) ≡ n = prefix-length w w' c s new was so e in
     rw (e.first c, e.records_own, e.next c)
     (elim (cases_lt k s) [
-      | inl h ↦ at-before (take n (w.records c)) new (k - w.first c) (w.next c) (omega (arith, len)) ∙ at-take (w.records c) n (k - w.first c) (w.next c) (omega arith)
+      | inl h ↦ at-before (take n (w.records c)) new (k - w.first c) (w.next c) (omega (arith, len)) ∙ at-take (w.records c) n (k - w.first c) (w.next c)
+          (omega arith)
       | inr h ↦
           let is : k - w.first c ≡ length (take n (w.records c)) = omega (arith, len) in
           let ks : k ≡ s = omega arith in
-          ap (λ j. call_of (take n (w.records c) ++ new) j (w.next c)) is ∙ at-seam (take n (w.records c)) new (w.next c) ∙ e.begins ∙ ap (λ j. call_of (w.records c) (j - w.first c) (w.next c)) (sym ks)
+          ap (λ j. call_of (take n (w.records c) ++ new) j (w.next c)) is ∙ at-seam (take n (w.records c)) new (w.next c) ∙ e.begins
+          ∙ ap (λ j. call_of (w.records c) (j - w.first c) (w.next c)) (sym ks)
     ])
 
-part-before : (w w' : World) (c s : ℕ) (new : List LogRecord) (was : ℕ → ℕ) → CallsInvariant w → Coalesces w c s new was w' → (j k : ℕ) → w.first c ≤ j → j ≤ k → k ≤ s → records_between w' c j k ≡ records_between w c j k
+part-before : (w w' : World) (c s : ℕ) (new : List LogRecord) (was : ℕ → ℕ) → CallsInvariant w → Coalesces w c s new was w' → (j k : ℕ) → w.first c ≤ j →
+    j ≤ k → k ≤ s → records_between w' c j k ≡ records_between w c j k
 unfolding records_between
 part-before w w' c s new was so e j k low le high =
     let n : ℕ = s - w.first c in
     let len : length (take n (w.records c)) ≡ n = prefix-length w w' c s new was so e in
     rw (e.first c, e.records_own)
-    (take-of_append (take n (w.records c)) new (j - w.first c) (k - j) (omega (arith, len)) ∙ take-of_take (w.records c) (j - w.first c) (k - j) n (omega arith))
+    (take-of_append (take n (w.records c)) new (j - w.first c) (k - j) (omega (arith, len)) ∙ take-of_take (w.records c) (j - w.first c) (k - j) n
+    (omega arith))
 
-part-new : (w w' : World) (c s : ℕ) (new : List LogRecord) (was : ℕ → ℕ) → CallsInvariant w → Coalesces w c s new was w' → (k : ℕ) → k ≡ s + length new → records_between w' c s k ≡ new
+part-new : (w w' : World) (c s : ℕ) (new : List LogRecord) (was : ℕ → ℕ) → CallsInvariant w → Coalesces w c s new was w' → (k : ℕ) → k ≡ s + length new →
+    records_between w' c s k ≡ new
 unfolding records_between
 part-new w w' c s new was so e k is =
     let n : ℕ = s - w.first c in
     let len : n ≡ length (take n (w.records c)) = sym (prefix-length w w' c s new was so e) in
     rw (e.first c, e.records_own)
-    (ap (λ j. take (k - s) (drop j (take n (w.records c) ++ new))) len ∙ ap (λ l. take (k - s) l) (drop-prefix (take n (w.records c)) new) ∙ take-all new (k - s) (omega arith))
+    (ap (λ j. take (k - s) (drop j (take n (w.records c) ++ new))) len ∙ ap (λ l. take (k - s) l) (drop-prefix (take n (w.records c)) new)
+    ∙ take-all new (k - s) (omega arith))
 
 -- what is between two places behind s, and what a border was
 was_low : (w w' : World) (c s : ℕ) (new : List LogRecord) (was : ℕ → ℕ) → Coalesces w c s new was w' → (k : ℕ) → s ≤ k → s ≤ was k
@@ -112,7 +113,8 @@ part_becomes w w' c j k j' k' b t = record {
 }
 
 -- behind s
-stands-behind : (w w' : World) (c s : ℕ) (new : List LogRecord) (was : ℕ → ℕ) → CallsInvariant w → Coalesces w c s new was w' → (j k : ℕ) → w'.border c j ≡ true → w'.border c k ≡ true →
+stands-behind : (w w' : World) (c s : ℕ) (new : List LogRecord) (was : ℕ → ℕ) → CallsInvariant w → Coalesces w c s new was w' → (j k : ℕ) →
+    w'.border c j ≡ true → w'.border c k ≡ true →
     s ≤ j → j ≤ k → k ≤ end_of_log w' c → StandFor w' c j k
 stands-behind w w' c s new was so e j k bj bk low le high =
     part_becomes w w' c j k (was j) (was k)
@@ -121,7 +123,8 @@ stands-behind w w' c s new was so e j k bj bk low le high =
     (omega (arith, first-received_by_all w so c, e.low, was_low w w' c s new was e j low)) (e.was_ascends j k le) (was_high w w' c s new was e k high))
 
 -- from a border before s to one behind it
-stands-over : (w w' : World) (c s : ℕ) (new : List LogRecord) (was : ℕ → ℕ) → CallsInvariant w → Coalesces w c s new was w' → (j k : ℕ) → w.border c j ≡ true → w'.border c k ≡ true →
+stands-over : (w w' : World) (c s : ℕ) (new : List LogRecord) (was : ℕ → ℕ) → CallsInvariant w → Coalesces w c s new was w' → (j k : ℕ) → w.border c j ≡ true →
+    w'.border c k ≡ true →
     w.first c ≤ j → j ≤ s → s ≤ k → k ≤ end_of_log w' c → StandFor w' c j k
 stands-over w w' c s new was so e j k bj bk low le past high =
     let bs : w'.border c s ≡ true = s_border w w' c s new was e in
@@ -132,21 +135,27 @@ stands-over w w' c s new was so e j k bj bk low le past high =
     part-append w' c j s k low' le past ∙ ap (λ l. l ++ records_between w' c s k) (part-before w w' c s new was so e j s low le (omega arith)) in
     let was_is : records_between w c j K ≡ records_between w c j s ++ records_between w c s K = part-append w c j s K low le past_old in
     let net : SameNetEffect (all_effects (records_between w' c s k)) (all_effects (records_between w c s K)) =
-    subst (λ x. SameNetEffect (all_effects (records_between w' c s k)) (all_effects (records_between w c x K))) e.was_here (e.net s k bs bk (omega arith) past high) in
+    subst (λ x. SameNetEffect (all_effects (records_between w' c s k)) (all_effects (records_between w c x K))) e.was_here
+    (e.net s k bs bk (omega arith) past high) in
     let touch : (i : ℕ) → contains (touched (all_effects (records_between w' c s k))) i ≡ contains (touched (all_effects (records_between w c s K))) i =
-    λ i. subst (λ x. contains (touched (all_effects (records_between w' c s k))) i ≡ contains (touched (all_effects (records_between w c x K))) i) e.was_here (e.touch i s k bs bk (omega arith) past high) in
+    λ i. subst (λ x. contains (touched (all_effects (records_between w' c s k))) i ≡ contains (touched (all_effects (records_between w c x K))) i) e.was_here
+    (e.touch i s k bs bk (omega arith) past high) in
     part_becomes w w' c j k j K (record {
       net = λ i v.
-          ap (λ rs. value_after i v (all_effects rs)) now_is ∙ ap (λ es. value_after i v es) (all_effects-append (records_between w c j s) (records_between w' c s k))
+          ap (λ rs. value_after i v (all_effects rs)) now_is
+          ∙ ap (λ es. value_after i v es) (all_effects-append (records_between w c j s) (records_between w' c s k))
           ∙ value_after-append i v (all_effects (records_between w c j s)) (all_effects (records_between w' c s k))
           ∙ net i (value_after i v (all_effects (records_between w c j s)))
-          ∙ sym (ap (λ rs. value_after i v (all_effects rs)) was_is ∙ ap (λ es. value_after i v es) (all_effects-append (records_between w c j s) (records_between w c s K))
+          ∙ sym (ap (λ rs. value_after i v (all_effects rs)) was_is
+          ∙ ap (λ es. value_after i v es) (all_effects-append (records_between w c j s) (records_between w c s K))
           ∙ value_after-append i v (all_effects (records_between w c j s)) (all_effects (records_between w c s K)));
       touch = λ i.
-          ap (λ rs. contains (touched (all_effects rs)) i) now_is ∙ ap (λ es. contains (touched es) i) (all_effects-append (records_between w c j s) (records_between w' c s k))
+          ap (λ rs. contains (touched (all_effects rs)) i) now_is
+          ∙ ap (λ es. contains (touched es) i) (all_effects-append (records_between w c j s) (records_between w' c s k))
           ∙ contains-both (all_effects (records_between w c j s)) (all_effects (records_between w' c s k)) i
           ∙ ap (λ b. contains (touched (all_effects (records_between w c j s))) i || b) (touch i)
-          ∙ sym (ap (λ rs. contains (touched (all_effects rs)) i) was_is ∙ ap (λ es. contains (touched es) i) (all_effects-append (records_between w c j s) (records_between w c s K))
+          ∙ sym (ap (λ rs. contains (touched (all_effects rs)) i) was_is
+          ∙ ap (λ es. contains (touched es) i) (all_effects-append (records_between w c j s) (records_between w c s K))
           ∙ contains-both (all_effects (records_between w c j s)) (all_effects (records_between w c s K)) i);
       from = call_at-coalesce w w' c s new was so e j low le;
       to = e.same_call k past high bk;
@@ -186,7 +195,8 @@ unfolding Stands
 stands-coalesce w w' c s new was so e d j k bj bk low le high =
     elim (cases_eq d c) [
       | inl own ↦
-          subst (λ d. w'.border d j ≡ true → w'.border d k ≡ true → w'.first d ≤ j → k ≤ end_of_log w' d → StandFor w' d j k) (sym own) (of_own w w' c s new was so e j k le) bj bk low high
+          subst (λ d. w'.border d j ≡ true → w'.border d k ≡ true → w'.first d ≤ j → k ≤ end_of_log w' d → StandFor w' d j k) (sym own)
+          (of_own w w' c s new was so e j k le) bj bk low high
       | inr other ↦
           let same : end_of_log w' d ≡ end_of_log w d = end-else w w' d (e.first d) (e.records_else d other) in
           part_moves w w' d j k
@@ -197,7 +207,8 @@ stands-coalesce w w' c s new was so e d j k bj bk low le high =
           (part_of w d j k so (sym (e.border_else d j other) ∙ bj) (sym (e.border_else d k other) ∙ bk) (rw (e.first d) at low) le (rw same at high))
     ]
 
-received_by_all-coalesce : (w w' : World) (c s : ℕ) (new : List LogRecord) (was : ℕ → ℕ) → CallsInvariant w → Coalesces w c s new was w' → (d : ℕ) → received_by_all w d ≤ received_by_all w' d
+received_by_all-coalesce : (w w' : World) (c s : ℕ) (new : List LogRecord) (was : ℕ → ℕ) → CallsInvariant w → Coalesces w c s new was w' → (d : ℕ) →
+    received_by_all w d ≤ received_by_all w' d
 unfolding received_by_all
 received_by_all-coalesce w w' c s new was so e d =
     elim (cases_eq d c) [
@@ -213,13 +224,15 @@ received_by_all-coalesce w w' c s new was so e d =
       | inr other ↦
           least_of-above w'.full (λ n. w'.received n d) (end_of_log w' d) (least_of w.full (λ n. w.received n d) (end_of_log w d))
           (rw (end-else w w' d (e.first d) (e.records_else d other)) (least_of-end w.full (λ n. w.received n d) (end_of_log w d)))
-          (λ n h. let f : Full w n = subst (λ ns. contains ns n ≡ true) e.full h in rw (e.received_else n d f other) (least_of-below w.full (λ n. w.received n d) (end_of_log w d) n f))
+          (λ n h. let f : Full w n = subst (λ ns. contains ns n ≡ true) e.full h in
+          rw (e.received_else n d f other) (least_of-below w.full (λ n. w.received n d) (end_of_log w d) n f))
     ]
   where
     low_of : (w : World) (c s : ℕ) → received_by_all w c ≤ s → least_of w.full (λ n. w.received n c) (end_of_log w c) ≤ s
     low_of w c s h = h
 
-digested_by_all-coalesce : (w w' : World) (c s : ℕ) (new : List LogRecord) (was : ℕ → ℕ) → CallsInvariant w → Coalesces w c s new was w' → (d : ℕ) → digested_by_all w d ≤ digested_by_all w' d
+digested_by_all-coalesce : (w w' : World) (c s : ℕ) (new : List LogRecord) (was : ℕ → ℕ) → CallsInvariant w → Coalesces w c s new was w' → (d : ℕ) →
+    digested_by_all w d ≤ digested_by_all w' d
 unfolding digested_by_all
 digested_by_all-coalesce w w' c s new was so e d =
     least_of-above w'.full (λ n. w'.digested n d) (end_of_log w' d) (least_of w.full (λ n. w.digested n d) (end_of_log w d))
@@ -228,17 +241,21 @@ digested_by_all-coalesce w w' c s new was so e d =
           (omega (arith, digested_by_all-received_by_all w so c, e.low, end-coalesce w w' c s new was so e))
       | inr other ↦ rw (end-else w w' d (e.first d) (e.records_else d other)) (least_of-end w.full (λ n. w.digested n d) (end_of_log w d))
     ])
-    (λ n h. let f : Full w n = subst (λ ns. contains ns n ≡ true) e.full h in rw (e.digested n d f) (least_of-below w.full (λ n. w.digested n d) (end_of_log w d) n f))
+    (λ n h. let f : Full w n = subst (λ ns. contains ns n ≡ true) e.full h in
+    rw (e.digested n d f) (least_of-below w.full (λ n. w.digested n d) (end_of_log w d) n f))
 
 -- call numbers up to what all have, stay
-call_at-stays : (w w' : World) (c s : ℕ) (new : List LogRecord) (was : ℕ → ℕ) → CallsInvariant w → Coalesces w c s new was w' → (d k : ℕ) → w.first d ≤ k → k ≤ received_by_all w d → call_at w' d k ≡ call_at w d k
+call_at-stays : (w w' : World) (c s : ℕ) (new : List LogRecord) (was : ℕ → ℕ) → CallsInvariant w → Coalesces w c s new was w' → (d k : ℕ) → w.first d ≤ k →
+    k ≤ received_by_all w d → call_at w' d k ≡ call_at w d k
 call_at-stays w w' c s new was so e d k low high =
     elim (cases_eq d c) [
-      | inl own ↦ subst (λ d. w.first d ≤ k → k ≤ received_by_all w d → call_at w' d k ≡ call_at w d k) (sym own) (λ l h. call_at-coalesce w w' c s new was so e k l (omega (arith, h, e.low))) low high
+      | inl own ↦ subst (λ d. w.first d ≤ k → k ≤ received_by_all w d → call_at w' d k ≡ call_at w d k) (sym own)
+          (λ l h. call_at-coalesce w w' c s new was so e k l (omega (arith, h, e.low))) low high
       | inr other ↦ call_at-same w w' d k (e.records_else d other) (e.first d) (e.next d)
     ]
 
-ascending-coalesce : (w w' : World) (c s : ℕ) (new : List LogRecord) (was : ℕ → ℕ) → CallsInvariant w → Coalesces w c s new was w' → (d : ℕ) → Ascending (w'.records d) (w'.next d)
+ascending-coalesce : (w w' : World) (c s : ℕ) (new : List LogRecord) (was : ℕ → ℕ) → CallsInvariant w → Coalesces w c s new was w' → (d : ℕ) →
+    Ascending (w'.records d) (w'.next d)
 unfolding call_at
 ascending-coalesce w w' c s new was so e d = grind (arith, cases_eq, ascending-append, ascending-cut)
 
@@ -246,19 +263,25 @@ places : (w : World) (c j k : ℕ) → Ascending (w.records c) (w.next c) → j 
 unfolding call_at
 places w c j k r le = at_mono (w.records c) (j - w.first c) (k - w.first c) (w.next c) r (omega arith)
 
-first_undigested-coalesce : (w w' : World) (c s : ℕ) (new : List LogRecord) (was : ℕ → ℕ) → CallsInvariant w → Coalesces w c s new was w' → (d : ℕ) → first_undigested w d ≤ first_undigested w' d
+first_undigested-coalesce : (w w' : World) (c s : ℕ) (new : List LogRecord) (was : ℕ → ℕ) → CallsInvariant w → Coalesces w c s new was w' → (d : ℕ) →
+    first_undigested w d ≤ first_undigested w' d
 unfolding first_undigested
 first_undigested-coalesce w w' c s new was so e d =
-    let up : call_at w' d (digested_by_all w d) ≤ call_at w' d (digested_by_all w' d) = places w' d (digested_by_all w d) (digested_by_all w' d) (ascending-coalesce w w' c s new was so e d) (digested_by_all-coalesce w w' c s new was so e d) in
-    let is : call_at w' d (digested_by_all w d) ≡ call_at w d (digested_by_all w d) = call_at-stays w w' c s new was so e d (digested_by_all w d) (digested_by_all-first w so d) (digested_by_all-received_by_all w so d) in
+    let up : call_at w' d (digested_by_all w d) ≤ call_at w' d (digested_by_all w' d) = places w' d (digested_by_all w d) (digested_by_all w' d)
+    (ascending-coalesce w w' c s new was so e d) (digested_by_all-coalesce w w' c s new was so e d) in
+    let is : call_at w' d (digested_by_all w d) ≡ call_at w d (digested_by_all w d) = call_at-stays w w' c s new was so e d (digested_by_all w d)
+    (digested_by_all-first w so d) (digested_by_all-received_by_all w so d) in
     omega (arith, up, is)
 
-of_part : (w : World) (c s i : ℕ) → w.first c ≤ s → s ≤ end_of_log w c → contains (touched (all_effects (records_between w c s (end_of_log w c)))) i ≡ true → contains (touched (all_effects (w.records c))) i ≡ true
+of_part : (w : World) (c s i : ℕ) → w.first c ≤ s → s ≤ end_of_log w c → contains (touched (all_effects (records_between w c s (end_of_log w c)))) i ≡ true →
+    contains (touched (all_effects (w.records c))) i ≡ true
 of_part w c s i low high h =
-    ap (λ rs. contains (touched (all_effects rs)) i) (sym (part-whole w c)) ∙ ap (λ rs. contains (touched (all_effects rs)) i) (part-append w c (w.first c) s (end_of_log w c) (omega arith) low high)
+    ap (λ rs. contains (touched (all_effects rs)) i) (sym (part-whole w c)) ∙ ap (λ rs. contains (touched (all_effects rs)) i)
+    (part-append w c (w.first c) s (end_of_log w c) (omega arith) low high)
     ∙ ap (λ es. contains (touched es) i) (all_effects-append (records_between w c (w.first c) s) (records_between w c s (end_of_log w c)))
     ∙ contains-both (all_effects (records_between w c (w.first c) s)) (all_effects (records_between w c s (end_of_log w c))) i
-    ∙ or_right (contains (touched (all_effects (records_between w c (w.first c) s))) i) (contains (touched (all_effects (records_between w c s (end_of_log w c)))) i) h
+    ∙ or_right (contains (touched (all_effects (records_between w c (w.first c) s))) i)
+    (contains (touched (all_effects (records_between w c s (end_of_log w c)))) i) h
 
 guarded-coalesce : (w w' : World) (c s : ℕ) (new : List LogRecord) (was : ℕ → ℕ) → CallsInvariant w → Coalesces w c s new was w' → Guarded w'
 unfolding Guarded
@@ -268,7 +291,9 @@ guarded-coalesce w w' c s new was so e d i h =
           (λ h. e.leases.writes c i ∙ so.guarded c i
           (let n : ℕ = s - w.first c in
           let split : (contains (touched (all_effects (take n (w.records c)))) i || contains (touched (all_effects new)) i) ≡ true =
-          sym (contains-both (all_effects (take n (w.records c))) (all_effects new) i) ∙ ap (λ es. contains (touched es) i) (sym (all_effects-append (take n (w.records c)) new)) ∙ ap (λ rs. contains (touched (all_effects rs)) i) (sym e.records_own) ∙ h in
+          sym (contains-both (all_effects (take n (w.records c))) (all_effects new) i)
+          ∙ ap (λ es. contains (touched es) i) (sym (all_effects-append (take n (w.records c)) new)) ∙ ap (λ rs. contains (touched (all_effects rs)) i)
+          (sym e.records_own) ∙ h in
           elim (or_cases (contains (touched (all_effects (take n (w.records c)))) i) (contains (touched (all_effects new)) i) split) [
             | inl t ↦ contains-take (w.records c) n i t
             | inr t ↦ of_part w c s i (omega (arith, first-received_by_all w so c, e.low)) e.high (sym (touch_all w w' c s new was so e i) ∙ t)
@@ -286,11 +311,13 @@ areas-coalesce w w' c s new was so e m h i =
     let full : Full w m = subst (λ ns. contains ns m ≡ true) e.full h in
     e.area m i full ∙ area_at w m i so full
     ∙ below-same (first_undigested_at w m) (λ d. call_at w' d (w'.digested m d)) i (opening_values i) (steps w)
-    (λ d. sym (ap (λ k. call_at w' d k) (e.digested m d full) ∙ call_at-stays w w' c s new was so e d (w.digested m d) (so.order m d full).begun (so.order m d full).replicated))
+    (λ d. sym (ap (λ k. call_at w' d k) (e.digested m d full) ∙ call_at-stays w w' c s new was so e d (w.digested m d) (so.order m d full).begun
+    (so.order m d full).replicated))
     ∙ ap (λ xs. late_value (below (λ d. call_at w' d (w'.digested m d))) i (opening_values i) xs) (sym (steps-same w w' e.calls))
 
 -- a border among what all have, or of another client, stays one
-border-stays : (w w' : World) (c s : ℕ) (new : List LogRecord) (was : ℕ → ℕ) → CallsInvariant w → Coalesces w c s new was w' → (d k : ℕ) → k ≤ received_by_all w d → w'.border d k ≡ w.border d k
+border-stays : (w w' : World) (c s : ℕ) (new : List LogRecord) (was : ℕ → ℕ) → CallsInvariant w → Coalesces w c s new was w' → (d k : ℕ) →
+    k ≤ received_by_all w d → w'.border d k ≡ w.border d k
 border-stays w w' c s new was so e d k high = grind (arith, cases_eq)
 
 received_good : (w w' : World) (c s : ℕ) (new : List LogRecord) (was : ℕ → ℕ) → CallsInvariant w → Coalesces w c s new was w' → (m d : ℕ) → Full w m →
@@ -299,7 +326,11 @@ received_good w w' c s new was so e m d full =
     elim (cases_eq d c) [
       | inl own ↦ subst (λ d. (w'.received m d ≤ end_of_log w' d) × (w'.border d (w'.received m d) ≡ true)) (sym own)
           (elim (e.here m full) [
-            | inl t ↦ (rw t.received (omega (arith, t.before, end-coalesce w w' c s new was so e)), ap (λ k. w'.border c k) t.received ∙ e.border_old (w.received m c) t.before ∙ (so.order m c full).received_border)
+            | inl t ↦ (
+              rw t.received (omega (arith, t.before, end-coalesce w w' c s new was so e)),
+              ap (λ k. w'.border c k) t.received
+                  ∙ e.border_old (w.received m c) t.before ∙ (so.order m c full).received_border,
+            )
             | inr t ↦ (rw t.received (omega arith), ap (λ k. w'.border c k) t.received ∙ e.border_end)
           ])
       | inr other ↦ (
@@ -308,14 +339,16 @@ received_good w w' c s new was so e m d full =
       )
     ]
 
-end_good : (w w' : World) (c s : ℕ) (new : List LogRecord) (was : ℕ → ℕ) → CallsInvariant w → Coalesces w c s new was w' → (d : ℕ) → w'.border d (end_of_log w' d) ≡ true
+end_good : (w w' : World) (c s : ℕ) (new : List LogRecord) (was : ℕ → ℕ) → CallsInvariant w → Coalesces w c s new was w' → (d : ℕ) →
+    w'.border d (end_of_log w' d) ≡ true
 end_good w w' c s new was so e d =
     elim (cases_eq d c) [
       | inl own ↦ subst (λ d. w'.border d (end_of_log w' d) ≡ true) (sym own) e.border_end
       | inr other ↦ e.border_else d (end_of_log w' d) other ∙ ap (λ k. w.border d k) (end-else w w' d (e.first d) (e.records_else d other)) ∙ so.end_border d
     ]
 
-order-coalesce : (w w' : World) (c s : ℕ) (new : List LogRecord) (was : ℕ → ℕ) → CallsInvariant w → Coalesces w c s new was w' → (m d : ℕ) → Full w' m → IsOrdered w' m d
+order-coalesce : (w w' : World) (c s : ℕ) (new : List LogRecord) (was : ℕ → ℕ) → CallsInvariant w → Coalesces w c s new was w' → (m d : ℕ) → Full w' m →
+    IsOrdered w' m d
 order-coalesce w w' c s new was so e m d h =
     let full : Full w m = subst (λ ns. contains ns m ≡ true) e.full h in
     let o : IsOrdered w m d = so.order m d full in
@@ -344,7 +377,8 @@ coalesce_coherent w w' c s new was so e = record {
   order = order-coalesce w w' c s new was so e;
   guarded = guarded-coalesce w w' c s new was so e;
   compatible = compatible-coalesce w w' so e.leases;
-  unseen = subst (λ xs. Unseen (first_undigested w') xs) (sym (steps-same w w' e.calls)) (unseen-raise (first_undigested w) (first_undigested w') (steps w) (first_undigested-coalesce w w' c s new was so e) so.unseen);
+  unseen = subst (λ xs. Unseen (first_undigested w') xs) (sym (steps-same w w' e.calls))
+      (unseen-raise (first_undigested w) (first_undigested w') (steps w) (first_undigested-coalesce w w' c s new was so e) so.unseen);
   areas = areas-coalesce w w' c s new was so e;
 }
 
@@ -352,8 +386,10 @@ falls : (w w' : World) (c s : ℕ) (new : List LogRecord) (was : ℕ → ℕ) �
 unfolding first_unreplicated
 falls w w' c s new was so e = record {
   unreplicated = λ d.
-      let up : call_at w' d (received_by_all w d) ≤ call_at w' d (received_by_all w' d) = places w' d (received_by_all w d) (received_by_all w' d) (ascending-coalesce w w' c s new was so e d) (received_by_all-coalesce w w' c s new was so e d) in
-      let is : call_at w' d (received_by_all w d) ≡ call_at w d (received_by_all w d) = call_at-stays w w' c s new was so e d (received_by_all w d) (first-received_by_all w so d) (omega arith) in
+      let up : call_at w' d (received_by_all w d) ≤ call_at w' d (received_by_all w' d) = places w' d (received_by_all w d) (received_by_all w' d)
+      (ascending-coalesce w w' c s new was so e d) (received_by_all-coalesce w w' c s new was so e d) in
+      let is : call_at w' d (received_by_all w d) ≡ call_at w d (received_by_all w d) = call_at-stays w w' c s new was so e d (received_by_all w d)
+      (first-received_by_all w so d) (omega arith) in
       omega (arith, up, is);
   undigested = first_undigested-coalesce w w' c s new was so e;
 }
@@ -364,25 +400,29 @@ coalesce_falls w w' c s new was so e = falls w w' c s new was so.coherent e
 -- ---- nodes' logs
 
 -- of the client's log the prefix that a node has of the part that stays
-prefix-stays : (w w' : World) (c s : ℕ) (new : List LogRecord) (was : ℕ → ℕ) → WorldInvariant w → Coalesces w c s new was w' → (n : ℕ) → Full w n → w.received n c ≤ s →
+prefix-stays : (w w' : World) (c s : ℕ) (new : List LogRecord) (was : ℕ → ℕ) → WorldInvariant w → Coalesces w c s new was w' → (n : ℕ) → Full w n →
+    w.received n c ≤ s →
     take (w.received n c - w.first c) (w'.records c) ≡ w.log n c
 prefix-stays w w' c s new was so e n f low =
     let j : ℕ = w.received n c - w.first c in
     let k : ℕ = s - w.first c in
     let len : length (take k (w.records c)) ≡ k = prefix-length w w' c s new was so.coherent e in
-    ap (take j) e.records_own ∙ take-append-le j (take k (w.records c)) new (omega (arith, len, low)) ∙ take-take j k (w.records c) (omega (arith, low)) ∙ sym (so.prefixes n c f)
+    ap (take j) e.records_own ∙ take-append-le j (take k (w.records c)) new (omega (arith, len, low)) ∙ take-take j k (w.records c) (omega (arith, low))
+    ∙ sym (so.prefixes n c f)
 
 whole-prefix : (w' : World) (c : ℕ) → take (end_of_log w' c - w'.first c) (w'.records c) ≡ w'.records c
 unfolding end_of_log
 whole-prefix w' c = take_all ((w'.first c + length (w'.records c)) - w'.first c) (w'.records c) (omega arith)
 
-prefix_now : (w w' : World) (c s : ℕ) (new : List LogRecord) (was : ℕ → ℕ) → WorldInvariant w → Coalesces w c s new was w' → (n d : ℕ) → Full w n → w'.log n d ≡ take (w'.received n d - w'.first d) (w'.records d)
+prefix_now : (w w' : World) (c s : ℕ) (new : List LogRecord) (was : ℕ → ℕ) → WorldInvariant w → Coalesces w c s new was w' → (n d : ℕ) → Full w n →
+    w'.log n d ≡ take (w'.received n d - w'.first d) (w'.records d)
 prefix_now w w' c s new was so e n d f =
     elim (cases_eq d c) [
       | inr other ↦ rw (e.log_else n d f other, e.received_else n d f other, e.first d, e.records_else d other) (so.prefixes n d f)
       | inl own ↦ subst (λ d. w'.log n d ≡ take (w'.received n d - w'.first d) (w'.records d)) (sym own)
           (elim (e.here n f) [
-            | inl t ↦ t.log ∙ sym (prefix-stays w w' c s new was so e n f t.before) ∙ sym (ap (λ k. take (k - w'.first c) (w'.records c)) t.received ∙ ap (λ k. take (w.received n c - k) (w'.records c)) (e.first c))
+            | inl t ↦ t.log ∙ sym (prefix-stays w w' c s new was so e n f t.before)
+                ∙ sym (ap (λ k. take (k - w'.first c) (w'.records c)) t.received ∙ ap (λ k. take (w.received n c - k) (w'.records c)) (e.first c))
             | inr t ↦ t.log ∙ sym (ap (λ k. take (k - w'.first c) (w'.records c)) t.received ∙ whole-prefix w' c)
           ])
     ]
@@ -402,7 +442,8 @@ coalesce_sound w w' c s new was so e = record {
     | inl own ↦ subst (λ d. w'.goal d ≤ k → k ≤ end_of_log w' d → w'.border d k ≡ true) (sym own)
         (λ past top. (let last : k ≡ end_of_log w' c = omega (arith, e.goal_here, past, top) in ap (w'.border c) last ∙ e.border_end)) from to
     | inr other ↦ e.border_else d k other
-        ∙ so.single d k (sym (e.clients.lives d) ∙ t) (rw (e.first d) at low) (rw (e.goal_else d other) at from) (rw (end-else w w' d (e.first d) (e.records_else d other)) at to)
+        ∙ so.single d k (sym (e.clients.lives d) ∙ t) (rw (e.first d) at low) (rw (e.goal_else d other) at from)
+        (rw (end-else w w' d (e.first d) (e.records_else d other)) at to)
   ];
   unused = λ d h. e.next d ∙ so.unused d (omega (arith, e.clients.clients, h));
   held = held-same w w' so e.leases;
@@ -421,21 +462,25 @@ coalesce_sound w w' c s new was so e = record {
 }
 
 -- the home has digested no more than all have, which stays
-pub coalesce_dropped : (w w' : World) (c s : ℕ) (new : List LogRecord) (was : ℕ → ℕ) → WorldInvariant w → AreDropped w → Coalesces w c s new was w' → AreDropped w'
+pub coalesce_dropped : (w w' : World) (c s : ℕ) (new : List LogRecord) (was : ℕ → ℕ) → WorldInvariant w → AreDropped w → Coalesces w c s new was w' →
+    AreDropped w'
 unfolding AreDropped digested_by_all
 coalesce_dropped w w' c s new was so dropped e d =
     e.first d ∙ dropped d
     ∙ least_of-same w.full (λ n. w.digested n d) (λ n. w'.digested n d) (end_of_log w d) (λ n h. sym (e.digested n d h))
     ∙ elim (cases_eq d c) [
-      | inl own ↦ subst (λ d. least_of w.full (λ n. w'.digested n d) (end_of_log w d) ≡ least_of w'.full (λ n. w'.digested n d) (end_of_log w' d)) (sym own) shorter
-      | inr other ↦ ap (least_of w.full (λ n. w'.digested n d)) (sym (end-else w w' d (e.first d) (e.records_else d other))) ∙ ap (λ ns. least_of ns (λ n. w'.digested n d) (end_of_log w' d)) (sym e.full)
+      | inl own ↦ subst (λ d. least_of w.full (λ n. w'.digested n d) (end_of_log w d) ≡ least_of w'.full (λ n. w'.digested n d) (end_of_log w' d)) (sym own)
+          shorter
+      | inr other ↦ ap (least_of w.full (λ n. w'.digested n d)) (sym (end-else w w' d (e.first d) (e.records_else d other)))
+          ∙ ap (λ ns. least_of ns (λ n. w'.digested n d) (end_of_log w' d)) (sym e.full)
     ]
   where
     home : Full w (w.home c)
     home = so.homes c e.lives
 
     low : w'.digested (w.home c) c ≤ end_of_log w' c
-    low = rw (e.digested (w.home c) c home) (omega (arith, (so.coherent.order (w.home c) c home).replicated, e.low, end-coalesce w w' c s new was so.coherent e))
+    low = rw (e.digested (w.home c) c home)
+        (omega (arith, (so.coherent.order (w.home c) c home).replicated, e.low, end-coalesce w w' c s new was so.coherent e))
 
     shorter : least_of w.full (λ n. w'.digested n c) (end_of_log w c) ≡ least_of w'.full (λ n. w'.digested n c) (end_of_log w' c)
     shorter =

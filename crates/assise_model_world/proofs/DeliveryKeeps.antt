@@ -1,14 +1,10 @@
 -- Records come to a node.
-use Rattle.std.proofs.Common.{◌≡◌, ℕ, ◌+◌, ◌-◌, ◌≤◌, true, ◌++◌, ap, sym, ◌∙◌, subst, arith, take, drop}
-use Rattle.std.proofs.lemmas.Bool.{cases_eq}
-use Rattle.std.proofs.Math.Seq.{take-add}
-use Rattle.assise_inode_table.specs.Effects.{contains}
-use Rattle.assise_model_world.specs.NodeSteps.{Delivers}
-use Rattle.assise_model_world.specs.Runs.{NoneFalls}
-use Rattle.assise_model_world.specs.Invariant.{IsOrdered, Areas, CallsInvariant, WorldInvariant, AreDropped}
-use Rattle.assise_model_world.specs.World.{World, Full, end_of_log, digested_by_all, received_by_all, records_between}
+use Rattle.assise_model_world.proofs.Common.{◌≡◌, ℕ, ◌+◌, ◌-◌, ◌≤◌, true, ◌++◌, ap, sym, ◌∙◌, subst, arith, take, drop, cases_eq, take-add, contains, Delivers}
+use Rattle.assise_model_world.proofs.Common.{NoneFalls, IsOrdered, Areas, CallsInvariant, WorldInvariant, AreDropped, World, Full, end_of_log, digested_by_all}
+use Rattle.assise_model_world.proofs.Common.{received_by_all, records_between}
 use Rattle.assise_model_world.proofs.WorldObserved.{least_of-same, received_by_all-below}
-use Rattle.assise_model_world.proofs.QuietSteps.{end-same, calm_coherent, calm_falls, guarded-same, compatible-same, areas-same, digested_by_all-same, received_by_all-same, held-same}
+use Rattle.assise_model_world.proofs.QuietSteps.{end-same, calm_coherent, calm_falls, guarded-same, compatible-same, areas-same, digested_by_all-same}
+use Rattle.assise_model_world.proofs.QuietSteps.{received_by_all-same, held-same}
 
 -- ---- what the node has
 

@@ -1,27 +1,24 @@
 -- A digest makes a full node's area that of more calls.
-use Rattle.std.proofs.Common.{◌≡◌, ℕ, ◌≤◌, true, subst, arith}
-use Rattle.std.proofs.lemmas.Bool.{cases_eq}
-use Rattle.assise_record.specs.Records.{all_effects}
-use Rattle.assise_inode_table.specs.Effects.{value_after, contains}
-use Rattle.assise_inode_table.specs.Late.{late_value, raised_at}
-use Rattle.assise_inode_table.specs.Traces.{below}
-use Rattle.assise_model_world.specs.NodeSteps.{Digests}
-use Rattle.assise_model_world.specs.Runs.{NoneFalls}
-use Rattle.assise_model_world.specs.Invariant.{IsOrdered, Areas, CallsInvariant, WorldInvariant}
-use Rattle.assise_model_world.specs.World.{World, Full, opening_values, digested_by_all, received_by_all, call_at, first_undigested_at, steps, value_below, undigested_below}
+use Rattle.assise_model_world.proofs.Common.{◌≡◌, ℕ, ◌≤◌, true, subst, arith, cases_eq, all_effects, value_after, contains, late_value, raised_at, below}
+use Rattle.assise_model_world.proofs.Common.{Digests, NoneFalls, IsOrdered, Areas, CallsInvariant, WorldInvariant, World, Full, opening_values, digested_by_all}
+use Rattle.assise_model_world.proofs.Common.{received_by_all, call_at, first_undigested_at, steps, value_below, undigested_below}
 use Rattle.assise_model_world.proofs.Lists.{below-same}
-use Rattle.assise_model_world.proofs.WorldObserved.{call_at-mono, received_by_all-below, received_by_all-end, first_undigested-low, part_value, call_at-same, steps-same, raised_same, raised_other, later, area_at}
-use Rattle.assise_model_world.proofs.QuietSteps.{end-same, calm_coherent, calm_falls, guarded-same, compatible-same, areas-same, digested_by_all-same, received_by_all-same, held-same}
+use Rattle.assise_model_world.proofs.WorldObserved.{call_at-mono, received_by_all-below, received_by_all-end, first_undigested-low, part_value, call_at-same}
+use Rattle.assise_model_world.proofs.WorldObserved.{steps-same, raised_same, raised_other, later, area_at}
+use Rattle.assise_model_world.proofs.QuietSteps.{end-same, calm_coherent, calm_falls, guarded-same, compatible-same, areas-same, digested_by_all-same}
+use Rattle.assise_model_world.proofs.QuietSteps.{received_by_all-same, held-same}
 use Rattle.assise_model_world.proofs.Views.{ahead_below_between}
 
 -- the node's own records below a place that all full nodes have, over its area, make it that of the client's calls up to there
 digested_value : (w : World) (n c k i : ℕ) → WorldInvariant w → Full w n → w.digested n c ≤ k → k ≤ received_by_all w c → w.border c k ≡ true →
-    value_after i (w.area n i) (all_effects (undigested_below w n c k)) ≡ late_value (below (raised_at (first_undigested_at w n) c (call_at w c k))) i (opening_values i) (steps w)
+    value_after i (w.area n i) (all_effects (undigested_below w n c k)) ≡ late_value (below (raised_at (first_undigested_at w n) c (call_at w c k))) i
+    (opening_values i) (steps w)
 unfolding first_undigested_at
 digested_value w n c k i s f from to bk =
     grind (arith, ahead_below_between, received_by_all-below, area_at, part_value, received_by_all-end, later, first_undigested-low, call_at-mono)
 
-digested-raised : (w w' : World) (n c k : ℕ) → Digests w n c k w' → (d : ℕ) → first_undigested_at w' n d ≡ raised_at (first_undigested_at w n) c (call_at w c k) d
+digested-raised : (w w' : World) (n c k : ℕ) → Digests w n c k w' → (d : ℕ) → first_undigested_at w' n d ≡ raised_at (first_undigested_at w n) c (call_at w c k)
+    d
 unfolding first_undigested_at
 digested-raised w w' n c k e d = grind (arith, cases_eq, call_at-same, raised_same, raised_other)
 

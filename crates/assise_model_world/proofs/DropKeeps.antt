@@ -1,19 +1,13 @@
 -- Prefixes of logs are dropped.
-use Rattle.std.proofs.Common.{◌≡◌, ℕ, ◌+◌, ◌-◌, ◌≤◌, true, ap, sym, ◌∙◌, subst, arith, take, drop, length, length-drop}
-use Rattle.std.proofs.lemmas.List.{drop-take}
-use Rattle.assise_seq_tree.specs.Tree.{opening as opening_tree}
-use Rattle.assise_seq_tree.specs.Runs.{AreAnswered}
-use Rattle.assise_inode_table.specs.Effects.{contains}
-use Rattle.assise_inode_table.specs.Late.{late_value}
-use Rattle.assise_inode_table.specs.Traces.{AllMakeNew, exchanges, NumbersAscend, below}
-use Rattle.assise_inode_table.specs.Unseen.{Unseen}
-use Rattle.assise_model_world.specs.NodeSteps.{Drops}
-use Rattle.assise_model_world.specs.Runs.{NoneFalls}
-use Rattle.assise_model_world.specs.Invariant.{Stands, Guarded, IsOrdered, Areas, CallsInvariant, WorldInvariant, AreDropped}
-use Rattle.assise_model_world.specs.World.{World, Full, opening_values, end_of_log, digested_by_all, received_by_all, records_between, call_at, first_undigested_at, first_undigested, first_unreplicated, steps, value_below}
+use Rattle.assise_model_world.proofs.Common.{◌≡◌, ℕ, ◌+◌, ◌-◌, ◌≤◌, true, ap, sym, ◌∙◌, subst, arith, take, drop, length, length-drop, drop-take, opening_tree}
+use Rattle.assise_model_world.proofs.Common.{AreAnswered, contains, late_value, AllMakeNew, exchanges, NumbersAscend, below, Unseen, Drops, NoneFalls, Stands}
+use Rattle.assise_model_world.proofs.Common.{Guarded, IsOrdered, Areas, CallsInvariant, WorldInvariant, AreDropped, World, Full, opening_values, end_of_log}
+use Rattle.assise_model_world.proofs.Common.{digested_by_all, received_by_all, records_between, call_at, first_undigested_at, first_undigested}
+use Rattle.assise_model_world.proofs.Common.{first_unreplicated, steps, value_below}
 use Rattle.assise_model_world.proofs.Lists.{unseen-raise, below-same}
 use Rattle.assise_model_world.proofs.Logs.{at-drop, ascending-drop, drop-of_drop, contains-drop}
-use Rattle.assise_model_world.proofs.WorldObserved.{least_of-end, least_of-same, part_of, digested_by_all-below, received_by_all-below, received_by_all-end, part_moves, steps-same, area_at}
+use Rattle.assise_model_world.proofs.WorldObserved.{least_of-end, least_of-same, part_of, digested_by_all-below, received_by_all-below, received_by_all-end}
+use Rattle.assise_model_world.proofs.WorldObserved.{part_moves, steps-same, area_at}
 use Rattle.assise_model_world.proofs.Between.{digested_by_all-received_by_all}
 use Rattle.assise_model_world.proofs.QuietSteps.{spelled-same, are_made-same, numbered-same, counted-same, compatible-same, held-same}
 
@@ -36,7 +30,8 @@ end-drop w w' f e c =
     rw (e.first c, e.records c) (within (digested_by_all-end w c))
   where
     within : digested_by_all w c ≤ w.first c + length (w.records c) → f c + length (drop (f c - w.first c) (w.records c)) ≡ w.first c + length (w.records c)
-    within h = (let l : length (drop (f c - w.first c) (w.records c)) ≡ length (w.records c) - (f c - w.first c) = length-drop (f c - w.first c) (w.records c) in omega (arith, l, h, e.low c, e.high c))
+    within h = (let l : length (drop (f c - w.first c) (w.records c)) ≡ length (w.records c) - (f c - w.first c) =
+        length-drop (f c - w.first c) (w.records c) in omega (arith, l, h, e.low c, e.high c))
 
 part-drop : (w w' : World) (f : ℕ → ℕ) → Drops w f w' → (c j k : ℕ) → f c ≤ j → records_between w' c j k ≡ records_between w c j k
 unfolding records_between
@@ -98,8 +93,11 @@ order-drop w w' f s e m c h =
       begun = rw (e.first c, e.digested m c full) (past_prefix w w' f m c e full);
       replicated = rw (e.digested m c full, received_by_all-drop w w' f e c) o.replicated;
       known = rw (end-drop w w' f e c, e.received m c full) o.known;
-      digested_border = e.border c (w'.digested m c) (rw (e.digested m c full) (past_prefix w w' f m c e full)) ∙ ap (λ k. w.border c k) (e.digested m c full) ∙ o.digested_border;
-      received_border = e.border c (w'.received m c) (rw (e.received m c full) (omega (arith, past_prefix w w' f m c e full, o.replicated, received_by_all-below w m c full))) ∙ ap (λ k. w.border c k) (e.received m c full) ∙ o.received_border;
+      digested_border = e.border c (w'.digested m c) (rw (e.digested m c full) (past_prefix w w' f m c e full)) ∙ ap (λ k. w.border c k) (e.digested m c full)
+          ∙ o.digested_border;
+      received_border = e.border c (w'.received m c)
+          (rw (e.received m c full) (omega (arith, past_prefix w w' f m c e full, o.replicated, received_by_all-below w m c full)))
+          ∙ ap (λ k. w.border c k) (e.received m c full) ∙ o.received_border;
     }
 
 pub drop_coherent : (w w' : World) (f : ℕ → ℕ) → CallsInvariant w → Drops w f w' → CallsInvariant w'
@@ -115,7 +113,9 @@ drop_coherent w w' f s e = record {
   stands = stands-drop w w' f s e;
   ascending = λ c. rw (e.records c, e.next c) (ascending-drop (w.records c) (f c - w.first c) (w.next c) (s.ascending c));
   first_border = λ c. e.border c (w'.first c) (rw (e.first c) (omega arith)) ∙ ap (λ k. w.border c k) (e.first c) ∙ e.border_at c;
-  end_border = λ c. e.border c (end_of_log w' c) (rw (end-drop w w' f e c) (omega (arith, e.high c, digested_by_all-received_by_all w s c, received_by_all-end w c))) ∙ ap (λ k. w.border c k) (end-drop w w' f e c) ∙ s.end_border c;
+  end_border = λ c. e.border c (end_of_log w' c)
+      (rw (end-drop w w' f e c) (omega (arith, e.high c, digested_by_all-received_by_all w s c, received_by_all-end w c)))
+      ∙ ap (λ k. w.border c k) (end-drop w w' f e c) ∙ s.end_border c;
   order = order-drop w w' f s e;
   areas = areas-drop w w' f s e;
   guarded = guarded-drop w w' f s e;
@@ -125,7 +125,8 @@ drop_coherent w w' f s e = record {
 }
 
 -- a full node's log is still the prefix of the client's own
-prefixes-drop : (w w' : World) (f : ℕ → ℕ) (m c : ℕ) → WorldInvariant w → Drops w f w' → Full w m → w'.log m c ≡ take (w'.received m c - w'.first c) (w'.records c)
+prefixes-drop : (w w' : World) (f : ℕ → ℕ) (m c : ℕ) → WorldInvariant w → Drops w f w' → Full w m → w'.log m c ≡ take (w'.received m c - w'.first c)
+    (w'.records c)
 prefixes-drop w w' f m c s e h =
     let o : IsOrdered w m c = s.coherent.order m c h in
     let past : f c ≤ w.received m c = omega (arith, past_prefix w w' f m c e h, o.replicated, received_by_all-below w m c h) in

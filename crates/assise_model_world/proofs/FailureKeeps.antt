@@ -1,24 +1,18 @@
 -- A failure of a node takes only records that some full node lacks.
-use Rattle.std.proofs.Common.{◌≡◌, ℕ, zero, suc, ◌-◌, ◌<◌, ◌≤◌, ◌≢◌, inl, inr, min, Bool, true, false, not, List, [], ◌∷◌, if◌then◌else◌, refl, ap, sym, ◌∙◌, subst, ◌&&◌, ◌||◌, ◌==◌, arith, take, length-take, filter}
-use Rattle.std.proofs.lemmas.Bool.{and_from, and_right, both_ways, cases_Bool, cases_eq, cases_lt, eq-eqb, eqb-true, le-ltb, ltb-false, ne_eqb, or_cases, or_left, or_right}
-use Rattle.std.proofs.lemmas.Bool.Decides.{nat_tests}
-use Rattle.assise_seq_tree.specs.Tree.{opening as opening_tree}
-use Rattle.assise_seq_tree.specs.Runs.{AreAnswered, tree_after_calls}
-use Rattle.assise_record.specs.LogRecord.{LogRecord}
-use Rattle.assise_record.specs.Records.{all_effects, call_of}
-use Rattle.assise_inode_table.specs.Effects.{value_after, touched, contains}
-use Rattle.assise_inode_table.specs.Late.{late_value}
-use Rattle.assise_inode_table.specs.Spelled.{Spells}
-use Rattle.assise_inode_table.specs.Traces.{NumberedCall, trace, values_after_calls, AllMakeNew, exchanges, ops, Each, NumbersAscend, below, window}
-use Rattle.assise_inode_table.specs.Unseen.{Unseen}
-use Rattle.assise_model_world.specs.NodeSteps.{kept_at_failure, Fails}
-use Rattle.assise_model_world.specs.Runs.{NoneFalls, StayReplicated}
-use Rattle.assise_model_world.specs.Invariant.{StandFor, Stands, Counted, Numbered, Guarded, IsOrdered, Areas, CallsInvariant, WorldInvariant}
-use Rattle.assise_model_world.specs.World.{World, Full, opening_values, end_of_log, digested_by_all, received_by_all, records_between, call_at, first_undigested_at, first_undigested, first_unreplicated, steps, now, tree, value_below, calls_replicated}
-use Rattle.assise_inode_table.proofs.PairwiseLists.{each-map, each-always}
+use Rattle.assise_model_world.proofs.Common.{◌≡◌, ℕ, zero, suc, ◌-◌, ◌<◌, ◌≤◌, ◌≢◌, inl, inr, min, Bool, true, false, not, List, [], ◌∷◌, if◌then◌else◌, refl}
+use Rattle.assise_model_world.proofs.Common.{ap, sym, ◌∙◌, subst, ◌&&◌, ◌||◌, ◌==◌, arith, take, length-take, filter, and_from, and_right, both_ways}
+use Rattle.assise_model_world.proofs.Common.{cases_Bool, cases_eq, cases_lt, eq-eqb, eqb-true, le-ltb, ltb-false, ne_eqb, or_cases, or_left, or_right}
+use Rattle.assise_model_world.proofs.Common.{nat_tests, opening_tree, AreAnswered, tree_after_calls, LogRecord, all_effects, call_of, value_after, touched}
+use Rattle.assise_model_world.proofs.Common.{contains, late_value, Spells, NumberedCall, trace, values_after_calls, AllMakeNew, exchanges, ops, Each}
+use Rattle.assise_model_world.proofs.Common.{NumbersAscend, below, window, Unseen, kept_at_failure, Fails, NoneFalls, StayReplicated, StandFor, Stands, Counted}
+use Rattle.assise_model_world.proofs.Common.{Numbered, Guarded, IsOrdered, Areas, CallsInvariant, WorldInvariant, World, Full, opening_values, end_of_log}
+use Rattle.assise_model_world.proofs.Common.{digested_by_all, received_by_all, records_between, call_at, first_undigested_at, first_undigested}
+use Rattle.assise_model_world.proofs.Common.{first_unreplicated, steps, now, tree, value_below, calls_replicated, each-map, each-always}
 use Rattle.assise_model_world.proofs.Lists.{each-filter, each-filter_if, pairs-filter, unseen-raise, value-cong, value-filter}
 use Rattle.assise_model_world.proofs.Logs.{ascending-take, take-of_take, contains-take, at-take, at-take_past, inside, at_cut, nothing}
-use Rattle.assise_model_world.proofs.WorldObserved.{least_of-below, least_of-above, least_of-end, least_of-is, call_at-mono, next-top, part_of, digested_by_all-first, received_by_all-below, received_by_all-end, first-received_by_all, IsCounted, area_at}
+use Rattle.assise_model_world.proofs.WorldObserved.{least_of-below, least_of-above, least_of-end, least_of-is, call_at-mono, next-top, part_of}
+use Rattle.assise_model_world.proofs.WorldObserved.{digested_by_all-first, received_by_all-below, received_by_all-end, first-received_by_all, IsCounted}
+use Rattle.assise_model_world.proofs.WorldObserved.{area_at}
 use Rattle.assise_model_world.proofs.Between.{digested_by_all-received_by_all}
 use Rattle.assise_model_world.proofs.QuietSteps.{made_by_more, compatible-same, held-same}
 use Rattle.assise_model_world.proofs.RegionAlone.{tails_at, spelled_at, answered_at, new_at}
@@ -156,7 +150,8 @@ module _ (w w' : World) (n : ℕ) (s : CallsInvariant w) (f : Fails w n w') wher
 
   part-cut : (c j k : ℕ) → w.first c ≤ j → j ≤ k → k ≤ cut c → records_between w' c j k ≡ records_between w c j k
   unfolding records_between
-  part-cut c j k low le high = rw (f.first c, cut-records c) (take-of_take (w.records c) (j - w.first c) (k - j) (cut c - w.first c) (omega (arith, low, le, high)))
+  part-cut c j k low le high =
+      rw (f.first c, cut-records c) (take-of_take (w.records c) (j - w.first c) (k - j) (cut c - w.first c) (omega (arith, low, le, high)))
 
   -- the kept calls between two places of the cut log
   kept_window : (c j k : ℕ) → w.first c ≤ j → j ≤ k → k ≤ cut c → (x : NumberedCall) →
@@ -168,7 +163,8 @@ module _ (w w' : World) (n : ℕ) (s : CallsInvariant w) (f : Fails w n w') wher
   stands-fail c j k bj bk low le high =
       let low_w : w.first c ≤ j = rw (f.first c) at low in
       let high_w : k ≤ cut c = rw (end-cut c) at high in
-      let t : StandFor w c j k = part_of w c j k s (sym (f.border c j (omega (arith, le, high_w))) ∙ bj) (sym (f.border c k high_w) ∙ bk) low_w le (omega (arith, high_w, kept_high w n c)) in
+      let t : StandFor w c j k = part_of w c j k s (sym (f.border c j (omega (arith, le, high_w))) ∙ bj) (sym (f.border c k high_w) ∙ bk) low_w le
+      (omega (arith, high_w, kept_high w n c)) in
       let part : records_between w' c j k ≡ records_between w c j k = part-cut c j k low_w le high_w in
       record {
         value = λ i v.
@@ -179,7 +175,8 @@ module _ (w w' : World) (n : ℕ) (s : CallsInvariant w) (f : Fails w n w') wher
             ∙ ap (λ xs. late_value (window c (call_at w' c j) (call_at w' c k)) i v xs) (sym steps-fail);
         touch = λ i q.
             subst (λ xs. Each (λ x. window c (call_at w' c j) (call_at w' c k) x.0 ≡ true → contains (touched x.1.effects) i ≡ false) xs) (sym steps-fail)
-            (each-filter_if (λ x. window c (call_at w' c j) (call_at w' c k) x.0 ≡ true → contains (touched x.1.effects) i ≡ false) (λ x. below lost x.0) (steps w)
+            (each-filter_if (λ x. window c (call_at w' c j) (call_at w' c k) x.0 ≡ true → contains (touched x.1.effects) i ≡ false) (λ x. below lost x.0)
+            (steps w)
             (each-map (λ x. window c (call_at w c j) (call_at w c k) x.0 ≡ true → contains (touched x.1.effects) i ≡ false)
             (λ x. below lost x.0 ≡ true → window c (call_at w' c j) (call_at w' c k) x.0 ≡ true → contains (touched x.1.effects) i ≡ false) (steps w)
             (λ x g kx wx. g (sym (kept_window c j k low_w le high_w x.0) ∙ and_from (below lost x.0) (window c (call_at w' c j) (call_at w' c k) x.0) kx wx))
@@ -188,7 +185,8 @@ module _ (w w' : World) (n : ℕ) (s : CallsInvariant w) (f : Fails w n w') wher
 
   guarded-fail : Guarded w'
   unfolding Guarded
-  guarded-fail c i h = f.leases.writes c i ∙ s.guarded c i (contains-take (w.records c) (cut c - w.first c) i (subst (λ rs. contains (touched (all_effects rs)) i ≡ true) (cut-records c) h))
+  guarded-fail c i h = f.leases.writes c i
+      ∙ s.guarded c i (contains-take (w.records c) (cut c - w.first c) i (subst (λ rs. contains (touched (all_effects rs)) i ≡ true) (cut-records c) h))
 
   -- ---- what the other nodes have
 
@@ -203,15 +201,19 @@ module _ (w w' : World) (n : ℕ) (s : CallsInvariant w) (f : Fails w n w') wher
   first_undigested-fail : (c : ℕ) → first_undigested w c ≤ first_undigested w' c
   unfolding first_undigested
   first_undigested-fail c =
-      let a : call_at w c (digested_by_all w c) ≤ call_at w c (digested_by_all w' c) = call_at-mono w c (digested_by_all w c) (digested_by_all w' c) s (digested_by_all-fail c) in
-      let b : call_at w c (digested_by_all w' c) ≤ call_at w' c (digested_by_all w' c) = call_at-ascends c (digested_by_all w' c) (omega (arith, digested_by_all-first w s c, digested_by_all-fail c)) in
+      let a : call_at w c (digested_by_all w c) ≤ call_at w c (digested_by_all w' c) = call_at-mono w c (digested_by_all w c) (digested_by_all w' c) s
+      (digested_by_all-fail c) in
+      let b : call_at w c (digested_by_all w' c) ≤ call_at w' c (digested_by_all w' c) = call_at-ascends c (digested_by_all w' c)
+      (omega (arith, digested_by_all-first w s c, digested_by_all-fail c)) in
       omega (arith, a, b)
 
   first_unreplicated-fail : (c : ℕ) → first_unreplicated w c ≤ first_unreplicated w' c
   unfolding first_unreplicated
   first_unreplicated-fail c =
-      let a : call_at w c (received_by_all w c) ≤ call_at w c (received_by_all w' c) = call_at-mono w c (received_by_all w c) (received_by_all w' c) s (received_by_all-fail c) in
-      let b : call_at w c (received_by_all w' c) ≤ call_at w' c (received_by_all w' c) = call_at-ascends c (received_by_all w' c) (omega (arith, first-received_by_all w s c, received_by_all-fail c)) in
+      let a : call_at w c (received_by_all w c) ≤ call_at w c (received_by_all w' c) = call_at-mono w c (received_by_all w c) (received_by_all w' c) s
+      (received_by_all-fail c) in
+      let b : call_at w c (received_by_all w' c) ≤ call_at w' c (received_by_all w' c) = call_at-ascends c (received_by_all w' c)
+      (omega (arith, first-received_by_all w s c, received_by_all-fail c)) in
       omega (arith, a, b)
 
   unseen-fail : Unseen (first_undigested w') (steps w')
@@ -269,7 +271,8 @@ pub filter-lower : (a b : ℕ → ℕ) (xs : List NumberedCall) → ((c : ℕ) �
 filter-lower a b [] le = refl
 filter-lower a b (x ∷ xs) le =
     elim (cases_Bool (below b x)) [
-      | inl e ↦ rw e (elim (below a x) as (λ t. (if t then x ∷ filter (below a) (filter (below b) xs) else filter (below a) (filter (below b) xs)) ≡ (if t then x ∷ filter (below a) xs else filter (below a) xs)) [ true ↦ ap (λ l. x ∷ l) (filter-lower a b xs le) | false ↦ filter-lower a b xs le ])
+      | inl e ↦ rw e (elim (below a x) as (λ t. (if t then x ∷ filter (below a) (filter (below b) xs) else filter (below a) (filter (below b) xs))
+          ≡ (if t then x ∷ filter (below a) xs else filter (below a) xs)) [ true ↦ ap (λ l. x ∷ l) (filter-lower a b xs le) | false ↦ filter-lower a b xs le ])
       | inr e ↦
           let past : b x.client ≤ x.number = ltb-false x.number (b x.client) e in
           let out : below a x ≡ false = le-ltb x.number (a x.client) (omega (arith, past, le x.client)) in

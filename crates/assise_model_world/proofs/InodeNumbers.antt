@@ -1,17 +1,13 @@
 -- Numbers of inodes.
-use Rattle.std.proofs.Common.{◌≡◌, ℕ, ◌<◌, inl, inr, true, List, [], ◌∷◌, IsSome, sym, subst}
-use Rattle.std.specs.List.{list_any}
-use Rattle.assise_inode_table.specs.Contents.{Values}
-use Rattle.assise_inode_table.specs.Effects.{after, makes}
-use Rattle.assise_inode_table.specs.Traces.{NumberedCall, trace, step_of, values_after_calls, Each}
+use Rattle.assise_model_world.proofs.Common.{◌≡◌, ℕ, ◌<◌, inl, inr, true, List, [], ◌∷◌, IsSome, sym, subst, list_any, Values, after, makes, NumberedCall}
+use Rattle.assise_model_world.proofs.Common.{trace, step_of, values_after_calls, Each, IsMadeBy, IsMade, Counted, Numbered, AreMade, World, IsClient}
+use Rattle.assise_model_world.proofs.Common.{opening_values, steps, now, root_alone}
 use Rattle.assise_inode_table.proofs.CallEnds.{makes_own}
 use Rattle.assise_inode_table.proofs.InodeNumbers.{there_or_made}
-use Rattle.assise_model_world.specs.Invariant.{IsMadeBy, IsMade, Counted, Numbered, AreMade}
-use Rattle.assise_model_world.specs.World.{World, IsClient, opening_values, steps, now}
-use Rattle.assise_inode_table.proofs.AtOpening.{root_alone}
 
 -- after a call more
-pub made_here : (w : World) (v : Values) (x : NumberedCall) → IsClient w x.client → (list_any (makes x.fresh) (step_of v x).effects ≡ true → IsMadeBy w x.client x.fresh) →
+pub made_here : (w : World) (v : Values) (x : NumberedCall) → IsClient w x.client →
+    (list_any (makes x.fresh) (step_of v x).effects ≡ true → IsMadeBy w x.client x.fresh) →
     ((i : ℕ) → IsSome (v i) → IsMade w i) → (i : ℕ) → IsSome (after v (step_of v x).effects i) → IsMade w i
 made_here w v x client numbered old i h =
     elim (there_or_made i (v i) (step_of v x).effects h) [

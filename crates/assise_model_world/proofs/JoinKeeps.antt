@@ -1,10 +1,7 @@
 -- A node gets all that a full one has.
-use Rattle.std.proofs.Common.{◌≡◌, ℕ, ◌≤◌, inl, inr, true, sym, ◌∙◌, subst, arith}
-use Rattle.assise_model_world.specs.NodeSteps.{Joins}
-use Rattle.assise_model_world.specs.Runs.{NoneFalls}
-use Rattle.assise_model_world.specs.Invariant.{IsOrdered, Areas, CallsInvariant, WorldInvariant}
-use Rattle.assise_model_world.specs.Staying.{SameNode}
-use Rattle.assise_model_world.specs.World.{World, Full, least_of, end_of_log, digested_by_all, received_by_all, first_undigested_at, value_below}
+use Rattle.assise_model_world.proofs.Common.{◌≡◌, ℕ, ◌≤◌, inl, inr, true, sym, ◌∙◌, subst, arith, Joins, NoneFalls, IsOrdered, Areas, CallsInvariant}
+use Rattle.assise_model_world.proofs.Common.{WorldInvariant, SameNode, World, Full, least_of, end_of_log, digested_by_all, received_by_all, first_undigested_at}
+use Rattle.assise_model_world.proofs.Common.{value_below}
 use Rattle.assise_model_world.proofs.Lists.{below-same}
 use Rattle.assise_model_world.proofs.WorldObserved.{least_of-below, least_of-above, least_of-end, call_at-same, steps-same, area_at}
 use Rattle.assise_model_world.proofs.QuietSteps.{end-same, calm_coherent, calm_falls, guarded-same, compatible-same, held-same}
@@ -22,8 +19,13 @@ module _ (w w' : World) (n donor : ℕ) (e : Joins w n donor w') where
   as_before : (m : ℕ) → Full w' m → (b : ℕ) × IsAs w w' m b
   as_before m h =
       elim (e.only m h) [
-        | inl is ↦ (donor, subst (λ m. IsAs w w' m donor) (sym is) (record { full_before = e.donor_full; area = e.area_here; log = e.log_here; received = e.received_here; digested = e.digested_here }))
-        | inr f ↦ (let q : SameNode w w' m = e.else_same m f in (m, record { full_before = f; area = q.area; log = q.log; received = q.received; digested = q.digested }))
+        | inl is ↦ (
+          donor,
+          subst (λ m. IsAs w w' m donor) (sym is)
+              (record { full_before = e.donor_full; area = e.area_here; log = e.log_here; received = e.received_here; digested = e.digested_here }),
+        )
+        | inr f ↦ (let q : SameNode w w' m = e.else_same m f in
+            (m, record { full_before = f; area = q.area; log = q.log; received = q.received; digested = q.digested }))
       ]
 
   received_up : (c : ℕ) → received_by_all w c ≤ received_by_all w' c
@@ -61,7 +63,8 @@ module _ (w w' : World) (n donor : ℕ) (e : Joins w n donor w') where
     coherent = join_coherent s.coherent;
     few_records = λ d. rw (end-same w w' e.logs d, e.logs.next d) (s.few_records d);
     goals = λ d. rw (end-same w w' e.logs d, e.goals d) (s.goals d);
-    single = λ d k t low from to. e.logs.border d k ∙ s.single d k (sym (e.clients.lives d) ∙ t) (rw (e.logs.first d) at low) (rw (e.goals d) at from) (rw (end-same w w' e.logs d) at to);
+    single = λ d k t low from to. e.logs.border d k ∙ s.single d k (sym (e.clients.lives d) ∙ t) (rw (e.logs.first d) at low) (rw (e.goals d) at from)
+        (rw (end-same w w' e.logs d) at to);
     unused = λ d h. e.logs.next d ∙ s.unused d (omega (arith, e.clients.clients, h));
     held = held-same w w' s e.leases;
     prefixes = λ m d h. (let (b, q) = as_before m h in rw (q.log d, q.received d, e.logs.first d, e.logs.records d) (s.prefixes b d q.full_before));

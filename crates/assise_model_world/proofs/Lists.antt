@@ -1,22 +1,12 @@
 -- What holds of each call or step of a list, and of each two.
-use Rattle.std.proofs.Common.{◌≡◌, ℕ, ◌≤◌, ◌⊎◌, inl, inr, Bool, true, false, List, [], ◌∷◌, ◌++◌, if◌then◌else◌, Option, None, refl, ap, sym, ◌∙◌, ◌&&◌, nat_lt, arith, filter}
-use Rattle.std.specs.List.{list_any}
-use Rattle.assise_seq_tree.specs.Tree.{Tree}
-use Rattle.assise_seq_tree.specs.Answer.{answer}
-use Rattle.assise_seq_tree.specs.Runs.{AreAnswered, tree_after_calls}
-use Rattle.assise_record.specs.declared.effect.Effect.{Effect}
-use Rattle.assise_record.specs.Records.{has_some}
-use Rattle.assise_inode_table.specs.Contents.{Content, Values}
-use Rattle.assise_inode_table.specs.Effects.{value_after, touched, contains, after, makes}
-use Rattle.assise_inode_table.specs.Interaction.{Step}
-use Rattle.assise_inode_table.specs.Late.{late_value}
-use Rattle.assise_inode_table.specs.Traces.{NumberedCall, trace, step_of, values_after_calls, AllMakeNew, exchanges, ops, Each, Pairs, below}
-use Rattle.assise_inode_table.specs.Unseen.{Unseen}
-use Rattle.assise_inode_table.proofs.EffectValues.{untouched}
-use Rattle.assise_inode_table.proofs.PairwiseLists.{each-map}
+use Rattle.assise_model_world.proofs.Common.{◌≡◌, ℕ, ◌≤◌, ◌⊎◌, inl, inr, Bool, true, false, List, [], ◌∷◌, ◌++◌, if◌then◌else◌, Option, None, refl, ap, sym}
+use Rattle.assise_model_world.proofs.Common.{◌∙◌, ◌&&◌, nat_lt, arith, filter, list_any, Tree, answer, AreAnswered, tree_after_calls, Effect, has_some, Content}
+use Rattle.assise_model_world.proofs.Common.{Values, value_after, touched, contains, after, makes, Step, late_value, NumberedCall, trace, step_of}
+use Rattle.assise_model_world.proofs.Common.{values_after_calls, AllMakeNew, exchanges, ops, Each, Pairs, below, Unseen, untouched, each-map}
 
 -- a fact of all clients' steps from that of each client's
-pub each-client : (Q : ℕ → NumberedCall × Step → Type 0) (xs : List (NumberedCall × Step)) → ((c : ℕ) → Each (λ x. x.0.client ≡ c → Q c x) xs) → Each (λ x. Q x.0.client x) xs
+pub each-client : (Q : ℕ → NumberedCall × Step → Type 0) (xs : List (NumberedCall × Step)) → ((c : ℕ) → Each (λ x. x.0.client ≡ c → Q c x) xs) →
+    Each (λ x. Q x.0.client x) xs
 each-client Q [] f = tt
 each-client Q (x ∷ xs) f = ((f x.0.client).0 refl, each-client Q xs (λ c. (f c).1))
 
@@ -75,24 +65,29 @@ unseen-raise a b xs up = grind (arith, pairs-map)
 
 -- ---- values
 
-pub value-cong : (t u : NumberedCall → Bool) (i : ℕ) (v : Option Content) (xs : List (NumberedCall × Step)) → Each (λ x. t x.0 ≡ u x.0) xs → late_value t i v xs ≡ late_value u i v xs
+pub value-cong : (t u : NumberedCall → Bool) (i : ℕ) (v : Option Content) (xs : List (NumberedCall × Step)) → Each (λ x. t x.0 ≡ u x.0) xs →
+    late_value t i v xs ≡ late_value u i v xs
 value-cong t u i v [] h = refl
 value-cong t u i v (x ∷ xs) h = rw h.0 (value-cong t u i (if u x.0 then value_after i v x.1.effects else v) xs h.1)
 
 -- steps on which two tests differ don't touch the inode
-pub same_value : (t u : NumberedCall → Bool) (i : ℕ) (v : Option Content) (xs : List (NumberedCall × Step)) → Each (λ x. (t x.0 ≡ u x.0) ⊎ (contains (touched x.1.effects) i ≡ false)) xs → late_value t i v xs ≡ late_value u i v xs
+pub same_value : (t u : NumberedCall → Bool) (i : ℕ) (v : Option Content) (xs : List (NumberedCall × Step)) →
+    Each (λ x. (t x.0 ≡ u x.0) ⊎ (contains (touched x.1.effects) i ≡ false)) xs → late_value t i v xs ≡ late_value u i v xs
 same_value t u i v [] h = refl
 same_value t u i v (x ∷ xs) h =
     elim h.0 [
       | inl e ↦ rw e (same_value t u i (if u x.0 then value_after i v x.1.effects else v) xs h.1)
       | inr q ↦
           let stays : value_after i v x.1.effects ≡ v = untouched i v x.1.effects q in
-          (elim (t x.0) as (λ b. late_value t i (if b then value_after i v x.1.effects else v) xs ≡ late_value t i v xs) [ true ↦ ap (λ w. late_value t i w xs) stays | false ↦ refl ])
+          (elim (t x.0) as (λ b. late_value t i (if b then value_after i v x.1.effects else v) xs ≡ late_value t i v xs)
+          [ true ↦ ap (λ w. late_value t i w xs) stays | false ↦ refl ])
           ∙ same_value t u i v xs h.1
-          ∙ sym (elim (u x.0) as (λ b. late_value u i (if b then value_after i v x.1.effects else v) xs ≡ late_value u i v xs) [ true ↦ ap (λ w. late_value u i w xs) stays | false ↦ refl ])
+          ∙ sym (elim (u x.0) as (λ b. late_value u i (if b then value_after i v x.1.effects else v) xs ≡ late_value u i v xs)
+          [ true ↦ ap (λ w. late_value u i w xs) stays | false ↦ refl ])
     ]
 
-pub value-none : (t : NumberedCall → Bool) (i : ℕ) (v : Option Content) (xs : List (NumberedCall × Step)) → Each (λ x. t x.0 ≡ false) xs → late_value t i v xs ≡ v
+pub value-none : (t : NumberedCall → Bool) (i : ℕ) (v : Option Content) (xs : List (NumberedCall × Step)) → Each (λ x. t x.0 ≡ false) xs →
+    late_value t i v xs ≡ v
 value-none t i v [] h = refl
 value-none t i v (x ∷ xs) h = rw h.0 (value-none t i v xs h.1)
 
@@ -101,16 +96,19 @@ pub value-snoc : (t : NumberedCall → Bool) (i : ℕ) (v : Option Content) (xs 
 value-snoc t i v [] y = refl
 value-snoc t i v (x ∷ xs) y = value-snoc t i (if t x.0 then value_after i v x.1.effects else v) xs y
 
-pub value-filter : (t k : NumberedCall → Bool) (i : ℕ) (v : Option Content) (xs : List (NumberedCall × Step)) → late_value t i v (filter (λ x. k x.0) xs) ≡ late_value (λ x. k x && t x) i v xs
+pub value-filter : (t k : NumberedCall → Bool) (i : ℕ) (v : Option Content) (xs : List (NumberedCall × Step)) → late_value t i v (filter (λ x. k x.0) xs)
+    ≡ late_value (λ x. k x && t x) i v xs
 value-filter t k i v [] = refl
 value-filter t k i v (x ∷ xs) =
-    elim (k x.0) as (λ b. late_value t i v (if b then x ∷ filter (λ x. k x.0) xs else filter (λ x. k x.0) xs) ≡ late_value (λ x. k x && t x) i (if b && t x.0 then value_after i v x.1.effects else v) xs) [
+    elim (k x.0) as (λ b. late_value t i v (if b then x ∷ filter (λ x. k x.0) xs else filter (λ x. k x.0) xs) ≡ late_value (λ x. k x && t x) i
+    (if b && t x.0 then value_after i v x.1.effects else v) xs) [
       | true ↦ value-filter t k i (if t x.0 then value_after i v x.1.effects else v) xs
       | false ↦ value-filter t k i v xs
     ]
 
 -- the value after thresholds that agree
-pub below-same : (a b : ℕ → ℕ) (i : ℕ) (v : Option Content) (xs : List (NumberedCall × Step)) → ((d : ℕ) → a d ≡ b d) → late_value (below a) i v xs ≡ late_value (below b) i v xs
+pub below-same : (a b : ℕ → ℕ) (i : ℕ) (v : Option Content) (xs : List (NumberedCall × Step)) → ((d : ℕ) → a d ≡ b d) → late_value (below a) i v xs
+    ≡ late_value (below b) i v xs
 below-same a b i v xs e = value-cong (below a) (below b) i v xs (each-all xs)
   where
     each-all : (ys : List (NumberedCall × Step)) → Each (λ x. below a x.0 ≡ below b x.0) ys
@@ -127,7 +125,8 @@ pub trace-snoc : (v : Values) (xs : List NumberedCall) (y : NumberedCall) → tr
 trace-snoc v [] y = refl
 trace-snoc v (x ∷ xs) y = ap (λ l. (x, step_of v x) ∷ l) (trace-snoc (after v (step_of v x).effects) xs y)
 
-pub values-snoc : (v : Values) (xs : List NumberedCall) (y : NumberedCall) → values_after_calls v (xs ++ y ∷ []) ≡ after (values_after_calls v xs) (step_of (values_after_calls v xs) y).effects
+pub values-snoc : (v : Values) (xs : List NumberedCall) (y : NumberedCall) → values_after_calls v (xs ++ y ∷ []) ≡ after (values_after_calls v xs)
+    (step_of (values_after_calls v xs) y).effects
 values-snoc v [] y = refl
 values-snoc v (x ∷ xs) y = values-snoc (after v (step_of v x).effects) xs y
 
@@ -135,7 +134,8 @@ pub values-value : (v : Values) (xs : List NumberedCall) (i : ℕ) → values_af
 values-value v [] i = refl
 values-value v (x ∷ xs) i = values-value (after v (step_of v x).effects) xs i
 
-pub answered-snoc : (t : Tree) (xs : List NumberedCall) (y : NumberedCall) → AreAnswered t (exchanges xs) → y.reply ≡ (answer (tree_after_calls t (ops xs)) y.op).0 → AreAnswered t (exchanges (xs ++ y ∷ []))
+pub answered-snoc : (t : Tree) (xs : List NumberedCall) (y : NumberedCall) → AreAnswered t (exchanges xs) →
+    y.reply ≡ (answer (tree_after_calls t (ops xs)) y.op).0 → AreAnswered t (exchanges (xs ++ y ∷ []))
 answered-snoc t [] y a h = (h, tt)
 answered-snoc t (x ∷ xs) y a h = (a.0, answered-snoc (answer t x.op).1 xs y a.1 h)
 

@@ -1,14 +1,8 @@
 -- Lists of log records, and windows of calls.
-use Rattle.std.proofs.Common.{◌≡◌, ℕ, zero, suc, ◌+◌, ◌<◌, ◌≤◌, inl, inr, Bool, true, false, List, [], ◌∷◌, ◌++◌, if◌then◌else◌, refl, ap, sym, ◌∙◌, ◌&&◌, ◌||◌, nat_lt, arith, take, drop, length}
-use Rattle.std.proofs.lemmas.Bool.{cases_Bool, eqb-true, ltb-true, leb-true, lt-ltb, and_parts, or_right, or_left, or_cases}
-use Rattle.std.proofs.lemmas.Bool.Decides.{nat_tests}
-use Rattle.assise_record.specs.declared.effect.Effect.{Effect}
-use Rattle.assise_record.specs.LogRecord.{LogRecord}
-use Rattle.assise_record.specs.Records.{all_effects, has_some, record_of, call_of, Ascending}
-use Rattle.assise_record.proofs.Records.{all_effects-one}
-use Rattle.assise_inode_table.specs.Effects.{touched, contains}
-use Rattle.assise_inode_table.specs.Traces.{NumberedCall, below, window}
-use Rattle.assise_inode_table.proofs.EffectValues.{contains-both}
+use Rattle.assise_model_world.proofs.Common.{◌≡◌, ℕ, zero, suc, ◌+◌, ◌<◌, ◌≤◌, inl, inr, Bool, true, false, List, [], ◌∷◌, ◌++◌, if◌then◌else◌, refl, ap, sym}
+use Rattle.assise_model_world.proofs.Common.{◌∙◌, ◌&&◌, ◌||◌, nat_lt, arith, take, drop, length, cases_Bool, eqb-true, ltb-true, leb-true, lt-ltb, and_parts}
+use Rattle.assise_model_world.proofs.Common.{or_right, or_left, or_cases, nat_tests, Effect, LogRecord, all_effects, has_some, record_of, call_of, Ascending}
+use Rattle.assise_model_world.proofs.Common.{all_effects-one, touched, contains, NumberedCall, below, window, contains-both}
 
 -- what it is to pass a window
 pub in_window : (c a b : ℕ) (x : NumberedCall) → window c a b x ≡ true → (x.client ≡ c) × (a ≤ x.number) × (x.number < b)
@@ -104,7 +98,8 @@ take-sum rs j m n = split (drop j rs) m n ∙ ap (λ l. take m (drop j rs) ++ ta
   where
     split : (qs : List LogRecord) (m n : ℕ) → take (m + n) qs ≡ take m qs ++ take n (drop m qs)
     split qs zero n = (let e : 0 + n ≡ n = omega arith in rw e)
-    split [] (suc m) n = (let e : suc m + n ≡ suc (m + n) = omega arith in rw e (elim n as (λ n. [] ≡ take {A = LogRecord} n []) [ zero ↦ refl | suc n ↦ refl ]))
+    split [] (suc m) n = (let e : suc m + n ≡ suc (m + n) = omega arith in
+        rw e (elim n as (λ n. [] ≡ take {A = LogRecord} n []) [ zero ↦ refl | suc n ↦ refl ]))
     split (q ∷ qs) (suc m) n = (let e : suc m + n ≡ suc (m + n) = omega arith in rw e (ap (λ l. q ∷ l) (split qs m n)))
 
 -- ---- one more record
@@ -115,7 +110,8 @@ at-grows [] j n es =
       | true ↦ (elim j as (λ j. n ≤ call_of (record { call = n; effects = es } ∷ []) j (suc n)) [ zero ↦ omega arith | suc j ↦ omega arith ])
       | false ↦ omega arith
     ]
-at-grows (r ∷ rs) j n es = elim j as (λ j. call_of (r ∷ rs) j n ≤ call_of (r ∷ (rs ++ record_of n es)) j (suc n)) [ zero ↦ omega arith | suc j ↦ at-grows rs j n es ]
+at-grows (r ∷ rs) j n es = elim j as (λ j. call_of (r ∷ rs) j n ≤ call_of (r ∷ (rs ++ record_of n es)) j (suc n))
+    [ zero ↦ omega arith | suc j ↦ at-grows rs j n es ]
 
 -- an earlier call is below the one number as below the other
 pub at-same : (rs : List LogRecord) (j n k : ℕ) (es : List Effect) → k < n → nat_lt k (call_of (rs ++ record_of n es) j (suc n)) ≡ nat_lt k (call_of rs j n)
@@ -162,16 +158,19 @@ at-seam (r ∷ rs) zs d = at-seam rs zs d
 
 -- ---- what is touched
 
-pub contains-all_effects : (r : LogRecord) (rs : List LogRecord) (i : ℕ) → contains (touched (all_effects (r ∷ rs))) i ≡ (contains (touched r.effects) i || contains (touched (all_effects rs)) i)
+pub contains-all_effects : (r : LogRecord) (rs : List LogRecord) (i : ℕ) → contains (touched (all_effects (r ∷ rs))) i
+    ≡ (contains (touched r.effects) i || contains (touched (all_effects rs)) i)
 contains-all_effects r rs i = contains-both r.effects (all_effects rs) i
 
 pub contains-take : (rs : List LogRecord) (k i : ℕ) → contains (touched (all_effects (take k rs))) i ≡ true → contains (touched (all_effects rs)) i ≡ true
-contains-take [] k i h = (elim k as (λ j. contains (touched (all_effects (take {A = LogRecord} j []))) i ≡ true → false ≡ true) [ zero ↦ λ h. h | suc j ↦ λ h. h ]) h
+contains-take [] k i h = (elim k as (λ j. contains (touched (all_effects (take {A = LogRecord} j []))) i ≡ true → false ≡ true)
+    [ zero ↦ λ h. h | suc j ↦ λ h. h ]) h
 contains-take (r ∷ rs) k i h =
     (elim k as (λ j. contains (touched (all_effects (take j (r ∷ rs)))) i ≡ true → contains (touched (all_effects (r ∷ rs))) i ≡ true) [
       | zero ↦ λ h. cc
       | suc j ↦ λ h.
-          let split : (contains (touched r.effects) i || contains (touched (all_effects (take j rs))) i) ≡ true = sym (contains-all_effects r (take j rs) i) ∙ h in
+          let split : (contains (touched r.effects) i || contains (touched (all_effects (take j rs))) i) ≡ true = sym (contains-all_effects r (take j rs) i)
+          ∙ h in
           contains-all_effects r rs i ∙ (elim (or_cases (contains (touched r.effects) i) (contains (touched (all_effects (take j rs))) i) split) [
             | inl e ↦ or_left (contains (touched r.effects) i) (contains (touched (all_effects rs)) i) e
             | inr e ↦ or_right (contains (touched r.effects) i) (contains (touched (all_effects rs)) i) (contains-take rs j i e)
@@ -191,11 +190,13 @@ at-take_past (r ∷ rs) (suc j) zero d h = absurd (omega arith)
 at-take_past (r ∷ rs) (suc j) (suc i) d h = at-take_past rs j i d (omega arith)
 
 pub contains-drop : (rs : List LogRecord) (k i : ℕ) → contains (touched (all_effects (drop k rs))) i ≡ true → contains (touched (all_effects rs)) i ≡ true
-contains-drop [] k i h = (elim k as (λ j. contains (touched (all_effects (drop {A = LogRecord} j []))) i ≡ true → false ≡ true) [ zero ↦ λ h. h | suc j ↦ λ h. h ]) h
+contains-drop [] k i h = (elim k as (λ j. contains (touched (all_effects (drop {A = LogRecord} j []))) i ≡ true → false ≡ true)
+    [ zero ↦ λ h. h | suc j ↦ λ h. h ]) h
 contains-drop (r ∷ rs) k i h =
     (elim k as (λ j. contains (touched (all_effects (drop j (r ∷ rs)))) i ≡ true → contains (touched (all_effects (r ∷ rs))) i ≡ true) [
       | zero ↦ λ h. h
-      | suc j ↦ λ h. contains-both r.effects (all_effects rs) i ∙ or_right (contains (touched r.effects) i) (contains (touched (all_effects rs)) i) (contains-drop rs j i h)
+      | suc j ↦ λ h. contains-both r.effects (all_effects rs) i ∙ or_right (contains (touched r.effects) i) (contains (touched (all_effects rs)) i)
+          (contains-drop rs j i h)
     ]) h
 
 -- ---- windows below thresholds

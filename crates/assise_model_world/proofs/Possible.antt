@@ -1,15 +1,12 @@
 -- Each step can be made: the state to which it leads.
-use Rattle.std.proofs.Common.{◌≡◌, ◌⊎◌, ℕ, suc, ◌+◌, ◌-◌, ◌≤◌, ◌≢◌, inl, inr, min, max, true, false, not, List, [], ◌∷◌, ◌++◌, if◌then◌else◌, refl, sym, ◌∙◌, subst, ◌&&◌, ◌||◌, nat_le, ◌==◌, arith, take, drop, length, filter}
-use Rattle.std.proofs.lemmas.Bool.{cases_Bool, eqb-true, leb-true, le-leb, eq-eqb, ne_eqb, and_parts, and_from, false_from_ne_true, both_ways, or_cases, or_right}
-use Rattle.assise_names.specs.declared.mode.Mode.{Mode}
-use Rattle.assise_record.specs.Records.{all_effects, record_of}
-use Rattle.assise_inode_table.specs.Effects.{value_after, touched, contains}
-use Rattle.assise_inode_table.specs.Traces.{NumberedCall, below}
+use Rattle.assise_model_world.proofs.Common.{◌≡◌, ◌⊎◌, ℕ, suc, ◌+◌, ◌-◌, ◌≤◌, ◌≢◌, inl, inr, min, max, true, false, not, List, [], ◌∷◌, ◌++◌, if◌then◌else◌}
+use Rattle.assise_model_world.proofs.Common.{refl, sym, ◌∙◌, subst, ◌&&◌, ◌||◌, nat_le, ◌==◌, arith, take, drop, length, filter, cases_Bool, eqb-true, leb-true}
+use Rattle.assise_model_world.proofs.Common.{le-leb, eq-eqb, ne_eqb, and_parts, and_from, false_from_ne_true, both_ways, or_cases, or_right, Mode, all_effects}
+use Rattle.assise_model_world.proofs.Common.{record_of, value_after, touched, contains, NumberedCall, below, Opens, MakesCall, RaisesGoals, Crashes}
+use Rattle.assise_model_world.proofs.Common.{is_for_writing, IsModeFree, Acquires, Releases, Delivers, Digests, Drops, kept_at_failure, Fails, Joins, Rests}
+use Rattle.assise_model_world.proofs.Common.{WorldInvariant, World, Full, end_of_log, call_at, records_between, undigested_below, step_at_home}
+use Rattle.assise_model_world.proofs.Common.{call_makes_inode}
 use Rattle.assise_model_world.specs.Chances.{MayMakeCall, MayDeliver, MayDigest, MayDrop, MayFail, MayJoin}
-use Rattle.assise_model_world.specs.ClientSteps.{Opens, MakesCall, RaisesGoals, Crashes, is_for_writing, IsModeFree, Acquires, Releases}
-use Rattle.assise_model_world.specs.NodeSteps.{Delivers, Digests, Drops, kept_at_failure, Fails, Joins, Rests}
-use Rattle.assise_model_world.specs.Invariant.{WorldInvariant}
-use Rattle.assise_model_world.specs.World.{World, Full, end_of_log, call_at, records_between, undigested_below, step_at_home, call_makes_inode}
 use Rattle.assise_model_world.proofs.Logs.{length-both}
 
 -- ---- one of many
@@ -40,7 +37,8 @@ at_one-here n c x f = rw (and_from (n == n) (c == c) (eq-eqb n n refl) (eq-eqb c
 pub at_one-else : {A : Type 0} (n c : ℕ) (x : A) (f : ℕ → ℕ → A) (m d : ℕ) → (m ≡ n → d ≡ c → ⊥) → at_one n c x f m d ≡ f m d
 unfolding at_one
 at_one-else n c x f m d other =
-    rw (false_from_ne_true ((m == n) && (d == c)) (λ t. let p : ((m == n) ≡ true) × ((d == c) ≡ true) = and_parts (m == n) (d == c) t in other (eqb-true m n p.0) (eqb-true d c p.1))) refl
+    rw (false_from_ne_true ((m == n) && (d == c)) (λ t. let p : ((m == n) ≡ true) × ((d == c) ≡ true) = and_parts (m == n) (d == c) t in
+    other (eqb-true m n p.0) (eqb-true d c p.1))) refl
 
 -- ---- clients
 

@@ -1,17 +1,13 @@
 -- Steps that leave the calls and the logs.
-use Rattle.std.proofs.Common.{◌≡◌, ℕ, ◌≤◌, inl, inr, true, IsSome, ap, sym, ◌∙◌, subst, arith}
-use Rattle.assise_seq_tree.specs.Tree.{opening as opening_tree}
-use Rattle.assise_seq_tree.specs.Runs.{AreAnswered, tree_after_calls}
-use Rattle.assise_inode_table.specs.Spelled.{Spells}
-use Rattle.assise_inode_table.specs.Traces.{values_after_calls, AllMakeNew, exchanges, ops, NumbersAscend}
-use Rattle.assise_inode_table.specs.Unseen.{Unseen}
-use Rattle.assise_model_world.specs.Runs.{NoneFalls}
-use Rattle.assise_model_world.specs.Invariant.{IsMadeBy, IsMade, Stands, Counted, Numbered, AreMade, Guarded, Compatible, IsOrdered, Areas, CallsInvariant, WritesAreHeld, WorldInvariant, AreDropped}
-use Rattle.assise_model_world.specs.Staying.{SameLogs, KeepsLeases, SameNodes}
-use Rattle.assise_model_world.specs.World.{World, Full, opening_values, end_of_log, digested_by_all, received_by_all, records_between, first_undigested_at, first_undigested, first_unreplicated, steps, now, tree, value_below}
-use Rattle.assise_inode_table.proofs.PairwiseLists.{each-map}
+use Rattle.assise_model_world.proofs.Common.{◌≡◌, ℕ, ◌≤◌, inl, inr, true, IsSome, ap, sym, ◌∙◌, subst, arith, opening_tree, AreAnswered, tree_after_calls}
+use Rattle.assise_model_world.proofs.Common.{Spells, values_after_calls, AllMakeNew, exchanges, ops, NumbersAscend, Unseen, NoneFalls, IsMadeBy, IsMade, Stands}
+use Rattle.assise_model_world.proofs.Common.{Counted, Numbered, AreMade, Guarded, Compatible, IsOrdered, Areas, CallsInvariant, WritesAreHeld, WorldInvariant}
+use Rattle.assise_model_world.proofs.Common.{AreDropped, SameLogs, KeepsLeases, SameNodes, World, Full, opening_values, end_of_log, digested_by_all}
+use Rattle.assise_model_world.proofs.Common.{received_by_all, records_between, first_undigested_at, first_undigested, first_unreplicated, steps, now, tree}
+use Rattle.assise_model_world.proofs.Common.{value_below, each-map}
 use Rattle.assise_model_world.proofs.Lists.{unseen-raise, below-same}
-use Rattle.assise_model_world.proofs.WorldObserved.{least_of-below, least_of-above, least_of-end, least_of-same, call_at-mono, part_of, IsCounted, part_moves, call_at-same, steps-same, area_at}
+use Rattle.assise_model_world.proofs.WorldObserved.{least_of-below, least_of-above, least_of-end, least_of-same, call_at-mono, part_of, IsCounted, part_moves}
+use Rattle.assise_model_world.proofs.WorldObserved.{call_at-same, steps-same, area_at}
 
 -- ---- the history stays
 
@@ -57,10 +53,12 @@ stands-same w w' s l c j k bj bk low le high =
     (call_at-same w w' c j (l.records c) (l.first c) (l.next c)) (call_at-same w w' c k (l.records c) (l.first c) (l.next c)) (steps-same w w' l.calls)
     (part_of w c j k s (sym (l.border c j) ∙ bj) (sym (l.border c k) ∙ bk) (rw (l.first c) at low) le (rw (end-same w w' l c) at high))
 
-first_undigested-same : (w w' : World) → CallsInvariant w → SameLogs w w' → ((c : ℕ) → digested_by_all w c ≤ digested_by_all w' c) → (c : ℕ) → first_undigested w c ≤ first_undigested w' c
+first_undigested-same : (w w' : World) → CallsInvariant w → SameLogs w w' → ((c : ℕ) → digested_by_all w c ≤ digested_by_all w' c) → (c : ℕ) →
+    first_undigested w c ≤ first_undigested w' c
 unfolding first_undigested
 first_undigested-same w w' s l up c =
-    rw (call_at-same w w' c (digested_by_all w' c) (l.records c) (l.first c) (l.next c)) (call_at-mono w c (digested_by_all w c) (digested_by_all w' c) s (up c))
+    rw (call_at-same w w' c (digested_by_all w' c) (l.records c) (l.first c) (l.next c))
+    (call_at-mono w c (digested_by_all w c) (digested_by_all w' c) s (up c))
 
 -- an event that leaves history and logs has these things to show
 pub calm_coherent : (w w' : World) → CallsInvariant w → SameLogs w w' → w.clients ≤ w'.clients → ((c : ℕ) → digested_by_all w c ≤ digested_by_all w' c) →
@@ -81,23 +79,28 @@ calm_coherent w w' s l more up order guarded compatible areas = record {
   order = order;
   guarded = guarded;
   compatible = compatible;
-  unseen = subst (λ xs. Unseen (first_undigested w') xs) (sym (steps-same w w' l.calls)) (unseen-raise (first_undigested w) (first_undigested w') (steps w) (first_undigested-same w w' s l up) s.unseen);
+  unseen = subst (λ xs. Unseen (first_undigested w') xs) (sym (steps-same w w' l.calls))
+      (unseen-raise (first_undigested w) (first_undigested w') (steps w) (first_undigested-same w w' s l up) s.unseen);
   areas = areas;
 }
 
 -- the thresholds don't fall where places of nodes don't
-pub calm_falls : (w w' : World) → CallsInvariant w → SameLogs w w' → ((c : ℕ) → digested_by_all w c ≤ digested_by_all w' c) → ((c : ℕ) → received_by_all w c ≤ received_by_all w' c) → NoneFalls w w'
+pub calm_falls : (w w' : World) → CallsInvariant w → SameLogs w w' → ((c : ℕ) → digested_by_all w c ≤ digested_by_all w' c) →
+    ((c : ℕ) → received_by_all w c ≤ received_by_all w' c) → NoneFalls w w'
 unfolding first_undigested first_unreplicated
 calm_falls w w' s l up more = record {
-  unreplicated = λ c. rw (call_at-same w w' c (received_by_all w' c) (l.records c) (l.first c) (l.next c)) (call_at-mono w c (received_by_all w c) (received_by_all w' c) s (more c));
-  undigested = λ c. rw (call_at-same w w' c (digested_by_all w' c) (l.records c) (l.first c) (l.next c)) (call_at-mono w c (digested_by_all w c) (digested_by_all w' c) s (up c));
+  unreplicated = λ c. rw (call_at-same w w' c (received_by_all w' c) (l.records c) (l.first c) (l.next c))
+      (call_at-mono w c (received_by_all w c) (received_by_all w' c) s (more c));
+  undigested = λ c. rw (call_at-same w w' c (digested_by_all w' c) (l.records c) (l.first c) (l.next c))
+      (call_at-mono w c (digested_by_all w c) (digested_by_all w' c) s (up c));
 }
 
 pub guarded-same : (w w' : World) → CallsInvariant w → ((c : ℕ) → w'.records c ≡ w.records c) → KeepsLeases w w' → Guarded w'
 unfolding Guarded
 guarded-same w w' s same l c i h = l.writes c i ∙ s.guarded c i (rw (same c) at h)
 
-pub compatible-less : (w w' : World) → CallsInvariant w → ((d j : ℕ) → w'.holds d j ≡ true → w.holds d j ≡ true) → ((d j : ℕ) → w'.writes d j ≡ true → w.writes d j ≡ true) → Compatible w'
+pub compatible-less : (w w' : World) → CallsInvariant w → ((d j : ℕ) → w'.holds d j ≡ true → w.holds d j ≡ true) →
+    ((d j : ℕ) → w'.writes d j ≡ true → w.writes d j ≡ true) → Compatible w'
 unfolding Compatible
 compatible-less w w' s ho wr c d i other a b = s.compatible c d i other (wr c i a) (ho d i b)
 
@@ -105,16 +108,19 @@ pub compatible-same : (w w' : World) → CallsInvariant w → KeepsLeases w w' �
 compatible-same w w' s l = compatible-less w w' s (λ d j h. sym (l.holds d j) ∙ h) (λ d j h. sym (l.writes d j) ∙ h)
 
 -- areas where nothing was digested and nothing applied
-pub areas-same : (w w' : World) → CallsInvariant w → SameLogs w w' → (m : ℕ) → Full w m → ((i : ℕ) → w'.area m i ≡ w.area m i) → ((d : ℕ) → w'.digested m d ≡ w.digested m d) →
+pub areas-same : (w w' : World) → CallsInvariant w → SameLogs w w' → (m : ℕ) → Full w m → ((i : ℕ) → w'.area m i ≡ w.area m i) →
+    ((d : ℕ) → w'.digested m d ≡ w.digested m d) →
     (i : ℕ) → w'.area m i ≡ value_below w' (first_undigested_at w' m) i
 unfolding value_below first_undigested_at
 areas-same w w' s l m f a g i = grind (arith, area_at, below-same, call_at-same, steps-same)
 
-pub digested_by_all-same : (w w' : World) → SameLogs w w' → w'.full ≡ w.full → ((m d : ℕ) → Full w m → w.digested m d ≤ w'.digested m d) → (c : ℕ) → digested_by_all w c ≤ digested_by_all w' c
+pub digested_by_all-same : (w w' : World) → SameLogs w w' → w'.full ≡ w.full → ((m d : ℕ) → Full w m → w.digested m d ≤ w'.digested m d) → (c : ℕ) →
+    digested_by_all w c ≤ digested_by_all w' c
 unfolding digested_by_all
 digested_by_all-same w w' l f g c = grind (arith, least_of-above, end-same, least_of-end, least_of-below)
 
-pub received_by_all-same : (w w' : World) → SameLogs w w' → w'.full ≡ w.full → ((m d : ℕ) → Full w m → w.received m d ≤ w'.received m d) → (c : ℕ) → received_by_all w c ≤ received_by_all w' c
+pub received_by_all-same : (w w' : World) → SameLogs w w' → w'.full ≡ w.full → ((m d : ℕ) → Full w m → w.received m d ≤ w'.received m d) → (c : ℕ) →
+    received_by_all w c ≤ received_by_all w' c
 unfolding received_by_all
 received_by_all-same w w' l f g c = grind (arith, least_of-above, end-same, least_of-end, least_of-below)
 
@@ -129,7 +135,8 @@ received_by_all-still w w' l e = received_by_all-same w w' l e.full (λ m d h. r
 order-still : (w w' : World) → CallsInvariant w → SameLogs w w' → SameNodes w w' → (n c : ℕ) → Full w' n → IsOrdered w' n c
 order-still w w' s l e m d h = grind (arith, received_by_all-still, end-same)
 
-pub still_coherent : (w w' : World) → CallsInvariant w → SameLogs w w' → SameNodes w w' → w.clients ≤ w'.clients → Guarded w' → Compatible w' → CallsInvariant w'
+pub still_coherent : (w w' : World) → CallsInvariant w → SameLogs w w' → SameNodes w w' → w.clients ≤ w'.clients → Guarded w' → Compatible w' →
+    CallsInvariant w'
 unfolding Areas
 still_coherent w w' s l e more guarded compatible = grind (arith, calm_coherent, digested_by_all-still, order-still, areas-same)
 
@@ -138,7 +145,8 @@ still_falls w w' s l e = calm_falls w w' s l (digested_by_all-still w w' l e) (r
 
 -- with clients that live where they did all holds
 pub still_sound : (w w' : World) → WorldInvariant w → CallsInvariant w' → SameLogs w w' → SameNodes w w' → w.clients ≤ w'.clients →
-    ((c : ℕ) → w'.home c ≡ w.home c) → ((c : ℕ) → w'.lives c ≡ w.lives c) → ((c : ℕ) → w'.goal c ≤ end_of_log w c) → ((c : ℕ) → w.goal c ≤ w'.goal c) → WritesAreHeld w' → WorldInvariant w'
+    ((c : ℕ) → w'.home c ≡ w.home c) → ((c : ℕ) → w'.lives c ≡ w.lives c) → ((c : ℕ) → w'.goal c ≤ end_of_log w c) → ((c : ℕ) → w.goal c ≤ w'.goal c) →
+    WritesAreHeld w' → WorldInvariant w'
 still_sound w w' s coherent l e more home lives goals ascend held = grind (arith, end-same)
 
 pub held-same : (w w' : World) → WorldInvariant w → KeepsLeases w w' → WritesAreHeld w'

@@ -1,23 +1,16 @@
 -- What a full node's region alone says is what the calls that all full nodes have made.
-use Rattle.std.proofs.Common.{◌≡◌, ℕ, zero, suc, ◌<◌, ◌≤◌, inl, inr, Bool, true, false, Option, refl, ap, sym, ◌∙◌, subst, ◌&&◌, arith, filter}
-use Rattle.std.proofs.lemmas.Bool.{cases_eq}
-use Rattle.assise_seq_tree.specs.Tree.{opening as opening_tree}
-use Rattle.assise_seq_tree.specs.Runs.{AreAnswered, tree_after_calls}
-use Rattle.assise_record.specs.Records.{all_effects}
-use Rattle.assise_inode_table.specs.Contents.{Content}
-use Rattle.assise_inode_table.specs.Effects.{value_after}
-use Rattle.assise_inode_table.specs.Late.{late_value, raised_at}
-use Rattle.assise_inode_table.specs.Spelled.{Spells}
-use Rattle.assise_inode_table.specs.Traces.{trace, values_after_calls, AllMakeNew, exchanges, ops, below, window}
-use Rattle.assise_model_world.specs.Invariant.{CallsInvariant, WorldInvariant}
-use Rattle.assise_model_world.specs.World.{World, Full, opening_values, digested_by_all, received_by_all, records_between, first_undigested_at, first_undigested, first_unreplicated, steps, calls_replicated, undigested_below, all_undigested_records, alone_at}
-use Rattle.assise_inode_table.proofs.EffectValues.{value_after-append}
-use Rattle.assise_inode_table.proofs.PairwiseLists.{each-map, each-always}
+use Rattle.assise_model_world.proofs.Common.{◌≡◌, ℕ, zero, suc, ◌<◌, ◌≤◌, inl, inr, Bool, true, false, Option, refl, ap, sym, ◌∙◌, subst, ◌&&◌, arith, filter}
+use Rattle.assise_model_world.proofs.Common.{cases_eq, opening_tree, AreAnswered, tree_after_calls, all_effects, Content, value_after, late_value, raised_at}
+use Rattle.assise_model_world.proofs.Common.{Spells, trace, values_after_calls, AllMakeNew, exchanges, ops, below, window, CallsInvariant, WorldInvariant}
+use Rattle.assise_model_world.proofs.Common.{World, Full, opening_values, digested_by_all, received_by_all, records_between, first_undigested_at}
+use Rattle.assise_model_world.proofs.Common.{first_undigested, first_unreplicated, steps, calls_replicated, undigested_below, all_undigested_records, alone_at}
+use Rattle.assise_model_world.proofs.Common.{value_after-append, each-map, each-always, opening_spells}
 use Rattle.assise_model_world.proofs.Lists.{value-cong, value-filter, values-value}
-use Rattle.assise_model_world.proofs.WorldObserved.{call_at-mono, received_by_all-below, received_by_all-end, first_undigested-low, first_undigested-received_by_all, received_by_all-border, IsCounted, all_counted, part_value, raised_same, raised_other, later, area_at}
+use Rattle.assise_model_world.proofs.WorldObserved.{call_at-mono, received_by_all-below, received_by_all-end, first_undigested-low}
+use Rattle.assise_model_world.proofs.WorldObserved.{first_undigested-received_by_all, received_by_all-border, IsCounted, all_counted, part_value, raised_same}
+use Rattle.assise_model_world.proofs.WorldObserved.{raised_other, later, area_at}
 use Rattle.assise_model_world.proofs.Between.{digested_by_all-received_by_all}
 use Rattle.assise_model_world.proofs.Views.{ahead_below_between}
-use Rattle.assise_inode_table.proofs.AtOpening.{opening_spells}
 use Rattle.assise_inode_table.proofs.CallsRemoved.{tails_trace, tails_run, tails_new, tails_spelled}
 
 -- the thresholds that are replicated for clients 1 to m, and digested at n for the others
@@ -40,12 +33,15 @@ mixed-before w n (suc m) d low h =
     ]
 
 last_part : (w : World) (n m i : ℕ) (v : Option Content) → CallsInvariant w → Full w n →
-    value_after i v (all_effects (records_between w m (w.digested n m) (received_by_all w m))) ≡ late_value (window m (first_undigested_at w n m) (first_unreplicated w m)) i v (steps w)
+    value_after i v (all_effects (records_between w m (w.digested n m) (received_by_all w m)))
+    ≡ late_value (window m (first_undigested_at w n m) (first_unreplicated w m)) i v (steps w)
 unfolding first_undigested_at first_unreplicated
-last_part w n m i v s f = part_value w m (w.digested n m) (received_by_all w m) i v s (s.order n m f).digested_border (received_by_all-border w s m) (s.order n m f).begun (s.order n m f).replicated (received_by_all-end w m)
+last_part w n m i v s f = part_value w m (w.digested n m) (received_by_all w m) i v s (s.order n m f).digested_border (received_by_all-border w s m)
+    (s.order n m f).begun (s.order n m f).replicated (received_by_all-end w m)
 
 -- the node's own records that are replicated and not digested there
-own_part : (w : World) (n c : ℕ) → WorldInvariant w → Full w n → undigested_below w n c (received_by_all w c) ≡ records_between w c (w.digested n c) (received_by_all w c)
+own_part : (w : World) (n c : ℕ) → WorldInvariant w → Full w n → undigested_below w n c (received_by_all w c) ≡ records_between w c (w.digested n c)
+    (received_by_all w c)
 own_part w n c s f = ahead_below_between w n c (received_by_all w c) s f (received_by_all-below w n c f)
 
 alone_mixed : (w : World) (n m i : ℕ) → WorldInvariant w → Full w n →
@@ -84,7 +80,8 @@ pub spelled_at : (w : World) (b : ℕ → ℕ) → CallsInvariant w → ((c : �
 unfolding steps
 spelled_at w b s le = tails_spelled opening_values opening_tree (first_undigested w) b w.calls opening_spells s.answered s.ascends s.make_new s.unseen le
 
-pub answered_at : (w : World) (b : ℕ → ℕ) → CallsInvariant w → ((c : ℕ) → first_undigested w c ≤ b c) → AreAnswered opening_tree (exchanges (filter (below b) w.calls))
+pub answered_at : (w : World) (b : ℕ → ℕ) → CallsInvariant w → ((c : ℕ) → first_undigested w c ≤ b c) →
+    AreAnswered opening_tree (exchanges (filter (below b) w.calls))
 unfolding steps
 answered_at w b s le = tails_run opening_values opening_tree (first_undigested w) b w.calls opening_spells s.answered s.ascends s.make_new s.unseen le
 
@@ -96,7 +93,8 @@ pub rebuilds : (w : World) (n i : ℕ) → WorldInvariant w → Full w n → alo
 unfolding calls_replicated
 rebuilds w n i s f =
     alone_value w n i s f
-    ∙ sym (value-cong (λ x. below (first_unreplicated w) x && true) (below (first_unreplicated w)) i (opening_values i) (steps w) (each-always _ (steps w) (λ x. and_true (below (first_unreplicated w) x.0))))
+    ∙ sym (value-cong (λ x. below (first_unreplicated w) x && true) (below (first_unreplicated w)) i (opening_values i) (steps w)
+    (each-always _ (steps w) (λ x. and_true (below (first_unreplicated w) x.0))))
     ∙ sym (value-filter (λ x. true) (below (first_unreplicated w)) i (opening_values i) (steps w))
     ∙ ap (λ xs. late_value (λ x. true) i (opening_values i) xs) (sym (tails_at w (first_unreplicated w) s.coherent (first_undigested-below w s.coherent)))
     ∙ sym (values-value opening_values (filter (below (first_unreplicated w)) w.calls) i)

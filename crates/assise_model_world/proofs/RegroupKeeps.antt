@@ -1,17 +1,12 @@
 -- Records that are cut into groups, each of which is coalesced, give way to records with the same net effect.
-use Rattle.std.proofs.Common.{◌≡◌, ℕ, ◌+◌, ◌-◌, ◌≤◌, true, List, ◌++◌, length, take, drop, refl, ap, sym, ◌∙◌, subst, arith, length-drop}
+use Rattle.assise_model_world.proofs.Common.{◌≡◌, ℕ, ◌+◌, ◌-◌, ◌≤◌, true, List, ◌++◌, length, take, drop, refl, ap, sym, ◌∙◌, subst, arith, length-drop}
+use Rattle.assise_model_world.proofs.Common.{drop-append-add, LogRecord, all_effects, call_of, Ascending, touched, contains, SameNetEffect, Coalesces}
+use Rattle.assise_model_world.proofs.Common.{WorldInvariant, AreDropped, World, end_of_log, records_between, call_at}
 use Rattle.std.proofs.lemmas.List.{length-take}
-use Rattle.std.proofs.Math.Seq.{drop-append-add}
 use Rattle.assise_record.specs.Groups.{all_records, all_coalesced, are_whole, were}
-use Rattle.assise_record.specs.LogRecord.{LogRecord}
-use Rattle.assise_record.specs.Records.{all_effects, call_of, Ascending}
 use Rattle.assise_record.proofs.WholeGroups.{whole_none, whole-all, were-none, were-ascends, were-all, calls_same, at-past, all-ascending, all-shorter}
-use Rattle.assise_inode_table.specs.Effects.{touched, contains, SameNetEffect}
 use Rattle.assise_inode_table.proofs.Grouped.{ComeToSame, parts_same}
-use Rattle.assise_model_world.specs.Coalescing.{Coalesces}
 use Rattle.assise_model_world.specs.Regrouped.{Regroups}
-use Rattle.assise_model_world.specs.Invariant.{WorldInvariant, AreDropped}
-use Rattle.assise_model_world.specs.World.{World, end_of_log, records_between, call_at}
 use Rattle.assise_model_world.proofs.CoalescedTail.{coalesce_sound, coalesce_dropped}
 use Rattle.assise_model_world.proofs.Logs.{length-both, take-all, at-drop, ascending-drop, drop-of_drop}
 use Rattle.assise_model_world.proofs.WorldObserved.{end_is, first-received_by_all}
@@ -55,7 +50,8 @@ module _ (w u : World) (c s : ℕ) (gs : List (List LogRecord)) (h : WorldInvari
   -- the old records from s on are those of the groups
   olds : all_records gs ≡ drop n rs
   unfolding n rs
-  olds = e.cut ∙ between_is w c s (end_of_log w c) ∙ take-all (drop (s - w.first c) (w.records c)) (end_of_log w c - s) (omega (arith, length-drop (s - w.first c) (w.records c), low, e.high, end_is w c))
+  olds = e.cut ∙ between_is w c s (end_of_log w c) ∙ take-all (drop (s - w.first c) (w.records c)) (end_of_log w c - s)
+      (omega (arith, length-drop (s - w.first c) (w.records c), low, e.high, end_is w c))
 
   count : length (all_records gs) ≡ end_of_log w c - s
   unfolding n rs
@@ -92,7 +88,8 @@ module _ (w u : World) (c s : ℕ) (gs : List (List LogRecord)) (h : WorldInvari
   unfolding n rs was
   old_part j k = grind (arith, low, between_is, drop-of_drop, olds)
 
-  same : (j k : ℕ) → u.border c j ≡ true → u.border c k ≡ true → s ≤ j → j ≤ k → k ≤ end_of_log u c → ComeToSame (records_between u c j k) (records_between w c (was j) (was k))
+  same : (j k : ℕ) → u.border c j ≡ true → u.border c k ≡ true → s ≤ j → j ≤ k → k ≤ end_of_log u c →
+      ComeToSame (records_between u c j k) (records_between w c (was j) (was k))
   unfolding new
   same j k bj bk from le to =
       subst (λ l. ComeToSame l (records_between w c (was j) (was k))) (sym (new_part j k from))
@@ -120,7 +117,8 @@ module _ (w u : World) (c s : ℕ) (gs : List (List LogRecord)) (h : WorldInvari
 
   ascending : Ascending new (w.next c)
   unfolding n rs new
-  ascending = all-ascending gs (w.next c) e.groups (subst (λ l. Ascending l (w.next c)) (sym olds) (ascending-drop (w.records c) (s - w.first c) (w.next c) (h.coherent.ascending c)))
+  ascending = all-ascending gs (w.next c) e.groups
+      (subst (λ l. Ascending l (w.next c)) (sym olds) (ascending-drop (w.records c) (s - w.first c) (w.next c) (h.coherent.ascending c)))
 
   no_more : end_of_log u c ≤ end_of_log w c
   unfolding new

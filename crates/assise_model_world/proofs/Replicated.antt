@@ -1,14 +1,9 @@
 -- What all full nodes have, and what others have seen.
-use Rattle.std.proofs.Common.{◌≡◌, ◌≢◌, ℕ, List, [], ◌∷◌, if◌then◌else◌, ◌-◌, ◌<◌, ◌≤◌, inl, inr, true, false, refl, ap, sym, ◌∙◌, subst, ◌==◌, arith, drop, filter}
-use Rattle.std.proofs.lemmas.List.{take_all}
-use Rattle.std.proofs.lemmas.Bool.{both_ways, cases_Bool, false_from_ne_true, cases_lt, cases_eq, lt-ltb, eq-eqb, ne_eqb}
-use Rattle.assise_record.specs.Records.{all_effects}
-use Rattle.assise_inode_table.specs.Effects.{contains, touched}
-use Rattle.assise_inode_table.specs.Traces.{NumberedCall, Each, below}
-use Rattle.assise_inode_table.specs.Unseen.{Unseen}
-use Rattle.assise_inode_table.proofs.PairwiseLists.{each-map}
-use Rattle.assise_model_world.specs.Invariant.{Counted, Guarded, WritesAreHeld, WorldInvariant}
-use Rattle.assise_model_world.specs.World.{World, Full, end_of_log, received_by_all, records_between, call_at, first_undigested, first_unreplicated, steps, calls_replicated}
+use Rattle.assise_model_world.proofs.Common.{◌≡◌, ◌≢◌, ℕ, List, [], ◌∷◌, if◌then◌else◌, ◌-◌, ◌<◌, ◌≤◌, inl, inr, true, false, refl, ap, sym, ◌∙◌, subst, ◌==◌}
+use Rattle.assise_model_world.proofs.Common.{arith, drop, filter, take_all, both_ways, cases_Bool, false_from_ne_true, cases_lt, cases_eq, lt-ltb, eq-eqb}
+use Rattle.assise_model_world.proofs.Common.{ne_eqb, all_effects, contains, touched, NumberedCall, Each, below, Unseen, each-map, Counted, Guarded}
+use Rattle.assise_model_world.proofs.Common.{WritesAreHeld, WorldInvariant, World, Full, end_of_log, received_by_all, records_between, call_at}
+use Rattle.assise_model_world.proofs.Common.{first_undigested, first_unreplicated, steps, calls_replicated}
 use Rattle.assise_model_world.proofs.Lists.{unseen-raise}
 use Rattle.assise_model_world.proofs.Logs.{contains-drop, contains-take}
 use Rattle.assise_model_world.proofs.WorldObserved.{call_at-end, IsCounted, guarded_steps, disjoint}
@@ -34,7 +29,8 @@ unfolding first_unreplicated
 next_unreplicated w c e = ap (call_at w c) e ∙ call_at-end w c (end_of_log w c) (omega arith)
 
 -- of a client whose calls all lie below its threshold none is left out
-own_below : (b : ℕ → ℕ) (w : World) (c : ℕ) (xs : List NumberedCall) → b c ≡ w.next c → Each (IsCounted w) xs → filter (λ x. x.client == c) (filter (below b) xs) ≡ filter (λ x. x.client == c) xs
+own_below : (b : ℕ → ℕ) (w : World) (c : ℕ) (xs : List NumberedCall) → b c ≡ w.next c → Each (IsCounted w) xs →
+    filter (λ x. x.client == c) (filter (below b) xs) ≡ filter (λ x. x.client == c) xs
 own_below b w c [] e h = refl
 own_below b w c (x ∷ xs) e h =
     let rest : filter (λ y. y.client == c) (filter (below b) xs) ≡ filter (λ y. y.client == c) xs = own_below b w c xs e h.1 in
@@ -50,7 +46,8 @@ own_below b w c (x ∷ xs) e h =
           ]
     ]
 
-pub end_replicated : (w : World) (c : ℕ) → WorldInvariant w → received_by_all w c ≡ end_of_log w c → filter (λ x. x.client == c) (calls_replicated w) ≡ filter (λ x. x.client == c) w.calls
+pub end_replicated : (w : World) (c : ℕ) → WorldInvariant w → received_by_all w c ≡ end_of_log w c → filter (λ x. x.client == c) (calls_replicated w)
+    ≡ filter (λ x. x.client == c) w.calls
 unfolding calls_replicated Counted
 end_replicated w c s e = own_below (first_unreplicated w) w c w.calls (next_unreplicated w c e) s.coherent.counted
 

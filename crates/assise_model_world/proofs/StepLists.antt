@@ -1,10 +1,12 @@
 -- Steps, one after another.
-use Rattle.std.proofs.Common.{◌≡◌, ℕ, ◌-◌, List, [], ◌∷◌, refl, ap, sym, ◌∙◌, arith, filter}
-use Rattle.assise_inode_table.specs.Traces.{below}
-use Rattle.assise_model_world.specs.Runs.{Moves, opens, makes_call, raises_goals, crashes, acquires, releases, delivers, digests, drops, coalesces, fails, joins, rests, Runs, last, begun, NoneFalls, StayReplicated}
-use Rattle.assise_model_world.specs.Invariant.{Stands, Counted, Numbered, AreMade, Guarded, Compatible, WritesAreHeld, Areas, CallsInvariant, WorldInvariant, AreDropped}
-use Rattle.assise_model_world.specs.World.{World, least_of, end_of_log, digested_by_all, received_by_all, records_between, call_at, first_undigested_at, first_undigested, first_unreplicated, steps, now, tree, value_below, calls_replicated}
-use Rattle.assise_model_world.proofs.ClientsStaying.{open_sound, open_falls, raise_sound, raise_falls, crash_sound, crash_falls, acquire_sound, acquire_falls, release_sound, release_falls, rest_sound, rest_falls}
+use Rattle.assise_model_world.proofs.Common.{◌≡◌, ℕ, ◌-◌, List, [], ◌∷◌, refl, ap, sym, ◌∙◌, arith, filter, below, Moves, opens, makes_call, raises_goals}
+use Rattle.assise_model_world.proofs.Common.{crashes, acquires, releases, delivers, digests, drops, coalesces, fails, joins, rests, Runs, last, begun}
+use Rattle.assise_model_world.proofs.Common.{NoneFalls, StayReplicated, Stands, Counted, Numbered, AreMade, Guarded, Compatible, WritesAreHeld, Areas}
+use Rattle.assise_model_world.proofs.Common.{CallsInvariant, WorldInvariant, AreDropped, World, least_of, end_of_log, digested_by_all, received_by_all}
+use Rattle.assise_model_world.proofs.Common.{records_between, call_at, first_undigested_at, first_undigested, first_unreplicated, steps, now, tree, value_below}
+use Rattle.assise_model_world.proofs.Common.{calls_replicated, opening_spells, root_alone}
+use Rattle.assise_model_world.proofs.ClientsStaying.{open_sound, open_falls, raise_sound, raise_falls, crash_sound, crash_falls, acquire_sound, acquire_falls}
+use Rattle.assise_model_world.proofs.ClientsStaying.{release_sound, release_falls, rest_sound, rest_falls}
 use Rattle.assise_model_world.proofs.CoalescedTail.{coalesce_sound, coalesce_falls}
 use Rattle.assise_model_world.proofs.CallKeeps.{call_sound, call_falls, call_stays}
 use Rattle.assise_model_world.proofs.DeliveryKeeps.{deliver_sound, deliver_falls}
@@ -12,7 +14,6 @@ use Rattle.assise_model_world.proofs.DigestKeeps.{digest_sound, digest_falls}
 use Rattle.assise_model_world.proofs.DropKeeps.{drop_sound, drop_falls}
 use Rattle.assise_model_world.proofs.FailureKeeps.{fail_sound, fail_falls, fail_stays, filter-lower}
 use Rattle.assise_model_world.proofs.JoinKeeps.{join_sound, join_falls}
-use Rattle.assise_inode_table.proofs.AtOpening.{opening_spells, root_alone}
 
 -- ---- one step
 
@@ -71,7 +72,8 @@ run_falls w (u ∷ us) s r =
 stays-on : (w u v : World) → NoneFalls w u → StayReplicated w u → StayReplicated u v → StayReplicated w v
 unfolding StayReplicated calls_replicated
 stays-on w u v up one rest =
-    sym (filter-lower (first_unreplicated w) (first_unreplicated u) v.calls up.unreplicated) ∙ ap (λ xs. filter (below (first_unreplicated w)) xs) rest ∙ filter-lower (first_unreplicated w) (first_unreplicated u) u.calls up.unreplicated ∙ one
+    sym (filter-lower (first_unreplicated w) (first_unreplicated u) v.calls up.unreplicated) ∙ ap (λ xs. filter (below (first_unreplicated w)) xs) rest
+    ∙ filter-lower (first_unreplicated w) (first_unreplicated u) u.calls up.unreplicated ∙ one
 
 pub run_stays : (w : World) (us : List World) → WorldInvariant w → Runs w us → StayReplicated w (last w us)
 run_stays w [] s r = stay-same w w refl
@@ -80,7 +82,8 @@ run_stays w (u ∷ us) s r = stays-on w u (last u us) (step_falls w u s r.0) (st
 -- ---- the start
 
 begun_coherent : (nodes : List ℕ) → CallsInvariant (begun nodes)
-unfolding now tree AreMade Numbered Counted Stands Guarded Compatible Areas value_below first_undigested_at first_undigested steps records_between call_at end_of_log received_by_all digested_by_all
+unfolding now tree AreMade Numbered Counted Stands Guarded Compatible Areas value_below first_undigested_at first_undigested steps records_between call_at
+    end_of_log received_by_all digested_by_all
 begun_coherent nodes = grind (arith, opening_spells, root_alone)
 
 begun_sound : (nodes : List ℕ) → WorldInvariant (begun nodes)

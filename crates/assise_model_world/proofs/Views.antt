@@ -1,22 +1,14 @@
 -- What a client reads at its home is what the calls made.
-use Rattle.std.proofs.Common.{◌≡◌, ℕ, ◌+◌, ◌-◌, ◌<◌, ◌≤◌, ◌⊎◌, inl, inr, true, false, List, [], ◌∷◌, refl, ap, sym, ◌∙◌, subst, ◌==◌, arith, take, drop}
-use Rattle.std.proofs.lemmas.List.{drop-take, take-take}
-use Rattle.std.proofs.lemmas.Bool.{cases_Bool, ltb-false, eq-eqb, cases_eq, or_right, false_from_ne_true}
-use Rattle.assise_seq_tree.specs.Answer.{answer}
-use Rattle.assise_record.specs.Records.{all_effects}
-use Rattle.assise_inode_table.specs.Contents.{Values}
-use Rattle.assise_inode_table.specs.Effects.{value_after, touched, contains}
-use Rattle.assise_inode_table.specs.Interaction.{Step, AgreeOn}
-use Rattle.assise_inode_table.specs.Late.{late_value, raised_at}
-use Rattle.assise_inode_table.specs.Traces.{NumberedCall, step_of, below}
-use Rattle.assise_inode_table.specs.Unseen.{Clear}
-use Rattle.assise_model_world.specs.Invariant.{IsOrdered, CallsInvariant, WorldInvariant}
-use Rattle.assise_model_world.specs.World.{World, Full, opening_values, end_of_log, records_between, call_at, first_undigested_at, first_undigested, steps, now, tree, undigested_records, undigested_below, view, step_at_home}
-use Rattle.assise_inode_table.proofs.PairwiseLists.{each-both}
+use Rattle.assise_model_world.proofs.Common.{◌≡◌, ℕ, ◌+◌, ◌-◌, ◌<◌, ◌≤◌, ◌⊎◌, inl, inr, true, false, List, [], ◌∷◌, refl, ap, sym, ◌∙◌, subst, ◌==◌, arith}
+use Rattle.assise_model_world.proofs.Common.{take, drop, drop-take, take-take, cases_Bool, ltb-false, eq-eqb, cases_eq, or_right, false_from_ne_true, answer}
+use Rattle.assise_model_world.proofs.Common.{all_effects, Values, value_after, touched, contains, Step, AgreeOn, late_value, raised_at, NumberedCall, step_of}
+use Rattle.assise_model_world.proofs.Common.{below, Clear, IsOrdered, CallsInvariant, WorldInvariant, World, Full, opening_values, end_of_log, records_between}
+use Rattle.assise_model_world.proofs.Common.{call_at, first_undigested_at, first_undigested, steps, now, tree, undigested_records, undigested_below, view}
+use Rattle.assise_model_world.proofs.Common.{step_at_home, each-both, step_replies}
 use Rattle.assise_inode_table.proofs.Local.{step_local}
-use Rattle.assise_inode_table.proofs.CallSteps.{step_replies}
 use Rattle.assise_model_world.proofs.Lists.{same_value, values-value}
-use Rattle.assise_model_world.proofs.WorldObserved.{call_at-mono, call_at-end, received_by_all-below, received_by_all-end, first_undigested-low, IsCounted, all_counted, guarded_all, part_value, raised_same, raised_other, later, area_at, disjoint}
+use Rattle.assise_model_world.proofs.WorldObserved.{call_at-mono, call_at-end, received_by_all-below, received_by_all-end, first_undigested-low, IsCounted}
+use Rattle.assise_model_world.proofs.WorldObserved.{all_counted, guarded_all, part_value, raised_same, raised_other, later, area_at, disjoint}
 
 pub clear_from : (d ys : List ℕ) → ((i : ℕ) → contains ys i ≡ true → contains d i ≡ false) → Clear d ys
 clear_from d [] f = tt
@@ -40,7 +32,8 @@ over_area_now w n c i s f held =
     let o : IsOrdered w n c = s.order n c f in
     let le : w.digested n c ≤ end_of_log w c = omega (arith, o.replicated, received_by_all-end w c) in
     ap (λ v. value_after i v (all_effects (records_between w c (w.digested n c) (end_of_log w c)))) (area_at w n i s f)
-    ∙ part_value w c (w.digested n c) (end_of_log w c) i (late_value (below b) i (opening_values i) xs) s o.digested_border (s.end_border c) o.begun le (omega arith)
+    ∙ part_value w c (w.digested n c) (end_of_log w c) i (late_value (below b) i (opening_values i) xs) s o.digested_border (s.end_border c) o.begun le
+    (omega arith)
     ∙ sym (later w b c k i (opening_values i) s (first_undigested-low w n s f c) (call_at-mono w c (w.digested n c) (end_of_log w c) s le))
     ∙ same_value (below (raised_at b c k)) (λ x. true) i (opening_values i) xs
     (each-both (λ x. (i : ℕ) → first_undigested w x.0.client ≤ x.0.number → w.writes x.0.client i ≡ false → contains (touched x.1.effects) i ≡ false)
@@ -78,7 +71,8 @@ ahead_between w n c s f =
     ap (drop (w.digested n c - w.first c)) (s.prefixes n c f ∙ ap (λ k. take k (w.records c)) parts)
     ∙ drop-take (w.digested n c - w.first c) (w.received n c - w.digested n c) (w.records c)
 
-pub ahead_below_between : (w : World) (n c k : ℕ) → WorldInvariant w → Full w n → k ≤ w.received n c → undigested_below w n c k ≡ records_between w c (w.digested n c) k
+pub ahead_below_between : (w : World) (n c k : ℕ) → WorldInvariant w → Full w n → k ≤ w.received n c → undigested_below w n c k
+    ≡ records_between w c (w.digested n c) k
 unfolding undigested_below records_between
 ahead_below_between w n c k s f h = grind (arith, ahead_between, take-take)
 
@@ -89,13 +83,17 @@ pub reads_truth : (w : World) (c i : ℕ) → WorldInvariant w → w.lives c ≡
 unfolding view
 reads_truth w c i s lives held = grind (arith, ahead_between, over_area_now)
 
-agree_held : (w : World) (c : ℕ) (is : List ℕ) → WorldInvariant w → w.lives c ≡ true → ((i : ℕ) → contains is i ≡ true → w.holds c i ≡ true) → AgreeOn is (view w (w.home c) c) (now w)
+agree_held : (w : World) (c : ℕ) (is : List ℕ) → WorldInvariant w → w.lives c ≡ true → ((i : ℕ) → contains is i ≡ true → w.holds c i ≡ true) →
+    AgreeOn is (view w (w.home c) c) (now w)
 agree_held w c [] s f h = tt
-agree_held w c (i ∷ is) s f h = (reads_truth w c i s f (h i (rw (eq-eqb i i refl) refl)), agree_held w c is s f (λ j t. h j (or_right (i == j) (contains is j) t)))
+agree_held w c (i ∷ is) s f h =
+    (reads_truth w c i s f (h i (rw (eq-eqb i i refl) refl)), agree_held w c is s f (λ j t. h j (or_right (i == j) (contains is j) t)))
 
 -- the step of a call over what its client reads is the step over all calls
-pub true_step : (w : World) (x : NumberedCall) → WorldInvariant w → w.lives x.client ≡ true → ((i : ℕ) → contains (step_at_home w x).visits i ≡ true → w.holds x.client i ≡ true) → step_at_home w x ≡ step_of (now w) x
+pub true_step : (w : World) (x : NumberedCall) → WorldInvariant w → w.lives x.client ≡ true →
+    ((i : ℕ) → contains (step_at_home w x).visits i ≡ true → w.holds x.client i ≡ true) → step_at_home w x ≡ step_of (now w) x
 true_step w x s f h = step_local (view w (w.home x.client) x.client) (now w) x.op x.fresh (agree_held w x.client (step_at_home w x).visits s f h)
 
-pub true_reply : (w : World) (x : NumberedCall) → WorldInvariant w → w.lives x.client ≡ true → ((i : ℕ) → contains (step_at_home w x).visits i ≡ true → w.holds x.client i ≡ true) → (step_at_home w x).reply ≡ (answer (tree w) x.op).0
+pub true_reply : (w : World) (x : NumberedCall) → WorldInvariant w → w.lives x.client ≡ true →
+    ((i : ℕ) → contains (step_at_home w x).visits i ≡ true → w.holds x.client i ≡ true) → (step_at_home w x).reply ≡ (answer (tree w) x.op).0
 true_reply w x s f h = ap (λ t. t.reply) (true_step w x s f h) ∙ step_replies (now w) (tree w) x.op x.fresh s.coherent.spelled

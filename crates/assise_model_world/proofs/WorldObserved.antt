@@ -1,17 +1,11 @@
 -- What is observed of the machine.
-use Rattle.std.proofs.Common.{◌≡◌, ℕ, zero, suc, ◌+◌, ◌-◌, ◌<◌, ◌≤◌, ◌≢◌, ◌⊎◌, inl, inr, min, Bool, true, false, List, [], ◌∷◌, ◌++◌, Option, refl, ap, sym, subst, ◌||◌, ◌==◌, arith, take, length}
-use Rattle.std.proofs.lemmas.Bool.{cases_Bool, eqb-true, eq-eqb, ne_eqb, both_ways, cases_lt}
-use Rattle.assise_record.specs.LogRecord.{LogRecord}
-use Rattle.assise_record.specs.Records.{all_effects, call_of}
-use Rattle.assise_inode_table.specs.Contents.{Content}
-use Rattle.assise_inode_table.specs.Effects.{value_after, touched, contains}
-use Rattle.assise_inode_table.specs.Interaction.{Step}
-use Rattle.assise_inode_table.specs.Late.{late_value, raised_at}
-use Rattle.assise_inode_table.specs.Traces.{NumberedCall, Each, below, window}
-use Rattle.assise_model_world.specs.Invariant.{StandFor, Stands, Counted, Guarded, Compatible, Areas, CallsInvariant}
-use Rattle.assise_model_world.specs.World.{World, Full, IsClient, opening_values, least_of, end_of_log, digested_by_all, received_by_all, records_between, call_at, first_undigested_at, first_undigested, first_unreplicated, steps, value_below}
-use Rattle.assise_inode_table.proofs.Lateness.{in_window, late_client}
-use Rattle.assise_inode_table.proofs.PairwiseLists.{each-always, each-both}
+use Rattle.assise_model_world.proofs.Common.{◌≡◌, ℕ, zero, suc, ◌+◌, ◌-◌, ◌<◌, ◌≤◌, ◌≢◌, ◌⊎◌, inl, inr, min, Bool, true, false, List, [], ◌∷◌, ◌++◌, Option}
+use Rattle.assise_model_world.proofs.Common.{refl, ap, sym, subst, ◌||◌, ◌==◌, arith, take, length, cases_Bool, eqb-true, eq-eqb, ne_eqb, both_ways, cases_lt}
+use Rattle.assise_model_world.proofs.Common.{LogRecord, all_effects, call_of, Content, value_after, touched, contains, Step, late_value, raised_at}
+use Rattle.assise_model_world.proofs.Common.{NumberedCall, Each, below, window, StandFor, Stands, Counted, Guarded, Compatible, Areas, CallsInvariant, World}
+use Rattle.assise_model_world.proofs.Common.{Full, IsClient, opening_values, least_of, end_of_log, digested_by_all, received_by_all, records_between, call_at}
+use Rattle.assise_model_world.proofs.Common.{first_undigested_at, first_undigested, first_unreplicated, steps, value_below, in_window, late_client, each-always}
+use Rattle.assise_model_world.proofs.Common.{each-both}
 use Rattle.assise_model_world.proofs.Lists.{each-client, each-forall, each-along, value-none}
 use Rattle.assise_model_world.proofs.Logs.{in_window_from, at_mono, at_top, take-sum}
 
@@ -52,7 +46,8 @@ pub least_of-same : (ns : List ℕ) (f g : ℕ → ℕ) (d : ℕ) → ((n : ℕ)
 least_of-same [] f g d h = refl
 least_of-same (m ∷ ns) f g d h =
     let here : f m ≡ g m = h m (rw (eq-eqb m m refl) refl) in
-    let rest : least_of ns f d ≡ least_of ns g d = least_of-same ns f g d (λ n e. h n (elim (m == n) as (λ b. (b || contains ns n) ≡ true) [ true ↦ refl | false ↦ e ])) in
+    let rest : least_of ns f d ≡ least_of ns g d =
+    least_of-same ns f g d (λ n e. h n (elim (m == n) as (λ b. (b || contains ns n) ≡ true) [ true ↦ refl | false ↦ e ])) in
     rw (here, rest) refl
 
 -- with another end the least is the same, or both are past the lower end
@@ -88,7 +83,8 @@ pub next-top : (w : World) (c k : ℕ) → CallsInvariant w → call_at w c k �
 unfolding call_at
 next-top w c k s = at_top (w.records c) (k - w.first c) (w.next c) (s.ascending c)
 
-pub part_of : (w : World) (c j k : ℕ) → CallsInvariant w → w.border c j ≡ true → w.border c k ≡ true → w.first c ≤ j → j ≤ k → k ≤ end_of_log w c → StandFor w c j k
+pub part_of : (w : World) (c j k : ℕ) → CallsInvariant w → w.border c j ≡ true → w.border c k ≡ true → w.first c ≤ j → j ≤ k → k ≤ end_of_log w c →
+    StandFor w c j k
 unfolding Stands
 part_of w c j k s = s.stands c j k
 
@@ -140,7 +136,8 @@ oldest w s c = call_at-mono w c (w.first c) (digested_by_all w c) s (digested_by
 
 pub received_by_all-border : (w : World) → CallsInvariant w → (c : ℕ) → w.border c (received_by_all w c) ≡ true
 unfolding received_by_all
-received_by_all-border w s c = least_of-is (λ k. w.border c k ≡ true) w.full (λ n. w.received n c) (end_of_log w c) (s.end_border c) (λ n h. (s.order n c h).received_border)
+received_by_all-border w s c =
+    least_of-is (λ k. w.border c k ≡ true) w.full (λ n. w.received n c) (end_of_log w c) (s.end_border c) (λ n h. (s.order n c h).received_border)
 
 first-end : (w : World) (c : ℕ) → w.first c ≤ end_of_log w c
 unfolding end_of_log
@@ -180,7 +177,8 @@ guarded_of w i s c =
           (λ x. x.0.client ≡ c → first_undigested w c ≤ x.0.number → w.writes c i ≡ false → contains (touched x.1.effects) i ≡ false) (steps w)
           (λ x f k own le _. f (in_window_from c (call_at w c (w.first c)) (call_at w c (end_of_log w c)) x.0 own (omega (arith, le, oldest w s c))
           (rw (call_at-end w c (end_of_log w c) (omega arith)) (subst (λ d. x.0.number < w.next d) own k.1))))
-          ((part_of w c (w.first c) (end_of_log w c) s (s.first_border c) (s.end_border c) (omega arith) (first-end w c) (omega arith)).touch i (rw (part-whole w c) e))
+          ((part_of w c (w.first c) (end_of_log w c) s (s.first_border c) (s.end_border c) (omega arith) (first-end w c) (omega arith)).touch i
+          (rw (part-whole w c) e))
           (all_counted w s)
     ]
 
@@ -193,10 +191,12 @@ guarded_steps w i s =
 
 pub guarded_all : (w : World) → CallsInvariant w →
     Each (λ x. (i : ℕ) → first_undigested w x.0.client ≤ x.0.number → w.writes x.0.client i ≡ false → contains (touched x.1.effects) i ≡ false) (steps w)
-guarded_all w s = each-forall (λ i x. first_undigested w x.0.client ≤ x.0.number → w.writes x.0.client i ≡ false → contains (touched x.1.effects) i ≡ false) (steps w) (λ i. guarded_steps w i s)
+guarded_all w s = each-forall (λ i x. first_undigested w x.0.client ≤ x.0.number → w.writes x.0.client i ≡ false → contains (touched x.1.effects) i ≡ false)
+    (steps w) (λ i. guarded_steps w i s)
 
 -- values over a records_between, after the node's own
-pub part_value : (w : World) (c j k i : ℕ) (v : Option Content) → CallsInvariant w → w.border c j ≡ true → w.border c k ≡ true → w.first c ≤ j → j ≤ k → k ≤ end_of_log w c →
+pub part_value : (w : World) (c j k i : ℕ) (v : Option Content) → CallsInvariant w → w.border c j ≡ true → w.border c k ≡ true → w.first c ≤ j → j ≤ k →
+    k ≤ end_of_log w c →
     value_after i v (all_effects (records_between w c j k)) ≡ late_value (window c (call_at w c j) (call_at w c k)) i v (steps w)
 part_value w c j k i v s a b low le high = (part_of w c j k s a b low le high).value i v
 
@@ -208,7 +208,8 @@ part-append w c j m k low a b =
     rw (e, ← g) (take-sum (w.records c) (j - w.first c) (m - j) (k - m)))
 
 -- the same records_between, the same calls
-pub part_moves : (w w' : World) (c j k : ℕ) → records_between w' c j k ≡ records_between w c j k → call_at w' c j ≡ call_at w c j → call_at w' c k ≡ call_at w c k → steps w' ≡ steps w →
+pub part_moves : (w w' : World) (c j k : ℕ) → records_between w' c j k ≡ records_between w c j k → call_at w' c j ≡ call_at w c j →
+    call_at w' c k ≡ call_at w c k → steps w' ≡ steps w →
     StandFor w c j k → StandFor w' c j k
 part_moves w w' c j k e f g h t = record {
   value = λ i v. rw (e, f, g, h) (t.value i v);
@@ -230,7 +231,8 @@ unfolding records_between
 part_none w c k h =
     let z : k - k ≡ 0 = omega arith in
     let none : (x : NumberedCall × Step) → window c (call_at w c k) (call_at w c k) x.0 ≡ true → ⊥ =
-    λ x m. (let q : (x.0.client ≡ c) × (call_at w c k ≤ x.0.number) × (x.0.number < call_at w c k) = in_window c (call_at w c k) (call_at w c k) x.0 m in absurd (omega (arith, q.1, q.2))) in
+    λ x m. (let q : (x.0.client ≡ c) × (call_at w c k ≤ x.0.number) × (x.0.number < call_at w c k) = in_window c (call_at w c k) (call_at w c k) x.0 m in
+    absurd (omega (arith, q.1, q.2))) in
     search (value-none, each-always, off, arith) parts 3
   where
     off : (b : Bool) → (b ≡ true → ⊥) → b ≡ false

@@ -1,8 +1,6 @@
 -- Names ascend if each is below the next.
-use Rattle.std.proofs.Common.{◌≡◌, ◌≤◌, ◌<◌, ℕ, ◌+◌, ◌-◌, true, List, [], length, get_or, sym, ◌∙◌, arith, nat_cmp}
-use Rattle.std.specs.Cmp.Lexicographic.{slice_cmp}
-use Rattle.std.proofs.lemmas.List.{get_or_default}
-use Rattle.std.specs.List.Sorted.{IsStrictlySortedBy}
+use Rattle.assise_names.proofs.Common.{◌≡◌, ◌≤◌, ◌<◌, ℕ, ◌+◌, ◌-◌, true, List, [], length, get_or, sym, ◌∙◌, arith, nat_cmp, slice_cmp, get_or_default}
+use Rattle.assise_names.proofs.Common.{IsStrictlySortedBy}
 use Rattle.std.specs.Ordering.{is_ge}
 use Rattle.std.specs.declared.cmp.Ordering.{Ordering}
 use Rattle.std.specs.declared.cmp.Ordering.TheVariants.{Less, Equal, Greater}
@@ -22,7 +20,8 @@ AscendTo names i = (k : ℕ) → k + 1 < i → slice_cmp nat_cmp (get_or names k
 pub all_ascend : (names : List (List ℕ)) (i : ℕ) → length names ≤ i → AscendTo names i → IsStrictlySortedBy (slice_cmp nat_cmp) names
 all_ascend names i all ascend = sorted_from_all_adjacent nat_list_cmp_total names [] (λ k few. ascend k (omega arith))
 
-pub falls : (names : List (List ℕ)) (i : ℕ) (name next : List ℕ) → 1 ≤ i → i < length names → name ≡ get_or names (i - 1) name → next ≡ get_or names i next → true ≡ is_ge (slice_cmp nat_cmp name next) → IsStrictlySortedBy (slice_cmp nat_cmp) names → ⊥
+pub falls : (names : List (List ℕ)) (i : ℕ) (name next : List ℕ) → 1 ≤ i → i < length names → name ≡ get_or names (i - 1) name → next ≡ get_or names i next →
+    true ≡ is_ge (slice_cmp nat_cmp name next) → IsStrictlySortedBy (slice_cmp nat_cmp) names → ⊥
 falls names i name next some few first second ge sorted =
     let below = Less-from_sorted (slice_cmp nat_cmp) names (i - 1) i [] sorted (omega arith) few in
     let name_is : get_or names (i - 1) [] ≡ name = get_or_default names (i - 1) [] name (omega arith) ∙ sym first in

@@ -1,9 +1,6 @@
 -- Paths of one to three names, and of more.
-use Rattle.std.proofs.Common.{◌≡◌, ◌==◌, ◌∷◌, [], ◌∙◌, ℕ, Bool, false, List, Ok, Err, length, ap}
-use Rattle.std.specs.List.{slice_split}
-use Rattle.assise_names.specs.Name.{name_of}
-use Rattle.assise_names.specs.Path.{◌>>=◌, no_deeper, path_behind, path_of_pieces, pieces_as_names}
-use Rattle.assise_names.specs.declared.path.PathFault.{PathFault}
+use Rattle.assise_names.proofs.Common.{◌≡◌, ◌==◌, ◌∷◌, [], ◌∙◌, ℕ, Bool, false, List, Ok, Err, length, ap, slice_split, name_of, ◌>>=◌, no_deeper, path_behind}
+use Rattle.assise_names.proofs.Common.{path_of_pieces, pieces_as_names, PathFault}
 use Rattle.assise_names.proofs.PathLemmas.{behind}
 
 -- ---- a fault of a name is the path's
@@ -12,7 +9,8 @@ pub no_first : (p : List ℕ) (pieces : List (List ℕ)) (e : PathFault) → nam
 no_first p pieces e h = ap (λ r. (r >>= λ name. pieces_as_names pieces >>= λ names. Ok (name ∷ names)) >>= no_deeper) h
 
 -- after a name that is one
-after : (p n : List ℕ) (pieces : List (List ℕ)) → name_of p ≡ Ok n → path_of_pieces (p ∷ pieces) ≡ ((pieces_as_names pieces >>= λ names. Ok (n ∷ names)) >>= no_deeper)
+after : (p n : List ℕ) (pieces : List (List ℕ)) → name_of p ≡ Ok n → path_of_pieces (p ∷ pieces)
+    ≡ ((pieces_as_names pieces >>= λ names. Ok (n ∷ names)) >>= no_deeper)
 after p n pieces h = ap (λ r. (r >>= λ name. pieces_as_names pieces >>= λ names. Ok (name ∷ names)) >>= no_deeper) h
 
 pub no_second : (p q n : List ℕ) (pieces : List (List ℕ)) (e : PathFault) → name_of p ≡ Ok n → name_of q ≡ Err e → path_of_pieces (p ∷ q ∷ pieces) ≡ Err e
@@ -20,11 +18,13 @@ no_second p q n pieces e first h =
     after p n (q ∷ pieces) first
     ∙ ap (λ r. ((r >>= λ name. pieces_as_names pieces >>= λ names. Ok (name ∷ names)) >>= λ names. Ok (n ∷ names)) >>= no_deeper) h
 
-pub no_third : (p q r n m : List ℕ) (pieces : List (List ℕ)) (e : PathFault) → name_of p ≡ Ok n → name_of q ≡ Ok m → name_of r ≡ Err e → path_of_pieces (p ∷ q ∷ r ∷ pieces) ≡ Err e
+pub no_third : (p q r n m : List ℕ) (pieces : List (List ℕ)) (e : PathFault) → name_of p ≡ Ok n → name_of q ≡ Ok m → name_of r ≡ Err e →
+    path_of_pieces (p ∷ q ∷ r ∷ pieces) ≡ Err e
 no_third p q r n m pieces e first second h =
     after p n (q ∷ r ∷ pieces) first
     ∙ ap (λ o. ((o >>= λ name. pieces_as_names (r ∷ pieces) >>= λ names. Ok (name ∷ names)) >>= λ names. Ok (n ∷ names)) >>= no_deeper) second
-    ∙ ap (λ o. (((o >>= λ name. pieces_as_names pieces >>= λ names. Ok (name ∷ names)) >>= λ names. Ok (m ∷ names)) >>= λ names. Ok (n ∷ names)) >>= no_deeper) h
+    ∙ ap (λ o. (((o >>= λ name. pieces_as_names pieces >>= λ names. Ok (name ∷ names)) >>= λ names. Ok (m ∷ names)) >>= λ names. Ok (n ∷ names)) >>= no_deeper)
+    h
 
 -- ---- names that are
 
@@ -44,5 +44,6 @@ three_named p q r n m k first second third =
 
 -- ---- the pieces of a text
 
-pub of_pieces : (bs : List ℕ) (b : Bool) → b ≡ (length bs == 0) → b ≡ false → (pieces : List (List ℕ)) → slice_split (λ b. b == 47) bs ≡ pieces → path_behind bs ≡ path_of_pieces pieces
+pub of_pieces : (bs : List ℕ) (b : Bool) → b ≡ (length bs == 0) → b ≡ false → (pieces : List (List ℕ)) → slice_split (λ b. b == 47) bs ≡ pieces →
+    path_behind bs ≡ path_of_pieces pieces
 of_pieces bs b e f pieces cut = ap (λ r. r >>= no_deeper) (behind bs b e f) ∙ ap path_of_pieces cut

@@ -1,14 +1,10 @@
 -- The digits of bytes, as a table of sixteen has them.
-use Rattle.std.proofs.Common.{◌≡◌, ℕ, zero, suc, ◌/◌, ◌%◌, ◌<◌, ◌==◌, nat_lt, Bool, true, false, ◌&&◌, inl, inr, List, [], ◌∷◌, ◌++◌, refl, ap, ap₂, sym, ◌∙◌, arith, slice_index}
-use Rattle.std.specs.List.{list_all}
-use Rattle.std.specs.Fmt.{digits, digit_glyph}
-use Rattle.std.proofs.lemmas.Bool.{and_parts, cases_lt, eqb-true, ltb-true}
+use Rattle.assise_names.proofs.Common.{◌≡◌, ℕ, zero, suc, ◌/◌, ◌%◌, ◌<◌, ◌==◌, nat_lt, Bool, true, false, ◌&&◌, inl, inr, List, [], ◌∷◌, ◌++◌, refl, ap, ap₂}
+use Rattle.assise_names.proofs.Common.{sym, ◌∙◌, arith, slice_index, list_all, digits, digit_glyph, and_parts, cases_lt, eqb-true, ltb-true, IsAscii, IsBytes}
+use Rattle.assise_names.proofs.Common.{encode_lower, encode_with, lower_digits, hex, hex_byte}
 use Rattle.std.proofs.lemmas.Fmt.{hex_one_digit}
-use Rattle.std.specs.Str.{IsAscii}
 use Rattle.std.proofs.lemmas.Str.Ascii.{IsAscii-nil, IsAscii-cons}
 use Rattle.hex.proofs.HexLemmas.{IsAscii-encode_with}
-use Rattle.hex.specs.Hex.{IsBytes, encode_lower, encode_with, lower_digits}
-use Rattle.assise_names.specs.Text.{hex, hex_byte}
 
 -- the first n digits of the table are those that are printed
 abbrev same_digits : ℕ → Bool
@@ -37,7 +33,8 @@ printed (b ∷ bytes) h = ap₂ (λ x y. x ++ y) (one_byte b (h 0)) (printed byt
 
 ascii : (text : List ℕ) → list_all (λ b. nat_lt b 128) text ≡ true → IsAscii text
 ascii [] h = IsAscii-nil
-ascii (b ∷ text) h = let parts = and_parts (nat_lt b 128) (list_all (λ b. nat_lt b 128) text) h in IsAscii-cons b text (ltb-true b 128 parts.0) (ascii text parts.1)
+ascii (b ∷ text) h = let parts =
+    and_parts (nat_lt b 128) (list_all (λ b. nat_lt b 128) text) h in IsAscii-cons b text (ltb-true b 128 parts.0) (ascii text parts.1)
 
 pub IsAscii-encoded : (bytes : List ℕ) → IsAscii (encode_lower bytes)
 IsAscii-encoded bytes = IsAscii-encode_with lower_digits bytes (ascii lower_digits refl)

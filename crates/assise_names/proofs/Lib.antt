@@ -1,3 +1,4 @@
+mod Common
 pub mod Prefixes
 pub mod HexDigits
 pub mod PathLemmas

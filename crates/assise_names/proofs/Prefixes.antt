@@ -1,8 +1,7 @@
 -- When a path is a proper prefix of another.
-use Rattle.std.proofs.Common.{◌≡◌, ℕ, ◌+◌, ◌<◌, ◌==◌, Bool, List, [], ◌∷◌, ◌++◌, length, take, drop, ap, ◌∙◌, arith, IsTrue, length-append}
-use Rattle.std.specs.Cmp.Lexicographic.{pointwise}
+use Rattle.assise_names.proofs.Common.{◌≡◌, ℕ, ◌+◌, ◌<◌, ◌==◌, Bool, List, [], ◌∷◌, ◌++◌, length, take, drop, ap, ◌∙◌, arith, IsTrue, length-append, pointwise}
+use Rattle.assise_names.proofs.Common.{IsProperPrefix}
 use Rattle.std.proofs.lemmas.Slice.Eq.{bytes_eq-Decides, starts_is}
-use Rattle.assise_names.specs.Path.{IsProperPrefix}
 
 abbrev Names : Type 0
 Names = List (List ℕ)

@@ -1,16 +1,11 @@
 -- A text has the path that it spells, and no other: the names of a spelling are its pieces between slashes.
-use Rattle.std.proofs.Common.{◌≡◌, ℕ, ◌≤◌, Bool, true, false, ◌||◌, ◌==◌, nat_lt, List, [], ◌∷◌, ◌++◌, length, Result, Ok, Err, refl, ap, sym, ◌∙◌, inl, inr, arith, IsTrue, All, IsOkUnless, MatchResult, is_ok}
-use Rattle.std.proofs.lemmas.Bool.{cases_Bool, and_parts, not-true, le-ltb, leb-true, ltb-false, le-leb}
-use Rattle.std.proofs.lemmas.Bool.Decides.{nat_tests}
+use Rattle.assise_names.proofs.Common.{◌≡◌, ℕ, ◌≤◌, Bool, true, false, ◌||◌, ◌==◌, nat_lt, List, [], ◌∷◌, ◌++◌, length, Result, Ok, Err, refl, ap, sym, ◌∙◌}
+use Rattle.assise_names.proofs.Common.{inl, inr, arith, IsTrue, All, IsOkUnless, MatchResult, is_ok, cases_Bool, and_parts, not-true, le-ltb, leb-true}
+use Rattle.assise_names.proofs.Common.{ltb-false, le-leb, nat_tests, All-nil, All-cons, All-head, All-tail, slice_split_at, slice_split_none}
+use Rattle.assise_names.proofs.Common.{join_with_byte-slice_split, slice_split, join_with_byte, list_any, is_utf8, is_name, is_barred, is_dots, name_of, ◌>>=◌}
+use Rattle.assise_names.proofs.Common.{IsPath, SpellsPath, path_spelling, pieces_as_names, no_deeper, names_behind, path_behind, path_of, GivesPath, PathFault}
+use Rattle.assise_names.proofs.Common.{EmptyName, NameTooLong, BadName, Memory}
 use Rattle.std.proofs.lemmas.List.{append-nil}
-use Rattle.std.proofs.lemmas.List.Elements.{All-nil, All-cons, All-head, All-tail}
-use Rattle.std.proofs.lemmas.List.Splits.{slice_split_at, slice_split_none, join_with_byte-slice_split}
-use Rattle.std.specs.List.{slice_split, join_with_byte, list_any}
-use Rattle.std.specs.Str.{is_utf8}
-use Rattle.assise_names.specs.Name.{is_name, is_barred, is_dots, name_of}
-use Rattle.assise_names.specs.Path.{◌>>=◌, IsPath, SpellsPath, path_spelling, pieces_as_names, no_deeper, names_behind, path_behind, path_of, GivesPath}
-use Rattle.assise_names.specs.declared.path.PathFault.{PathFault}
-use Rattle.assise_names.specs.declared.path.PathFault.TheVariants.{EmptyName, NameTooLong, BadName, Memory}
 use Rattle.assise_names.proofs.PathLemmas.{few_names, not_cut}
 
 abbrev LevelsInvariant : List ℕ → Type 0
@@ -61,7 +56,8 @@ or_right true b h = cc
 no_slashes : (bytes : List ℕ) → list_any is_barred bytes ≡ false → All (λ b. is_slash b ≡ false) bytes
 no_slashes [] h = All-nil (λ b. is_slash b ≡ false)
 no_slashes (b ∷ bytes) h =
-    All-cons (λ b. is_slash b ≡ false) b bytes (or_left (b == 47) (b == 0) (or_left (is_barred b) (list_any is_barred bytes) h)) (no_slashes bytes (or_right (is_barred b) (list_any is_barred bytes) h))
+    All-cons (λ b. is_slash b ≡ false) b bytes (or_left (b == 47) (b == 0) (or_left (is_barred b) (list_any is_barred bytes) h))
+    (no_slashes bytes (or_right (is_barred b) (list_any is_barred bytes) h))
 
 -- a text without a fault is a name
 pub lawful_name : (text : List ℕ) → is_utf8 text ≡ true → name_of text ≡ Ok text → IsTrue (is_name text)
@@ -95,7 +91,8 @@ is_faultless text (Err fault) utf8 h =
 
 names_of-lawful : (names : List (List ℕ)) → All LevelsInvariant names → pieces_as_names names ≡ Ok names
 names_of-lawful [] h = refl
-names_of-lawful (name ∷ names) h = rw (name_of-lawful name (All-head LevelsInvariant name names h), names_of-lawful names (All-tail LevelsInvariant name names h))
+names_of-lawful (name ∷ names) h =
+    rw (name_of-lawful name (All-head LevelsInvariant name names h), names_of-lawful names (All-tail LevelsInvariant name names h))
 
 -- a result that is there came from one that was
 came_from : {A B : Type 0} (r : Result A PathFault) (f : A → Result B PathFault) (y : B) → (r >>= f) ≡ Ok y → (x : A) × ((r ≡ Ok x) × (f x ≡ Ok y))
@@ -119,11 +116,13 @@ spelling-join : (name : List ℕ) (names : List (List ℕ)) → path_spelling (n
 spelling-join name [] = ap (λ t. 47 ∷ t) (append-nil name)
 spelling-join name (next ∷ names) = ap (λ t. 47 ∷ (name ++ t)) (spelling-join next names)
 
-pieces_of-join : (name : List ℕ) (names : List (List ℕ)) → All LevelsInvariant (name ∷ names) → slice_split is_slash (join_with_byte 47 (name ∷ names)) ≡ name ∷ names
+pieces_of-join : (name : List ℕ) (names : List (List ℕ)) → All LevelsInvariant (name ∷ names) → slice_split is_slash (join_with_byte 47 (name ∷ names))
+    ≡ name ∷ names
 pieces_of-join name [] h =
     slice_split_none is_slash name (no_slashes name (or_left _ _ (parts_of name (All-head LevelsInvariant name [] h)).good))
 pieces_of-join name (next ∷ names) h =
-    slice_split_at is_slash name 47 (join_with_byte 47 (next ∷ names)) (no_slashes name (or_left _ _ (parts_of name (All-head LevelsInvariant name (next ∷ names) h)).good)) refl
+    slice_split_at is_slash name 47 (join_with_byte 47 (next ∷ names))
+    (no_slashes name (or_left _ _ (parts_of name (All-head LevelsInvariant name (next ∷ names) h)).good)) refl
     ∙ ap (λ ps. name ∷ ps) (pieces_of-join next names (All-tail LevelsInvariant name (next ∷ names) h))
 
 join-some : (name : List ℕ) (names : List (List ℕ)) → (length name == 0) ≡ false → (length (join_with_byte 47 (name ∷ names)) == 0) ≡ false
@@ -133,7 +132,8 @@ join-some (b ∷ bytes) (next ∷ names) h = grind (arith, nat_tests)
 
 -- ---- both directions
 
-names_behind-join : (name : List ℕ) (names : List (List ℕ)) → All LevelsInvariant (name ∷ names) → names_behind (join_with_byte 47 (name ∷ names)) ≡ Ok (name ∷ names)
+names_behind-join : (name : List ℕ) (names : List (List ℕ)) → All LevelsInvariant (name ∷ names) → names_behind (join_with_byte 47 (name ∷ names))
+    ≡ Ok (name ∷ names)
 names_behind-join name names h =
     rw (join-some name names (parts_of name (All-head LevelsInvariant name names h)).some, pieces_of-join name names h) (names_of-lawful (name ∷ names) h)
 
@@ -146,7 +146,8 @@ path_of-spelling (name ∷ names) h =
     ap path_of (spelling-join name names) ∙ ap (λ r. r >>= no_deeper) (names_behind-join name names h.names) ∙ not_deep (name ∷ names) h.depth
 
 -- a text that spells a path has no fault
-pub complete : (text : List ℕ) (r : Result (List (List ℕ)) PathFault) → GivesPath r (path_of text) → (path : List (List ℕ)) → SpellsPath text path → IsOkUnless r Memory
+pub complete : (text : List ℕ) (r : Result (List (List ℕ)) PathFault) → GivesPath r (path_of text) → (path : List (List ℕ)) → SpellsPath text path →
+    IsOkUnless r Memory
 complete text (Ok p) h path s = tt
 complete text (Err e) (inl memory) path s = memory
 complete text (Err e) (inr fault) path s = let is : path_of text ≡ Ok path = ap path_of s.spelled ∙ path_of-spelling path s.lawful in cc
@@ -167,11 +168,13 @@ joined (b ∷ rest) names h =
     respelled (name ∷ names) rest e some = ap (λ t. 47 ∷ t) (sym e) ∙ sym (spelling-join name names)
 
 -- the text that gave a path is its spelling
-pub spelled : (rest : List ℕ) (names : List (List ℕ)) → names_behind rest ≡ Ok names → All (λ name. IsTrue (is_name name)) names → length names ≤ 32 → SpellsPath (47 ∷ rest) names
+pub spelled : (rest : List ℕ) (names : List (List ℕ)) → names_behind rest ≡ Ok names → All (λ name. IsTrue (is_name name)) names → length names ≤ 32 →
+    SpellsPath (47 ∷ rest) names
 spelled rest names h lawful depth = record { lawful = record { names = lawful; depth = depth }; spelled = joined rest names h }
 
 -- the path behind the first slash is spelled by the whole text
-pub spelled_behind : (rest : List ℕ) (path : List (List ℕ)) → path_behind rest ≡ Ok path → All (λ name. IsTrue (is_name name)) path → SpellsPath (47 ∷ rest) path
+pub spelled_behind : (rest : List ℕ) (path : List (List ℕ)) → path_behind rest ≡ Ok path → All (λ name. IsTrue (is_name name)) path →
+    SpellsPath (47 ∷ rest) path
 spelled_behind rest path h lawful =
     let found = came_from (names_behind rest) no_deeper path h in
     let same : path ≡ found.0 = not_cut found.0 path found.1.1 in

@@ -1,15 +1,11 @@
 -- Where the borders of a log lie, and where they stay.
-use Rattle.std.proofs.Common.{◌≡◌, ℕ, zero, suc, ◌+◌, ◌-◌, ◌<◌, ◌≤◌, ◌||◌, ◌⊎◌, Bool, true, false, not, None, List, [], ◌∷◌, ◌++◌, length, take, drop, get_or}
-use Rattle.std.proofs.Common.{ap, sym, ◌∙◌, refl, arith, inl, inr, cond, subst, length-take, length-drop, ◌^◌}
-use Rattle.std.specs.List.{prefix_len, slice_get}
-use Rattle.std.proofs.lemmas.Bool.{both_ways, cases_eq, cases_lt, cases_order, le-leb, lt-leb, not-true}
-use Rattle.std.proofs.lemmas.List.{get_or-drop, get_or_past, length_push}
+use Rattle.assise_private_log.proofs.Common.{◌≡◌, ℕ, zero, suc, ◌+◌, ◌-◌, ◌<◌, ◌≤◌, ◌||◌, ◌⊎◌, Bool, true, false, not, None, List, [], ◌∷◌, ◌++◌, length, take}
+use Rattle.assise_private_log.proofs.Common.{drop, get_or, ap, sym, ◌∙◌, refl, arith, inl, inr, cond, subst, length-take, length-drop, ◌^◌, prefix_len}
+use Rattle.assise_private_log.proofs.Common.{slice_get, both_ways, cases_eq, cases_lt, cases_order, le-leb, lt-leb, not-true, get_or-drop, get_or_past}
+use Rattle.assise_private_log.proofs.Common.{length_push, LogRecord, IsNextBorder, IsWholeCount, group_end, whole_count, Covers, HasOpenGroup, IsNumberedLog}
+use Rattle.assise_private_log.proofs.Common.{NumberedLog, end, is_border, with_grouped, without_prefix, without_tail}
 use Rattle.std.proofs.lemmas.List.Sums.{prefix_len_passes}
 use Rattle.circular_buffer.specs.Buffer.{Buffer, buffer, keep_last}
-use Rattle.assise_record.specs.LogRecord.{LogRecord}
-use Rattle.assise_private_log.specs.Borders.{IsNextBorder, IsWholeCount, group_end, whole_count}
-use Rattle.assise_private_log.specs.Touches.{Covers}
-use Rattle.assise_private_log.specs.NumberedLog.{HasOpenGroup, IsNumberedLog, NumberedLog, end, is_border, with_grouped, without_prefix, without_tail}
 
 -- ---- where they lie
 
@@ -47,7 +43,8 @@ pushed [] m (suc i) same = refl
 pushed (x ∷ ms) m zero same = refl
 pushed (x ∷ ms) m (suc i) same = pushed ms m i (λ e. same (ap suc e))
 
-pub border_grouped : (l : NumberedLog) (r : LogRecord) (begins : Bool) (k : ℕ) → length l.begins ≡ length l.records → (k ≡ end l → begins ≡ true) → is_border (with_grouped l r begins) k ≡ is_border l k
+pub border_grouped : (l : NumberedLog) (r : LogRecord) (begins : Bool) (k : ℕ) → length l.begins ≡ length l.records → (k ≡ end l → begins ≡ true) →
+    is_border (with_grouped l r begins) k ≡ is_border l k
 border_grouped l r begins k marks same = grind (arith, by_place, border_first, pushed, border_marked)
 
 -- ---- without those in front, or behind
@@ -70,7 +67,8 @@ abbrev pub Near : NumberedLog → ℕ → Type 0
 Near l number = (border : ℕ) × (number < border) × (border ≤ number + 64) × (is_border l border ≡ true)
 
 -- where borders stay
-pub near_kept : (l new : NumberedLog) → ((k : ℕ) → is_border l k ≡ true → is_border new k ≡ true) → ((number : ℕ) → Near l number) → (number : ℕ) → Near new number
+pub near_kept : (l new : NumberedLog) → ((k : ℕ) → is_border l k ≡ true → is_border new k ≡ true) → ((number : ℕ) → Near l number) → (number : ℕ) →
+    Near new number
 near_kept l new kept near number = let b = near number in (b.0, b.1, b.2, kept b.0 b.3)
 
 near_end : (l : NumberedLog) (r : LogRecord) (number k : ℕ) → length l.begins ≡ length l.records → number < end l → end l ≤ number + 64
@@ -97,7 +95,8 @@ near_grouped l r false marks joins near number =
 
 -- ---- what holds of a log goes on
 
-pub lawful_grouped : (l : NumberedLog) (r : LogRecord) (begins : Bool) → IsNumberedLog l → (begins ≡ false → HasOpenGroup l) → end l + 1 < 2 ^ 64 → length l.records < l.limit
+pub lawful_grouped : (l : NumberedLog) (r : LogRecord) (begins : Bool) → IsNumberedLog l → (begins ≡ false → HasOpenGroup l) → end l + 1 < 2 ^ 64 →
+    length l.records < l.limit
     → IsNumberedLog (with_grouped l r begins)
 lawful_grouped l r begins law room_in_group fits room = record {
   numbers = omega (arith, length_push l.records r);
@@ -161,7 +160,8 @@ pub next_is_one : (l : NumberedLog) (number a b : ℕ) → IsNextBorder l number
 next_is_one l number a b one other = grind (arith, cases_order, both_ways)
 
 -- what is the next border is what `group_end` says
-pub next_is_group_end : (l : NumberedLog) (number next : ℕ) → number ≤ next → is_border l next ≡ true → ((k : ℕ) → number ≤ k → k < next → is_border l k ≡ false) → next ≡ group_end l number
+pub next_is_group_end : (l : NumberedLog) (number next : ℕ) → number ≤ next → is_border l next ≡ true →
+    ((k : ℕ) → number ≤ k → k < next → is_border l k ≡ false) → next ≡ group_end l number
 next_is_group_end l number next behind border least = grind (arith, next_is_one, next_border)
 
 -- ---- how many records end with a group
@@ -182,11 +182,13 @@ pub whole_passed : (l : NumberedLog) (from n : ℕ) → 0 < n → is_border l (f
 whole_passed l from zero some is = absurd (omega arith)
 whole_passed l from (suc n) some is = let less : suc n - 1 ≡ n = omega arith in whole_suc l from n false is ∙ ap (whole_count l from) (sym less)
 
-whole_step : (l : NumberedLog) (from n : ℕ) (b : Bool) → is_border l (from + suc n) ≡ b → IsWholeCount l from n (whole_count l from n) → IsWholeCount l from (suc n) (cond b (suc n) (whole_count l from n))
+whole_step : (l : NumberedLog) (from n : ℕ) (b : Bool) → is_border l (from + suc n) ≡ b → IsWholeCount l from n (whole_count l from n) →
+    IsWholeCount l from (suc n) (cond b (suc n) (whole_count l from n))
 whole_step l from n b h1 h2 = grind (arith, cases_eq)
 
 pub is_whole : (l : NumberedLog) (from most : ℕ) → IsWholeCount l from most (whole_count l from most)
-is_whole l from zero = subst (IsWholeCount l from 0) (sym (whole_none l from)) (record { within = omega arith; border = λ some. absurd (omega arith); greatest = λ k more most. absurd (omega arith) })
+is_whole l from zero = subst (IsWholeCount l from 0) (sym (whole_none l from))
+    (record { within = omega arith; border = λ some. absurd (omega arith); greatest = λ k more most. absurd (omega arith) })
 is_whole l from (suc n) =
     let b : Bool = is_border l (from + suc n) in
     subst (IsWholeCount l from (suc n)) (sym (whole_suc l from n b refl)) (whole_step l from n b refl (is_whole l from n))
@@ -226,7 +228,8 @@ last_border l zero = (0, record { before = omega arith; is = border_first l 0 (o
 last_border l (suc n) = last_step l n (is_border l (suc n)) refl (last_border l n)
 
 -- where a group of the other has records on both sides of the log's end, the log's last group can take one more
-pub open_group : (own l : NumberedLog) → IsNumberedLog own → is_border own (end l) ≡ false → ((k : ℕ) → k < end l → is_border own k ≡ true → is_border l k ≡ true) → HasOpenGroup l
+pub open_group : (own l : NumberedLog) → IsNumberedLog own → is_border own (end l) ≡ false →
+    ((k : ℕ) → k < end l → is_border own k ≡ true → is_border l k ≡ true) → HasOpenGroup l
 open_group own l law inside same =
     let found = last_border own (end l) in
     let b : IsLastBorder own (end l) found.0 = found.1 in
@@ -247,7 +250,8 @@ covers_group l inode cut law covers = grind (arith, next_border, cases_lt, both_
 abbrev pub of_rings : ℕ → Buffer LogRecord → Buffer Bool → NumberedLog
 of_rings first records begins = record { first = first; limit = records.capacity; records = records.items; begins = begins.items }
 
-pub rings_grouped : (first : ℕ) (records : Buffer LogRecord) (begins : Buffer Bool) (r : LogRecord) (b : Bool) (records' : Buffer LogRecord) (begins' : Buffer Bool)
+pub rings_grouped : (first : ℕ) (records : Buffer LogRecord) (begins : Buffer Bool) (r : LogRecord) (b : Bool) (records' : Buffer LogRecord)
+    (begins' : Buffer Bool)
     → IsNumberedLog (of_rings first records begins) × (begins.capacity ≡ records.capacity) → (b ≡ false → HasOpenGroup (of_rings first records begins))
     → first + length records.items + 1 < 2 ^ 64 → length records.items < records.capacity
     → records' ≡ buffer (records.items ++ r ∷ []) records.capacity → begins' ≡ buffer (begins.items ++ b ∷ []) begins.capacity

@@ -1,3 +1,4 @@
+mod Common
 pub mod Borders
 pub mod LogGroups
 mod Prefixes

@@ -1,6 +1,5 @@
 -- Two runs of items, one behind the other, without the first ones.
-use Rattle.std.proofs.Common.{◌≡◌, ℕ, zero, suc, ◌-◌, min, List, [], ◌∷◌, ◌++◌, length, drop, ap, sym, arith}
-use Rattle.std.proofs.lemmas.List.{drop_min}
+use Rattle.assise_private_log.proofs.Common.{◌≡◌, ℕ, zero, suc, ◌-◌, min, List, [], ◌∷◌, ◌++◌, length, drop, ap, sym, arith, drop_min}
 
 -- those that are not taken from the first run are taken from the second
 drop-append : {X : Type 0} (n : ℕ) (xs ys : List X) → drop n (xs ++ ys) ≡ drop n xs ++ drop (n - length xs) ys

@@ -1,25 +1,23 @@
 -- Which numbers of a log are those of records that touch an inode.
-use Rattle.std.proofs.Common.{◌≡◌, ℕ, zero, suc, ◌+◌, ◌-◌, ◌<◌, ◌≤◌, ◌||◌, ◌↔◌, nat_lt, Bool, true, false, Option, Some, None, List, [], ◌∷◌, length, drop, ap}
-use Rattle.std.proofs.Common.{sym, ◌∙◌, refl, arith}
-use Rattle.std.specs.List.{list_any, slice_get, slice_index_or}
+use Rattle.assise_private_log.proofs.Common.{◌≡◌, ℕ, zero, suc, ◌+◌, ◌-◌, ◌<◌, ◌≤◌, ◌||◌, ◌↔◌, nat_lt, Bool, true, false, Option, Some, None, List, [], ◌∷◌}
+use Rattle.assise_private_log.proofs.Common.{length, drop, ap, sym, ◌∙◌, refl, arith, list_any, slice_get, slice_index_or, cases_lt, or_parts, LogRecord}
+use Rattle.assise_private_log.proofs.Common.{NumberedLog, record_at, IsLastTouch, UntouchedFrom, found_touches, record_touches, touches, touches_after}
 use Rattle.std.proofs.lemmas.Option.{get_or_from_slice_get, slice_get_cases, slice_get_within}
 use Rattle.circular_buffer.proofs.Places.{slice_get-some}
-use Rattle.std.proofs.lemmas.Bool.{cases_lt, or_parts}
-use Rattle.assise_record.specs.LogRecord.{LogRecord}
-use Rattle.assise_private_log.specs.NumberedLog.{NumberedLog, record_at}
-use Rattle.assise_private_log.specs.Touches.{IsLastTouch, UntouchedFrom, found_touches, record_touches, touches, touches_after}
 
 -- ---- places
 
 -- no element from a place on passes the test
-any_from_reads : {X : Type 0} (p : X → Bool) (xs : List X) (j : ℕ) → ((k : ℕ) (x : X) → j ≤ k → slice_get xs k ≡ Some x → p x ≡ false) → list_any p (drop j xs) ≡ false
+any_from_reads : {X : Type 0} (p : X → Bool) (xs : List X) (j : ℕ) → ((k : ℕ) (x : X) → j ≤ k → slice_get xs k ≡ Some x → p x ≡ false) →
+    list_any p (drop j xs) ≡ false
 any_from_reads p [] zero none = refl
 any_from_reads p [] (suc j) none = refl
 any_from_reads p (y ∷ ys) zero none =
     ap (λ b. b || list_any p ys) (none zero y (omega arith) refl) ∙ any_from_reads p ys zero (λ k x from s. none (suc k) x (omega arith) s)
 any_from_reads p (y ∷ ys) (suc j) none = any_from_reads p ys j (λ k x from s. none (suc k) x (omega arith) s)
 
-reads_from_any : {X : Type 0} (p : X → Bool) (xs : List X) (j : ℕ) → list_any p (drop j xs) ≡ false → (k : ℕ) (x : X) → j ≤ k → slice_get xs k ≡ Some x → p x ≡ false
+reads_from_any : {X : Type 0} (p : X → Bool) (xs : List X) (j : ℕ) → list_any p (drop j xs) ≡ false → (k : ℕ) (x : X) → j ≤ k → slice_get xs k ≡ Some x →
+    p x ≡ false
 reads_from_any p [] j none k x from s = cc
 reads_from_any p (y ∷ ys) zero none zero x from s = let first : p y ≡ false = (or_parts (p y) (list_any p ys) none).0 in cc
 reads_from_any p (y ∷ ys) zero none (suc k) x from s = reads_from_any p ys zero (or_parts (p y) (list_any p ys) none).1 k x (omega arith) s
@@ -41,11 +39,13 @@ none_at : (l : NumberedLog) (inode k : ℕ) → ((r : LogRecord) → slice_get l
 none_at l inode k none = grind (arith, slice_get_cases)
 
 -- where no record touches the inode at a place from that of the number on, none of a number from it on does
-untouched : (l : NumberedLog) (inode from : ℕ) → ((k : ℕ) (r : LogRecord) → from ≤ l.first + k → slice_get l.records k ≡ Some r → record_touches r inode ≡ false) → UntouchedFrom l inode from
+untouched : (l : NumberedLog) (inode from : ℕ) →
+    ((k : ℕ) (r : LogRecord) → from ≤ l.first + k → slice_get l.records k ≡ Some r → record_touches r inode ≡ false) → UntouchedFrom l inode from
 untouched l inode from none number high = grind (arith, cases_lt, before, at_place, none_at)
 
 -- and where none does, none touches it at such a place
-untouched_places : (l : NumberedLog) (inode from : ℕ) → UntouchedFrom l inode from → (k : ℕ) (r : LogRecord) → from ≤ l.first + k → slice_get l.records k ≡ Some r → record_touches r inode ≡ false
+untouched_places : (l : NumberedLog) (inode from : ℕ) → UntouchedFrom l inode from → (k : ℕ) (r : LogRecord) → from ≤ l.first + k →
+    slice_get l.records k ≡ Some r → record_touches r inode ≡ false
 untouched_places l inode from none k r high s =
     let place : (l.first + k) - l.first ≡ k = omega arith in
     let there : record_at l (l.first + k) ≡ Some r = at_place l (l.first + k) (omega arith) ∙ ap (slice_get l.records) place ∙ s in
@@ -58,7 +58,8 @@ untouched_exactly l inode from answer exact = grind (arith, untouched, reads_fro
 -- ---- the last record that touches an inode
 
 -- what is read at a place with a default is the record there
-read_there : (rs : List LogRecord) (k inode : ℕ) (r : LogRecord) (b : Bool) → slice_get rs k ≡ Some r → record_touches (slice_index_or rs k r) inode ≡ b → record_touches r inode ≡ b
+read_there : (rs : List LogRecord) (k inode : ℕ) (r : LogRecord) (b : Bool) → slice_get rs k ≡ Some r → record_touches (slice_index_or rs k r) inode ≡ b →
+    record_touches r inode ≡ b
 read_there rs k inode r b there read = ap (λ x. record_touches x inode) (sym (get_or_from_slice_get rs k r r there)) ∙ read
 
 -- the record at the place touches the inode

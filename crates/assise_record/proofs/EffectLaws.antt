@@ -1,13 +1,8 @@
 -- An effect that is read is the effect that was spelled, and what is spelled is read again.
-use Rattle.std.proofs.Common.{◌≡◌, ℕ, Bool, true, false, ◌==◌, cond, List, [], ◌∷◌, ◌++◌, Result, Ok, refl, sym, ap, subst, ◌∙◌, append_assoc}
-use Rattle.std.proofs.lemmas.Bool.{eqb-true}
-use Rattle.byteorder.specs.Endian.{big_bytes}
-use Rattle.assise_record.specs.declared.effect.Effect.{Effect}
-use Rattle.assise_record.specs.declared.effect.Effect.TheVariants.{NewFile, NewDir, Write, SetLen, Link, Unlink, Free}
-use Rattle.assise_record.specs.declared.fault.FrameFault.{FrameFault}
-use Rattle.assise_record.specs.declared.fault.FrameFault.TheVariants.{BadLength}
-use Rattle.assise_record.specs.Spelling.{IsEffect, tag_of, fields_of, effect_spelling, patch_spelling, name_spelling}
-use Rattle.assise_record.specs.Reading.{◌>>=◌, number_at, extent_at, read_size, name_at, new_file_at, new_dir_at, write_at, set_len_at, link_at, unlink_at, free_at, fields_at, effect_at}
+use Rattle.assise_record.proofs.Common.{◌≡◌, ℕ, Bool, true, false, ◌==◌, cond, List, [], ◌∷◌, ◌++◌, Result, Ok, refl, sym, ap, subst, ◌∙◌, append_assoc}
+use Rattle.assise_record.proofs.Common.{eqb-true, big_bytes, Effect, NewFile, NewDir, Write, SetLen, Link, Unlink, Free, FrameFault, BadLength, IsEffect}
+use Rattle.assise_record.proofs.Common.{tag_of, fields_of, effect_spelling, patch_spelling, name_spelling, ◌>>=◌, number_at, extent_at, read_size, name_at}
+use Rattle.assise_record.proofs.Common.{new_file_at, new_dir_at, write_at, set_len_at, link_at, unlink_at, free_at, fields_at, effect_at}
 use Rattle.assise_record.proofs.Loop.{ok_is}
 use Rattle.assise_record.proofs.FieldLaws.{IsBytes, Takes, Takes-then, Reads, seq_takes, byte_reads, u64_reads, extent_reads, size_reads, name_reads}
 
@@ -65,7 +60,9 @@ unlink_takes bytes x fits e =
 link_takes : (bytes : List ℕ) (x : Effect × List ℕ) → IsBytes bytes → link_at bytes ≡ Ok x → TakesFields 5 bytes x
 unfolding link_at
 link_takes bytes x fits e =
-    let a = seq_takes (u64_reads BadLength) (λ directory. name_at directory.1 >>= λ name. number_at 8 BadLength name.1 >>= λ inode. made (Link directory.0 name.0 inode.0) inode.1) x bytes fits e in
+    let a = seq_takes (u64_reads BadLength)
+    (λ directory. name_at directory.1 >>= λ name. number_at 8 BadLength name.1 >>= λ inode. made (Link directory.0 name.0 inode.0) inode.1) x bytes fits e
+    in
     let b = seq_takes name_reads (λ name. number_at 8 BadLength name.1 >>= λ inode. made (Link a.0.0 name.0 inode.0) inode.1) x a.0.1 a.1.rest_fits a.3 in
     let c = seq_takes (u64_reads BadLength) (λ inode. made (Link a.0.0 b.0.0 inode.0) inode.1) x b.0.1 b.1.rest_fits b.3 in
     let second = Takes-then a.0.1 (name_spelling b.0.0) b.0.1 (big_bytes 8 c.0.0) c.0.1 b.1 c.1 in
@@ -73,7 +70,8 @@ link_takes bytes x fits e =
     subst (TakesFields 5 bytes) (ok_is (Link a.0.0 b.0.0 c.0.0, c.0.1) x c.3) (refl, whole, (a.2, b.2, c.2))
 
 -- one test of a tag: what is read where it holds, and where not
-choose : {P : Type 0} (tag n : ℕ) (here there : Result (Effect × List ℕ) FrameFault) (x : Effect × List ℕ) → (tag ≡ n → here ≡ Ok x → P) → (there ≡ Ok x → P) → cond (tag == n) here there ≡ Ok x → P
+choose : {P : Type 0} (tag n : ℕ) (here there : Result (Effect × List ℕ) FrameFault) (x : Effect × List ℕ) → (tag ≡ n → here ≡ Ok x → P) → (there ≡ Ok x → P) →
+    cond (tag == n) here there ≡ Ok x → P
 choose {P} tag n here there x this other = by_test (tag == n) (eqb-true tag n) where
   by_test : (b : Bool) → (b ≡ true → tag ≡ n) → cond b here there ≡ Ok x → P
   by_test true is e = this (is refl) e
@@ -106,20 +104,24 @@ unfolding fields_at new_file_at new_dir_at write_at set_len_at link_at unlink_at
 fields_again (NewFile inode) rest h = rw ((u64_reads BadLength).again inode rest h) refl
 fields_again (NewDir inode) rest h = rw ((u64_reads BadLength).again inode rest h) refl
 fields_again (Write inode patch) rest h =
-    let regrouped : (big_bytes 8 inode ++ patch_spelling patch) ++ rest ≡ big_bytes 8 inode ++ (patch_spelling patch ++ rest) = append_assoc (big_bytes 8 inode) (patch_spelling patch) rest in
+    let regrouped : (big_bytes 8 inode ++ patch_spelling patch) ++ rest ≡ big_bytes 8 inode ++ (patch_spelling patch ++ rest) = append_assoc (big_bytes 8 inode)
+    (patch_spelling patch) rest in
     ap write_at regrouped ∙ rw ((u64_reads BadLength).again inode (patch_spelling patch ++ rest) h.0, extent_reads.again patch rest h.1) refl
 fields_again (SetLen inode size) rest h =
-    let regrouped : (big_bytes 8 inode ++ big_bytes 4 size) ++ rest ≡ big_bytes 8 inode ++ (big_bytes 4 size ++ rest) = append_assoc (big_bytes 8 inode) (big_bytes 4 size) rest in
+    let regrouped : (big_bytes 8 inode ++ big_bytes 4 size) ++ rest ≡ big_bytes 8 inode ++ (big_bytes 4 size ++ rest) = append_assoc (big_bytes 8 inode)
+    (big_bytes 4 size) rest in
     ap set_len_at regrouped ∙ rw ((u64_reads BadLength).again inode (big_bytes 4 size ++ rest) h.0, size_reads.again size rest h.1) refl
 fields_again (Link directory name inode) rest h =
-    let regrouped : (big_bytes 8 directory ++ (name_spelling name ++ big_bytes 8 inode)) ++ rest ≡ big_bytes 8 directory ++ (name_spelling name ++ (big_bytes 8 inode ++ rest)) =
+    let regrouped : (big_bytes 8 directory ++ (name_spelling name ++ big_bytes 8 inode)) ++ rest
+    ≡ big_bytes 8 directory ++ (name_spelling name ++ (big_bytes 8 inode ++ rest)) =
     append_assoc (big_bytes 8 directory) (name_spelling name ++ big_bytes 8 inode) rest
     ∙ ap (λ (t : List ℕ). big_bytes 8 directory ++ t) (append_assoc (name_spelling name) (big_bytes 8 inode) rest) in
     let first = (u64_reads BadLength).again directory (name_spelling name ++ (big_bytes 8 inode ++ rest)) h.0 in
     let second = name_reads.again name (big_bytes 8 inode ++ rest) h.1 in
     ap link_at regrouped ∙ rw (first, second, (u64_reads BadLength).again inode rest h.2) refl
 fields_again (Unlink directory name) rest h =
-    let regrouped : (big_bytes 8 directory ++ name_spelling name) ++ rest ≡ big_bytes 8 directory ++ (name_spelling name ++ rest) = append_assoc (big_bytes 8 directory) (name_spelling name) rest in
+    let regrouped : (big_bytes 8 directory ++ name_spelling name) ++ rest ≡ big_bytes 8 directory ++ (name_spelling name ++ rest) =
+    append_assoc (big_bytes 8 directory) (name_spelling name) rest in
     ap unlink_at regrouped ∙ rw ((u64_reads BadLength).again directory (name_spelling name ++ rest) h.0, name_reads.again name rest h.1) refl
 fields_again (Free inode) rest h = rw ((u64_reads BadLength).again inode rest h) refl
 

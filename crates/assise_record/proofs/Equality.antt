@@ -1,13 +1,9 @@
 -- The comparison of effects says whether they are the same.
-use Rattle.std.proofs.Common.{rules, ◌≡◌, ◌==◌, ◌&&◌, ℕ, List, Bool, ap, ◌∙◌}
+use Rattle.assise_record.proofs.Common.{rules, ◌≡◌, ◌==◌, ◌&&◌, ℕ, List, Bool, ap, ◌∙◌, pointwise, pointwise_decides, Patch, LogRecord, Effect, NewFile, NewDir}
+use Rattle.assise_record.proofs.Common.{Write, SetLen, Link, Unlink, Free}
 use Rattle.std.specs.Bool.{Decides}
 use Rattle.std.specs.Cmp.{unsigned_Decides}
-use Rattle.std.specs.Cmp.Lexicographic.{pointwise, pointwise_decides}
 use Rattle.std.proofs.lemmas.Bool.Decides.{Decides-and}
-use Rattle.assise_record.specs.Patch.{Patch}
-use Rattle.assise_record.specs.LogRecord.{LogRecord}
-use Rattle.assise_record.specs.declared.effect.Effect.{Effect}
-use Rattle.assise_record.specs.declared.effect.Effect.TheVariants.{NewFile, NewDir, Write, SetLen, Link, Unlink, Free}
 use Rattle.assise_record.specs.contracts.effect.EffectPartialEq.TheImpl.{eq-value}
 use Rattle.assise_record.specs.contracts.record.RecordPartialEq.TheImpl.{eq-value as record-eq}
 

@@ -1,18 +1,13 @@
 -- A field that is read is the field that was spelled, and what is spelled is read again.
-use Rattle.std.proofs.Common.{◌≡◌, ℕ, suc, ◌+◌, ◌^◌, ◌<◌, ◌≤◌, Bool, true, false, ◌&&◌, nat_lt, nat_le, cond, ltb, List, []}
-use Rattle.std.proofs.Common.{◌∷◌, ◌++◌, length, get_or, take, drop, Result, Ok, Err, refl, sym, ap, subst, ◌∙◌, append_assoc, arith, inl, inr}
-use Rattle.std.specs.Prelude.{IsTrue}
-use Rattle.std.proofs.lemmas.Bool.{cases_lt, ltb-true, ltb-false, le-ltb, lt-ltb, leb-true, le-leb, and_parts, and_from}
-use Rattle.std.proofs.lemmas.List.{append-nil, take_at, drop_at, take-append-drop, length-append, length-take, get_or-drop, get_or-take, get_or_past}
+use Rattle.assise_record.proofs.Common.{◌≡◌, ℕ, suc, ◌+◌, ◌^◌, ◌<◌, ◌≤◌, Bool, true, false, ◌&&◌, nat_lt, nat_le, cond, ltb, List, [], ◌∷◌, ◌++◌, length}
+use Rattle.assise_record.proofs.Common.{get_or, take, drop, Result, Ok, Err, refl, sym, ap, subst, ◌∙◌, append_assoc, arith, inl, inr, IsTrue, cases_lt}
+use Rattle.assise_record.proofs.Common.{ltb-true, ltb-false, le-ltb, lt-ltb, leb-true, le-leb, and_parts, and_from, take_at, drop_at, take-append-drop}
+use Rattle.assise_record.proofs.Common.{length-take, get_or-drop, get_or-take, get_or_past, big_bytes, big_number, is_name, FrameFault, BadLength, BadValue}
+use Rattle.assise_record.proofs.Common.{Patch, IsPatch, patch_spelling, name_spelling, ◌>>=◌, guard, Read, byte_at, bytes_at, number_at, is_extent, extent_at}
+use Rattle.assise_record.proofs.Common.{read_size, name_in, name_at}
+use Rattle.std.proofs.lemmas.List.{append-nil, length-append}
 use Rattle.std.proofs.lemmas.Nat.{be_bytes_2, be_bytes_4, be_bytes_8}
-use Rattle.byteorder.specs.Endian.{big_bytes, big_number}
 use Rattle.byteorder.specs.Numbers.{big_number-reads_back, big_from-lt, length-bytes_high_first}
-use Rattle.assise_names.specs.Name.{is_name}
-use Rattle.assise_record.specs.declared.fault.FrameFault.{FrameFault}
-use Rattle.assise_record.specs.declared.fault.FrameFault.TheVariants.{BadLength, BadValue}
-use Rattle.assise_record.specs.Patch.{Patch, IsPatch}
-use Rattle.assise_record.specs.Spelling.{patch_spelling, name_spelling}
-use Rattle.assise_record.specs.Reading.{◌>>=◌, guard, Read, byte_at, bytes_at, number_at, is_extent, extent_at, read_size, name_in, name_at}
 use Rattle.assise_record.proofs.Loop.{bind_ok, ok_is}
 use Rattle.assise_record.proofs.Names.{named, some_bytes}
 
@@ -46,7 +41,8 @@ pub record Reads {A : Type 0} (read : List ℕ → Read A) (spell : A → List �
 
 -- ---- steps that did not fail
 
-pub guard_ok : {A : Type 0} (b : Bool) (fault : FrameFault) (f : Unit {0} → Result A FrameFault) (y : A) → (guard b fault >>= f) ≡ Ok y → (b ≡ true) × (f tt ≡ Ok y)
+pub guard_ok : {A : Type 0} (b : Bool) (fault : FrameFault) (f : Unit {0} → Result A FrameFault) (y : A) → (guard b fault >>= f) ≡ Ok y →
+    (b ≡ true) × (f tt ≡ Ok y)
 guard_ok true fault f y e = (refl, e)
 guard_ok false fault f y e = absurd cc
 
@@ -55,7 +51,8 @@ cond_ok true fault x y e = absurd cc
 cond_ok false fault x y e = (refl, cc)
 
 -- the first of several readings
-pub seq_takes : {A B : Type 0} {read : List ℕ → Read A} {spell : A → List ℕ} {Fits : A → Type 0} (reads : Reads read spell Fits) (f : A × List ℕ → Result B FrameFault) (y : B) (bytes : List ℕ)
+pub seq_takes : {A B : Type 0} {read : List ℕ → Read A} {spell : A → List ℕ} {Fits : A → Type 0} (reads : Reads read spell Fits)
+    (f : A × List ℕ → Result B FrameFault) (y : B) (bytes : List ℕ)
     → IsBytes bytes
     → (read bytes >>= f) ≡ Ok y → (x : A × List ℕ) × Takes bytes (spell x.0) x.1 × Fits x.0 × (f x ≡ Ok y)
 seq_takes {read = read} reads f y bytes fits e =
@@ -77,7 +74,8 @@ byte_reads fault = record {
       (record { parts = refl; rest_fits = λ i. fits (suc i) }, fits 0)
 
 -- `n` bytes
-pub bytes_take : (n : ℕ) (fault : FrameFault) (bytes : List ℕ) (x : List ℕ × List ℕ) → IsBytes bytes → bytes_at n fault bytes ≡ Ok x → Takes bytes x.0 x.1 × (length x.0 ≡ n) × IsBytes x.0
+pub bytes_take : (n : ℕ) (fault : FrameFault) (bytes : List ℕ) (x : List ℕ × List ℕ) → IsBytes bytes → bytes_at n fault bytes ≡ Ok x →
+    Takes bytes x.0 x.1 × (length x.0 ≡ n) × IsBytes x.0
 bytes_take n fault bytes x fits e =
     let g = cond_ok (ltb (length bytes) n) fault (take n bytes, drop n bytes) x e in
     let long : n ≤ length bytes = ltb-false _ _ g.0 in
@@ -105,12 +103,15 @@ width_4 bytes len fits = be_bytes_4 bytes (big_number 4 bytes) len fits (omega a
 width_8 : IsWidth 8
 width_8 bytes len fits = be_bytes_8 bytes (big_number 8 bytes) len fits (omega arith)
 
-number_takes : (n : ℕ) → IsWidth n → (fault : FrameFault) (bytes : List ℕ) (x : ℕ × List ℕ) → IsBytes bytes → number_at n fault bytes ≡ Ok x → Takes bytes (big_bytes n x.0) x.1 × (x.0 < 256 ^ n)
+number_takes : (n : ℕ) → IsWidth n → (fault : FrameFault) (bytes : List ℕ) (x : ℕ × List ℕ) → IsBytes bytes → number_at n fault bytes ≡ Ok x →
+    Takes bytes (big_bytes n x.0) x.1 × (x.0 < 256 ^ n)
 number_takes n width fault bytes x fits e =
     let g = cond_ok (ltb (length bytes) n) fault (big_number n (take n bytes), drop n bytes) x e in
     let long : n ≤ length bytes = ltb-false _ _ g.0 in
-    let prefix : big_bytes n (big_number n (take n bytes)) ≡ take n bytes = width (take n bytes) (omega (arith, length-take n bytes)) (IsBytes-take n bytes fits) in
-    let parts : bytes ≡ big_bytes n (big_number n (take n bytes)) ++ drop n bytes = sym (take-append-drop n bytes) ∙ ap (λ (t : List ℕ). t ++ drop n bytes) (sym prefix) in
+    let prefix : big_bytes n (big_number n (take n bytes)) ≡ take n bytes = width (take n bytes) (omega (arith, length-take n bytes))
+    (IsBytes-take n bytes fits) in
+    let parts : bytes ≡ big_bytes n (big_number n (take n bytes)) ++ drop n bytes = sym (take-append-drop n bytes)
+    ∙ ap (λ (t : List ℕ). t ++ drop n bytes) (sym prefix) in
     subst (λ (y : ℕ × List ℕ). Takes bytes (big_bytes n y.0) y.1 × (y.0 < 256 ^ n)) g.1
     (record { parts = parts; rest_fits = IsBytes-drop n bytes fits }, big_from-lt 0 n (take n bytes) (IsBytes-take n bytes fits))
 
@@ -154,23 +155,28 @@ is_patch-again p h =
 extent_takes : (bytes : List ℕ) (x : Patch × List ℕ) → IsBytes bytes → extent_at bytes ≡ Ok x → Takes bytes (patch_spelling x.0) x.1 × IsPatch x.0
 unfolding extent_at
 extent_takes bytes x fits e =
-    let last = λ (offset : ℕ) (p : List ℕ × List ℕ). let made : Result (Patch × List ℕ) FrameFault = Ok (record { offset = offset; bytes = p.0 }, p.1) in made in
+    let last = λ (offset : ℕ) (p : List ℕ × List ℕ). let made : Result (Patch × List ℕ) FrameFault = Ok (record { offset = offset; bytes = p.0 }, p.1) in
+    made in
     let a = seq_takes (u32_reads BadLength)
-    (λ offset. number_at 4 BadLength offset.1 >>= λ size. guard (is_extent offset.0 size.0) BadValue >>= λ _. bytes_at size.0 BadLength size.1 >>= last offset.0) x bytes fits e in
-    let b = seq_takes (u32_reads BadLength) (λ size. guard (is_extent a.0.0 size.0) BadValue >>= λ _. bytes_at size.0 BadLength size.1 >>= last a.0.0) x a.0.1 a.1.rest_fits a.3 in
+    (λ offset. number_at 4 BadLength offset.1 >>= λ size. guard (is_extent offset.0 size.0) BadValue >>= λ _. bytes_at size.0 BadLength size.1 >>= last
+    offset.0) x bytes fits e in
+    let b = seq_takes (u32_reads BadLength) (λ size. guard (is_extent a.0.0 size.0) BadValue >>= λ _. bytes_at size.0 BadLength size.1 >>= last a.0.0) x a.0.1
+    a.1.rest_fits a.3 in
     let g = guard_ok (is_extent a.0.0 b.0.0) BadValue (λ _. bytes_at b.0.0 BadLength b.0.1 >>= last a.0.0) x b.3 in
     let d = bind_ok (bytes_at b.0.0 BadLength b.0.1) (last a.0.0) x g.1 in
     let t = bytes_take b.0.0 BadLength b.0.1 d.0 b.1.rest_fits d.1 in
     let size : Takes a.0.1 (big_bytes 4 (length d.0.0)) b.0.1 = subst (λ (n : ℕ). Takes a.0.1 (big_bytes 4 n) b.0.1) (sym t.1) b.1 in
     let second = Takes-then a.0.1 (big_bytes 4 (length d.0.0)) b.0.1 d.0.0 d.0.1 size t.0 in
     let whole = Takes-then bytes (big_bytes 4 a.0.0) a.0.1 (big_bytes 4 (length d.0.0) ++ d.0.0) d.0.1 a.1 second in
-    subst (λ (y : Patch × List ℕ). Takes bytes (patch_spelling y.0) y.1 × IsPatch y.0) (ok_is (record { offset = a.0.0; bytes = d.0.0 }, d.0.1) x d.2) (whole, is_patch a.0.0 b.0.0 d.0.0 g.0 t.1)
+    subst (λ (y : Patch × List ℕ). Takes bytes (patch_spelling y.0) y.1 × IsPatch y.0) (ok_is (record { offset = a.0.0; bytes = d.0.0 }, d.0.1) x d.2)
+    (whole, is_patch a.0.0 b.0.0 d.0.0 g.0 t.1)
 
 extent_again : (p : Patch) (rest : List ℕ) → IsPatch p → extent_at (patch_spelling p ++ rest) ≡ Ok (p, rest)
 unfolding extent_at
 extent_again p rest h =
     let regrouped : patch_spelling p ++ rest ≡ big_bytes 4 p.offset ++ (big_bytes 4 (length p.bytes) ++ (p.bytes ++ rest)) =
-    append_assoc (big_bytes 4 p.offset) (big_bytes 4 (length p.bytes) ++ p.bytes) rest ∙ ap (λ (t : List ℕ). big_bytes 4 p.offset ++ t) (append_assoc (big_bytes 4 (length p.bytes)) p.bytes rest) in
+    append_assoc (big_bytes 4 p.offset) (big_bytes 4 (length p.bytes) ++ p.bytes) rest ∙ ap (λ (t : List ℕ). big_bytes 4 p.offset ++ t)
+    (append_assoc (big_bytes 4 (length p.bytes)) p.bytes rest) in
     let first = (u32_reads BadLength).again p.offset (big_bytes 4 (length p.bytes) ++ (p.bytes ++ rest)) (omega (arith, h.fits)) in
     let second = (u32_reads BadLength).again (length p.bytes) (p.bytes ++ rest) (omega (arith, h.few)) in
     ap extent_at regrouped ∙ rw (first, second, is_patch-again p h, bytes_again BadLength p.bytes rest) refl

@@ -1,9 +1,9 @@
 -- Groups of at most 64 records, and the marks of what is left of them.
-use Rattle.std.proofs.Common.{◌≡◌, ℕ, zero, suc, ◌-◌, ◌<◌, ◌≤◌, ◌||◌, ◌&&◌, nat_le, Bool, true, false, List, [], ◌∷◌, ◌++◌, length, take, drop, get_or, map, refl, ap, sym, ◌∙◌, arith, inl, inr, take-append-drop, length-append}
-use Rattle.std.proofs.lemmas.Bool.{cases_lt, le-leb, lt-leb, ne_eqb}
-use Rattle.std.proofs.lemmas.List.{get_or-append_right, length-drop, length-map, length-take}
-use Rattle.assise_record.specs.Groups.{AllHaveEffects, AreGroups, all_records, all_coalesced, are_whole, all_marks, coalesced_group, groups_of, marks_of}
-use Rattle.assise_record.specs.LogRecord.{LogRecord}
+use Rattle.assise_record.proofs.Common.{◌≡◌, ℕ, zero, suc, ◌-◌, ◌<◌, ◌≤◌, ◌||◌, ◌&&◌, nat_le, Bool, true, false, List, [], ◌∷◌, ◌++◌, length, take, drop}
+use Rattle.assise_record.proofs.Common.{get_or, map, refl, ap, sym, ◌∙◌, arith, inl, inr, length-append, cases_lt, le-leb, lt-leb, ne_eqb, get_or-append_right}
+use Rattle.assise_record.proofs.Common.{length-drop, length-map, length-take, AllHaveEffects, AreGroups, all_records, all_coalesced, are_whole, all_marks}
+use Rattle.assise_record.proofs.Common.{coalesced_group, groups_of, marks_of, LogRecord}
+use Rattle.std.proofs.Common.{take-append-drop}
 use Rattle.assise_record.proofs.GroupRest.{group-some}
 
 -- ---- groups of records
@@ -28,7 +28,8 @@ effects-drop (suc k) (r ∷ rs) h = effects-drop k rs h.1
 pub groups-are : (n : ℕ) (rs : List LogRecord) → AllHaveEffects rs → AreGroups (groups_of n rs)
 groups-are zero rs h = tt
 groups-are (suc n) [] h = tt
-groups-are (suc n) (r ∷ rs) h = ((omega (arith, length-take 64 (r ∷ rs)), effects-take 64 (r ∷ rs) h), groups-are n (drop 64 (r ∷ rs)) (effects-drop 64 (r ∷ rs) h))
+groups-are (suc n) (r ∷ rs) h =
+    ((omega (arith, length-take 64 (r ∷ rs)), effects-take 64 (r ∷ rs) h), groups-are n (drop 64 (r ∷ rs)) (effects-drop 64 (r ∷ rs) h))
 
 -- as many steps as there are records are enough, and more come to the same
 pub groups-steps : (n m : ℕ) (rs : List LogRecord) → length rs ≤ n → length rs ≤ m → groups_of n rs ≡ groups_of m rs
@@ -73,7 +74,8 @@ some_whole g gs k =
     ap (λ b. b || (nat_le (length (coalesced_group g)) (suc k) && are_whole gs (suc k - length (coalesced_group g)))) (ne_eqb (suc k) 0 (λ e. omega (arith, e)))
 
 -- by the marks of what is left a group begins, or nothing comes, exactly where the records before are whole groups
-pub marked : (gs : List (List LogRecord)) (k : ℕ) → AreGroups gs → k ≤ length (all_coalesced gs) → get_or (all_marks (map coalesced_group gs)) k true ≡ are_whole gs k
+pub marked : (gs : List (List LogRecord)) (k : ℕ) → AreGroups gs → k ≤ length (all_coalesced gs) → get_or (all_marks (map coalesced_group gs)) k true
+    ≡ are_whole gs k
 marked [] zero h low = refl
 marked [] (suc k) h low = absurd (omega (arith, low))
 marked (g ∷ gs) zero h low = first_of (coalesced_group g) (all_marks (map coalesced_group gs)) (group-some g h.0.0 h.0.1)
@@ -83,7 +85,8 @@ marked (g ∷ gs) (suc k) h low =
           inside (coalesced_group g) (all_marks (map coalesced_group gs)) k within
           ∙ sym (some_whole g gs k ∙ ap (λ b. b && are_whole gs (suc k - length (coalesced_group g))) (lt-leb (length (coalesced_group g)) (suc k) within))
       | inr past ↦
-          get_or-append_right (marks_of (coalesced_group g)) (all_marks (map coalesced_group gs)) (length (coalesced_group g)) (suc k) true (length-marks (coalesced_group g)) past
+          get_or-append_right (marks_of (coalesced_group g)) (all_marks (map coalesced_group gs)) (length (coalesced_group g)) (suc k) true
+          (length-marks (coalesced_group g)) past
           ∙ marked gs (suc k - length (coalesced_group g)) h.1 (omega (arith, past, low, length-append (coalesced_group g) (all_coalesced gs)))
           ∙ sym (some_whole g gs k ∙ ap (λ b. b && are_whole gs (suc k - length (coalesced_group g))) (le-leb (length (coalesced_group g)) (suc k) past))
     ]

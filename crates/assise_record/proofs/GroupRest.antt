@@ -1,11 +1,8 @@
 -- What is left of a group of records.
-use Rattle.std.proofs.Common.{◌≡◌, ℕ, suc, ◌<◌, ◌≤◌, true, if◌then◌else◌, List, [], ◌∷◌, ◌++◌, length, refl, ap, sym, ◌∙◌, arith, inl, inr}
-use Rattle.std.proofs.lemmas.Bool.{cases_Bool, false≢true}
-use Rattle.assise_record.specs.declared.effect.Effect.{Effect}
+use Rattle.assise_record.proofs.Common.{◌≡◌, ℕ, suc, ◌<◌, ◌≤◌, true, if◌then◌else◌, List, [], ◌∷◌, ◌++◌, length, refl, ap, sym, ◌∙◌, arith, inl, inr}
+use Rattle.assise_record.proofs.Common.{cases_Bool, false≢true, Effect, AllHaveEffects, left_of, left_in, begun_by, coalesced_group, LogRecord, all_effects}
+use Rattle.assise_record.proofs.Common.{has_some, record_of, call_of, Ascending}
 use Rattle.assise_record.specs.Coalesced.{overridden, coalesced}
-use Rattle.assise_record.specs.Groups.{AllHaveEffects, left_of, left_in, begun_by, coalesced_group}
-use Rattle.assise_record.specs.LogRecord.{LogRecord}
-use Rattle.assise_record.specs.Records.{all_effects, has_some, record_of, call_of, Ascending}
 use Rattle.assise_record.proofs.Records.{all_effects-append, all_effects-record_of}
 
 left_of-append : (es later : List Effect) → coalesced (es ++ later) ≡ left_of es later ++ coalesced later

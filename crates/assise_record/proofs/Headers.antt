@@ -1,13 +1,10 @@
 -- What the reader of headers says, by the places of their fields.
-use Rattle.std.proofs.Common.{◌≡◌, ◌≢◌, ◌⊎◌, ℕ, zero, suc, ◌+◌, ◌-◌, ◌<◌, ◌≤◌, true, false, ◌==◌, nat_lt, ltb, List, [], ◌∷◌, get_or, length, take, drop, Ok, Err, refl, sym, ap, ap₂, subst, ◌∙◌, inl, inr, arith, true≢false}
-use Rattle.std.proofs.lemmas.Bool.{cases_Bool, cases_lt, eq-eqb, eqb-true, lt-ltb, le-ltb, ltb-true}
-use Rattle.std.proofs.lemmas.List.{drop-drop, length-drop}
-use Rattle.byteorder.specs.Endian.{big_number}
-use Rattle.assise_record.specs.Header.{Header}
-use Rattle.assise_record.specs.declared.fault.FrameFault.{FrameFault}
-use Rattle.assise_record.specs.declared.fault.FrameFault.TheVariants.{Short, BadMagic, BadVersion, BadValue}
-use Rattle.assise_record.specs.Reading.{HasCount, IsVersion, Read, has_count, is_version, version_at, numbers_at, header_at}
-use Rattle.assise_record.specs.Unfinished.{HasLawfulFields, IsUnfinished, field}
+use Rattle.assise_record.proofs.Common.{◌≡◌, ◌≢◌, ℕ, zero, suc, ◌+◌, ◌-◌, ◌<◌, ◌≤◌, true, false, ◌==◌, nat_lt, ltb, List, [], ◌∷◌, get_or, length, take, drop}
+use Rattle.assise_record.proofs.Common.{Ok, Err, refl, sym, ap, ap₂, subst, ◌∙◌, inl, inr, arith, true≢false, cases_Bool, cases_lt, eq-eqb, eqb-true, lt-ltb}
+use Rattle.assise_record.proofs.Common.{le-ltb, ltb-true, drop-drop, length-drop, big_number, Header, FrameFault, Short, BadMagic, BadVersion, BadValue}
+use Rattle.assise_record.proofs.Common.{HasCount, IsVersion, Read, has_count, is_version, version_at, numbers_at, header_at, HasLawfulFields, IsUnfinished}
+use Rattle.assise_record.proofs.Common.{field}
+use Rattle.std.proofs.Common.{◌⊎◌}
 use Rattle.assise_record.proofs.FrameLaws.{count_again, count_is, version_again, version_is}
 use Rattle.assise_record.proofs.Loop.{ok_is}
 
@@ -81,7 +78,14 @@ module _ (newest v : ℕ) (known : is_version newest v ≡ true) (t : List ℕ) 
       no_count few =
           elim (cases_lt (length t) 20) [
             | inl none ↦ rw (known, epoch_there, client_there, somebody, lt-ltb (length (drop 4 (drop 8 t))) 8 (omega (arith, behind_12))) refl
-            | inr numbers ↦ rw (known, epoch_there, client_there, somebody, le-ltb (length (drop 4 (drop 8 t))) 8 (omega (arith, behind_12)), lt-ltb (length (drop 8 (drop 4 (drop 8 t)))) 2 (omega (arith, behind_20))) refl
+            | inr numbers ↦ rw (
+              known,
+              epoch_there,
+              client_there,
+              somebody,
+              le-ltb (length (drop 4 (drop 8 t))) 8 (omega (arith, behind_12)),
+              lt-ltb (length (drop 8 (drop 4 (drop 8 t)))) 2 (omega (arith, behind_20)),
+            ) refl
           ]
 
       module _ (numbers : 22 ≤ length t) where
@@ -101,7 +105,17 @@ module _ (newest v : ℕ) (known : is_version newest v ≡ true) (t : List ℕ) 
         module _ (right : has_count first count ≡ true) where
           no_size : length t < 26 → header_at newest bytes ≡ Short_
           unfolding header_at version_at numbers_at
-          no_size few = rw (known, epoch_there, client_there, somebody, first_there, count_there, counts, right, lt-ltb (length (drop 2 (drop 8 (drop 4 (drop 8 t))))) 4 (omega (arith, behind_22))) refl
+          no_size few = rw (
+            known,
+            epoch_there,
+            client_there,
+            somebody,
+            first_there,
+            count_there,
+            counts,
+            right,
+            lt-ltb (length (drop 2 (drop 8 (drop 4 (drop 8 t))))) 4 (omega (arith, behind_22)),
+          ) refl
 
           whole : 26 ≤ length t → (h : Header) × (rest : List ℕ) × (header_at newest bytes ≡ Ok (h, rest)) × (h.size ≡ size) × (length rest + 26 ≡ length t)
           unfolding header_at version_at numbers_at
@@ -114,8 +128,23 @@ module _ (newest v : ℕ) (known : is_version newest v ≡ true) (t : List ℕ) 
                 first = big_number 8 (take 8 (drop 4 (drop 8 t)));
                 count = big_number 2 (take 2 (drop 8 (drop 4 (drop 8 t))));
                 size = big_number 4 (take 4 r);
-              } in
-              (h, drop 4 r, rw (known, epoch_there, client_there, somebody, first_there, count_there, counts, right, le-ltb (length r) 4 (omega (arith, behind_22))) refl, size_is, omega (arith, length-drop 4 r, behind_22))
+              } in (
+                h,
+                drop 4 r,
+                rw (
+                  known,
+                  epoch_there,
+                  client_there,
+                  somebody,
+                  first_there,
+                  count_there,
+                  counts,
+                  right,
+                  le-ltb (length r) 4 (omega (arith, behind_22)),
+                ) refl,
+                size_is,
+                omega (arith, length-drop 4 r, behind_22),
+              )
 
 -- ---- any bytes
 
@@ -127,10 +156,12 @@ take_nil (suc n) = refl
 data Class (newest : ℕ) (bytes : List ℕ) : Type 0 where
   early : header_at newest bytes ≡ Short_ → IsUnfinished newest bytes → Class newest bytes
   wrong : (fault : FrameFault) → header_at newest bytes ≡ Err fault → fault ≢ Short → (HasLawfulFields newest bytes → ⊥) → Class newest bytes
-  entire : (h : Header) (rest : List ℕ) → header_at newest bytes ≡ Ok (h, rest) → HasLawfulFields newest bytes → h.size ≡ field 25 4 bytes → length rest + 29 ≡ length bytes → Class newest bytes
+  entire : (h : Header) (rest : List ℕ) → header_at newest bytes ≡ Ok (h, rest) → HasLawfulFields newest bytes → h.size ≡ field 25 4 bytes →
+      length rest + 29 ≡ length bytes → Class newest bytes
 
 -- fewer bytes than an epoch and a client behind the version have
-few_fields : (newest : ℕ) (bytes : List ℕ) → length bytes < 15 → take 2 bytes ≡ take (length bytes) (65 ∷ 83 ∷ []) → (3 ≤ length bytes → IsVersion newest (get_or bytes 2 0)) → IsUnfinished newest bytes
+few_fields : (newest : ℕ) (bytes : List ℕ) → length bytes < 15 → take 2 bytes ≡ take (length bytes) (65 ∷ 83 ∷ []) →
+    (3 ≤ length bytes → IsVersion newest (get_or bytes 2 0)) → IsUnfinished newest bytes
 few_fields newest bytes few magic version = record {
   lawful = record { magic = magic; version = version; client = λ all. absurd (omega (arith, few, all)); count = λ all. absurd (omega (arith, few, all)) };
   short = λ all. absurd (omega (arith, few, all));
@@ -152,12 +183,18 @@ behind_version newest v known t =
       | inr there ↦ elim (cases_Bool (nat_lt 0 (client newest v known t))) [
         | inl somebody ↦ elim (cases_lt (length t) 22) [
           | inl few ↦ early (no_count newest v known t there somebody few)
-              (record { lawful = with_client (ltb-true 0 (client newest v known t) somebody) (λ all. absurd (omega (arith, few, all))); short = λ all. absurd (omega (arith, few, all)) })
+              (record {
+                lawful = with_client (ltb-true 0 (client newest v known t) somebody) (λ all. absurd (omega (arith, few, all)));
+                short =
+                    λ all. absurd (omega (arith, few, all));
+              })
           | inr numbers ↦ elim (cases_Bool (has_count (first newest v known t) (count newest v known t))) [
             | inl right ↦
-                let lawful = with_client (ltb-true 0 (client newest v known t) somebody) (λ _. count_is (first newest v known t) (count newest v known t) right) in
+                let lawful = with_client (ltb-true 0 (client newest v known t) somebody) (λ _. count_is (first newest v known t) (count newest v known t) right)
+                in
                 elim (cases_lt (length t) 26) [
-                  | inl few ↦ early (no_size newest v known t there somebody numbers right few) (record { lawful = lawful; short = λ all. absurd (omega (arith, few, all)) })
+                  | inl few ↦ early (no_size newest v known t there somebody numbers right few)
+                      (record { lawful = lawful; short = λ all. absurd (omega (arith, few, all)) })
                   | inr all ↦ let w = whole newest v known t there somebody numbers right all in entire w.0 w.1 w.2 lawful w.3 (omega (arith, w.4))
                 ]
             | inr unlawful ↦ wrong BadValue (no_number newest v known t there somebody numbers unlawful) not_value
@@ -174,7 +211,8 @@ behind_version newest v known t =
       version : 3 ≤ length (65 ∷ 83 ∷ v ∷ t) → IsVersion newest v
       version _ = version_is newest v known
 
-      with_client : 0 < client newest v known t → (25 ≤ length (65 ∷ 83 ∷ v ∷ t) → HasCount (first newest v known t) (count newest v known t)) → HasLawfulFields newest (65 ∷ 83 ∷ v ∷ t)
+      with_client : 0 < client newest v known t → (25 ≤ length (65 ∷ 83 ∷ v ∷ t) → HasCount (first newest v known t) (count newest v known t)) →
+          HasLawfulFields newest (65 ∷ 83 ∷ v ∷ t)
       with_client somebody counted = record { magic = magic; version = version; client = λ _. somebody; count = counted }
 
 heads : (a b : ℕ) (xs ys : List ℕ) → a ∷ xs ≡ b ∷ ys → a ≡ b
@@ -243,9 +281,11 @@ pub header_then : (newest : ℕ) (bytes : List ℕ) (h : Header) (rest : List �
     → IsUnfinished newest bytes
 header_then newest bytes h rest is few = let e = entire_of newest bytes h rest is in record { lawful = e.0; short = λ _. omega (arith, few, e.1, e.2) }
 
-pub header_says : (newest : ℕ) (bytes : List ℕ) → IsUnfinished newest bytes → (header_at newest bytes ≡ Err Short) ⊎ ((h : Header) × (rest : List ℕ) × (header_at newest bytes ≡ Ok (h, rest)) × (length rest < h.size))
+pub header_says : (newest : ℕ) (bytes : List ℕ) → IsUnfinished newest bytes → (header_at newest bytes ≡ Err Short)
+    ⊎ ((h : Header) × (rest : List ℕ) × (header_at newest bytes ≡ Ok (h, rest)) × (length rest < h.size))
 header_says newest bytes u = go (class_of newest bytes) where
-  go : Class newest bytes → (header_at newest bytes ≡ Err Short) ⊎ ((h : Header) × (rest : List ℕ) × (header_at newest bytes ≡ Ok (h, rest)) × (length rest < h.size))
+  go : Class newest bytes → (header_at newest bytes ≡ Err Short)
+      ⊎ ((h : Header) × (rest : List ℕ) × (header_at newest bytes ≡ Ok (h, rest)) × (length rest < h.size))
   go (early read unfinished) = inl read
   go (wrong fault read other fields) = absurd (fields u.lawful)
   go (entire h rest read fields size long) = inr (h, rest, read, (let short = u.short (omega (arith, long)) in omega (arith, long, size, short)))

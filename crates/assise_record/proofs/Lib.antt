@@ -1,3 +1,4 @@
+mod Common
 pub mod EffectLaws
 pub mod Equality
 pub mod FieldLaws

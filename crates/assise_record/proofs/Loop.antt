@@ -1,10 +1,7 @@
 -- Readings one behind the other, as a loop makes them.
-use Rattle.std.proofs.Common.{◌≡◌, ℕ, zero, suc, ◌-◌, ◌+◌, ◌≤◌, ◌<◌, Bool, List, [], ◌∷◌, ◌++◌, length, Option, Result, Ok, Err, refl, sym, ap, ◌∙◌, arith}
-use Rattle.std.specs.Option.{option_to_list}
-use Rattle.assise_record.specs.LogRecord.{LogRecord}
-use Rattle.assise_record.specs.Reading.{◌>>=◌, Read, FailsReading, many_at, effect_at, read_record, records_at, rest_of}
-use Rattle.assise_record.specs.declared.fault.FrameFault.{FrameFault}
-use Rattle.assise_record.specs.declared.fault.FrameFault.TheVariants.{Short, BadMagic, BadVersion, BadTag, BadLength, BadValue, Memory}
+use Rattle.assise_record.proofs.Common.{◌≡◌, ℕ, zero, suc, ◌-◌, ◌+◌, ◌≤◌, ◌<◌, Bool, List, [], ◌∷◌, ◌++◌, length, Option, Result, Ok, Err, refl, sym, ap, ◌∙◌}
+use Rattle.assise_record.proofs.Common.{arith, option_to_list, LogRecord, ◌>>=◌, Read, FailsReading, many_at, effect_at, read_record, records_at, rest_of}
+use Rattle.assise_record.proofs.Common.{FrameFault, Short, BadMagic, BadVersion, BadTag, BadLength, BadValue, Memory}
 
 -- many readings, each told how many follow it, and what is put together of what they give
 pub record IsMany {A C : Type 0} (read : ℕ → List ℕ → Read A) (add : A → C → C) (none : C) (many : ℕ → List ℕ → Read C) : Type 0 where
@@ -16,7 +13,8 @@ abbrev pub through : {C : Type 0} → (C → C) → Read C → Read C
 through prefix read = read >>= λ x. Ok (prefix x.0, x.1)
 
 -- a fault other than out of memory
-fails_as : {A B : Type 0} (fault : FrameFault) (one : Result A FrameFault) (total : Result B FrameFault) → FailsReading fault one → (one ≡ Err fault → total ≡ Err fault) → FailsReading fault total
+fails_as : {A B : Type 0} (fault : FrameFault) (one : Result A FrameFault) (total : Result B FrameFault) → FailsReading fault one →
+    (one ≡ Err fault → total ≡ Err fault) → FailsReading fault total
 fails_as Memory one total h f = tt
 fails_as Short one total h f = f h
 fails_as BadMagic one total h f = f h
@@ -37,11 +35,13 @@ pub ok_is : {A : Type 0} (x y : A) → done x ≡ done y → x ≡ y
 ok_is x y e = cc
 
 module _ {A C : Type 0} (read : ℕ → List ℕ → Read A) (add : A → C → C) (none : C) (many : ℕ → List ℕ → Read C) (m : IsMany read add none many) where
-  regroup : (prefix next : C → C) (x : A) → ((y : C) → prefix (add x y) ≡ next y) → (others : Read C) → through prefix (others >>= λ y. Ok (add x y.0, y.1)) ≡ through next others
+  regroup : (prefix next : C → C) (x : A) → ((y : C) → prefix (add x y) ≡ next y) → (others : Read C) → through prefix (others >>= λ y. Ok (add x y.0, y.1))
+      ≡ through next others
   regroup prefix next x same (Ok y) = ap (λ (c : C). Ok (c, y.1)) (same y.0)
   regroup prefix next x same (Err f) = refl
 
-  pub goes_on : (prefix next : C → C) (count i : ℕ) (bytes : List ℕ) (x : A) (after : List ℕ) (total : Read C) → ((y : C) → prefix (add x y) ≡ next y) → i < count
+  pub goes_on : (prefix next : C → C) (count i : ℕ) (bytes : List ℕ) (x : A) (after : List ℕ) (total : Read C) → ((y : C) → prefix (add x y) ≡ next y) →
+      i < count
       → read (count - (i + 1)) bytes ≡ Ok (x, after) → through prefix (many (count - i) bytes) ≡ total → through next (many (count - (i + 1)) after) ≡ total
   goes_on prefix next count i bytes x after total same lt h so_far =
       let k : count - i ≡ suc (count - (i + 1)) = omega arith in
@@ -56,11 +56,13 @@ module _ {A C : Type 0} (read : ℕ → List ℕ → Read A) (add : A → C → 
       let one : through prefix (many (count - i) bytes) ≡ Err fault = rw (k, m.step (count - (i + 1)) bytes, h) refl in
       sym so_far ∙ one
 
-  pub ends : (fault : FrameFault) (prefix : C → C) (count i : ℕ) (bytes : List ℕ) (total : Read C) → i < count → FailsReading fault (read (count - (i + 1)) bytes)
+  pub ends : (fault : FrameFault) (prefix : C → C) (count i : ℕ) (bytes : List ℕ) (total : Read C) → i < count →
+      FailsReading fault (read (count - (i + 1)) bytes)
       → through prefix (many (count - i) bytes) ≡ total → FailsReading fault total
   ends fault prefix count i bytes total lt h so_far = fails_as fault (read (count - (i + 1)) bytes) total h (stops fault prefix count i bytes total lt so_far)
 
-  pub is_done : (prefix : C → C) (count i : ℕ) (bytes : List ℕ) (whole : C) (total : Read C) → prefix none ≡ whole → count ≤ i → through prefix (many (count - i) bytes) ≡ total → total ≡ Ok (whole, bytes)
+  pub is_done : (prefix : C → C) (count i : ℕ) (bytes : List ℕ) (whole : C) (total : Read C) → prefix none ≡ whole → count ≤ i →
+      through prefix (many (count - i) bytes) ≡ total → total ≡ Ok (whole, bytes)
   is_done prefix count i bytes whole total same le so_far =
       let k : count - i ≡ 0 = omega arith in
       let one : through prefix (many (count - i) bytes) ≡ Ok (whole, bytes) = rw (k, m.start bytes) (ap (λ (c : C). Ok (c, bytes)) same) in
@@ -77,7 +79,8 @@ module _ {A C : Type 0} (read : ℕ → List ℕ → Read A) (add : A → C → 
   passed n (Ok x) after e = one_passed x.0 (many n x.1) ∙ ap (λ bytes. rest_of (many n bytes)) (ok_is x.1 after e)
   passed n (Err fault) after e = absurd cc
 
-  failed : (n : ℕ) (first : Read A) (fault : FrameFault) → rest_of first ≡ Err fault → rest_of (first >>= λ x. many n x.1 >>= λ y. Ok (add x.0 y.0, y.1)) ≡ Err fault
+  failed : (n : ℕ) (first : Read A) (fault : FrameFault) → rest_of first ≡ Err fault → rest_of (first >>= λ x. many n x.1 >>= λ y. Ok (add x.0 y.0, y.1))
+      ≡ Err fault
   failed n (Ok x) fault e = absurd cc
   failed n (Err other) fault e = e
 
@@ -85,15 +88,19 @@ module _ {A C : Type 0} (read : ℕ → List ℕ → Read A) (add : A → C → 
       → rest_of (many (count - i) bytes) ≡ total → rest_of (many (count - (i + 1)) after) ≡ total
   skip_goes_on count i bytes after total lt h so_far =
       let k : count - i ≡ suc (count - (i + 1)) = omega arith in
-      sym (passed (count - (i + 1)) (read (count - (i + 1)) bytes) after h) ∙ sym (ap (λ n. rest_of (many n bytes)) k ∙ ap rest_of (m.step (count - (i + 1)) bytes)) ∙ so_far
+      sym (passed (count - (i + 1)) (read (count - (i + 1)) bytes) after h)
+      ∙ sym (ap (λ n. rest_of (many n bytes)) k ∙ ap rest_of (m.step (count - (i + 1)) bytes)) ∙ so_far
 
-  pub skip_stops : (fault : FrameFault) (count i : ℕ) (bytes : List ℕ) (total : Result (List ℕ) FrameFault) → i < count → rest_of (read (count - (i + 1)) bytes) ≡ Err fault
+  pub skip_stops : (fault : FrameFault) (count i : ℕ) (bytes : List ℕ) (total : Result (List ℕ) FrameFault) → i < count → rest_of (read (count - (i + 1)) bytes)
+      ≡ Err fault
       → rest_of (many (count - i) bytes) ≡ total → total ≡ Err fault
   skip_stops fault count i bytes total lt h so_far =
       let k : count - i ≡ suc (count - (i + 1)) = omega arith in
-      sym so_far ∙ ap (λ n. rest_of (many n bytes)) k ∙ ap rest_of (m.step (count - (i + 1)) bytes) ∙ failed (count - (i + 1)) (read (count - (i + 1)) bytes) fault h
+      sym so_far ∙ ap (λ n. rest_of (many n bytes)) k ∙ ap rest_of (m.step (count - (i + 1)) bytes) ∙ failed (count - (i + 1)) (read (count - (i + 1)) bytes)
+      fault h
 
-  pub skip_is_done : (count i : ℕ) (bytes : List ℕ) (total : Result (List ℕ) FrameFault) → count ≤ i → rest_of (many (count - i) bytes) ≡ total → total ≡ Ok bytes
+  pub skip_is_done : (count i : ℕ) (bytes : List ℕ) (total : Result (List ℕ) FrameFault) → count ≤ i → rest_of (many (count - i) bytes) ≡ total →
+      total ≡ Ok bytes
   skip_is_done count i bytes total le so_far =
       let k : count - i ≡ 0 = omega arith in
       sym so_far ∙ ap (λ n. rest_of (many n bytes)) k ∙ ap rest_of (m.start bytes)
@@ -112,7 +119,8 @@ unfolding records_at
 records_are_many marked = record { start = λ bytes. refl; step = λ left bytes. refl }
 
 -- there are as many values as readings
-pub many_counted : {A : Type 0} (read : List ℕ → Read A) (n : ℕ) (bytes : List ℕ) (xs : List A) (rest : List ℕ) → many_at read n bytes ≡ Ok (xs, rest) → length xs ≡ n
+pub many_counted : {A : Type 0} (read : List ℕ → Read A) (n : ℕ) (bytes : List ℕ) (xs : List A) (rest : List ℕ) → many_at read n bytes ≡ Ok (xs, rest) →
+    length xs ≡ n
 unfolding many_at
 many_counted {A} read zero bytes xs rest e = ap (λ (y : List A × List ℕ). length y.0) (sym (ok_is ([], bytes) (xs, rest) e))
 many_counted {A} read (suc n) bytes xs rest e =

@@ -1,14 +1,8 @@
 -- The marks of records: a mark that is read is the one that was spelled, and what marks a frame's records have.
-use Rattle.std.proofs.Common.{◌≡◌, ℕ, ◌-◌, Bool, true, false, ◌&&◌, ◌==◌, nat_lt, List, [], ◌∷◌, ◌++◌, length, get_or}
-use Rattle.std.proofs.Common.{Option, Some, None, Result, Ok, refl, sym, ap, subst, ◌∙◌, arith, inl, inr}
-use Rattle.std.specs.Option.{option_to_list}
-use Rattle.std.proofs.lemmas.Bool.{and_parts, cases_Bool, cases_lt, eqb-true, lt-ltb, ltb-true, or_cases}
-use Rattle.assise_record.specs.declared.fault.FrameFault.{FrameFault}
-use Rattle.assise_record.specs.declared.fault.FrameFault.TheVariants.{BadLength, BadValue}
-use Rattle.assise_record.specs.LogRecord.{LogRecord}
-use Rattle.assise_record.specs.LogFrame.{HasMarks}
-use Rattle.assise_record.specs.Spelling.{mark_spelling, record_spelling, body_of}
-use Rattle.assise_record.specs.Reading.{◌>>=◌, guard, byte_at, is_mark, mark_at}
+use Rattle.assise_record.proofs.Common.{◌≡◌, ℕ, ◌-◌, Bool, true, false, ◌&&◌, ◌==◌, nat_lt, List, [], ◌∷◌, ◌++◌, length, get_or, Option, Some, None, Result, Ok}
+use Rattle.assise_record.proofs.Common.{refl, sym, ap, subst, ◌∙◌, arith, inl, inr, option_to_list, and_parts, cases_Bool, cases_lt, eqb-true, lt-ltb, ltb-true}
+use Rattle.assise_record.proofs.Common.{or_cases, FrameFault, BadLength, BadValue, LogRecord, HasMarks, mark_spelling, record_spelling, body_of, ◌>>=◌, guard}
+use Rattle.assise_record.proofs.Common.{byte_at, is_mark, mark_at}
 use Rattle.assise_record.proofs.Loop.{bind_ok, ok_is}
 use Rattle.assise_record.proofs.FieldLaws.{IsBytes, Takes, Reads, seq_takes, guard_ok, byte_reads}
 
@@ -36,10 +30,12 @@ spelled_as left mark e =
       ]
     ]
 
-mark_takes : (marked : Bool) (left : ℕ) (bytes : List ℕ) (x : Option Bool × List ℕ) → IsBytes bytes → mark_at marked left bytes ≡ Ok x → Takes bytes (mark_spelling x.0) x.1 × IsMark marked left x.0
+mark_takes : (marked : Bool) (left : ℕ) (bytes : List ℕ) (x : Option Bool × List ℕ) → IsBytes bytes → mark_at marked left bytes ≡ Ok x →
+    Takes bytes (mark_spelling x.0) x.1 × IsMark marked left x.0
 unfolding mark_at
 mark_takes false left bytes x fits e =
-    subst (λ (y : Option Bool × List ℕ). Takes bytes (mark_spelling y.0) y.1 × IsMark false left y.0) (ok_is (None, bytes) x e) (record { parts = refl; rest_fits = fits }, refl)
+    subst (λ (y : Option Bool × List ℕ). Takes bytes (mark_spelling y.0) y.1 × IsMark false left y.0) (ok_is (None, bytes) x e)
+    (record { parts = refl; rest_fits = fits }, refl)
 mark_takes true left bytes x fits e =
     let last = λ (mark : ℕ × List ℕ). let made : Result (Option Bool × List ℕ) FrameFault = Ok (Some (mark.0 == 1), mark.1) in made in
     let a = seq_takes (byte_reads BadLength) (λ mark. guard (is_mark left mark.0) BadValue >>= λ _. last mark) x bytes fits e in
@@ -48,7 +44,8 @@ mark_takes true left bytes x fits e =
     subst (λ (y : Option Bool × List ℕ). Takes bytes (mark_spelling y.0) y.1 × IsMark true left y.0) (ok_is (Some (a.0.0 == 1), a.0.1) x g.1)
     (spelled, (a.0.0 == 1, refl, last_ends left a.0.0 g.0))
 
-mark_again : (marked : Bool) (left : ℕ) (mark : Option Bool) (rest : List ℕ) → IsMark marked left mark → mark_at marked left (mark_spelling mark ++ rest) ≡ Ok (mark, rest)
+mark_again : (marked : Bool) (left : ℕ) (mark : Option Bool) (rest : List ℕ) → IsMark marked left mark → mark_at marked left (mark_spelling mark ++ rest)
+    ≡ Ok (mark, rest)
 unfolding mark_at
 mark_again false left None rest h = refl
 mark_again false left (Some last) rest h = absurd cc
@@ -83,20 +80,23 @@ pub no_marks : (marked : Bool) → HasMarks marked [] []
 no_marks false = refl
 no_marks true = (refl, refl)
 
-last_of_more : (b : Bool) (rs : List LogRecord) (last : List Bool) → (length rs ≡ 0 → b ≡ true) → length last ≡ length rs → get_or last (length rs - 1) true ≡ true
+last_of_more : (b : Bool) (rs : List LogRecord) (last : List Bool) → (length rs ≡ 0 → b ≡ true) → length last ≡ length rs → get_or last (length rs - 1) true
+    ≡ true
     → get_or (b ∷ last) (length rs) true ≡ true
 last_of_more b [] last one len h = one refl
 last_of_more b (r ∷ rs) last one len h = ap (λ (n : ℕ). get_or last n true) (omega arith) ∙ h
 
 -- one more in front
-pub marks_more : (marked : Bool) (r : LogRecord) (rs : List LogRecord) (mark : Option Bool) (last : List Bool) → IsMark marked (length rs) mark → HasMarks marked rs last
+pub marks_more : (marked : Bool) (r : LogRecord) (rs : List LogRecord) (mark : Option Bool) (last : List Bool) → IsMark marked (length rs) mark →
+    HasMarks marked rs last
     → HasMarks marked (r ∷ rs) (option_to_list mark ++ last)
 marks_more false r rs mark last is h = rw (is, h) refl
 marks_more true r rs mark last is h =
     rw is.1
     (omega (arith, h.0), ap (λ (n : ℕ). get_or (is.0 ∷ last) n true) (omega arith) ∙ last_of_more is.0 rs last is.2 h.0 h.1)
 
-pub body_more : (marked : Bool) (r : LogRecord) (rs : List LogRecord) (mark : Option Bool) (last : List Bool) → IsMark marked (length rs) mark → HasMarks marked rs last
+pub body_more : (marked : Bool) (r : LogRecord) (rs : List LogRecord) (mark : Option Bool) (last : List Bool) → IsMark marked (length rs) mark →
+    HasMarks marked rs last
     → body_of (r ∷ rs) (option_to_list mark ++ last) ≡ record_spelling mark r ++ body_of rs last
 body_more false r rs mark last is h = rw (is, h) refl
 body_more true r rs mark last is h = rw is.1 refl
@@ -109,7 +109,8 @@ pub record Parts (marked : Bool) (r : LogRecord) (rs : List LogRecord) (last : L
   pub is : IsMark marked (length rs) mark
   pub marks : HasMarks marked rs others
 
-less_of_more : (b : Bool) (rs : List LogRecord) (last : List Bool) → length last ≡ length rs → get_or (b ∷ last) (length rs) true ≡ true → get_or last (length rs - 1) true ≡ true
+less_of_more : (b : Bool) (rs : List LogRecord) (last : List Bool) → length last ≡ length rs → get_or (b ∷ last) (length rs) true ≡ true →
+    get_or last (length rs - 1) true ≡ true
 less_of_more b [] [] len h = refl
 less_of_more b [] (m ∷ last) len h = absurd (omega (arith, len))
 less_of_more b (r ∷ rs) last len h = ap (λ (n : ℕ). get_or last n true) (omega arith) ∙ h

@@ -1,11 +1,8 @@
 -- Which bytes are names.
-use Rattle.std.proofs.Common.{◌≡◌, ℕ, ◌<◌, Bool, true, false, not, ◌==◌, cond, List, length, Ok, Err, IsTrue, refl, arith, inl, inr}
-use Rattle.std.specs.Str.{IsUtf8, is_utf8}
+use Rattle.assise_record.proofs.Common.{◌≡◌, ℕ, ◌<◌, Bool, true, false, not, ◌==◌, cond, List, length, Ok, Err, refl, arith, inl, inr, IsUtf8, is_utf8}
+use Rattle.assise_record.proofs.Common.{cases_eq, and_parts, false_from_ne_true, is_name, name_in, BadValue}
+use Rattle.std.proofs.Common.{IsTrue}
 use Rattle.std.proofs.lemmas.Str.{IsUtf8-from_is_utf8}
-use Rattle.std.proofs.lemmas.Bool.{cases_eq, and_parts, false_from_ne_true}
-use Rattle.assise_names.specs.Name.{is_name}
-use Rattle.assise_record.specs.Reading.{name_in}
-use Rattle.assise_record.specs.declared.fault.FrameFault.TheVariants.{BadValue}
 
 -- bytes that are no text are no name
 pub no_text : (bytes : List ℕ) → ¬ (IsUtf8 bytes) → name_in bytes ≡ Err BadValue

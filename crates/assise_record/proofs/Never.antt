@@ -1,15 +1,10 @@
 -- A fault that no field has is never answered.
-use Rattle.std.proofs.Common.{◌≡◌, ◌≢◌, ℕ, zero, suc, Bool, true, false, ◌&&◌, ◌==◌, nat_lt, nat_le, cond, ltb, List, [], ◌∷◌, ◌++◌, length, Option, Some, None, Result, Ok, Err, ap}
-use Rattle.std.specs.Option.{option_to_list}
-use Rattle.assise_names.specs.Name.{is_name}
-use Rattle.assise_record.specs.declared.effect.Effect.{Effect}
-use Rattle.assise_record.specs.declared.effect.Effect.TheVariants.{NewFile, NewDir, Write, SetLen, Link, Unlink, Free}
-use Rattle.assise_record.specs.LogFrame.{is_marked}
-use Rattle.assise_record.specs.declared.fault.FrameFault.{FrameFault}
-use Rattle.assise_record.specs.declared.fault.FrameFault.TheVariants.{Short, BadMagic, BadVersion, BadTag, BadLength, BadValue, Memory}
-use Rattle.assise_record.specs.Reading.{◌>>=◌, guard, Read, byte_at, bytes_at, number_at, many_at, is_extent, extent_at, read_size, name_in, name_at}
-use Rattle.assise_record.specs.Reading.{new_file_at, new_dir_at, write_at, set_len_at, link_at, unlink_at, free_at, fields_at, effect_at}
-use Rattle.assise_record.specs.Reading.{is_mark, mark_at, read_record, records_at, body_at, has_count, is_version, version_at, numbers_at, header_at, frame_at}
+use Rattle.assise_record.proofs.Common.{◌≡◌, ◌≢◌, ℕ, zero, suc, Bool, true, false, ◌&&◌, ◌==◌, nat_lt, nat_le, cond, ltb, List, [], ◌∷◌, ◌++◌, length, Option}
+use Rattle.assise_record.proofs.Common.{Some, None, Result, Ok, Err, ap, option_to_list, is_name, Effect, NewFile, NewDir, Write, SetLen, Link, Unlink, Free}
+use Rattle.assise_record.proofs.Common.{is_marked, FrameFault, Short, BadMagic, BadVersion, BadTag, BadLength, BadValue, Memory, ◌>>=◌, guard, Read, byte_at}
+use Rattle.assise_record.proofs.Common.{bytes_at, number_at, many_at, is_extent, extent_at, read_size, name_in, name_at, new_file_at, new_dir_at, write_at}
+use Rattle.assise_record.proofs.Common.{set_len_at, link_at, unlink_at, free_at, fields_at, effect_at, is_mark, mark_at, read_record, records_at, body_at}
+use Rattle.assise_record.proofs.Common.{has_count, is_version, version_at, numbers_at, header_at, frame_at}
 
 -- it is none of the faults of a body's fields
 pub record IsNoBodyFault (bad : FrameFault) : Type 0 where
@@ -95,7 +90,8 @@ module _ (bad : FrameFault) (others : IsNoBodyFault bad) where
 
   name_never : Never name_at
   unfolding name_at
-  name_never = then_never (byte_at BadLength) _ byte_never (λ size. guard_never (nat_lt 0 size) BadValue _ bad_value (then_never (bytes_at size BadLength) _ (bytes_never size) text_never))
+  name_never = then_never (byte_at BadLength) _ byte_never
+      (λ size. guard_never (nat_lt 0 size) BadValue _ bad_value (then_never (bytes_at size BadLength) _ (bytes_never size) text_never))
 
   inode_never : {A : Type 0} (next : ℕ → List ℕ → Read A) → ((n : ℕ) → Never (next n)) → Never (λ bytes. number_at 8 BadLength bytes >>= λ x. next x.0 x.1)
   inode_never next h = then_never (number_at 8 BadLength) next (number_never 8) h
@@ -121,18 +117,21 @@ module _ (bad : FrameFault) (others : IsNoBodyFault bad) where
   many_never : {A : Type 0} (read : List ℕ → Read A) → Never read → (n : ℕ) → Never (many_at read n)
   unfolding many_at
   many_never read h zero bytes = value_is ([], bytes)
-  many_never read h (suc n) bytes = then_never read _ h (λ first. then_never (many_at read n) _ (many_never read h n) (λ others. done_never (first ∷ others))) bytes
+  many_never read h (suc n) bytes =
+      then_never read _ h (λ first. then_never (many_at read n) _ (many_never read h n) (λ others. done_never (first ∷ others))) bytes
 
   mark_never : (marked : Bool) (left : ℕ) → Never (mark_at marked left)
   unfolding mark_at
   mark_never false left bytes = value_is (None, bytes)
-  mark_never true left bytes = then_never (byte_at BadLength) _ byte_never (λ mark. guard_never (is_mark left mark) BadValue _ bad_value (done_never (Some (mark == 1)))) bytes
+  mark_never true left bytes =
+      then_never (byte_at BadLength) _ byte_never (λ mark. guard_never (is_mark left mark) BadValue _ bad_value (done_never (Some (mark == 1)))) bytes
 
   record_never : (marked : Bool) (left : ℕ) → Never (read_record marked left)
   unfolding read_record
   record_never marked left =
       let counted = λ (call : ℕ) (mark : Option Bool) (count : ℕ). guard_never (nat_lt 0 count && nat_le count 4) BadValue _ bad_value
-      (then_never (many_at effect_at count) _ (many_never effect_at effect_never count) (λ effects. done_never (record { call = call; effects = effects }, mark))) in
+      (then_never (many_at effect_at count) _ (many_never effect_at effect_never count)
+      (λ effects. done_never (record { call = call; effects = effects }, mark))) in
       let behind = λ (call : ℕ) (mark : Option Bool). then_never (byte_at BadLength) _ byte_never (counted call mark) in
       then_never (number_at 8 BadLength) _ (number_never 8) (λ call. then_never (mark_at marked left) _ (mark_never marked left) (behind call))
 
@@ -140,7 +139,8 @@ module _ (bad : FrameFault) (others : IsNoBodyFault bad) where
   unfolding records_at
   records_never marked zero bytes = value_is (([], []), bytes)
   records_never marked (suc n) bytes = then_never (read_record marked n) _ (record_never marked n)
-      (λ first. then_never (records_at marked n) _ (records_never marked n) (λ others. done_never (first.0 ∷ others.0, option_to_list first.1 ++ others.1))) bytes
+      (λ first. then_never (records_at marked n) _ (records_never marked n) (λ others. done_never (first.0 ∷ others.0, option_to_list first.1 ++ others.1)))
+      bytes
 
   pub body_never : (marked : Bool) (count : ℕ) → Never (body_at marked count)
   unfolding body_at
@@ -182,21 +182,26 @@ number_always n bytes = chosen Memory not_memory (ltb (length bytes) n) _ _ (λ 
 version_always : (newest : ℕ) → Always (version_at newest)
 unfolding version_at
 version_always newest =
-    let version = then_never Memory not_memory (byte_at Short) _ byte_always (λ v. guard_never Memory not_memory (is_version newest v) BadVersion _ (is_other BadVersion no_version) (done_never Memory not_memory v)) in
-    let second = then_never Memory not_memory (byte_at Short) _ byte_always (λ s. guard_never Memory not_memory (s == 83) BadMagic _ (is_other BadMagic no_magic) version) in
+    let version = then_never Memory not_memory (byte_at Short) _ byte_always
+    (λ v. guard_never Memory not_memory (is_version newest v) BadVersion _ (is_other BadVersion no_version) (done_never Memory not_memory v)) in
+    let second = then_never Memory not_memory (byte_at Short) _ byte_always
+    (λ s. guard_never Memory not_memory (s == 83) BadMagic _ (is_other BadMagic no_magic) version) in
     then_never Memory not_memory (byte_at Short) _ byte_always (λ a. guard_never Memory not_memory (a == 65) BadMagic _ (is_other BadMagic no_magic) second)
 
 numbers_always : Always numbers_at
 unfolding numbers_at
 numbers_always =
-    then_never Memory not_memory (number_at 8 Short) _ (number_always 8) (λ first. then_never Memory not_memory (number_at 2 Short) _ (number_always 2) (λ count.
+    then_never Memory not_memory (number_at 8 Short) _ (number_always 8)
+    (λ first. then_never Memory not_memory (number_at 2 Short) _ (number_always 2) (λ count.
     guard_never Memory not_memory (has_count first count) BadValue _ (is_other BadValue not_memory.not_value) (done_never Memory not_memory (first, count))))
 
 header_always : (newest : ℕ) → Always (header_at newest)
 unfolding header_at
 header_always newest =
-    then_never Memory not_memory (version_at newest) _ (version_always newest) (λ version. then_never Memory not_memory (number_at 8 Short) _ (number_always 8) (λ epoch.
-    then_never Memory not_memory (number_at 4 Short) _ (number_always 4) (λ client. guard_never Memory not_memory (nat_lt 0 client) BadValue _ (is_other BadValue not_memory.not_value)
+    then_never Memory not_memory (version_at newest) _ (version_always newest)
+    (λ version. then_never Memory not_memory (number_at 8 Short) _ (number_always 8) (λ epoch.
+    then_never Memory not_memory (number_at 4 Short) _ (number_always 4)
+    (λ client. guard_never Memory not_memory (nat_lt 0 client) BadValue _ (is_other BadValue not_memory.not_value)
     (then_never Memory not_memory numbers_at _ numbers_always (λ numbers. then_never Memory not_memory (number_at 4 Short) _ (number_always 4) (λ size.
     done_never Memory not_memory (record { version = version; epoch = epoch; client = client; first = numbers.0; count = numbers.1; size = size })))))))
 
@@ -206,4 +211,5 @@ unfolding frame_at
 frame_always newest bytes =
     result_never Memory not_memory (header_at newest bytes) _ (header_always newest bytes) (λ head.
     result_never Memory not_memory (bytes_at head.0.size Short head.1) _ (bytes_always head.0.size head.1) (λ body.
-    result_never Memory not_memory (body_at (is_marked head.0.version) head.0.count body.0) _ (body_never Memory not_memory (is_marked head.0.version) head.0.count body.0) (λ records e. absurd cc)))
+    result_never Memory not_memory (body_at (is_marked head.0.version) head.0.count body.0) _
+    (body_never Memory not_memory (is_marked head.0.version) head.0.count body.0) (λ records e. absurd cc)))

@@ -1,11 +1,6 @@
 -- What the outcome of a reading says of the bytes.
-use Rattle.std.proofs.Common.{◌≡◌, ℕ, ◌≤◌, List, Result, Ok, Err, refl, sym, ap, ◌∙◌, inl, inr}
-use Rattle.std.specs.Prelude.{◌⊎◌, IfOk, IfErr}
-use Rattle.assise_record.specs.declared.fault.FrameFault.{FrameFault}
-use Rattle.assise_record.specs.declared.fault.FrameFault.TheVariants.{Short, BadMagic, BadVersion, BadTag, BadLength, BadValue, Memory}
-use Rattle.assise_record.specs.LogFrame.{LogFrame}
-use Rattle.assise_record.specs.Spelling.{BeginsWith}
-use Rattle.assise_record.specs.Reading.{FailsReading, GivesFrame, frame_at}
+use Rattle.assise_record.proofs.Common.{◌≡◌, ℕ, ◌≤◌, List, Result, Ok, Err, refl, sym, ap, ◌∙◌, inl, inr, ◌⊎◌, IfOk, IfErr, FrameFault, Short, BadMagic}
+use Rattle.assise_record.proofs.Common.{BadVersion, BadTag, BadLength, BadValue, Memory, LogFrame, BeginsWith, FailsReading, GivesFrame, frame_at}
 use Rattle.assise_record.proofs.FieldLaws.{IsBytes}
 use Rattle.assise_record.proofs.FrameLaws.{frame_takes, begins_again}
 use Rattle.assise_record.proofs.Never.{frame_always}
@@ -26,11 +21,13 @@ memory_or BadTag read h = inr h
 memory_or BadLength read h = inr h
 memory_or BadValue read h = inr h
 
-pub is_found : (newest : ℕ) (bytes : List ℕ) (r : Outcome) → newest ≤ 2 → IsBytes bytes → GivesFrame (λ x. x) r (frame_at newest bytes) → IfOk r (λ x. BeginsWith newest bytes x.0 x.1)
+pub is_found : (newest : ℕ) (bytes : List ℕ) (r : Outcome) → newest ≤ 2 → IsBytes bytes → GivesFrame (λ x. x) r (frame_at newest bytes) →
+    IfOk r (λ x. BeginsWith newest bytes x.0 x.1)
 is_found newest bytes (Ok x) known fits given = frame_takes newest bytes x known fits given
 is_found newest bytes (Err fault) known fits given = tt
 
-pub is_only : (newest : ℕ) (bytes : List ℕ) (r : Outcome) → GivesFrame (λ x. x) r (frame_at newest bytes) → (f : LogFrame) (n : ℕ) → BeginsWith newest bytes f n → (r ≡ Ok (f, n)) ⊎ (r ≡ Err Memory)
+pub is_only : (newest : ℕ) (bytes : List ℕ) (r : Outcome) → GivesFrame (λ x. x) r (frame_at newest bytes) → (f : LogFrame) (n : ℕ) →
+    BeginsWith newest bytes f n → (r ≡ Ok (f, n)) ⊎ (r ≡ Err Memory)
 is_only newest bytes (Ok x) given f n h = inl (sym given ∙ begins_again newest bytes f n h)
 is_only newest bytes (Err fault) given f n h =
     elim (memory_or fault (frame_at newest bytes) given) [
@@ -38,7 +35,8 @@ is_only newest bytes (Err fault) given f n h =
       | inr failed ↦ absurd (let both : fails_with fault ≡ Ok (f, n) = sym failed ∙ begins_again newest bytes f n h in cc)
     ]
 
-pub is_no_frame : (newest : ℕ) (bytes : List ℕ) (r : Outcome) → GivesFrame (λ x. x) r (frame_at newest bytes) → IfErr r (λ fault. (fault ≡ Memory) ⊎ ((f : LogFrame) (n : ℕ) → ¬ (BeginsWith newest bytes f n)))
+pub is_no_frame : (newest : ℕ) (bytes : List ℕ) (r : Outcome) → GivesFrame (λ x. x) r (frame_at newest bytes) →
+    IfErr r (λ fault. (fault ≡ Memory) ⊎ ((f : LogFrame) (n : ℕ) → ¬ (BeginsWith newest bytes f n)))
 is_no_frame newest bytes (Ok x) given = tt
 is_no_frame newest bytes (Err fault) given =
     elim (memory_or fault (frame_at newest bytes) given) [
@@ -47,7 +45,8 @@ is_no_frame newest bytes (Err fault) given =
     ]
 
 -- memory runs out only where there is a frame
-pub is_there : (newest : ℕ) (bytes : List ℕ) (r : Outcome) → newest ≤ 2 → IsBytes bytes → ((fault : FrameFault) → frame_at newest bytes ≡ Err fault → r ≡ Err fault)
+pub is_there : (newest : ℕ) (bytes : List ℕ) (r : Outcome) → newest ≤ 2 → IsBytes bytes →
+    ((fault : FrameFault) → frame_at newest bytes ≡ Err fault → r ≡ Err fault)
     → IfErr r (λ fault. fault ≡ Memory → (f : LogFrame) × ((n : ℕ) × BeginsWith newest bytes f n))
 is_there newest bytes (Ok x) known fits faults = tt
 is_there newest bytes (Err fault) known fits faults = λ memory. by_read (frame_at newest bytes) refl memory where

@@ -1,10 +1,9 @@
 -- Entries of directories that effects name.
-use Rattle.std.proofs.Common.{◌≡◌, ℕ, ◌==◌, ◌&&◌, Bool, List, sym, ap, ◌∙◌}
-use Rattle.std.proofs.lemmas.Bool.{eq-eqb}
+use Rattle.assise_record.proofs.Common.{◌≡◌, ℕ, ◌==◌, ◌&&◌, Bool, List, sym, ap, ◌∙◌, eq-eqb, pointwise, slice_cmp, texts_ties}
 use Rattle.std.specs.Ordering.{nat_cmp, is_eq}
-use Rattle.std.specs.Cmp.Lexicographic.{pointwise, slice_cmp, texts_ties}
 
 -- in one directory names that are compared decide whether it is the same entry
-pub same_entry : (b d : ℕ) (name other : List ℕ) (same : Bool) → b ≡ d → same ≡ pointwise ◌==◌ name other → same ≡ ((b == d) && is_eq (slice_cmp nat_cmp name other))
+pub same_entry : (b d : ℕ) (name other : List ℕ) (same : Bool) → b ≡ d → same ≡ pointwise ◌==◌ name other →
+    same ≡ ((b == d) && is_eq (slice_cmp nat_cmp name other))
 same_entry b d name other same here told =
     told ∙ texts_ties name other ∙ sym (ap (λ own. own && is_eq (slice_cmp nat_cmp name other)) (eq-eqb b d here))

@@ -1,18 +1,10 @@
 -- Records that are read are the records that were spelled, and what is spelled is read again.
-use Rattle.std.proofs.Common.{◌≡◌, ℕ, zero, suc, Bool, true, false, ◌&&◌, ◌==◌, nat_lt, nat_le, List, [], ◌∷◌, ◌++◌, length, Option, Result, Ok, refl, sym, ap, subst, ◌∙◌, append_assoc, arith}
-use Rattle.std.specs.Option.{option_to_list}
-use Rattle.std.specs.List.{flat_map, AllByRecursion}
-use Rattle.std.proofs.lemmas.Bool.{ltb-true, leb-true, lt-ltb, le-leb, eqb-true, and_parts, and_from}
-use Rattle.std.proofs.lemmas.List.{append-nil, nil_from_length}
-use Rattle.std.proofs.lemmas.List.Concat.{flat_map-cons}
-use Rattle.byteorder.specs.Endian.{big_bytes}
-use Rattle.assise_record.specs.declared.effect.Effect.{Effect}
-use Rattle.assise_record.specs.declared.fault.FrameFault.{FrameFault}
-use Rattle.assise_record.specs.declared.fault.FrameFault.TheVariants.{BadLength, BadValue}
-use Rattle.assise_record.specs.LogRecord.{LogRecord}
-use Rattle.assise_record.specs.LogFrame.{HasMarks}
-use Rattle.assise_record.specs.Spelling.{IsLogRecord, effect_spelling, mark_spelling, record_spelling, body_of}
-use Rattle.assise_record.specs.Reading.{◌>>=◌, guard, Read, byte_at, number_at, many_at, effect_at, mark_at, read_record, records_at, body_at}
+use Rattle.assise_record.proofs.Common.{◌≡◌, ℕ, zero, suc, Bool, true, false, ◌&&◌, ◌==◌, nat_lt, nat_le, List, [], ◌∷◌, ◌++◌, length, Option, Result, Ok, refl}
+use Rattle.assise_record.proofs.Common.{sym, ap, subst, ◌∙◌, append_assoc, arith, option_to_list, flat_map, AllByRecursion, ltb-true, leb-true, lt-ltb, le-leb}
+use Rattle.assise_record.proofs.Common.{eqb-true, and_parts, and_from, nil_from_length, flat_map-cons, big_bytes, Effect, FrameFault, BadLength, BadValue}
+use Rattle.assise_record.proofs.Common.{LogRecord, HasMarks, IsLogRecord, effect_spelling, mark_spelling, record_spelling, body_of, ◌>>=◌, guard, Read, byte_at}
+use Rattle.assise_record.proofs.Common.{number_at, many_at, effect_at, mark_at, read_record, records_at, body_at}
+use Rattle.std.proofs.lemmas.List.{append-nil}
 use Rattle.assise_record.proofs.Loop.{bind_ok, ok_is}
 use Rattle.assise_record.proofs.FieldLaws.{IsBytes, Takes, Takes-then, Reads, seq_takes, guard_ok, byte_reads, u64_reads}
 use Rattle.assise_record.proofs.Marks.{IsMark, mark_is, mark_reads, no_marks, marks_more, body_more, parts_of}
@@ -23,7 +15,8 @@ use Rattle.assise_record.proofs.EffectLaws.{effect_reads}
 abbrev pub TakesMany : {A : Type 0} → (A → List ℕ) → (A → Type 0) → ℕ → List ℕ → List A × List ℕ → Type 0
 TakesMany spell Fits n bytes x = Takes bytes (flat_map spell x.0) x.1 × (length x.0 ≡ n) × AllByRecursion Fits x.0
 
-pub many_take : {A : Type 0} {read : List ℕ → Read A} {spell : A → List ℕ} {Fits : A → Type 0} (reads : Reads read spell Fits) (n : ℕ) (bytes : List ℕ) (x : List A × List ℕ)
+pub many_take : {A : Type 0} {read : List ℕ → Read A} {spell : A → List ℕ} {Fits : A → Type 0} (reads : Reads read spell Fits) (n : ℕ) (bytes : List ℕ)
+    (x : List A × List ℕ)
     → IsBytes bytes → many_at read n bytes ≡ Ok x → TakesMany spell Fits n bytes x
 unfolding many_at
 many_take {A} {read} {spell} {Fits} reads zero bytes x fits e =
@@ -56,11 +49,14 @@ marked_spelling x = record_spelling x.1 x.0
 abbrev pub IsMarked : Bool → ℕ → Marked → Type 0
 IsMarked marked left x = IsLogRecord x.0 × IsMark marked left x.1
 
-record_takes : (marked : Bool) (left : ℕ) (bytes : List ℕ) (x : Marked × List ℕ) → IsBytes bytes → read_record marked left bytes ≡ Ok x → Takes bytes (marked_spelling x.0) x.1 × IsMarked marked left x.0
+record_takes : (marked : Bool) (left : ℕ) (bytes : List ℕ) (x : Marked × List ℕ) → IsBytes bytes → read_record marked left bytes ≡ Ok x →
+    Takes bytes (marked_spelling x.0) x.1 × IsMarked marked left x.0
 unfolding read_record
 record_takes marked left bytes x fits e =
-    let last = λ (call : ℕ) (mark : Option Bool) (p : List Effect × List ℕ). let made : Result (Marked × List ℕ) FrameFault = Ok ((record { call = call; effects = p.0 }, mark), p.1) in made in
-    let behind = λ (call : ℕ) (mark : Option Bool) (count : ℕ × List ℕ). guard (nat_lt 0 count.0 && nat_le count.0 4) BadValue >>= λ _. many_at effect_at count.0 count.1 >>= last call mark in
+    let last = λ (call : ℕ) (mark : Option Bool) (p : List Effect × List ℕ). let made : Result (Marked × List ℕ) FrameFault =
+    Ok ((record { call = call; effects = p.0 }, mark), p.1) in made in
+    let behind = λ (call : ℕ) (mark : Option Bool) (count : ℕ × List ℕ). guard (nat_lt 0 count.0 && nat_le count.0 4) BadValue >>= λ _. many_at effect_at
+    count.0 count.1 >>= last call mark in
     let a = seq_takes (u64_reads BadLength) (λ call. mark_at marked left call.1 >>= λ mark. byte_at BadLength mark.1 >>= behind call.0 mark.0) x bytes fits e in
     let m = seq_takes (mark_reads marked left) (λ mark. byte_at BadLength mark.1 >>= behind a.0.0 mark.0) x a.0.1 a.1.rest_fits a.3 in
     let b = seq_takes (byte_reads BadLength) (behind a.0.0 m.0.0) x m.0.1 m.1.rest_fits m.3 in
@@ -74,10 +70,12 @@ record_takes marked left bytes x fits e =
     let third = Takes-then m.0.1 (length d.0.0 ∷ []) b.0.1 (flat_map effect_spelling d.0.0) d.0.1 count t.0 in
     let second = Takes-then a.0.1 (mark_spelling m.0.0) m.0.1 (length d.0.0 ∷ flat_map effect_spelling d.0.0) d.0.1 m.1 third in
     let whole = Takes-then bytes (big_bytes 8 a.0.0) a.0.1 (mark_spelling m.0.0 ++ (length d.0.0 ∷ flat_map effect_spelling d.0.0)) d.0.1 a.1 second in
-    subst (λ (y : Marked × List ℕ). Takes bytes (marked_spelling y.0) y.1 × IsMarked marked left y.0) (ok_is ((record { call = a.0.0; effects = d.0.0 }, m.0.0), d.0.1) x d.2)
+    subst (λ (y : Marked × List ℕ). Takes bytes (marked_spelling y.0) y.1 × IsMarked marked left y.0)
+    (ok_is ((record { call = a.0.0; effects = d.0.0 }, m.0.0), d.0.1) x d.2)
     (whole, (record { call = a.2; some = omega (arith, some, t.1); few = omega (arith, few, t.1); effects = t.2 }, m.2))
 
-record_again : (marked : Bool) (left : ℕ) (x : Marked) (rest : List ℕ) → IsMarked marked left x → read_record marked left (marked_spelling x ++ rest) ≡ Ok (x, rest)
+record_again : (marked : Bool) (left : ℕ) (x : Marked) (rest : List ℕ) → IsMarked marked left x → read_record marked left (marked_spelling x ++ rest)
+    ≡ Ok (x, rest)
 unfolding read_record
 record_again marked left x rest h =
     let r : LogRecord = x.0 in
@@ -105,12 +103,15 @@ pub record TakesRecords (marked : Bool) (n : ℕ) (bytes : List ℕ) (x : Record
   pub marks : HasMarks marked x.0.0 x.0.1
   pub lawful : AllByRecursion IsLogRecord x.0.0
 
-records_take : (marked : Bool) (n : ℕ) (bytes : List ℕ) (x : Records × List ℕ) → IsBytes bytes → records_at marked n bytes ≡ Ok x → TakesRecords marked n bytes x
+records_take : (marked : Bool) (n : ℕ) (bytes : List ℕ) (x : Records × List ℕ) → IsBytes bytes → records_at marked n bytes ≡ Ok x →
+    TakesRecords marked n bytes x
 unfolding records_at
 records_take marked zero bytes x fits e =
-    subst (TakesRecords marked 0 bytes) (ok_is (([], []), bytes) x e) (record { taken = record { parts = refl; rest_fits = fits }; counted = refl; marks = no_marks marked; lawful = tt })
+    subst (TakesRecords marked 0 bytes) (ok_is (([], []), bytes) x e)
+    (record { taken = record { parts = refl; rest_fits = fits }; counted = refl; marks = no_marks marked; lawful = tt })
 records_take marked (suc n) bytes x fits e =
-    let last = λ (first : Marked) (others : Records × List ℕ). let made : Result (Records × List ℕ) FrameFault = Ok ((first.0 ∷ others.0.0, option_to_list first.1 ++ others.0.1), others.1) in made in
+    let last = λ (first : Marked) (others : Records × List ℕ). let made : Result (Records × List ℕ) FrameFault =
+    Ok ((first.0 ∷ others.0.0, option_to_list first.1 ++ others.0.1), others.1) in made in
     let a = seq_takes (record_reads marked n) (λ first. records_at marked n first.1 >>= last first.0) x bytes fits e in
     let b = bind_ok (records_at marked n a.0.1) (last a.0.0) x a.3 in
     let t = records_take marked n a.0.1 b.0 a.1.rest_fits b.1 in
@@ -134,7 +135,8 @@ records_again true [] [] rest h fits = refl
 records_again true [] (m ∷ last) rest h fits = absurd (omega (arith, h.0))
 records_again marked (r ∷ rs) last rest h fits =
     let p = parts_of marked r rs last h in
-    let spelled : body_of (r ∷ rs) last ≡ record_spelling p.mark r ++ body_of rs p.others = ap (body_of (r ∷ rs)) (sym p.parts) ∙ body_more marked r rs p.mark p.others p.is p.marks in
+    let spelled : body_of (r ∷ rs) last ≡ record_spelling p.mark r ++ body_of rs p.others = ap (body_of (r ∷ rs)) (sym p.parts)
+    ∙ body_more marked r rs p.mark p.others p.is p.marks in
     let regrouped : body_of (r ∷ rs) last ++ rest ≡ record_spelling p.mark r ++ (body_of rs p.others ++ rest) =
     ap (λ (t : List ℕ). t ++ rest) spelled ∙ append_assoc (record_spelling p.mark r) (body_of rs p.others) rest in
     let first = (record_reads marked (length rs)).again (r, p.mark) (body_of rs p.others ++ rest) (fits.0, p.is) in
@@ -145,21 +147,26 @@ records_again marked (r ∷ rs) last rest h fits =
 record_is : (marked : Bool) (left : ℕ) (bytes : List ℕ) (x : Marked × List ℕ) → read_record marked left bytes ≡ Ok x → IsMark marked left x.0.1
 unfolding read_record
 record_is marked left bytes x e =
-    let last = λ (call : ℕ) (mark : Option Bool) (p : List Effect × List ℕ). let made : Result (Marked × List ℕ) FrameFault = Ok ((record { call = call; effects = p.0 }, mark), p.1) in made in
-    let behind = λ (call : ℕ) (mark : Option Bool) (count : ℕ × List ℕ). guard (nat_lt 0 count.0 && nat_le count.0 4) BadValue >>= λ _. many_at effect_at count.0 count.1 >>= last call mark in
+    let last = λ (call : ℕ) (mark : Option Bool) (p : List Effect × List ℕ). let made : Result (Marked × List ℕ) FrameFault =
+    Ok ((record { call = call; effects = p.0 }, mark), p.1) in made in
+    let behind = λ (call : ℕ) (mark : Option Bool) (count : ℕ × List ℕ). guard (nat_lt 0 count.0 && nat_le count.0 4) BadValue >>= λ _. many_at effect_at
+    count.0 count.1 >>= last call mark in
     let a = bind_ok (number_at 8 BadLength bytes) (λ call. mark_at marked left call.1 >>= λ mark. byte_at BadLength mark.1 >>= behind call.0 mark.0) x e in
     let m = bind_ok (mark_at marked left a.0.1) (λ mark. byte_at BadLength mark.1 >>= behind a.0.0 mark.0) x a.2 in
     let b = bind_ok (byte_at BadLength m.0.1) (behind a.0.0 m.0.0) x m.2 in
     let g = guard_ok (nat_lt 0 b.0.0 && nat_le b.0.0 4) BadValue (λ _. many_at effect_at b.0.0 b.0.1 >>= last a.0.0 m.0.0) x b.2 in
     let d = bind_ok (many_at effect_at b.0.0 b.0.1) (last a.0.0 m.0.0) x g.1 in
-    subst (λ (y : Marked × List ℕ). IsMark marked left y.0.1) (ok_is ((record { call = a.0.0; effects = d.0.0 }, m.0.0), d.0.1) x d.2) (mark_is marked left a.0.1 m.0 m.1)
+    subst (λ (y : Marked × List ℕ). IsMark marked left y.0.1) (ok_is ((record { call = a.0.0; effects = d.0.0 }, m.0.0), d.0.1) x d.2)
+    (mark_is marked left a.0.1 m.0 m.1)
 
-pub records_are : (marked : Bool) (n : ℕ) (bytes : List ℕ) (x : Records × List ℕ) → records_at marked n bytes ≡ Ok x → (length x.0.0 ≡ n) × HasMarks marked x.0.0 x.0.1
+pub records_are : (marked : Bool) (n : ℕ) (bytes : List ℕ) (x : Records × List ℕ) → records_at marked n bytes ≡ Ok x →
+    (length x.0.0 ≡ n) × HasMarks marked x.0.0 x.0.1
 unfolding records_at
 records_are marked zero bytes x e =
     subst (λ (y : Records × List ℕ). (length y.0.0 ≡ 0) × HasMarks marked y.0.0 y.0.1) (ok_is (([], []), bytes) x e) (refl, no_marks marked)
 records_are marked (suc n) bytes x e =
-    let last = λ (first : Marked) (others : Records × List ℕ). let made : Result (Records × List ℕ) FrameFault = Ok ((first.0 ∷ others.0.0, option_to_list first.1 ++ others.0.1), others.1) in made in
+    let last = λ (first : Marked) (others : Records × List ℕ). let made : Result (Records × List ℕ) FrameFault =
+    Ok ((first.0 ∷ others.0.0, option_to_list first.1 ++ others.0.1), others.1) in made in
     let a = bind_ok (read_record marked n bytes) (λ first. records_at marked n first.1 >>= last first.0) x e in
     let b = bind_ok (records_at marked n a.0.1) (last a.0.0) x a.2 in
     let t = records_are marked n a.0.1 b.0 b.1 in
@@ -177,7 +184,8 @@ pub record IsBody (marked : Bool) (count : ℕ) (body : List ℕ) (x : Records) 
   pub marks : HasMarks marked x.0 x.1
   pub lawful : AllByRecursion IsLogRecord x.0
 
-pub body_takes : (marked : Bool) (count : ℕ) (body : List ℕ) (records : Records) → IsBytes body → body_at marked count body ≡ Ok records → IsBody marked count body records
+pub body_takes : (marked : Bool) (count : ℕ) (body : List ℕ) (records : Records) → IsBytes body → body_at marked count body ≡ Ok records →
+    IsBody marked count body records
 unfolding body_at
 body_takes marked count body records fits e =
     let a = bind_ok (records_at marked count body) (λ x. guard (length x.1 == 0) BadLength >>= λ _. Ok x.0) records e in

@@ -1,8 +1,6 @@
 -- Lists of log records: their effects, and their calls.
-use Rattle.std.proofs.Common.{◌≡◌, ℕ, ◌<◌, List, [], ◌∷◌, ◌++◌, refl, ap, sym, ◌∙◌, append_assoc, append-nil}
-use Rattle.assise_record.specs.declared.effect.Effect.{Effect}
-use Rattle.assise_record.specs.LogRecord.{LogRecord}
-use Rattle.assise_record.specs.Records.{all_effects, record_of, call_of, Ascending}
+use Rattle.assise_record.proofs.Common.{◌≡◌, ℕ, ◌<◌, List, [], ◌∷◌, ◌++◌, refl, ap, sym, ◌∙◌, append_assoc, append-nil, Effect, LogRecord, all_effects}
+use Rattle.assise_record.proofs.Common.{record_of, call_of, Ascending}
 
 pub all_effects-append : (rs zs : List LogRecord) → all_effects (rs ++ zs) ≡ all_effects rs ++ all_effects zs
 all_effects-append [] zs = refl

@@ -1,15 +1,11 @@
 -- What stands behind a reading is the end of the bytes, and the bytes of a write stand right before it.
-use Rattle.std.proofs.Common.{◌≡◌, ℕ, ◌+◌, ◌-◌, Bool, List, [], ◌∷◌, ◌++◌, length, take, drop, slice_range, Ok, refl, sym, ap, ◌∙◌, append_assoc, arith, Err, IfOk, Option, Result}
-use Rattle.std.proofs.lemmas.List.{take_at, drop_at, length-append}
-use Rattle.byteorder.specs.Endian.{big_bytes}
-use Rattle.assise_record.specs.Spelling.{effect_spelling, mark_spelling}
-use Rattle.assise_record.specs.Header.{Header}
-use Rattle.assise_record.specs.Reading.{Exactly, IsRest, byte_at, effect_at, fields_at, header_at, mark_at, number_at}
-use Rattle.assise_record.specs.Views.{EndsAt, effect_of}
+use Rattle.assise_record.proofs.Common.{◌≡◌, ℕ, ◌+◌, ◌-◌, Bool, List, [], ◌∷◌, ◌++◌, length, take, drop, slice_range, Ok, refl, sym, ap, ◌∙◌, append_assoc}
+use Rattle.assise_record.proofs.Common.{arith, Err, Option, Result, take_at, drop_at, big_bytes, effect_spelling, mark_spelling, Header, Exactly, IsRest}
+use Rattle.assise_record.proofs.Common.{byte_at, effect_at, fields_at, header_at, mark_at, number_at, EndsAt, effect_of, FrameFault, BadLength}
+use Rattle.std.proofs.Common.{IfOk}
+use Rattle.std.proofs.lemmas.List.{length-append}
 use Rattle.assise_record.specs.declared.effects.EffectView.{EffectView}
 use Rattle.assise_record.specs.declared.effects.EffectView.TheVariants.{NewFile, NewDir, Write, SetLen, Link, Unlink, Free}
-use Rattle.assise_record.specs.declared.fault.FrameFault.{FrameFault}
-use Rattle.assise_record.specs.declared.fault.FrameFault.TheVariants.{BadLength}
 use Rattle.assise_record.proofs.EffectLaws.{effect_reads}
 use Rattle.assise_record.proofs.FieldLaws.{IsBytes, Takes-then, byte_reads, u64_reads}
 use Rattle.assise_record.proofs.FrameLaws.{header_spelling, header_takes}
@@ -26,10 +22,12 @@ behind bytes text rest is =
     }
 
 pub behind_effect : (bytes rest : List ℕ) (view : EffectView) → IsBytes bytes → effect_at bytes ≡ Ok (effect_of view, rest) → IsRest bytes rest
-behind_effect bytes rest view fits read = behind bytes (effect_spelling (effect_of view)) rest (effect_reads.takes bytes (effect_of view, rest) fits read).0.parts
+behind_effect bytes rest view fits read =
+    behind bytes (effect_spelling (effect_of view)) rest (effect_reads.takes bytes (effect_of view, rest) fits read).0.parts
 
 -- behind the call, the mark and the count of effects of a record
-pub behind_head : (marked : Bool) (left : ℕ) (bytes first second rest : List ℕ) (call count : ℕ) (mark : Option Bool) → IsBytes bytes → number_at 8 BadLength bytes ≡ Ok (call, first)
+pub behind_head : (marked : Bool) (left : ℕ) (bytes first second rest : List ℕ) (call count : ℕ) (mark : Option Bool) → IsBytes bytes →
+    number_at 8 BadLength bytes ≡ Ok (call, first)
     → mark_at marked left first ≡ Ok (mark, second) → byte_at BadLength second ≡ Ok (count, rest) → IsRest bytes rest
 behind_head marked left bytes first second rest call count mark fits read_call read_mark read_count =
     let a = ((u64_reads BadLength).takes bytes (call, first) fits read_call).0 in
@@ -46,7 +44,8 @@ middle a b c =
     ap (λ n. take n (drop (length a) (a ++ (b ++ c)))) few ∙ ap (take (length b)) (drop_at a (b ++ c) (length a) refl) ∙ take_at b c (length b) refl
 
 -- the bytes of a write end where what stands behind it begins
-pub ends_there : (bytes rest : List ℕ) (view : EffectView) → IsBytes bytes → effect_at bytes ≡ Ok (effect_of view, rest) → EndsAt view bytes (length bytes - length rest)
+pub ends_there : (bytes rest : List ℕ) (view : EffectView) → IsBytes bytes → effect_at bytes ≡ Ok (effect_of view, rest) →
+    EndsAt view bytes (length bytes - length rest)
 ends_there bytes rest (NewFile inode) fits read = tt
 ends_there bytes rest (NewDir inode) fits read = tt
 ends_there bytes rest (SetLen inode size) fits read = tt
@@ -94,6 +93,7 @@ module _ {S : Type 0} (now : S → List ℕ) (bytes : List ℕ) (fits : IsBytes 
   rest_behind (Ok x) read = behind_effect bytes (now x.1) x.0 fits read
   rest_behind (Err fault) read = tt
 
-  pub ends_behind : (r : Views S) → Exactly (λ x. (effect_of x.0, now x.1)) r (effect_at bytes) → IfOk r (λ x. EndsAt x.0 bytes (length bytes - length (now x.1)))
+  pub ends_behind : (r : Views S) → Exactly (λ x. (effect_of x.0, now x.1)) r (effect_at bytes) →
+      IfOk r (λ x. EndsAt x.0 bytes (length bytes - length (now x.1)))
   ends_behind (Ok x) read = ends_there bytes (now x.1) x.0 fits read
   ends_behind (Err fault) read = tt

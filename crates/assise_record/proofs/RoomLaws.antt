@@ -1,17 +1,11 @@
 -- Vectors that grow within the room that they have.
-use Rattle.std.proofs.Common.{◌≡◌, ℕ, zero, suc, ◌+◌, ◌≤◌, ◌<◌, Bool, List, [], ◌∷◌, ◌++◌, length, get_or, take, Option, Some, None, ltb, refl, sym, ap, subst, ◌∙◌, append_assoc, append-nil, arith, length-append, Bor}
-use Rattle.std.specs.Prelude.{IfSome, is_some, slice_get, slice_index_or}
-use Rattle.std.specs.Option.{option_copied}
-use Rattle.std.proofs.lemmas.Bool.{ltb-false, ltb-true}
+use Rattle.assise_record.proofs.Common.{◌≡◌, ℕ, zero, suc, ◌+◌, ◌≤◌, ◌<◌, Bool, List, [], ◌∷◌, ◌++◌, length, get_or, take, Option, Some, None, ltb, refl, sym}
+use Rattle.assise_record.proofs.Common.{ap, subst, ◌∙◌, append_assoc, append-nil, arith, length-append, Bor, IfSome, is_some, slice_get, slice_index_or}
+use Rattle.assise_record.proofs.Common.{option_copied, ltb-false, ltb-true, flat_map, AllByRecursion, big_bytes, LogRecord, LogFrame, Appends, IsLogRecord}
+use Rattle.assise_record.proofs.Common.{record_spelling, body_of, header_of}
 use Rattle.std.proofs.lemmas.Option.{slice_get_past, slice_get_read}
 use Rattle.std.specs.Global.{Vec}
-use Rattle.std.specs.List.{flat_map, AllByRecursion}
 use Rattle.std.proofs.lemmas.List.Folds.{length-flat_map-take}
-use Rattle.byteorder.specs.Endian.{big_bytes}
-use Rattle.assise_record.specs.LogRecord.{LogRecord}
-use Rattle.assise_record.specs.LogFrame.{LogFrame}
-use Rattle.assise_record.specs.Room.{Appends}
-use Rattle.assise_record.specs.Spelling.{IsLogRecord, record_spelling, body_of, header_of}
 
 pub Appends-then : (a b c : Vec ℕ) (x y : List ℕ) → Appends a b x → Appends b c y → Appends a c (x ++ y)
 Appends-then a b c x y p q = record {
@@ -49,7 +43,8 @@ body_then (s ∷ rs) [] zero r lt is = rw (sym is) (append-nil (record_spelling 
 body_then (s ∷ rs) (m ∷ last) zero r lt is = rw (sym is) (append-nil (record_spelling (Some m) r))
 body_then (s ∷ rs) [] (suc i) r lt is =
     let others : body_of (take (suc i) rs) [] ≡ body_of (take i rs) [] ++ record_spelling None r =
-    subst (λ (t : List Bool). body_of (take (suc i) rs) [] ≡ body_of (take i rs) t ++ record_spelling None r) (take_none i) (body_then rs [] i r (omega (arith, lt)) is) in
+    subst (λ (t : List Bool). body_of (take (suc i) rs) [] ≡ body_of (take i rs) t ++ record_spelling None r) (take_none i)
+    (body_then rs [] i r (omega (arith, lt)) is) in
     ap (λ (t : List ℕ). record_spelling None s ++ t) others ∙ sym (append_assoc (record_spelling None s) (body_of (take i rs) []) (record_spelling None r))
 body_then (s ∷ rs) (m ∷ last) (suc i) r lt is =
     let others = body_then rs last i r (omega (arith, lt)) is in
@@ -68,7 +63,13 @@ prefix_fits (s ∷ rs) [] (suc i) =
     omega (arith, others, length-append (record_spelling None s) (body_of (take i rs) []), length-append (record_spelling None s) (body_of rs []))
 prefix_fits (s ∷ rs) (m ∷ last) (suc i) =
     let others = prefix_fits rs last i in
-    omega (arith, others, length-append (record_spelling (Some m) s) (body_of (take i rs) (take i last)), length-append (record_spelling (Some m) s) (body_of rs last))
+    omega (
+      arith,
+      others,
+      length-append (record_spelling (Some m) s) (body_of (take i rs) (take i last)),
+      length-append (record_spelling (Some m) s)
+          (body_of rs last),
+    )
 
 -- a record has no more bytes than what is left
 pub record_fits : (records : List LogRecord) (last : List Bool) (i : ℕ) (r : LogRecord) → i < length records → r ≡ get_or records i r
@@ -84,7 +85,8 @@ body_all [] last zero le = refl
 body_all [] last (suc i) le = refl
 body_all (r ∷ rs) last zero le = absurd (omega (arith, le))
 body_all (r ∷ rs) [] (suc i) le =
-    let others : body_of (take i rs) [] ≡ body_of rs [] = subst (λ (t : List Bool). body_of (take i rs) t ≡ body_of rs []) (take_none i) (body_all rs [] i (omega (arith, le))) in
+    let others : body_of (take i rs) [] ≡ body_of rs [] = subst (λ (t : List Bool). body_of (take i rs) t ≡ body_of rs []) (take_none i)
+    (body_all rs [] i (omega (arith, le))) in
     ap (λ (t : List ℕ). record_spelling None r ++ t) others
 body_all (r ∷ rs) (m ∷ last) (suc i) le = ap (λ (t : List ℕ). record_spelling (Some m) r ++ t) (body_all rs last i (omega (arith, le)))
 
@@ -95,7 +97,8 @@ lawful_then (s ∷ rs) zero r lt is before one = (subst IsLogRecord is one, tt)
 lawful_then (s ∷ rs) (suc i) r lt is before one = (before.0, lawful_then rs i r (omega (arith, lt)) is before.1 one)
 
 -- the mark that is looked up
-pub mark_is : (last : List Bool) (i : ℕ) (found : Option (Bor Bool)) → is_some found ≡ ltb i (length last) → IfSome found (λ x. x.now ≡ slice_index_or last i x.now)
+pub mark_is : (last : List Bool) (i : ℕ) (found : Option (Bor Bool)) → is_some found ≡ ltb i (length last) →
+    IfSome found (λ x. x.now ≡ slice_index_or last i x.now)
     → option_copied found ≡ slice_get last i
 mark_is last i None there at = sym (slice_get_past last i (ltb-false i (length last) (sym there)))
 mark_is last i (Some x) there at = sym (slice_get_read last (length last) i x.now refl (ltb-true i (length last) (sym there)) at)

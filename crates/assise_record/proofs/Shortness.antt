@@ -1,23 +1,16 @@
 -- What is Short: bytes that end inside the header, or before the end of the body.
-use Rattle.std.proofs.Common.{◌≡◌, ℕ, ◌+◌, ◌<◌}
-use Rattle.std.proofs.Common.{List, length, take, Result, Ok, Err, refl, ap, ◌∙◌, inl, inr}
-use Rattle.std.specs.Prelude.{◌↔◌, ◌⊎◌}
-use Rattle.std.proofs.lemmas.Bool.{cases_lt, lt-ltb, le-ltb}
-use Rattle.assise_record.specs.Header.{Header}
-use Rattle.assise_record.specs.LogFrame.{LogFrame, is_marked}
-use Rattle.assise_record.specs.declared.fault.FrameFault.{FrameFault}
-use Rattle.assise_record.specs.declared.fault.FrameFault.TheVariants.{Short}
+use Rattle.assise_record.proofs.Common.{◌≡◌, ℕ, ◌+◌, ◌<◌, List, length, take, Result, Ok, Err, refl, ap, ◌∙◌, inl, inr, ◌↔◌, ◌⊎◌, cases_lt, lt-ltb, le-ltb}
+use Rattle.assise_record.proofs.Common.{Header, LogFrame, is_marked, FrameFault, Short, ◌>>=◌, Read, bytes_at, body_at, header_at, read_frame, frame_at}
+use Rattle.assise_record.proofs.Common.{IsUnfinished}
 use Rattle.assise_record.proofs.Never.{body_never, not_short, result_never, value_is}
-use Rattle.assise_record.specs.Reading.{◌>>=◌, Read, bytes_at}
-use Rattle.assise_record.specs.Reading.{body_at, header_at, read_frame, frame_at}
-use Rattle.assise_record.specs.Unfinished.{IsUnfinished}
 use Rattle.assise_record.proofs.Headers.{ends_inside, header_says, header_then}
 
 -- ---- what is Short
 
 -- the reader finds the header too short, or fewer bytes behind it than it announces
 abbrev EndsEarly : ℕ → List ℕ → Type 0
-EndsEarly newest bytes = (header_at newest bytes ≡ Err Short) ⊎ ((h : Header) × (rest : List ℕ) × (header_at newest bytes ≡ Ok (h, rest)) × (length rest < h.size))
+EndsEarly newest bytes = (header_at newest bytes ≡ Err Short)
+    ⊎ ((h : Header) × (rest : List ℕ) × (header_at newest bytes ≡ Ok (h, rest)) × (length rest < h.size))
 
 abbrev short : (A : Type 0) → Result A FrameFault
 short A = Err Short
@@ -34,7 +27,8 @@ few_behind h rest e =
           let enough = le-ltb (length rest) h.size le in
           let read : (body_at (is_marked h.version) h.count (take h.size rest) >>= λ records. Ok (read_frame h records, 29 + h.size)) ≡ short (LogFrame × ℕ) =
           rw enough at e in
-          absurd (result_never Short not_short (body_at (is_marked h.version) h.count (take h.size rest)) _ (body_never Short not_short (is_marked h.version) h.count (take h.size rest)) (λ records. value_is Short not_short _) read)
+          absurd (result_never Short not_short (body_at (is_marked h.version) h.count (take h.size rest)) _
+          (body_never Short not_short (is_marked h.version) h.count (take h.size rest)) (λ records. value_is Short not_short _) read)
     ]
 
 unfinished : (newest : ℕ) (bytes : List ℕ) → frame_at newest bytes ≡ short (LogFrame × ℕ) → EndsEarly newest bytes

@@ -1,17 +1,8 @@
 -- How many bytes spellings have at most.
-use Rattle.std.proofs.Common.{◌≡◌, ℕ, suc, ◌+◌, ◌*◌, ◌≤◌, Bool, true, false, not, ◌==◌, nat_le, List, [], ◌∷◌, ◌++◌, length, Option, Some, None, refl, ap, arith, length-append}
-use Rattle.std.specs.Prelude.{IsTrue}
-use Rattle.std.specs.List.{flat_map, AllByRecursion}
-use Rattle.std.specs.Str.{is_utf8}
-use Rattle.std.proofs.lemmas.Bool.{and_parts, leb-true}
-use Rattle.std.proofs.lemmas.List.Concat.{flat_map-cons}
-use Rattle.assise_names.specs.Name.{is_name}
-use Rattle.byteorder.specs.Endian.{big_bytes}
-use Rattle.assise_record.specs.declared.effect.Effect.{Effect}
-use Rattle.assise_record.specs.declared.effect.Effect.TheVariants.{NewFile, NewDir, Write, SetLen, Link, Unlink, Free}
-use Rattle.assise_record.specs.LogRecord.{LogRecord}
-use Rattle.assise_record.specs.LogFrame.{HasMarks}
-use Rattle.assise_record.specs.Spelling.{IsEffect, IsLogRecord, effect_spelling, patch_spelling, name_spelling, mark_spelling, record_spelling, body_of}
+use Rattle.assise_record.proofs.Common.{◌≡◌, ℕ, suc, ◌+◌, ◌*◌, ◌≤◌, Bool, true, false, not, ◌==◌, nat_le, List, [], ◌∷◌, ◌++◌, length, Option, Some, None, refl}
+use Rattle.assise_record.proofs.Common.{ap, arith, length-append, IsTrue, flat_map, AllByRecursion, is_utf8, and_parts, leb-true, flat_map-cons, is_name}
+use Rattle.assise_record.proofs.Common.{big_bytes, Effect, NewFile, NewDir, Write, SetLen, Link, Unlink, Free, LogRecord, HasMarks, IsEffect, IsLogRecord}
+use Rattle.assise_record.proofs.Common.{effect_spelling, patch_spelling, name_spelling, mark_spelling, record_spelling, body_of}
 
 -- a name has at most 255 bytes
 pub few_bytes : (name : List ℕ) → IsTrue (is_name name) → length name ≤ 255
@@ -79,7 +70,8 @@ body_bytes_many (r ∷ rs) (m ∷ last) h =
     let others = body_bytes_many rs last h.1 in
     grind (arith, first, others, length-append (record_spelling (Some m) r) (body_of rs last))
 
-pub body_bytes : (records : List LogRecord) (last : List Bool) → length records ≤ 64 → AllByRecursion IsLogRecord records → length (body_of records last) ≤ 16782208
+pub body_bytes : (records : List LogRecord) (last : List Bool) → length records ≤ 64 → AllByRecursion IsLogRecord records →
+    length (body_of records last) ≤ 16782208
 body_bytes records last few h =
     let all = body_bytes_many records last h in
     omega (arith, all, few)
@@ -104,7 +96,14 @@ body_length [] (m ∷ last) few = absurd (omega (arith, few))
 body_length (r ∷ rs) [] few =
     let others = body_length rs [] (omega arith) in
     let whole = ap length (flat_map-cons (record_spelling None) r rs) in
-    omega (arith, others, whole, length-append (record_spelling None r) (body_of rs []), length-append (record_spelling None r) (flat_map (record_spelling None) rs))
+    omega (
+      arith,
+      others,
+      whole,
+      length-append (record_spelling None r) (body_of rs []),
+      length-append (record_spelling None r)
+          (flat_map (record_spelling None) rs),
+    )
 body_length (r ∷ rs) (m ∷ last) few =
     let others = body_length rs last (omega (arith, few)) in
     let whole = ap length (flat_map-cons (record_spelling None) r rs) in

@@ -1,13 +1,9 @@
 -- More bytes change nothing but what is Short.
-use Rattle.std.proofs.Common.{◌≡◌, ℕ, ◌+◌, Bool, true, false, ◌==◌, nat_lt, List, [], ◌∷◌, ◌++◌, length, Result, Ok, Err, refl, sym, ap, ◌∙◌, arith, inl, inr, take, drop, if◌then◌else◌}
-use Rattle.byteorder.specs.Endian.{big_number}
-use Rattle.std.proofs.lemmas.Bool.{cases_lt, lt-ltb, le-ltb}
-use Rattle.std.proofs.lemmas.List.{length-append, take-append-le, drop-append-le}
-use Rattle.assise_record.specs.Header.{Header}
-use Rattle.assise_record.specs.declared.fault.FrameFault.{FrameFault}
-use Rattle.assise_record.specs.declared.fault.FrameFault.TheVariants.{Short, BadMagic, BadVersion, BadValue}
-use Rattle.assise_record.specs.LogFrame.{LogFrame, is_marked}
-use Rattle.assise_record.specs.Reading.{◌>>=◌, guard, Read, has_count, is_version, byte_at, bytes_at, number_at, body_at, version_at, numbers_at, header_at, read_frame, frame_at}
+use Rattle.assise_record.proofs.Common.{◌≡◌, ℕ, ◌+◌, Bool, true, false, ◌==◌, nat_lt, List, [], ◌∷◌, ◌++◌, length, Result, Ok, Err, refl, sym, ap, ◌∙◌, arith}
+use Rattle.assise_record.proofs.Common.{inl, inr, take, drop, if◌then◌else◌, big_number, cases_lt, lt-ltb, le-ltb, take-append-le, drop-append-le, Header}
+use Rattle.assise_record.proofs.Common.{FrameFault, Short, BadMagic, BadVersion, BadValue, LogFrame, is_marked, ◌>>=◌, guard, Read, has_count, is_version}
+use Rattle.assise_record.proofs.Common.{byte_at, bytes_at, number_at, body_at, version_at, numbers_at, header_at, read_frame, frame_at}
+use Rattle.std.proofs.lemmas.List.{length-append}
 
 abbrev short : (A : Type 0) → Result A FrameFault
 short A = Err Short
@@ -46,7 +42,8 @@ number_stays : (n : ℕ) → Stays (number_at n Short)
 number_stays n = field_stays n (big_number n)
 
 -- one reading behind the other
-then_stays : {A B : Type 0} (read : List ℕ → Read A) (next : A → List ℕ → Read B) → Stays read → ((a : A) → Stays (next a)) → Stays (λ bytes. read bytes >>= λ x. next x.0 x.1)
+then_stays : {A B : Type 0} (read : List ℕ → Read A) (next : A → List ℕ → Read B) → Stays read → ((a : A) → Stays (next a)) →
+    Stays (λ bytes. read bytes >>= λ x. next x.0 x.1)
 then_stays {A} {B} read next first second bytes more h = by_outcome (read bytes) refl where
   by_outcome : (r : Read A) → read bytes ≡ r → (read (bytes ++ more) >>= λ x. next x.0 x.1) ≡ and_more (read bytes >>= λ x. next x.0 x.1) more
   by_outcome (Ok x) e =
@@ -85,7 +82,8 @@ unfolding header_at
 header_stays newest =
     let size = λ (version epoch client : ℕ) (numbers : ℕ × ℕ) (n : ℕ).
     let made : Header = record { version = version; epoch = epoch; client = client; first = numbers.0; count = numbers.1; size = n } in value_stays made in
-    let numbers = λ (version epoch client : ℕ). then_stays numbers_at _ numbers_stay (λ n. then_stays (number_at 4 Short) _ (number_stays 4) (size version epoch client n)) in
+    let numbers = λ (version epoch client : ℕ). then_stays numbers_at _ numbers_stay
+    (λ n. then_stays (number_at 4 Short) _ (number_stays 4) (size version epoch client n)) in
     let client = λ (version epoch n : ℕ). guard_stays (nat_lt 0 n) BadValue _ (numbers version epoch n) in
     let epoch = λ (version n : ℕ). then_stays (number_at 4 Short) _ (number_stays 4) (client version n) in
     then_stays (version_at newest) _ (version_stays newest) (λ version. then_stays (number_at 8 Short) _ (number_stays 8) (epoch version))
@@ -99,7 +97,8 @@ abbrev parts_at : ℕ → List ℕ → Read (Header × List ℕ)
 parts_at newest bytes = header_at newest bytes >>= λ head. both head.0 (bytes_at head.0.size Short head.1)
 
 parts_stay : (newest : ℕ) → Stays (parts_at newest)
-parts_stay newest = then_stays (header_at newest) _ (header_stays newest) (λ h. then_stays (bytes_at h.size Short) _ (bytes_stay h.size) (λ body. value_stays (h, body)))
+parts_stay newest = then_stays (header_at newest) _ (header_stays newest)
+    (λ h. then_stays (bytes_at h.size Short) _ (bytes_stay h.size) (λ body. value_stays (h, body)))
 
 abbrev finish : Header → List ℕ → Result (LogFrame × ℕ) FrameFault
 finish h body = body_at (is_marked h.version) h.count body >>= λ records. Ok (read_frame h records, 29 + h.size)
@@ -108,7 +107,8 @@ one_step : {A B C : Type 0} (x : A) (s : Read B) (f : A → B → Result C Frame
 one_step x (Ok y) f = refl
 one_step x (Err fault) f = refl
 
-two_steps : {A B C : Type 0} (r : Read A) (s : A × List ℕ → Read B) (f : A → B → Result C FrameFault) → ((r >>= λ x. both x.0 (s x)) >>= λ z. f z.0.0 z.0.1) ≡ (r >>= λ x. s x >>= λ y. f x.0 y.0)
+two_steps : {A B C : Type 0} (r : Read A) (s : A × List ℕ → Read B) (f : A → B → Result C FrameFault) → ((r >>= λ x. both x.0 (s x)) >>= λ z. f z.0.0 z.0.1)
+    ≡ (r >>= λ x. s x >>= λ y. f x.0 y.0)
 two_steps (Ok x) s f = one_step x.0 (s x) f
 two_steps (Err fault) s f = refl
 
@@ -117,14 +117,18 @@ unfolding frame_at
 frame_is newest bytes = two_steps (header_at newest bytes) (λ head. bytes_at head.0.size Short head.1) finish
 
 -- more bytes behind a frame, or behind a fault other than Short, change nothing
-pub frame_stays : (newest : ℕ) (bytes more : List ℕ) → ¬ (frame_at newest bytes ≡ short (LogFrame × ℕ)) → frame_at newest (bytes ++ more) ≡ frame_at newest bytes
+pub frame_stays : (newest : ℕ) (bytes more : List ℕ) → ¬ (frame_at newest bytes ≡ short (LogFrame × ℕ)) → frame_at newest (bytes ++ more)
+    ≡ frame_at newest bytes
 frame_stays newest bytes more h = sym (frame_is newest (bytes ++ more)) ∙ by_outcome (parts_at newest bytes) refl ∙ frame_is newest bytes where
-  by_outcome : (r : Read (Header × List ℕ)) → parts_at newest bytes ≡ r → (parts_at newest (bytes ++ more) >>= λ z. finish z.0.0 z.0.1) ≡ (parts_at newest bytes >>= λ z. finish z.0.0 z.0.1)
+  by_outcome : (r : Read (Header × List ℕ)) → parts_at newest bytes ≡ r → (parts_at newest (bytes ++ more) >>= λ z. finish z.0.0 z.0.1)
+      ≡ (parts_at newest bytes >>= λ z. finish z.0.0 z.0.1)
   by_outcome (Ok x) e =
-      let shorter : ¬ (parts_at newest bytes ≡ short ((Header × List ℕ) × List ℕ)) = λ s. let bad : done x ≡ short ((Header × List ℕ) × List ℕ) = sym e ∙ s in absurd cc in
+      let shorter : ¬ (parts_at newest bytes ≡ short ((Header × List ℕ) × List ℕ)) = λ s. let bad : done x ≡ short ((Header × List ℕ) × List ℕ) = sym e ∙ s in
+      absurd cc in
       let longer : parts_at newest (bytes ++ more) ≡ Ok (x.0, x.1 ++ more) = parts_stay newest bytes more shorter ∙ ap (λ r. and_more r more) e in
       ap (λ r. r >>= λ z. finish z.0.0 z.0.1) longer ∙ ap (λ r. r >>= λ z. finish z.0.0 z.0.1) (sym e)
   by_outcome (Err fault) e =
-      let shorter : ¬ (parts_at newest bytes ≡ short ((Header × List ℕ) × List ℕ)) = λ s. h (sym (frame_is newest bytes) ∙ ap (λ r. r >>= λ z. finish z.0.0 z.0.1) s) in
+      let shorter : ¬ (parts_at newest bytes ≡ short ((Header × List ℕ) × List ℕ)) =
+      λ s. h (sym (frame_is newest bytes) ∙ ap (λ r. r >>= λ z. finish z.0.0 z.0.1) s) in
       let longer : parts_at newest (bytes ++ more) ≡ Err fault = parts_stay newest bytes more shorter ∙ ap (λ r. and_more r more) e in
       ap (λ r. r >>= λ z. finish z.0.0 z.0.1) longer ∙ ap (λ r. r >>= λ z. finish z.0.0 z.0.1) (sym e)

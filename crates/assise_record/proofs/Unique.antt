@@ -1,13 +1,8 @@
 -- Frames and their spellings are one to one, and a cut frame is Short.
-use Rattle.std.proofs.Common.{◌≡◌, ℕ, ◌<◌, ◌≤◌, List, [], ◌++◌, length, Result, Ok, Err, refl, sym, ap, ◌∙◌, arith, inl, inr}
-use Rattle.std.specs.Prelude.{◌⊎◌, All}
-use Rattle.std.proofs.lemmas.Bool.{cases_lt}
-use Rattle.std.proofs.lemmas.List.{append-nil, get_or_past, length-append, nil_from_length}
-use Rattle.assise_record.specs.declared.fault.FrameFault.{FrameFault}
-use Rattle.assise_record.specs.declared.fault.FrameFault.TheVariants.{Short, BadMagic, BadVersion, BadTag, BadLength, BadValue, Memory}
-use Rattle.assise_record.specs.LogFrame.{LogFrame}
-use Rattle.assise_record.specs.Reading.{frame_at}
-use Rattle.assise_record.specs.Spelling.{BeginsWith, SpellsFrame}
+use Rattle.assise_record.proofs.Common.{◌≡◌, ℕ, ◌<◌, ◌≤◌, List, [], ◌++◌, length, Result, Ok, Err, refl, sym, ap, ◌∙◌, arith, inl, inr, ◌⊎◌, All, cases_lt}
+use Rattle.assise_record.proofs.Common.{get_or_past, nil_from_length, FrameFault, Short, BadMagic, BadVersion, BadTag, BadLength, BadValue, Memory, LogFrame}
+use Rattle.assise_record.proofs.Common.{frame_at, BeginsWith, SpellsFrame}
+use Rattle.std.proofs.lemmas.List.{append-nil, length-append}
 use Rattle.assise_record.proofs.FieldLaws.{IsBytes}
 use Rattle.assise_record.proofs.FrameLaws.{frame_again, frame_takes}
 use Rattle.assise_record.proofs.Loop.{ok_is}
@@ -23,7 +18,8 @@ abbrev short : Outcome
 short = Err Short
 
 pub again : (newest : ℕ) (f : LogFrame) (text rest : List ℕ) → SpellsFrame newest text f → frame_at newest (text ++ rest) ≡ Ok (f, length text)
-again newest f text rest h = ap (λ (t : List ℕ). frame_at newest (t ++ rest)) h.spelled ∙ frame_again newest f rest h.version h.lawful ∙ ap (λ (t : List ℕ). frame_of_size f (length t)) (sym h.spelled)
+again newest f text rest h = ap (λ (t : List ℕ). frame_at newest (t ++ rest)) h.spelled ∙ frame_again newest f rest h.version h.lawful
+    ∙ ap (λ (t : List ℕ). frame_of_size f (length t)) (sym h.spelled)
 
 alone : (newest : ℕ) (f : LogFrame) (text : List ℕ) → SpellsFrame newest text f → frame_at newest text ≡ frame_of_size f (length text)
 alone newest f text h = ap (frame_at newest) (sym (append-nil text)) ∙ again newest f text [] h
@@ -51,7 +47,8 @@ all_bytes bytes h i =
       | inr le ↦ rw (get_or_past bytes i 0 le) (omega arith)
     ]
 
-pub spelled : (newest : ℕ) (bytes : List ℕ) (f : LogFrame) (n : ℕ) → newest ≤ 2 → All (λ b. b < 256) bytes → frame_at newest bytes ≡ Ok (f, n) → BeginsWith newest bytes f n
+pub spelled : (newest : ℕ) (bytes : List ℕ) (f : LogFrame) (n : ℕ) → newest ≤ 2 → All (λ b. b < 256) bytes → frame_at newest bytes ≡ Ok (f, n) →
+    BeginsWith newest bytes f n
 spelled newest bytes f n known fits e = frame_takes newest bytes (f, n) known (all_bytes bytes fits) e
 
 is_short : (r : Outcome) → (r ≡ short) ⊎ ¬ (r ≡ short)
@@ -64,12 +61,14 @@ is_short (Err BadLength) = inr (λ e. absurd cc)
 is_short (Err BadValue) = inr (λ e. absurd cc)
 is_short (Err Memory) = inr (λ e. absurd cc)
 
-pub cut : (newest : ℕ) (f : LogFrame) (prefix rest : List ℕ) → newest ≤ 2 → All (λ b. b < 256) prefix → 0 < length rest → SpellsFrame newest (prefix ++ rest) f → frame_at newest prefix ≡ Err Short
+pub cut : (newest : ℕ) (f : LogFrame) (prefix rest : List ℕ) → newest ≤ 2 → All (λ b. b < 256) prefix → 0 < length rest →
+    SpellsFrame newest (prefix ++ rest) f → frame_at newest prefix ≡ Err Short
 cut newest f prefix rest known fits some h =
     elim (is_short (frame_at newest prefix)) [
       | inl is ↦ is
       | inr other ↦
-          let whole : frame_at newest prefix ≡ frame_of_size f (length (prefix ++ rest)) = sym (frame_stays newest prefix rest other) ∙ alone newest f (prefix ++ rest) h in
+          let whole : frame_at newest prefix ≡ frame_of_size f (length (prefix ++ rest)) = sym (frame_stays newest prefix rest other)
+          ∙ alone newest f (prefix ++ rest) h in
           let begins = frame_takes newest prefix (f, length (prefix ++ rest)) known (all_bytes prefix fits) whole in
           let inside = begins.inside in
           absurd (omega (arith, inside, some, length-append prefix rest))

@@ -1,14 +1,7 @@
 -- What the newest version changes, and what version 1 is.
-use Rattle.std.proofs.Common.{◌≡◌, ℕ, ◌<◌, ◌≤◌, true, false, ◌==◌, nat_le, List, [], ◌∷◌, ◌++◌, length, None, Err, refl, sym, ap, subst, ◌∙◌, arith, inl, inr}
-use Rattle.std.specs.Prelude.{◌⊎◌}
-use Rattle.std.specs.List.{flat_map}
-use Rattle.std.proofs.lemmas.Bool.{and_right, cases_Bool, lt-leb}
-use Rattle.std.proofs.lemmas.List.Concat.{flat_map-cons}
-use Rattle.assise_record.specs.declared.fault.FrameFault.TheVariants.{BadVersion}
-use Rattle.assise_record.specs.LogRecord.{LogRecord}
-use Rattle.assise_record.specs.LogFrame.{HasMarks, LogFrame, is_marked}
-use Rattle.assise_record.specs.Spelling.{SpellsFrame, body_of, header_of, record_spelling}
-use Rattle.assise_record.specs.Reading.{is_version, version_at, header_at, frame_at}
+use Rattle.assise_record.proofs.Common.{◌≡◌, ℕ, ◌<◌, ◌≤◌, true, false, ◌==◌, nat_le, List, [], ◌∷◌, ◌++◌, length, None, Err, refl, sym, ap, subst, ◌∙◌, arith}
+use Rattle.assise_record.proofs.Common.{inl, inr, ◌⊎◌, flat_map, and_right, cases_Bool, lt-leb, flat_map-cons, BadVersion, LogRecord, HasMarks, LogFrame}
+use Rattle.assise_record.proofs.Common.{is_marked, SpellsFrame, body_of, header_of, record_spelling, is_version, version_at, header_at, frame_at}
 use Rattle.assise_record.proofs.FrameLaws.{version_again, version_is}
 
 -- ---- the newest version
@@ -20,7 +13,8 @@ above newest version rest lt =
     rw no refl
 
 -- a version is refused, or read the same
-version_stays : (newest later : ℕ) (bytes : List ℕ) → newest ≤ later → (version_at newest bytes ≡ Err BadVersion) ⊎ (version_at later bytes ≡ version_at newest bytes)
+version_stays : (newest later : ℕ) (bytes : List ℕ) → newest ≤ later → (version_at newest bytes ≡ Err BadVersion)
+    ⊎ (version_at later bytes ≡ version_at newest bytes)
 unfolding version_at
 version_stays newest later [] le = inr refl
 version_stays newest later (a ∷ []) le = elim (cases_Bool (a == 65)) [ inl is ↦ inr (rw is refl) | inr other ↦ inr (rw other refl) ]
@@ -45,7 +39,8 @@ version_stays newest later (a ∷ s ∷ version ∷ rest) le =
       | inr other ↦ inr (rw other refl)
     ]
 
-pub later_reads : (newest later : ℕ) (bytes : List ℕ) → newest ≤ later → ¬ (frame_at newest bytes ≡ Err BadVersion) → frame_at later bytes ≡ frame_at newest bytes
+pub later_reads : (newest later : ℕ) (bytes : List ℕ) → newest ≤ later → ¬ (frame_at newest bytes ≡ Err BadVersion) →
+    frame_at later bytes ≡ frame_at newest bytes
 unfolding frame_at header_at
 later_reads newest later bytes le h =
     elim (version_stays newest later bytes le) [

@@ -1,10 +1,10 @@
 -- Groups one after another: where they end, and the calls that they begin with.
-use Rattle.std.proofs.Common.{◌≡◌, ℕ, zero, suc, ◌+◌, ◌-◌, ◌<◌, ◌≤◌, ◌==◌, ◌&&◌, ◌⊎◌, nat_le, true, if◌then◌else◌, List, [], ◌∷◌, ◌++◌, length, take, drop, refl, ap, sym, ◌∙◌, subst, arith, inl, inr, length-append}
-use Rattle.std.proofs.lemmas.Bool.{cases_lt, eqb-true, le-leb, leb-true, lt-leb, and_parts, or_cases, or_right}
+use Rattle.assise_record.proofs.Common.{◌≡◌, ℕ, zero, suc, ◌+◌, ◌-◌, ◌<◌, ◌≤◌, ◌==◌, ◌&&◌, nat_le, true, if◌then◌else◌, List, [], ◌∷◌, ◌++◌, length, take, drop}
+use Rattle.assise_record.proofs.Common.{refl, ap, sym, ◌∙◌, subst, arith, inl, inr, length-append, cases_lt, eqb-true, le-leb, leb-true, lt-leb, and_parts}
+use Rattle.assise_record.proofs.Common.{or_cases, or_right, AreGroups, all_records, all_coalesced, are_whole, were, coalesced_group, LogRecord, call_of}
+use Rattle.assise_record.proofs.Common.{Ascending}
+use Rattle.std.proofs.Common.{◌⊎◌}
 use Rattle.std.proofs.Math.Seq.{drop-append-add, take-append-add}
-use Rattle.assise_record.specs.Groups.{AreGroups, all_records, all_coalesced, are_whole, were, coalesced_group}
-use Rattle.assise_record.specs.LogRecord.{LogRecord}
-use Rattle.assise_record.specs.Records.{call_of, Ascending}
 use Rattle.assise_record.proofs.GroupRest.{group-begins, group-ascending, group-shorter, group-some}
 use Rattle.assise_record.proofs.Records.{ascending-append}
 
@@ -17,7 +17,8 @@ ends g gs k h =
     elim (or_cases (k == 0) (nat_le (length (coalesced_group g)) k && are_whole gs (k - length (coalesced_group g))) h) [
       | inl none ↦ inl (eqb-true k 0 none)
       | inr some ↦ inr (
-        (let p = and_parts (nat_le (length (coalesced_group g)) k) (are_whole gs (k - length (coalesced_group g))) some in leb-true (length (coalesced_group g)) k p.0),
+        (let p = and_parts (nat_le (length (coalesced_group g)) k) (are_whole gs (k - length (coalesced_group g))) some in
+            leb-true (length (coalesced_group g)) k p.0),
         (and_parts (nat_le (length (coalesced_group g)) k) (are_whole gs (k - length (coalesced_group g))) some).1,
       )
     ]
@@ -26,7 +27,8 @@ pub whole_none : (gs : List (List LogRecord)) → are_whole gs 0 ≡ true
 whole_none [] = refl
 whole_none (g ∷ gs) = refl
 
-pub were-past : (g : List LogRecord) (gs : List (List LogRecord)) (k : ℕ) → length (coalesced_group g) ≤ k → were (g ∷ gs) k ≡ length g + were gs (k - length (coalesced_group g))
+pub were-past : (g : List LogRecord) (gs : List (List LogRecord)) (k : ℕ) → length (coalesced_group g) ≤ k →
+    were (g ∷ gs) k ≡ length g + were gs (k - length (coalesced_group g))
 were-past g gs k h = ap (λ b. if b then length g + were gs (k - length (coalesced_group g)) else 0) (le-leb (length (coalesced_group g)) k h)
 
 were-before : (g : List LogRecord) (gs : List (List LogRecord)) (k : ℕ) → k < length (coalesced_group g) → were (g ∷ gs) k ≡ 0
@@ -42,7 +44,13 @@ were-ascends (g ∷ gs) j k h =
     elim (cases_lt j (length (coalesced_group g))) [
       | inl before ↦ omega (arith, were-before g gs j before)
       | inr past ↦
-          omega (arith, were-past g gs j past, were-past g gs k (omega arith), were-ascends gs (j - length (coalesced_group g)) (k - length (coalesced_group g)) (omega arith))
+          omega (
+            arith,
+            were-past g gs j past,
+            were-past g gs k (omega arith),
+            were-ascends gs (j - length (coalesced_group g)) (k - length (coalesced_group g))
+                (omega arith),
+          )
     ]
 
 pub were-all : (gs : List (List LogRecord)) → were gs (length (all_coalesced gs)) ≡ length (all_records gs)
@@ -58,8 +66,10 @@ whole-all [] = refl
 whole-all (g ∷ gs) =
     let a : length (all_coalesced (g ∷ gs)) ≡ length (coalesced_group g) + length (all_coalesced gs) = length-append (coalesced_group g) (all_coalesced gs) in
     let rest : length (all_coalesced (g ∷ gs)) - length (coalesced_group g) ≡ length (all_coalesced gs) = omega (arith, a) in
-    let past : nat_le (length (coalesced_group g)) (length (all_coalesced (g ∷ gs))) ≡ true = le-leb (length (coalesced_group g)) (length (all_coalesced (g ∷ gs))) (omega (arith, a)) in
-    or_right (length (all_coalesced (g ∷ gs)) == 0) _ (ap (λ b. b && are_whole gs (length (all_coalesced (g ∷ gs)) - length (coalesced_group g))) past ∙ ap (are_whole gs) rest ∙ whole-all gs)
+    let past : nat_le (length (coalesced_group g)) (length (all_coalesced (g ∷ gs))) ≡ true = le-leb (length (coalesced_group g))
+    (length (all_coalesced (g ∷ gs))) (omega (arith, a)) in
+    or_right (length (all_coalesced (g ∷ gs)) == 0) _ (ap (λ b. b && are_whole gs (length (all_coalesced (g ∷ gs)) - length (coalesced_group g))) past
+    ∙ ap (are_whole gs) rest ∙ whole-all gs)
 
 -- ---- between two places
 
@@ -109,7 +119,8 @@ begins-same (g ∷ gs) d h =
     at-first (coalesced_group g) (all_coalesced gs) d ∙ group-begins g (call_of (all_coalesced gs) 0 d) h.0.1
     ∙ at-some g (call_of (all_coalesced gs) 0 d) (call_of (all_records gs) 0 d) h.0.0 ∙ sym (at-first g (all_records gs) d)
 
-pub calls_same : (gs : List (List LogRecord)) (k d : ℕ) → AreGroups gs → are_whole gs k ≡ true → call_of (all_coalesced gs) k d ≡ call_of (all_records gs) (were gs k) d
+pub calls_same : (gs : List (List LogRecord)) (k d : ℕ) → AreGroups gs → are_whole gs k ≡ true → call_of (all_coalesced gs) k d ≡ call_of (all_records gs)
+    (were gs k) d
 calls_same [] k d h bk = refl
 calls_same (g ∷ gs) k d h bk =
     elim (ends g gs k bk) [
@@ -136,7 +147,8 @@ pub all-ascending : (gs : List (List LogRecord)) (d : ℕ) → AreGroups gs → 
 all-ascending [] d h r = tt
 all-ascending (g ∷ gs) d h r =
     ascending-append (coalesced_group g) (all_coalesced gs) d
-    (subst (Ascending (coalesced_group g)) (sym (begins-same gs d h.1)) (group-ascending g (call_of (all_records gs) 0 d) (ascending_left g (all_records gs) d r)))
+    (subst (Ascending (coalesced_group g)) (sym (begins-same gs d h.1))
+    (group-ascending g (call_of (all_records gs) 0 d) (ascending_left g (all_records gs) d r)))
     (all-ascending gs d h.1 (ascending_right g (all_records gs) d r))
 
 pub all-shorter : (gs : List (List LogRecord)) → length (all_coalesced gs) ≤ length (all_records gs)

@@ -1,10 +1,7 @@
 -- What calls of one sort add to a history, with rounds between them.
-use Rattle.std.proofs.Common.{◌≡◌, ◌⊎◌, ℕ, List, [], inl, inr, refl}
-use Rattle.assise_names.specs.declared.call.Op.{Op}
-use Rattle.assise_names.specs.declared.reply.Reply.{Reply}
-use Rattle.assise_history.specs.Entries.{EntryValue}
-use Rattle.assise_model_events.specs.Events.{Answer, ClusterEvent, back, call_entry, crash, deliver, digest, entries_of, fail, join, open_client, outgoing, raise, refill, release_ready, replied, set_hot, try_call, try_fsync}
-use Rattle.assise_renewal.specs.Led.{IsOfSort}
+use Rattle.assise_renewal.proofs.Common.{◌≡◌, ◌⊎◌, ℕ, List, [], inl, inr, refl, Op, Reply, EntryValue, Answer, ClusterEvent, back, call_entry, crash, deliver}
+use Rattle.assise_renewal.proofs.Common.{digest, entries_of, fail, join, open_client, outgoing, raise, refill, release_ready, replied, set_hot, try_call}
+use Rattle.assise_renewal.proofs.Common.{try_fsync, IsOfSort}
 
 -- it is the entry of an answered call of the sort
 pub record IsEntryOf (Sort : ℕ → Op → Type 0) (h added : List EntryValue) : Type 0 where
@@ -15,7 +12,8 @@ pub record IsEntryOf (Sort : ℕ → Op → Type 0) (h added : List EntryValue) 
   pub is : added ≡ call_entry h client op reply
 
 -- an event of the sort adds nothing, or such an entry
-pub added : (Sort : ℕ → Op → Type 0) (h : List EntryValue) (e : ClusterEvent) (a : Answer) → IsOfSort Sort e → (entries_of h e a ≡ []) ⊎ IsEntryOf Sort h (entries_of h e a)
+pub added : (Sort : ℕ → Op → Type 0) (h : List EntryValue) (e : ClusterEvent) (a : Answer) → IsOfSort Sort e →
+    (entries_of h e a ≡ []) ⊎ IsEntryOf Sort h (entries_of h e a)
 added Sort h (try_call c op) (replied reply) is = inr record { client = c; op = op; reply = reply; sorted = is; is = refl }
 added Sort h (try_call c op) a is = inl refl
 added Sort h (outgoing n) a is = inl refl

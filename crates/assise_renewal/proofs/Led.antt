@@ -1,26 +1,19 @@
 -- Calls of one sort lead on, with rounds between them.
 use Rattle.std.specs.Prelude.{⊤}
-use Rattle.std.proofs.Common.{ℕ, zero, suc, ◌≡◌, Bool, true, false, [], ◌∷◌, ◌++◌, List, Option, None, Some, Result, inl, inr, refl, sym, subst}
-use Rattle.std.specs.List.{AllByRecursion}
-use Rattle.assise_names.specs.declared.call.Op.{Op}
-use Rattle.assise_names.specs.declared.call.Op.TheVariants.{Dsync}
-use Rattle.assise_names.specs.declared.limits.TheConstants.{MOST_NODES}
+use Rattle.assise_renewal.proofs.Common.{ℕ, zero, suc, ◌≡◌, Bool, true, false, [], ◌∷◌, ◌++◌, List, Option, None, Some, Result, inl, inr, refl, sym, subst}
+use Rattle.assise_renewal.proofs.Common.{AllByRecursion, Op, Dsync, MOST_NODES, Reply, Answer, ClusterEvent, digest, not_yet, outgoing, refused, release_ready}
+use Rattle.assise_renewal.proofs.Common.{try_call, Machine, happens, IsEvent, Nothing, Then, Told, round_trace, trace_then, IsThisCall, IsLedBy, IsOfSort}
 use Rattle.assise_names.specs.declared.refusal.Refusal.{Refusal}
 use Rattle.assise_names.specs.declared.refusal.Refusal.TheVariants.{LogFull}
-use Rattle.assise_names.specs.declared.reply.Reply.{Reply}
 use Rattle.assise_record.specs.LogFrame.{LogFrame}
-use Rattle.assise_model_events.specs.Events.{Answer, ClusterEvent, digest, not_yet, outgoing, refused, release_ready, try_call}
 use Rattle.assise_model_events.specs.Faults.{node_fault}
 use Rattle.assise_model_events.specs.Happenings.{Trying}
-use Rattle.assise_model_events.specs.Machine.{Machine}
-use Rattle.assise_machine.specs.Running.{happens}
-use Rattle.assise_rounds.specs.Rounds.{Carried, DigestsOnce, EachFull, IsRound, ReleasesOnce, RoundsOnce, RoundsOver, TakesTurn, UnlessAtFault, deliveries, delivery, is_refused, replicates}
-use Rattle.assise_rounds.specs.Traces.{IsEvent, Nothing, Then, Told}
+use Rattle.assise_rounds.specs.Rounds.{Carried, DigestsOnce, EachFull, IsRound, ReleasesOnce, RoundsOnce, RoundsOver, TakesTurn, UnlessAtFault, deliveries}
+use Rattle.assise_rounds.specs.Rounds.{delivery, is_refused, replicates}
 use Rattle.assise_rounds.specs.Trying.{settled_answer}
-use Rattle.assise_rounds.specs.CallTries.{FindsFull, InVain, IsTriedOut, MakesRoom, TriesInVain, WaitsOnce, ends_full, ends_waiting, full_in_vain, settles_at_last, spends_all, waits_in_vain}
+use Rattle.assise_rounds.specs.CallTries.{FindsFull, InVain, IsTriedOut, MakesRoom, TriesInVain, WaitsOnce, ends_full, ends_waiting, full_in_vain}
+use Rattle.assise_rounds.specs.CallTries.{settles_at_last, spends_all, waits_in_vain}
 use Rattle.assise_rounds.proofs.CallTrace.{call_trace}
-use Rattle.assise_rounds.proofs.Traces.{round_trace, trace_then}
-use Rattle.assise_renewal.specs.Led.{IsThisCall, IsLedBy, IsOfSort}
 
 abbrev AllOf : (ℕ → Op → Type 0) → Told → Type 0
 AllOf Sort es = AllByRecursion (λ e. IsOfSort Sort e.0) es
@@ -54,13 +47,15 @@ module _ (Sort : ℕ → Op → Type 0) where
   event_sorted e a is m es m' h = subst (AllOf Sort) (sym h.told) (is, tt)
 
   then_sorted : (First Second : Machine → Told → Machine → Type 0) → ((m : Machine) (es : Told) (m' : Machine) → First m es m' → AllOf Sort es)
-      → ((m : Machine) (es : Told) (m' : Machine) → Second m es m' → AllOf Sort es) → (m : Machine) (es : Told) (m' : Machine) → Then First Second m es m' → AllOf Sort es
+      → ((m : Machine) (es : Told) (m' : Machine) → Second m es m' → AllOf Sort es) → (m : Machine) (es : Told) (m' : Machine) → Then First Second m es m' →
+      AllOf Sort es
   then_sorted First Second f s m es m' h =
       subst (AllOf Sort) (sym h.told) (all_then h.before h.after (f m h.before h.between h.first) (s h.between h.after m' h.second))
 
   -- ---- rounds
 
-  unless_sorted : (fault : Option Refusal) (Does : Machine → Told → Machine → Type 0) → ((m : Machine) (es : Told) (m' : Machine) → Does m es m' → AllOf Sort es)
+  unless_sorted : (fault : Option Refusal) (Does : Machine → Told → Machine → Type 0) →
+      ((m : Machine) (es : Told) (m' : Machine) → Does m es m' → AllOf Sort es)
       → (m : Machine) (es : Told) (m' : Machine) → UnlessAtFault fault Does m es m' → AllOf Sort es
   unless_sorted None Does f m es m' h = f m es m' h
   unless_sorted (Some r) Does f m es m' h = nothing_sorted m es m' h
@@ -102,13 +97,16 @@ module _ (Sort : ℕ → Op → Type 0) where
     round_over_sorted busy m es m' h = round_sorted faithful m es m' h.does
 
     room_sorted : (busy : Bool) (m : Machine) (es : Told) (m' : Machine) → MakesRoom faithful busy c m es m' → AllOf Sort es
-    room_sorted busy m es m' h = then_sorted (IsEvent (try_call c Dsync) h.answer) (RoundsOver faithful busy) (event_sorted (try_call c Dsync) h.answer syncs) (round_over_sorted busy) m es m' h.trace
+    room_sorted busy m es m' h = then_sorted (IsEvent (try_call c Dsync) h.answer) (RoundsOver faithful busy) (event_sorted (try_call c Dsync) h.answer syncs)
+        (round_over_sorted busy) m es m' h.trace
 
     waits_sorted : (busy : Bool) (m : Machine) (es : Told) (m' : Machine) → WaitsOnce faithful busy c op m es m' → AllOf Sort es
-    waits_sorted busy m es m' h = then_sorted (IsEvent (try_call c op) not_yet) (RoundsOver faithful busy) (event_sorted (try_call c op) not_yet is) (round_over_sorted busy) m es m' h
+    waits_sorted busy m es m' h =
+        then_sorted (IsEvent (try_call c op) not_yet) (RoundsOver faithful busy) (event_sorted (try_call c op) not_yet is) (round_over_sorted busy) m es m' h
 
     full_sorted : (busy : Bool) (m : Machine) (es : Told) (m' : Machine) → FindsFull faithful busy c op m es m' → AllOf Sort es
-    full_sorted busy m es m' h = then_sorted (IsEvent (try_call c op) (refused LogFull)) (MakesRoom faithful busy c) (event_sorted (try_call c op) (refused LogFull) is) (room_sorted busy) m es m' h
+    full_sorted busy m es m' h = then_sorted (IsEvent (try_call c op) (refused LogFull)) (MakesRoom faithful busy c)
+        (event_sorted (try_call c op) (refused LogFull) is) (room_sorted busy) m es m' h
 
     in_vain_sorted : (m : Machine) (es : Told) (m' : Machine) → TriesInVain faithful c op m es m' → AllOf Sort es
     in_vain_sorted m es m' (waits_in_vain h) = waits_sorted true m es m' h
@@ -118,11 +116,15 @@ module _ (Sort : ℕ → Op → Type 0) where
     all_in_vain_sorted zero m es m' h = nothing_sorted m es m' h
     all_in_vain_sorted (suc k) m es m' h = then_sorted (InVain faithful c op k) (TriesInVain faithful c op) (all_in_vain_sorted k) in_vain_sorted m es m' h
 
-    tried_out_sorted : (turns : ℕ) (r : Result Reply Refusal) (m : Machine) (es : Told) (m' : Machine) → IsTriedOut faithful turns c op r m es m' → AllOf Sort es
+    tried_out_sorted : (turns : ℕ) (r : Result Reply Refusal) (m : Machine) (es : Told) (m' : Machine) → IsTriedOut faithful turns c op r m es m' →
+        AllOf Sort es
     tried_out_sorted turns r m es m' (settles_at_last k few other h) =
-        then_sorted (InVain faithful c op k) (IsEvent (try_call c op) (settled_answer r)) (all_in_vain_sorted k) (event_sorted (try_call c op) (settled_answer r) is) m es m' h
-    tried_out_sorted turns r m es m' (ends_waiting k few busy h) = then_sorted (InVain faithful c op k) (WaitsOnce faithful false c op) (all_in_vain_sorted k) (waits_sorted false) m es m' h
-    tried_out_sorted turns r m es m' (ends_full k few full h) = then_sorted (InVain faithful c op k) (FindsFull faithful false c op) (all_in_vain_sorted k) (full_sorted false) m es m' h
+        then_sorted (InVain faithful c op k) (IsEvent (try_call c op) (settled_answer r)) (all_in_vain_sorted k)
+        (event_sorted (try_call c op) (settled_answer r) is) m es m' h
+    tried_out_sorted turns r m es m' (ends_waiting k few busy h) =
+        then_sorted (InVain faithful c op k) (WaitsOnce faithful false c op) (all_in_vain_sorted k) (waits_sorted false) m es m' h
+    tried_out_sorted turns r m es m' (ends_full k few full h) =
+        then_sorted (InVain faithful c op k) (FindsFull faithful false c op) (all_in_vain_sorted k) (full_sorted false) m es m' h
     tried_out_sorted turns r m es m' (spends_all busy h) = all_in_vain_sorted turns m es m' h
 
     pub led_settled : (turns : ℕ) (r : Result Reply Refusal) (m m' : Machine) → (es : Told) × IsTriedOut faithful turns c op r m es m' → IsLedBy Sort m m'

@@ -1,3 +1,4 @@
+mod Common
 pub mod Led
 mod Added
 mod SameTree

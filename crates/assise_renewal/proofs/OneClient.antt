@@ -1,21 +1,10 @@
 -- A history of one client.
-use Rattle.std.proofs.Common.{◌≡◌, ℕ, List, [], ◌∷◌, ◌++◌, inl, inr, ap, sym, subst, ◌∙◌}
-use Rattle.std.specs.List.{AllByRecursion}
+use Rattle.assise_renewal.proofs.Common.{◌≡◌, ℕ, List, [], ◌∷◌, ◌++◌, inl, inr, ap, sym, subst, ◌∙◌, AllByRecursion, EntryValue, opens, Answer, ClusterEvent}
+use Rattle.assise_renewal.proofs.Common.{all_entries, entries_of, open_client, opened, Machine, begun_as, ClusterOf, machine, history_of, happens, observed}
+use Rattle.assise_renewal.proofs.Common.{Told, trace_told, IsLedBy, IsOfFirst, IsOfSort, IsBegunBy, IsCallOfFirst, IsOfOneClient}
 use Rattle.assise_names.specs.declared.durability.Durability.TheVariants.{Pessimistic}
-use Rattle.assise_history.specs.Entries.{EntryValue, opens}
 use Rattle.assise_model_events.specs.ClientEvents.{Opening, is_opened, is_refused, lacks_memory}
-use Rattle.assise_model_events.specs.Events.{Answer, ClusterEvent, all_entries, entries_of, open_client, opened}
-use Rattle.assise_model_events.specs.Machine.{Machine, begun_as}
-use Rattle.assise_machine.specs.declared.cluster.ClusterOf.{ClusterOf}
-use Rattle.assise_machine.specs.Clusters.{machine}
-use Rattle.assise_machine.specs.Headline.{history_of}
-use Rattle.assise_machine.specs.Running.{happens}
 use Rattle.assise_machine.proofs.EventLists.{served_told}
-use Rattle.assise_machine_state.specs.Observed.{observed}
-use Rattle.assise_rounds.specs.Traces.{Told}
-use Rattle.assise_rounds.proofs.Traces.{trace_told}
-use Rattle.assise_renewal.specs.Led.{IsLedBy, IsOfFirst, IsOfSort}
-use Rattle.assise_renewal.specs.Renewal.{IsBegunBy, IsCallOfFirst, IsOfOneClient}
 use Rattle.assise_renewal.specs.declared.renewal.Sizes.{Sizes}
 use Rattle.assise_renewal.proofs.Added.{added}
 
@@ -62,7 +51,8 @@ unfolding observed
 one_client sizes cluster begun = begun_history sizes (machine cluster) begun
 
 -- a client is opened in a cluster in which nothing happened, and makes calls
-pub begun_first : (sizes : Sizes) (c : ℕ) (new v m : Machine) → new ≡ begun_as sizes.nodes sizes.log sizes.hot → Opening new 1 Pessimistic (opened c) v → IsLedBy IsOfFirst v m → IsBegunBy sizes m
+pub begun_first : (sizes : Sizes) (c : ℕ) (new v m : Machine) → new ≡ begun_as sizes.nodes sizes.log sizes.hot → Opening new 1 Pessimistic (opened c) v →
+    IsLedBy IsOfFirst v m → IsBegunBy sizes m
 begun_first sizes c new v m begun opening led =
     let start = begun_as sizes.nodes sizes.log sizes.hot in
     let opens_first : Opening start 1 Pessimistic (opened c) v = subst (λ u. Opening u 1 Pessimistic (opened c) v) begun opening in

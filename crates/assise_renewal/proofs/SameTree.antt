@@ -1,25 +1,9 @@
 -- Dsyncs and rounds leave the tree of the kept calls as it was.
-use Rattle.std.proofs.Common.{◌≡◌, ℕ, List, [], ◌∷◌, ◌++◌, inl, inr, ap, sym, ◌∙◌, append_assoc, append-nil}
-use Rattle.std.specs.List.{AllByRecursion}
-use Rattle.assise_names.specs.declared.call.Op.{Op}
-use Rattle.assise_names.specs.declared.call.Op.TheVariants.{Dsync}
-use Rattle.assise_names.specs.declared.reply.Reply.{Reply}
+use Rattle.assise_renewal.proofs.Common.{◌≡◌, ℕ, List, [], ◌∷◌, ◌++◌, inl, inr, ap, sym, ◌∙◌, append_assoc, append-nil, AllByRecursion, Op, Dsync, Reply, Tree}
+use Rattle.assise_renewal.proofs.Common.{opening, Call, EntryValue, calls, kept, tree_after, calls_made, Answer, ClusterEvent, all_entries, call_entry}
+use Rattle.assise_renewal.proofs.Common.{entries_of, Machine, observed, ClusterOf, machine, Told, trace_told, IsDsync, IsLedBy, IsOfSort, tree_kept}
 use Rattle.assise_seq_tree.specs.Answer.{answer}
-use Rattle.assise_seq_tree.specs.Tree.{Tree, opening}
-use Rattle.assise_history.specs.declared.call.Call.{Call}
-use Rattle.assise_history.specs.Entries.{EntryValue, calls}
-use Rattle.assise_history.specs.Kept.{kept, tree_after}
-use Rattle.assise_history.specs.Legal.{calls_made}
 use Rattle.assise_history.proofs.Runs.{kept-push, tree_after-push}
-use Rattle.assise_model_events.specs.Events.{Answer, ClusterEvent, all_entries, call_entry, entries_of}
-use Rattle.assise_model_events.specs.Machine.{Machine}
-use Rattle.assise_machine_state.specs.Observed.{observed}
-use Rattle.assise_machine.specs.declared.cluster.ClusterOf.{ClusterOf}
-use Rattle.assise_machine.specs.Clusters.{machine}
-use Rattle.assise_rounds.specs.Traces.{Told}
-use Rattle.assise_rounds.proofs.Traces.{trace_told}
-use Rattle.assise_renewal.specs.Led.{IsDsync, IsLedBy, IsOfSort}
-use Rattle.assise_renewal.specs.Renewal.{tree_kept}
 use Rattle.assise_renewal.proofs.Added.{added}
 
 abbrev tree_of : List EntryValue → Tree

@@ -1,10 +1,8 @@
 -- A number for each client, client by client.
-use Rattle.std.proofs.Common.{◌≡◌, ◌≤◌, ◌<◌, ◌⊎◌, ℕ, suc, ◌+◌, min, List, [], ◌∷◌, ◌++◌, length, get_or, slice_index_or, zero, true, false, inl, inr, refl, ap, sym, subst, ◌∙◌, arith}
-use Rattle.std.proofs.lemmas.Bool.{cases_lt}
+use Rattle.assise_rounds.proofs.Common.{◌≡◌, ◌≤◌, ◌<◌, ◌⊎◌, ℕ, suc, ◌+◌, min, List, [], ◌∷◌, ◌++◌, length, get_or, slice_index_or, zero, true, false, inl, inr}
+use Rattle.assise_rounds.proofs.Common.{refl, ap, sym, subst, ◌∙◌, arith, cases_lt, World, received_by_all, AreAcked}
 use Rattle.std.proofs.lemmas.List.{get_or_append_left, length-append}
 use Rattle.std.proofs.Math.Seq.{get_or-append_seam}
-use Rattle.assise_model_world.specs.World.{World, received_by_all}
-use Rattle.assise_machine.specs.Clusters.{AreAcked}
 
 -- of the first `i` clients, if there are as many
 pub record AreAckedTo (w : World) (i : ℕ) (acked : List ℕ) : Type 0 where
@@ -17,7 +15,8 @@ none_acked w = record { count = omega arith; each = λ c few. absurd (omega (ari
 split : (c n k : ℕ) → c < n → n ≡ k + 1 → (c < k) ⊎ (c ≡ k)
 split c n k few long = grind (arith, cases_lt)
 
-pub one_acked : (w : World) (i place : ℕ) (acked : List ℕ) → AreAckedTo w i acked → i + 1 ≤ w.clients → place ≡ received_by_all w (i + 1) → AreAckedTo w (i + 1) (acked ++ place ∷ [])
+pub one_acked : (w : World) (i place : ℕ) (acked : List ℕ) → AreAckedTo w i acked → i + 1 ≤ w.clients → place ≡ received_by_all w (i + 1) →
+    AreAckedTo w (i + 1) (acked ++ place ∷ [])
 one_acked w i place acked h is_client is =
     let long : length (acked ++ place ∷ []) ≡ length acked + 1 = length-append acked (place ∷ []) in
     let here : length acked ≡ i = omega (arith, h.count, is_client) in

@@ -1,12 +1,8 @@
 -- Whether there was anything to do: of one event, of a replicate turn, and of some events and then others.
-use Rattle.std.specs.Prelude.{◌==◌, ◌||◌}
-use Rattle.std.proofs.Common.{◌≡◌, Bool, false, not, List, [], ◌∷◌, ◌++◌, map, length, refl, ap, sym, ◌∙◌, append-nil}
+use Rattle.assise_rounds.proofs.Common.{◌==◌, ◌||◌, ◌≡◌, Bool, false, not, List, [], ◌∷◌, ◌++◌, map, length, refl, ap, sym, ◌∙◌, append-nil, or-false, Answer}
+use Rattle.assise_rounds.proofs.Common.{ClusterEvent, sent, Told, Carried, deliveries, did_work, is_work, letter}
 use Rattle.std.proofs.lemmas.List.Folds.{list_any-append}
-use Rattle.std.proofs.Math.Bool.{or-false}
 use Rattle.std.proofs.Math.Dec.{eqb-suc-zero}
-use Rattle.assise_model_events.specs.Events.{Answer, ClusterEvent, sent}
-use Rattle.assise_rounds.specs.Traces.{Told}
-use Rattle.assise_rounds.specs.Rounds.{Carried, deliveries, did_work, is_work, letter}
 
 pub one_work : (e : ClusterEvent) (a : Answer) → is_work a ≡ did_work ((e, a) ∷ [])
 one_work e a = sym (or-false (is_work a))

@@ -1,16 +1,10 @@
 -- Frames that are carried, one after another.
-use Rattle.std.proofs.Common.{◌≡◌, ◌≤◌, ℕ, ◌+◌, Bool, true, false, List, [], ◌∷◌, ◌++◌, map, None, Some, Result, Ok, Err, is_ok, refl, ap, sym, subst, ◌∙◌, append_assoc, append-nil, arith, length-append}
+use Rattle.assise_rounds.proofs.Common.{◌≡◌, ◌≤◌, ℕ, ◌+◌, Bool, true, false, List, [], ◌∷◌, ◌++◌, map, None, Some, Result, Ok, Err, is_ok, refl, ap, sym, subst}
+use Rattle.assise_rounds.proofs.Common.{◌∙◌, append_assoc, append-nil, arith, length-append, Refusal, LogFrame, level_of, newest, outgoing, received, refused}
+use Rattle.assise_rounds.proofs.Common.{sent, AllHappen, Machine, Delivering, Sending, Told, AreCarried, AreSame, Carried, DeliversOver, IsSame, Replicates}
+use Rattle.assise_rounds.proofs.Common.{deliveries, delivery, is_taken_in, letter, taken}
 use Rattle.std.proofs.lemmas.List.Elements.{filter-append}
-use Rattle.assise_names.specs.declared.refusal.Refusal.{Refusal}
-use Rattle.assise_record.specs.LogFrame.{LogFrame}
-use Rattle.assise_manager.specs.NodeLevels.{level_of, newest}
-use Rattle.assise_model_events.specs.Events.{outgoing, received, refused, sent}
-use Rattle.assise_model_events.specs.Happenings.{AllHappen}
-use Rattle.assise_model_events.specs.Machine.{Machine}
-use Rattle.assise_model_events.specs.NodeEvents.{Delivering, Sending}
 use Rattle.assise_machine.specs.Answers.{delivery_answer}
-use Rattle.assise_rounds.specs.Traces.{Told}
-use Rattle.assise_rounds.specs.Rounds.{AreCarried, AreSame, Carried, DeliversOver, IsSame, Replicates, deliveries, delivery, is_taken_in, letter, taken}
 
 happen_then : (m v m' : Machine) (es fs : Told) → AllHappen m es v → AllHappen v fs m' → AllHappen m (es ++ fs) m'
 happen_then m v m' [] fs same h = subst (λ u. AllHappen u fs m') same h
@@ -18,7 +12,8 @@ happen_then m v m' (e ∷ es) fs (u, (first, rest)) h = (u, (first, happen_then 
 
 deliveries-more : (cs : List Carried) (c : Carried) → deliveries (cs ++ c ∷ []) ≡ deliveries cs ++ delivery c.node c.came
 deliveries-more [] c = append-nil (delivery c.node c.came)
-deliveries-more (b ∷ cs) c = ap (λ es. delivery b.node b.came ++ es) (deliveries-more cs c) ∙ sym (append_assoc (delivery b.node b.came) (deliveries cs) (delivery c.node c.came))
+deliveries-more (b ∷ cs) c =
+    ap (λ es. delivery b.node b.came ++ es) (deliveries-more cs c) ∙ sym (append_assoc (delivery b.node b.came) (deliveries cs) (delivery c.node c.came))
 
 letters-more : (cs : List Carried) (c : Carried) → map letter (cs ++ c ∷ []) ≡ map letter cs ++ letter c ∷ []
 letters-more [] c = refl
@@ -54,7 +49,8 @@ module _ {F G : Type 0} (stays : F → G) {m v m' : Machine} {frames : List (Log
 
     happen_now : AllHappen m (deliveries (before.carried ++ carried_now ∷ [])) m'
     happen_now =
-        subst (λ es. AllHappen m es m') (sym (deliveries-more before.carried carried_now)) (happen_then m v m' (deliveries before.carried) (delivery n now.came) before.happen now.happen)
+        subst (λ es. AllHappen m es m') (sym (deliveries-more before.carried carried_now))
+        (happen_then m v m' (deliveries before.carried) (delivery n now.came) before.happen now.happen)
 
     one_more : {k : ℕ} → k ≡ taken (before.carried ++ carried_now ∷ []) → AreCarried F (frames ++ (f, n) ∷ []) k m m'
     one_more counts = record { carried = before.carried ++ carried_now ∷ []; same = same_now; letters = letters_now; counts = counts; happen = happen_now }
@@ -66,19 +62,23 @@ module _ {F G : Type 0} (stays : F → G) {m v m' : Machine} {frames : List (Log
     one_lost is = one_more (before.counts ∙ sym (taken-out before.carried carried_now (sym now.taken ∙ is)))
 
 -- what a node sent was carried
-pub carried_turn : (F : Type 0) (m v : Machine) (n count : ℕ) (frames : List (LogFrame × ℕ)) → Sending m n (sent frames) m → (h : AreCarried F frames count m v) → Replicates F n count m ((outgoing n, sent (map letter h.carried)) ∷ deliveries h.carried) v
+pub carried_turn : (F : Type 0) (m v : Machine) (n count : ℕ) (frames : List (LogFrame × ℕ)) → Sending m n (sent frames) m →
+    (h : AreCarried F frames count m v) → Replicates F n count m ((outgoing n, sent (map letter h.carried)) ∷ deliveries h.carried) v
 carried_turn F m v n count frames sends h =
     let first : Sending m n (sent (map letter h.carried)) m = subst (λ fs. Sending m n (sent fs) m) (sym h.letters) sends in
     record { carried = h.carried; same = h.same; counts = h.counts; told = refl; happen = (m, (first, h.happen)) }
 
-pub all_carried : (F : Type 0) (m v : Machine) (n count : ℕ) (frames : List (LogFrame × ℕ)) → Sending m n (sent frames) m → AreCarried F frames count m v → (es : Told) × Replicates F n count m es v
+pub all_carried : (F : Type 0) (m v : Machine) (n count : ℕ) (frames : List (LogFrame × ℕ)) → Sending m n (sent frames) m → AreCarried F frames count m v →
+    (es : Told) × Replicates F n count m es v
 all_carried F m v n count frames sends h = (_, carried_turn F m v n count frames sends h)
 
 -- ---- one frame
 
 -- it is sent as f, and comes as g
-pub is_delivered : (F : Type 0) (m m' : Machine) (f g : LogFrame) (n : ℕ) (r : Result ℕ Refusal) → (F → g ≡ f) → g.version ≤ newest (level_of m.members.levels n) → Delivering m g n (delivery_answer r) m' → DeliversOver F f n (is_ok r) m m'
-is_delivered F m m' f g n (Ok place) same read h = record { came = Some (g, received place); same = same; readable = read; taken = refl; happen = (m', (h, refl)) }
+pub is_delivered : (F : Type 0) (m m' : Machine) (f g : LogFrame) (n : ℕ) (r : Result ℕ Refusal) → (F → g ≡ f) →
+    g.version ≤ newest (level_of m.members.levels n) → Delivering m g n (delivery_answer r) m' → DeliversOver F f n (is_ok r) m m'
+is_delivered F m m' f g n (Ok place) same read h =
+    record { came = Some (g, received place); same = same; readable = read; taken = refl; happen = (m', (h, refl)) }
 is_delivered F m m' f g n (Err e) same read h = record { came = Some (g, refused e); same = same; readable = read; taken = refl; happen = (m', (h, refl)) }
 
 pub is_lost : (F : Type 0) (m : Machine) (f : LogFrame) (n : ℕ) → DeliversOver F f n false m m

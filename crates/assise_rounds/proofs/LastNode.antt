@@ -1,10 +1,8 @@
 -- Behind a number that names no node there is none.
-use Rattle.std.proofs.Common.{◌≡◌, ◌≤◌, ℕ, false, List, Option, None, Some, is_none, slice_get, arith}
+use Rattle.assise_rounds.proofs.Common.{◌≡◌, ◌≤◌, ℕ, false, List, Option, None, Some, is_none, slice_get, arith, BadNode, WrongPhase, node_fault, unless_full}
+use Rattle.assise_rounds.proofs.Common.{Machine}
 use Rattle.std.proofs.lemmas.Option.{slice_get_cases, slice_get_past}
-use Rattle.assise_names.specs.declared.refusal.Refusal.TheVariants.{BadNode, WrongPhase}
 use Rattle.assise_manager.specs.Standings.{Standing}
-use Rattle.assise_model_events.specs.Faults.{node_fault, unless_full}
-use Rattle.assise_model_events.specs.Machine.{Machine}
 
 none_further : {X : Type 0} (xs : List X) (n j : ℕ) → slice_get xs n ≡ None → n ≤ j → slice_get xs j ≡ None
 none_further xs n j none far = grind (arith, slice_get_cases, slice_get_past)

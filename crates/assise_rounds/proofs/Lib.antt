@@ -1,3 +1,4 @@
+mod Common
 pub mod Traces
 pub mod ReturnTrace
 mod Acked

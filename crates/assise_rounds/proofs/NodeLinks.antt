@@ -1,7 +1,6 @@
 -- Links of nodes: what is known of one, and what stays where one is used.
-use Rattle.std.proofs.Common.{◌≡◌, ◌≤◌, ℕ, zero, suc, ◌-◌, List, [], ◌∷◌, length, map, slice_index_or, slice_set, refl, ap, sym, subst, arith}
-use Rattle.assise_link.specs.Kinds.{Kind, perfect}
-use Rattle.assise_rounds.specs.NodeLinks.{FaithfulAt}
+use Rattle.assise_rounds.proofs.Common.{◌≡◌, ◌≤◌, ℕ, zero, suc, ◌-◌, List, [], ◌∷◌, length, map, slice_index_or, slice_set, refl, ap, sym, subst, arith, Kind}
+use Rattle.assise_rounds.proofs.Common.{perfect, FaithfulAt}
 
 module _ {L : Type 0} (f : L → Kind) where
   at_place : (links : List L) (k : ℕ) (d : L) → FaithfulAt (map f links) (suc k) → f (slice_index_or links k d) ≡ perfect

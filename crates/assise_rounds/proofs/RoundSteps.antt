@@ -1,40 +1,31 @@
 -- Rounds, node by node, and tries of a call with rounds behind them.
-use Rattle.std.specs.Prelude.{◌==◌, ◌||◌}
-use Rattle.std.proofs.Common.{◌≡◌, ◌≤◌, ◌<◌, ℕ, zero, suc, ◌+◌, ◌-◌, Bool, true, false, not, List, [], ◌∷◌, ◌++◌, map, length, Option, None, Some, Result, Err, is_none, inl, inr, refl, ap, sym, subst, ◌∙◌, arith}
-use Rattle.std.proofs.Math.Bool.{or_assoc}
-use Rattle.std.proofs.lemmas.Bool.{cases_eq}
-use Rattle.assise_names.specs.declared.call.Op.{Op}
-use Rattle.assise_names.specs.declared.refusal.Refusal.{Refusal}
-use Rattle.assise_names.specs.declared.refusal.Refusal.TheVariants.{Busy}
-use Rattle.assise_names.specs.declared.reply.Reply.{Reply}
-use Rattle.assise_names.specs.declared.limits.TheConstants.{MOST_NODES}
-use Rattle.assise_record.specs.LogFrame.{LogFrame}
-use Rattle.assise_model_events.specs.Events.{Answer, digest, not_yet, outgoing, refused, release_ready, sent}
-use Rattle.assise_model_events.specs.Faults.{node_fault}
-use Rattle.assise_model_events.specs.Happenings.{Trying}
-use Rattle.assise_model_events.specs.Machine.{Machine}
-use Rattle.assise_model_events.specs.NodeEvents.{Digesting, Releasing, Sending}
-use Rattle.assise_rounds.specs.Traces.{Told}
-use Rattle.assise_rounds.specs.Rounds.{AreCarried, DigestsOnce, EachFull, IfFull, ReleasesOnce, RoundsOver, TakesTurn, UnlessAtFault, WithWork, deliveries, is_refused, is_work, letter, replicates}
-use Rattle.assise_rounds.specs.Trying.{Awaits, TriesOften, is_busy, is_settled, is_stuck, settled_answer}
+use Rattle.assise_rounds.proofs.Common.{◌==◌, ◌||◌, ◌≡◌, ◌≤◌, ◌<◌, ℕ, zero, suc, ◌+◌, ◌-◌, Bool, true, false, not, List, [], ◌∷◌, ◌++◌, map, length, Option}
+use Rattle.assise_rounds.proofs.Common.{None, Some, Result, Err, is_none, inl, inr, refl, ap, sym, subst, ◌∙◌, arith, or_assoc, cases_eq, Op, Refusal, Busy}
+use Rattle.assise_rounds.proofs.Common.{Reply, MOST_NODES, LogFrame, Answer, digest, not_yet, outgoing, refused, release_ready, sent, node_fault, Trying}
+use Rattle.assise_rounds.proofs.Common.{Machine, Digesting, Releasing, Sending, Told, AreCarried, DigestsOnce, EachFull, IfFull, ReleasesOnce, RoundsOver}
+use Rattle.assise_rounds.proofs.Common.{TakesTurn, UnlessAtFault, WithWork, deliveries, is_refused, is_work, letter, replicates, Awaits, TriesOften, is_busy}
+use Rattle.assise_rounds.proofs.Common.{is_settled, is_stuck, settled_answer}
 use Rattle.assise_rounds.proofs.Busy.{both_work, no_more_work, one_work, turn_work}
 use Rattle.assise_rounds.proofs.CarriedFrames.{carried_turn}
 use Rattle.assise_rounds.proofs.Traces.{both, event}
 
 -- ---- node by node
 
-last_does : (Does : ℕ → Machine → Told → Machine → Type 0) (n : ℕ) (m v m' : Machine) (es fs : Told) → (n ≡ 0 → ⊥) → EachFull Does (n - 1) m es v → IfFull Does n v fs m' → EachFull Does n m (es ++ fs) m'
+last_does : (Does : ℕ → Machine → Told → Machine → Type 0) (n : ℕ) (m v m' : Machine) (es fs : Told) → (n ≡ 0 → ⊥) → EachFull Does (n - 1) m es v →
+    IfFull Does n v fs m' → EachFull Does n m (es ++ fs) m'
 last_does Does zero m v m' es fs some before now = absurd (some refl)
 last_does Does (suc n) m v m' es fs some before now =
     let same : suc n - 1 ≡ n = omega arith in
     both _ _ _ (subst (λ k. EachFull Does k m es v) same before) now
 
-next_does : (Does : ℕ → Machine → Told → Machine → Type 0) (n : ℕ) (m v m' : Machine) (es fs : Told) → 1 ≤ n → EachFull Does (n - 1) m es v → IfFull Does n v fs m' → EachFull Does (n + 1 - 1) m (es ++ fs) m'
+next_does : (Does : ℕ → Machine → Told → Machine → Type 0) (n : ℕ) (m v m' : Machine) (es fs : Told) → 1 ≤ n → EachFull Does (n - 1) m es v →
+    IfFull Does n v fs m' → EachFull Does (n + 1 - 1) m (es ++ fs) m'
 next_does Does n m v m' es fs some before now =
     let back : n ≡ n + 1 - 1 = omega arith in
     subst (λ k. EachFull Does k m (es ++ fs) m') back (last_does Does n m v m' es fs (λ none. omega (arith, some, none)) before now)
 
-pub full_does : (fault : Option Refusal) (Does : Machine → Told → Machine → Type 0) (m : Machine) (es : Told) (m' : Machine) → is_none fault ≡ true → Does m es m' → UnlessAtFault fault Does m es m'
+pub full_does : (fault : Option Refusal) (Does : Machine → Told → Machine → Type 0) (m : Machine) (es : Told) (m' : Machine) → is_none fault ≡ true →
+    Does m es m' → UnlessAtFault fault Does m es m'
 full_does None Does m es m' fine h = h
 full_does (Some r) Does m es m' fine h = absurd (let bad : false ≡ true = fine in cc)
 
@@ -45,7 +36,8 @@ faulty_does (Some r) Does m fine = record { told = refl; stays = refl }
 -- a node more, as a loop over the nodes from 1 on comes to it: it is full, or it isn't
 
 pub full_next : (Does : ℕ → Machine → Told → Machine → Type 0) (n : ℕ) (m v m' : Machine) (so_far now : Bool) → 1 ≤ n → is_none (node_fault v n) ≡ true
-    → (es : Told) × WithWork (EachFull Does (n - 1)) so_far m es v → (fs : Told) × WithWork (Does n) now v fs m' → (gs : Told) × WithWork (EachFull Does (n + 1 - 1)) (so_far || now) m gs m'
+    → (es : Told) × WithWork (EachFull Does (n - 1)) so_far m es v → (fs : Told) × WithWork (Does n) now v fs m' →
+    (gs : Told) × WithWork (EachFull Does (n + 1 - 1)) (so_far || now) m gs m'
 full_next Does n m v m' so_far now some full (es, before) (fs, h) = (
   es ++ fs,
   record {
@@ -65,7 +57,8 @@ faulty_next Does n m v so_far some faulty (es, before) = (
 )
 
 -- the nodes behind one that isn't there
-pub none_behind : (Does : ℕ → Machine → Told → Machine → Type 0) (n last : ℕ) (m v : Machine) (so_far : Bool) → 1 ≤ n → n - 1 ≤ last → ((j : ℕ) → n ≤ j → is_none (node_fault v j) ≡ false)
+pub none_behind : (Does : ℕ → Machine → Told → Machine → Type 0) (n last : ℕ) (m v : Machine) (so_far : Bool) → 1 ≤ n → n - 1 ≤ last →
+    ((j : ℕ) → n ≤ j → is_none (node_fault v j) ≡ false)
     → (es : Told) × WithWork (EachFull Does (n - 1)) so_far m es v → (gs : Told) × WithWork (EachFull Does last) so_far m gs v
 none_behind Does n zero m v so_far some low none before =
     let same : n - 1 ≡ 0 = omega (arith, low) in
@@ -85,7 +78,8 @@ none_behind Does n (suc last) m v so_far some low none before =
 
 -- ---- what a node does in a round
 
-pub turn_taken : (F : Type 0) (m v : Machine) (n count size : ℕ) (frames : List (LogFrame × ℕ)) (none : Bool) → size ≡ length frames → none ≡ (size == 0) → Sending m n (sent frames) m → AreCarried F frames count m v
+pub turn_taken : (F : Type 0) (m v : Machine) (n count size : ℕ) (frames : List (LogFrame × ℕ)) (none : Bool) → size ≡ length frames → none ≡ (size == 0) →
+    Sending m n (sent frames) m → AreCarried F frames count m v
     → (es : Told) × WithWork (TakesTurn F n) (not none) m es v
 turn_taken F m v n count size frames none whole is sends h = (
   (outgoing n, sent (map letter h.carried)) ∷ deliveries h.carried,
@@ -104,13 +98,15 @@ digests_once m m' n a h = ((digest n, a) ∷ [], record { does = record { answer
 pub releases_once : (m m' : Machine) (a : Answer) → Releasing m a m' → (es : Told) × WithWork ReleasesOnce (is_work a) m es m'
 releases_once m m' a h = ((release_ready, a) ∷ [], record { does = record { answer = a; event = event h }; work = one_work release_ready a })
 
-pub whole_round : (F : ℕ → Type 0) (m u v m' : Machine) (sends digests releases : Bool) → (es : Told) × WithWork (EachFull (λ n. TakesTurn (F n) n) MOST_NODES) sends m es u → (fs : Told) × WithWork (EachFull DigestsOnce MOST_NODES) digests u fs v
+pub whole_round : (F : ℕ → Type 0) (m u v m' : Machine) (sends digests releases : Bool) → (es : Told) × WithWork (EachFull (λ n. TakesTurn (F n) n) MOST_NODES)
+    sends m es u → (fs : Told) × WithWork (EachFull DigestsOnce MOST_NODES) digests u fs v
     → (gs : Told) × WithWork ReleasesOnce releases v gs m' → (hs : Told) × RoundsOver F (sends || digests || releases) m hs m'
 whole_round F m u v m' sends digests releases (es, first) (fs, second) (gs, third) = (
   es ++ (fs ++ gs),
   record {
     does = record { round = both _ _ _ first.does (both _ _ _ second.does third.does) };
-    work = or_assoc sends digests releases ∙ both_work sends (digests || releases) es (fs ++ gs) first.work (both_work digests releases fs gs second.work third.work);
+    work = or_assoc sends digests releases ∙ both_work sends (digests || releases) es (fs ++ gs) first.work
+        (both_work digests releases fs gs second.work third.work);
   },
 )
 
@@ -129,6 +125,7 @@ pub busy : (F : ℕ → Type 0) (turns c : ℕ) (op : Op) (a : Answer) (k : ℕ)
 busy F turns c op a k m v m' is awaited before h = (_, is_busy refl (both _ _ _ (rw is at before.1) (event (rw awaited at h))))
 
 pub stuck : (F : ℕ → Type 0) (turns c : ℕ) (op : Op) (a : Answer) (some : Bool) (k : ℕ) (m u v m' : Machine) → k < turns - 1 → a ≡ not_yet → some ≡ false
-    → (es : Told) × Awaits F c op k m es u → Trying u c op a v → (fs : Told) × RoundsOver F some v fs m' → (gs : Told) × TriesOften F turns c op (Err Busy) m gs m'
+    → (es : Told) × Awaits F c op k m es u → Trying u c op a v → (fs : Told) × RoundsOver F some v fs m' → (gs : Told) × TriesOften F turns c op (Err Busy) m gs
+    m'
 stuck F turns c op a some k m u v m' few awaited none before h round =
     (_, is_stuck k few refl (both _ _ _ before.1 (both _ _ _ (event (rw awaited at h)) (rw none at round.1))))

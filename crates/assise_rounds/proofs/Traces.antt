@@ -1,20 +1,12 @@
 -- What is made of events is a trace of them: it keeps what holds of the machine, and adds exactly their entries.
-use Rattle.std.proofs.Common.{◌≡◌, ◌≤◌, arith, ℕ, zero, suc, ◌-◌, Bool, true, false, [], ◌∷◌, ◌++◌, Option, None, Some, Result, refl, ap, sym, subst, ◌∙◌, append_assoc, append-nil}
-use Rattle.assise_names.specs.declared.call.Op.{Op}
-use Rattle.assise_names.specs.declared.refusal.Refusal.{Refusal}
-use Rattle.assise_names.specs.declared.reply.Reply.{Reply}
-use Rattle.assise_names.specs.declared.limits.TheConstants.{MOST_NODES}
+use Rattle.assise_rounds.proofs.Common.{◌≡◌, ◌≤◌, arith, ℕ, zero, suc, ◌-◌, Bool, true, false, [], ◌∷◌, ◌++◌, Option, None, Some, Result, refl, ap, sym, subst}
+use Rattle.assise_rounds.proofs.Common.{◌∙◌, append_assoc, append-nil, Op, Refusal, Reply, MOST_NODES, first_unreplicated, Answer, ClusterEvent, all_entries}
+use Rattle.assise_rounds.proofs.Common.{entries_of, not_yet, try_call, node_fault, AllHappen, Happens, MachineInvariant, Machine, IsEventTrace, IsEvent}
+use Rattle.assise_rounds.proofs.Common.{Nothing, Then, Told, DigestsOnce, EachFull, IsRound, ReleasesOnce, RoundsOver, TakesTurn, UnlessAtFault, is_refused}
+use Rattle.assise_rounds.proofs.Common.{replicates, Awaits, TriesOften, is_busy, is_settled, is_stuck, settled_answer}
 use Rattle.assise_history.specs.Legal.{IsLegal}
-use Rattle.assise_model_world.specs.World.{first_unreplicated}
-use Rattle.assise_model_events.specs.Events.{Answer, ClusterEvent, all_entries, entries_of, not_yet, try_call}
-use Rattle.assise_model_events.specs.Faults.{node_fault}
-use Rattle.assise_model_events.specs.Happenings.{AllHappen, Happens}
-use Rattle.assise_model_events.specs.Machine.{MachineInvariant, Machine}
 use Rattle.assise_machine.specs.Running.{happens}
 use Rattle.assise_machine.proofs.EventLists.{all_last, served_keeps, served_told}
-use Rattle.assise_rounds.specs.Traces.{IsEventTrace, IsEvent, Nothing, Then, Told}
-use Rattle.assise_rounds.specs.Rounds.{DigestsOnce, EachFull, IsRound, ReleasesOnce, RoundsOver, TakesTurn, UnlessAtFault, is_refused, replicates}
-use Rattle.assise_rounds.specs.Trying.{Awaits, TriesOften, is_busy, is_settled, is_stuck, settled_answer}
 
 -- ---- a trace
 
@@ -39,9 +31,11 @@ pub trace_told : (m m' : Machine) (es : Told) → IsEventTrace m es m' → m'.hi
 trace_told m m' [] same = ap (λ x. x.history) same ∙ sym (append-nil m.history)
 trace_told m m' ((e, a) ∷ es) (v, ((stock, step), rest)) =
     let now : v.history ≡ m.history ++ entries_of m.history e a = served_told stock m v e a step in
-    trace_told v m' es rest ∙ ap (λ h. h ++ all_entries h es) now ∙ append_assoc m.history (entries_of m.history e a) (all_entries (m.history ++ entries_of m.history e a) es)
+    trace_told v m' es rest ∙ ap (λ h. h ++ all_entries h es) now ∙ append_assoc m.history (entries_of m.history e a)
+    (all_entries (m.history ++ entries_of m.history e a) es)
 
-pub trace_unreplicated : (m m' : Machine) (es : Told) (c : ℕ) → MachineInvariant m → IsEventTrace m es m' → first_unreplicated m.world c ≤ first_unreplicated m'.world c
+pub trace_unreplicated : (m m' : Machine) (es : Told) (c : ℕ) → MachineInvariant m → IsEventTrace m es m' → first_unreplicated m.world c ≤ first_unreplicated
+    m'.world c
 trace_unreplicated m m' [] c h same = omega (arith, ap (λ x. first_unreplicated x.world c) same)
 trace_unreplicated m m' ((e, a) ∷ es) c h (v, ((stock, step), rest)) =
     let one : first_unreplicated m.world c ≤ first_unreplicated v.world c = (all_last stock m v ((e, a) ∷ []) h (v, (step, refl))).none_falls.unreplicated c in
@@ -64,11 +58,14 @@ pub event_trace : (e : ClusterEvent) (a : Answer) (m : Machine) (es : Told) (m' 
 event_trace e a m es m' h = subst (λ x. IsEventTrace m x m') (sym h.told) (m', ((0, happens h.happens), refl))
 
 pub then_trace : (First Second : Machine → Told → Machine → Type 0) → ((m : Machine) (es : Told) (m' : Machine) → First m es m' → IsEventTrace m es m')
-    → ((m : Machine) (es : Told) (m' : Machine) → Second m es m' → IsEventTrace m es m') → (m : Machine) (es : Told) (m' : Machine) → Then First Second m es m' → IsEventTrace m es m'
+    → ((m : Machine) (es : Told) (m' : Machine) → Second m es m' → IsEventTrace m es m') → (m : Machine) (es : Told) (m' : Machine) →
+    Then First Second m es m' → IsEventTrace m es m'
 then_trace First Second f s m es m' h =
-    subst (λ x. IsEventTrace m x m') (sym h.told) (trace_then m h.between m' h.before h.after (f m h.before h.between h.first) (s h.between h.after m' h.second))
+    subst (λ x. IsEventTrace m x m') (sym h.told)
+    (trace_then m h.between m' h.before h.after (f m h.before h.between h.first) (s h.between h.after m' h.second))
 
-unless_trace : (fault : Option Refusal) (Does : Machine → Told → Machine → Type 0) → ((m : Machine) (es : Told) (m' : Machine) → Does m es m' → IsEventTrace m es m')
+unless_trace : (fault : Option Refusal) (Does : Machine → Told → Machine → Type 0) →
+    ((m : Machine) (es : Told) (m' : Machine) → Does m es m' → IsEventTrace m es m')
     → (m : Machine) (es : Told) (m' : Machine) → UnlessAtFault fault Does m es m' → IsEventTrace m es m'
 unless_trace None Does f m es m' h = f m es m' h
 unless_trace (Some r) Does f m es m' h = nothing_trace m es m' h
@@ -97,17 +94,21 @@ round_trace {faithful} m es m' h =
 pub busy_trace : (faithful : ℕ → Type 0) (busy : Bool) (m : Machine) (es : Told) (m' : Machine) → RoundsOver faithful busy m es m' → IsEventTrace m es m'
 busy_trace faithful busy m es m' h = round_trace m es m' h.does
 
-awaits_trace : (faithful : ℕ → Type 0) (c : ℕ) (op : Op) (k : ℕ) (m : Machine) (es : Told) (m' : Machine) → Awaits faithful c op k m es m' → IsEventTrace m es m'
+awaits_trace : (faithful : ℕ → Type 0) (c : ℕ) (op : Op) (k : ℕ) (m : Machine) (es : Told) (m' : Machine) → Awaits faithful c op k m es m' →
+    IsEventTrace m es m'
 awaits_trace faithful c op zero m es m' h = nothing_trace m es m' h
 awaits_trace faithful c op (suc k) m es m' h =
     then_trace (Awaits faithful c op k) (Then (IsEvent (try_call c op) not_yet) (RoundsOver faithful true)) (awaits_trace faithful c op k)
     (then_trace (IsEvent (try_call c op) not_yet) (RoundsOver faithful true) (event_trace (try_call c op) not_yet) (busy_trace faithful true)) m es m' h
 
-pub tries_trace : {faithful : ℕ → Type 0} (turns c : ℕ) (op : Op) (r : Result Reply Refusal) (m : Machine) (es : Told) (m' : Machine) → TriesOften faithful turns c op r m es m' → IsEventTrace m es m'
+pub tries_trace : {faithful : ℕ → Type 0} (turns c : ℕ) (op : Op) (r : Result Reply Refusal) (m : Machine) (es : Told) (m' : Machine) →
+    TriesOften faithful turns c op r m es m' → IsEventTrace m es m'
 tries_trace {faithful} turns c op r m es m' (is_settled k few h) =
-    then_trace (Awaits faithful c op k) (IsEvent (try_call c op) (settled_answer r)) (awaits_trace faithful c op k) (event_trace (try_call c op) (settled_answer r)) m es m' h
+    then_trace (Awaits faithful c op k) (IsEvent (try_call c op) (settled_answer r)) (awaits_trace faithful c op k)
+    (event_trace (try_call c op) (settled_answer r)) m es m' h
 tries_trace {faithful} turns c op r m es m' (is_busy busy h) =
-    then_trace (Awaits faithful c op (turns - 1)) (IsEvent (try_call c op) not_yet) (awaits_trace faithful c op (turns - 1)) (event_trace (try_call c op) not_yet) m es m' h
+    then_trace (Awaits faithful c op (turns - 1)) (IsEvent (try_call c op) not_yet) (awaits_trace faithful c op (turns - 1))
+    (event_trace (try_call c op) not_yet) m es m' h
 tries_trace {faithful} turns c op r m es m' (is_stuck k few busy h) =
     then_trace (Awaits faithful c op k) (Then (IsEvent (try_call c op) not_yet) (RoundsOver faithful false)) (awaits_trace faithful c op k)
     (then_trace (IsEvent (try_call c op) not_yet) (RoundsOver faithful false) (event_trace (try_call c op) not_yet) (busy_trace faithful false)) m es m' h

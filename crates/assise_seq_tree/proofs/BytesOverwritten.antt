@@ -1,7 +1,6 @@
 -- Writing into bytes that were made long enough first.
-use Rattle.std.proofs.Common.{◌≡◌, ℕ, zero, suc, ◌+◌, ◌-◌, ◌≤◌, ◌<◌, List, [], ◌∷◌, ◌++◌, length, take, drop, replicate, ap, sym, ◌∙◌, arith, append-nil, length-append}
-use Rattle.std.proofs.lemmas.List.{take_all, drop_all, length-replicate, take-replicate}
-use Rattle.assise_seq_tree.specs.Contents.{overwritten}
+use Rattle.assise_seq_tree.proofs.Common.{◌≡◌, ℕ, zero, suc, ◌+◌, ◌-◌, ◌≤◌, ◌<◌, List, [], ◌∷◌, ◌++◌, length, take, drop, replicate, ap, sym, ◌∙◌, arith}
+use Rattle.assise_seq_tree.proofs.Common.{append-nil, length-append, take_all, drop_all, length-replicate, take-replicate, overwritten}
 
 pub take-append : (n : ℕ) (xs ys : List ℕ) → take n (xs ++ ys) ≡ take n xs ++ take (n - length xs) ys
 take-append zero xs ys = let none : 0 - length xs ≡ 0 = omega arith in rw none
@@ -9,15 +8,19 @@ take-append (suc n) [] ys = let all : suc n - 0 ≡ suc n = omega arith in rw al
 take-append (suc n) (x ∷ xs) ys = let less : suc n - length (x ∷ xs) ≡ n - length xs = omega arith in rw less (ap (λ zs. x ∷ zs) (take-append n xs ys))
 
 -- the bytes are long enough
-pub within : (bytes : List ℕ) (offset : ℕ) (new : List ℕ) → offset + length new ≤ length bytes → take offset bytes ++ new ++ drop (offset + length new) bytes ≡ overwritten bytes offset new
-within bytes offset new h = let none : offset - length bytes ≡ 0 = omega arith in rw none (ap (λ xs. xs ++ new ++ drop (offset + length new) bytes) (sym (append-nil (take offset bytes))))
+pub within : (bytes : List ℕ) (offset : ℕ) (new : List ℕ) → offset + length new ≤ length bytes → take offset bytes ++ new ++ drop (offset + length new) bytes
+    ≡ overwritten bytes offset new
+within bytes offset new h = let none : offset - length bytes ≡ 0 =
+    omega arith in rw none (ap (λ xs. xs ++ new ++ drop (offset + length new) bytes) (sym (append-nil (take offset bytes))))
 
-prefix_filled : (bytes more : List ℕ) (offset m : ℕ) → more ≡ bytes ++ replicate m 0 → offset - length bytes ≤ m → take offset more ≡ take offset bytes ++ replicate (offset - length bytes) 0
+prefix_filled : (bytes more : List ℕ) (offset m : ℕ) → more ≡ bytes ++ replicate m 0 → offset - length bytes ≤ m →
+    take offset more ≡ take offset bytes ++ replicate (offset - length bytes) 0
 prefix_filled bytes more offset m is fits =
     ap (take offset) is ∙ take-append offset bytes (replicate m 0) ∙ ap (λ xs. take offset bytes ++ xs) (take-replicate (offset - length bytes) m 0 fits)
 
 -- they were filled up with zeros
-pub filled : (bytes : List ℕ) (offset : ℕ) (new more : List ℕ) (len : ℕ) → len ≡ length bytes → length bytes < offset + length new → more ≡ take (offset + length new) bytes ++ replicate (offset + length new - len) 0
+pub filled : (bytes : List ℕ) (offset : ℕ) (new more : List ℕ) (len : ℕ) → len ≡ length bytes → length bytes < offset + length new →
+    more ≡ take (offset + length new) bytes ++ replicate (offset + length new - len) 0
     → take offset more ++ new ++ drop (offset + length new) more ≡ overwritten bytes offset new
 filled bytes offset new more len l h e' =
     let n = offset + length new in
@@ -27,7 +30,8 @@ filled bytes offset new more len l h e' =
     let size : length more ≡ n = ap length is ∙ simp (length-append, length-replicate) (omega arith) in
     let none : drop n bytes ≡ [] = drop_all n bytes (omega arith) in
     let none' : drop n more ≡ [] = drop_all n more (omega arith) in
-    let prefix : take offset more ≡ take offset bytes ++ replicate (offset - length bytes) 0 = prefix_filled bytes more offset (n - length bytes) is (omega arith) in
+    let prefix : take offset more ≡ take offset bytes ++ replicate (offset - length bytes) 0 = prefix_filled bytes more offset (n - length bytes) is
+    (omega arith) in
     rw (none, none', prefix)
 
 -- a slice that was written as a whole is what its vector holds

@@ -1,8 +1,7 @@
 -- What is read of bytes that were written over.
-use Rattle.std.proofs.Common.{◌≡◌, ℕ, zero, suc, ◌+◌, ◌-◌, ◌≤◌, List, ◌++◌, length, take, drop, replicate, refl, ap, sym, ◌∙◌, arith, append_assoc, length-append}
-use Rattle.std.specs.Prelude.{max}
-use Rattle.std.proofs.lemmas.List.{length-take, length-drop, length-replicate, take_at, drop_at, take_all, take-take, take-append-le, drop-take, drop-drop, take_min}
-use Rattle.assise_seq_tree.specs.Contents.{bytes_from, overwritten, resized}
+use Rattle.assise_seq_tree.proofs.Common.{◌≡◌, ℕ, zero, suc, ◌+◌, ◌-◌, ◌≤◌, List, ◌++◌, length, take, drop, replicate, refl, ap, sym, ◌∙◌, arith, append_assoc}
+use Rattle.assise_seq_tree.proofs.Common.{length-append, max, length-take, length-drop, length-replicate, take_at, drop_at, take_all, take-take, take-append-le}
+use Rattle.assise_seq_tree.proofs.Common.{drop-take, drop-drop, take_min, bytes_from, overwritten, resized}
 
 -- ---- another size
 abbrev zeros : ℕ → List ℕ
@@ -55,7 +54,8 @@ read_new bytes offset new =
     ∙ take_at new (drop (offset + length new) bytes) (length new) refl
 
 -- the old bytes before them
-pub read_before : (bytes : List ℕ) (offset : ℕ) (new : List ℕ) (from n : ℕ) → from + n ≤ offset → from + n ≤ length bytes → bytes_from from n (overwritten bytes offset new) ≡ bytes_from from n bytes
+pub read_before : (bytes : List ℕ) (offset : ℕ) (new : List ℕ) (from n : ℕ) → from + n ≤ offset → from + n ≤ length bytes →
+    bytes_from from n (overwritten bytes offset new) ≡ bytes_from from n bytes
 read_before bytes offset new from n h k = read_front bytes offset new from n h ∙ read_prefix bytes offset from n h k
 
 -- as many as were read
@@ -78,7 +78,8 @@ pub read_kept : (bytes : List ℕ) (offset : ℕ) (new : List ℕ) (from most : 
 read_kept bytes offset new from most = read_alike bytes (overwritten bytes offset new) from most offset (read_before bytes offset new from)
 
 -- the old bytes behind them
-pub read_behind : (bytes : List ℕ) (offset : ℕ) (new : List ℕ) (from most : ℕ) → offset + length new ≤ from → bytes_from from most (overwritten bytes offset new) ≡ bytes_from from most bytes
+pub read_behind : (bytes : List ℕ) (offset : ℕ) (new : List ℕ) (from most : ℕ) → offset + length new ≤ from →
+    bytes_from from most (overwritten bytes offset new) ≡ bytes_from from most bytes
 read_behind bytes offset new from most h =
     let end = offset + length new in
     let parts : overwritten bytes offset new ≡ (resized bytes offset ++ new) ++ drop end bytes = refl in
@@ -91,7 +92,8 @@ read_behind bytes offset new from most h =
     ap (take most) there
 
 -- the zeros between the old end and the new bytes
-pub read_gap : (bytes : List ℕ) (offset : ℕ) (new : List ℕ) → length bytes ≤ offset → bytes_from (length bytes) (offset - length bytes) (overwritten bytes offset new) ≡ replicate (offset - length bytes) 0
+pub read_gap : (bytes : List ℕ) (offset : ℕ) (new : List ℕ) → length bytes ≤ offset → bytes_from (length bytes) (offset - length bytes)
+    (overwritten bytes offset new) ≡ replicate (offset - length bytes) 0
 read_gap bytes offset new h = read_front bytes offset new (length bytes) (offset - length bytes) (omega (arith, h)) ∙ read_zeros bytes offset h
 
 -- the new end

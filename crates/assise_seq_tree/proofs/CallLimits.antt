@@ -1,15 +1,9 @@
 -- No call leads out of the limits.
-use Rattle.std.proofs.Common.{◌≡◌, ◌≤◌, ◌<◌, ◌+◌, arith, ℕ, Bool, true, false, cond, ◌==◌, nat_le, is_some, List, [], ◌∷◌, length, Result, Ok, Err, refl, sym, ◌∙◌, subst}
-use Rattle.std.proofs.lemmas.Bool.Decides.{nat_tests}
-use Rattle.assise_names.specs.declared.call.Op.{Op}
-use Rattle.assise_names.specs.declared.call.Op.TheVariants.{Create, Mkdir, Read, Write, Truncate, Rename, Unlink, Rmdir, List as ListCall, Stat, Fsync, Dsync}
-use Rattle.assise_names.specs.declared.reply.Reply.{Reply}
-use Rattle.assise_names.specs.declared.reply.Reply.TheVariants.{Done}
-use Rattle.assise_names.specs.declared.reply.TreeError.{TreeError}
-use Rattle.assise_names.specs.declared.reply.TreeError.TheVariants.{Exists, TooBig, DirFull}
-use Rattle.assise_seq_tree.specs.Answer.{◌>>=◌, answer, as_directory, parent_of, last_name, room_for, room_at, file_at, entries_at, may_rename, may_unlink, may_rmdir, reply_and_tree}
-use Rattle.assise_seq_tree.specs.Contents.{overwritten, is_within, resized}
-use Rattle.assise_seq_tree.specs.Tree.{Tree, file, dir, Entries, no_entries, find, count, at, put, without, IsWithinLimits}
+use Rattle.assise_seq_tree.proofs.Common.{◌≡◌, ◌≤◌, ◌<◌, ◌+◌, arith, ℕ, Bool, true, false, cond, ◌==◌, nat_le, is_some, List, [], ◌∷◌, length, Result, Ok, Err}
+use Rattle.assise_seq_tree.proofs.Common.{refl, sym, ◌∙◌, subst, nat_tests, Op, Create, Mkdir, Read, Write, Truncate, Rename, Unlink, Rmdir, ListCall, Stat}
+use Rattle.assise_seq_tree.proofs.Common.{Fsync, Dsync, Reply, Done, TreeError, Exists, TooBig, DirFull, ◌>>=◌, answer, as_directory, parent_of, last_name}
+use Rattle.assise_seq_tree.proofs.Common.{room_for, room_at, file_at, entries_at, may_rename, may_unlink, may_rmdir, reply_and_tree, overwritten, is_within}
+use Rattle.assise_seq_tree.proofs.Common.{resized, Tree, file, dir, Entries, no_entries, find, count, at, put, without, IsWithinLimits, same_path}
 use Rattle.assise_seq_tree.proofs.Moves.{Path, parent_and_last}
 use Rattle.assise_seq_tree.proofs.BytesRead.{length-overwritten}
 use Rattle.assise_seq_tree.proofs.Writes.{file_there}
@@ -18,10 +12,10 @@ use Rattle.assise_seq_tree.proofs.Calls.{second, read_leaves, list_leaves, stat_
 use Rattle.assise_seq_tree.proofs.Limits.{put_there, put_new, within-without, within-at}
 use Rattle.assise_seq_tree.proofs.MovedTreeRoom.{received}
 use Rattle.assise_seq_tree.proofs.Checks.{no_error}
-use Rattle.assise_names.specs.Path.{same_path}
 
 -- ---- what the checks found
-has_room : (r : Result Tree TreeError) (name : List ℕ) → (r >>= λ found. as_directory found >>= λ es. room_for name es) ≡ Ok tt → (es : Entries) × ((r ≡ Ok (dir es)) × (count es < 4096))
+has_room : (r : Result Tree TreeError) (name : List ℕ) → (r >>= λ found. as_directory found >>= λ es. room_for name es) ≡ Ok tt →
+    (es : Entries) × ((r ≡ Ok (dir es)) × (count es < 4096))
 has_room (Ok (file bytes)) name h = cc
 has_room (Ok (dir es)) name h =
     let new = no_error (is_some (find name es)) Exists (cond (nat_le 4096 (count es)) (Err DirFull) (Ok tt)) tt h in
@@ -39,16 +33,19 @@ put_made t x (n ∷ p) h s o =
 
 -- ---- calls
 -- create and mkdir
-made : (t x : Tree) (p : Path) (r : Result (Unit {0}) TreeError) → room_at t p ≡ r → IsWithinLimits t → IsWithinLimits x → IsWithinLimits (reply_and_tree t (r >>= λ _. Ok (Done, put t p x))).1
+made : (t x : Tree) (p : Path) (r : Result (Unit {0}) TreeError) → room_at t p ≡ r → IsWithinLimits t → IsWithinLimits x →
+    IsWithinLimits (reply_and_tree t (r >>= λ _. Ok (Done, put t p x))).1
 made t x p (Ok y) is s o = put_made t x p is s o
 made t x p (Err e) is s o = s
 
-fits_in : (t : Tree) (p : Path) (offset : ℕ) (new bytes : List ℕ) → at t p ≡ Ok (file bytes) → is_within offset new ≡ true → IsWithinLimits t → IsWithinLimits (file bytes) → IsWithinLimits (put t p (file (overwritten bytes offset new)))
+fits_in : (t : Tree) (p : Path) (offset : ℕ) (new bytes : List ℕ) → at t p ≡ Ok (file bytes) → is_within offset new ≡ true → IsWithinLimits t →
+    IsWithinLimits (file bytes) → IsWithinLimits (put t p (file (overwritten bytes offset new)))
 fits_in t p offset new bytes there fits s old =
     let end : offset + length new ≤ 1048576 = grind (arith, nat_tests) in
     put_there p t (file (overwritten bytes offset new)) (file bytes) there s (omega (arith, end, old, length-overwritten bytes offset new))
 
-written : (t : Tree) (p : Path) (offset : ℕ) (new : List ℕ) (r : Result (List ℕ) TreeError) (fits none : Bool) → file_at t p ≡ r → is_within offset new ≡ fits → IsWithinLimits t
+written : (t : Tree) (p : Path) (offset : ℕ) (new : List ℕ) (r : Result (List ℕ) TreeError) (fits none : Bool) → file_at t p ≡ r → is_within offset new ≡ fits →
+    IsWithinLimits t
     → IsWithinLimits (reply_and_tree t (r >>= λ bytes. cond fits (Ok (Done, cond none t (put t p (file (overwritten bytes offset new))))) (Err TooBig))).1
 written t p offset new (Ok bytes) true true is fits s = s
 written t p offset new (Ok bytes) true false is fits s =
@@ -57,7 +54,8 @@ written t p offset new (Ok bytes) true false is fits s =
 written t p offset new (Ok bytes) false none is fits s = s
 written t p offset new (Err e) fits none is f s = s
 
-resized_within : (t : Tree) (p : Path) (size : ℕ) (bytes : List ℕ) → at t p ≡ Ok (file bytes) → nat_le size 1048576 ≡ true → IsWithinLimits t → IsWithinLimits (put t p (file (resized bytes size)))
+resized_within : (t : Tree) (p : Path) (size : ℕ) (bytes : List ℕ) → at t p ≡ Ok (file bytes) → nat_le size 1048576 ≡ true → IsWithinLimits t →
+    IsWithinLimits (put t p (file (resized bytes size)))
 resized_within t p size bytes there fits s =
     let end : size ≤ 1048576 = grind (arith, nat_tests) in
     put_there p t (file (resized bytes size)) (file bytes) there s (omega (arith, end, length-resized bytes size))
@@ -73,7 +71,8 @@ removed : (t : Tree) (p : Path) (r : Result (Unit {0}) TreeError) → IsWithinLi
 removed t p (Ok x) s = within-without p t s
 removed t p (Err e) s = s
 
-renamed : (t : Tree) (p q : Path) (found : Result Tree TreeError) (may : Result (Unit {0}) TreeError) (same : Bool) → at t p ≡ found → may_rename t p q ≡ may → same_path p q ≡ same → IsWithinLimits t
+renamed : (t : Tree) (p q : Path) (found : Result Tree TreeError) (may : Result (Unit {0}) TreeError) (same : Bool) → at t p ≡ found → may_rename t p q ≡ may →
+    same_path p q ≡ same → IsWithinLimits t
     → IsWithinLimits (reply_and_tree t (may >>= λ _. found >>= λ moved. Ok (Done, cond same t (put (without t p) q moved)))).1
 renamed t p q (Ok moved) (Ok x) true there passes same s = s
 renamed t p q (Ok moved) (Ok x) false there passes disjoint s = received t moved p q there passes disjoint s
@@ -83,13 +82,16 @@ renamed t p q found (Err e) same there passes is s = s
 pub limits_kept : (t u : Tree) (op : Op) (reply : Reply) → answer t op ≡ (reply, u) → IsWithinLimits t → IsWithinLimits u
 limits_kept t u (Create p) reply h s = subst IsWithinLimits (sym (second _ reply u h)) (made t (file []) p (room_at t p) refl s (omega arith))
 limits_kept t u (Read p offset most) reply h s = subst IsWithinLimits (sym (second _ reply u h ∙ read_leaves t offset most (file_at t p))) s
-limits_kept t u (Write p offset new) reply h s = subst IsWithinLimits (sym (second _ reply u h)) (written t p offset new (file_at t p) (is_within offset new) (length new == 0) refl refl s)
+limits_kept t u (Write p offset new) reply h s =
+    subst IsWithinLimits (sym (second _ reply u h)) (written t p offset new (file_at t p) (is_within offset new) (length new == 0) refl refl s)
 limits_kept t u (Stat p) reply h s = subst IsWithinLimits (sym (second _ reply u h ∙ stat_leaves t (at t p))) s
 limits_kept t u (Mkdir p) reply h s = subst IsWithinLimits (sym (second _ reply u h)) (made t (dir no_entries) p (room_at t p) refl s (omega arith, tt))
-limits_kept t u (Truncate p size) reply h s = subst IsWithinLimits (sym (second _ reply u h)) (truncated t p size (file_at t p) (nat_le size 1048576) refl refl s)
+limits_kept t u (Truncate p size) reply h s =
+    subst IsWithinLimits (sym (second _ reply u h)) (truncated t p size (file_at t p) (nat_le size 1048576) refl refl s)
 limits_kept t u (Unlink p) reply h s = subst IsWithinLimits (sym (second _ reply u h)) (removed t p (may_unlink t p) s)
 limits_kept t u (Rmdir p) reply h s = subst IsWithinLimits (sym (second _ reply u h)) (removed t p (may_rmdir t p) s)
 limits_kept t u (ListCall p) reply h s = subst IsWithinLimits (sym (second _ reply u h ∙ list_leaves t (entries_at t p))) s
 limits_kept t u Fsync reply h s = subst IsWithinLimits (sym (second _ reply u h)) s
 limits_kept t u Dsync reply h s = subst IsWithinLimits (sym (second _ reply u h)) s
-limits_kept t u (Rename p q) reply h s = subst IsWithinLimits (sym (second _ reply u h)) (renamed t p q (at t p) (may_rename t p q) (same_path p q) refl refl refl s)
+limits_kept t u (Rename p q) reply h s =
+    subst IsWithinLimits (sym (second _ reply u h)) (renamed t p q (at t p) (may_rename t p q) (same_path p q) refl refl refl s)

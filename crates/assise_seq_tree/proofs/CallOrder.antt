@@ -1,22 +1,17 @@
 -- Each call leaves an ordered tree ordered.
-use Rattle.std.proofs.Common.{◌≡◌, ℕ, Bool, true, false, cond, ◌==◌, nat_le, List, [], ◌∷◌, length, Result, Ok, Err, refl, sym, subst}
-use Rattle.assise_names.specs.Path.{same_path}
-use Rattle.assise_names.specs.declared.call.Op.{Op}
-use Rattle.assise_names.specs.declared.call.Op.TheVariants.{Create, Mkdir, Read, Write, Truncate, Rename, Unlink, Rmdir, List as ListCall, Stat, Fsync, Dsync}
-use Rattle.assise_names.specs.declared.reply.Reply.TheVariants.{Done}
-use Rattle.assise_names.specs.declared.reply.TreeError.{TreeError}
-use Rattle.assise_names.specs.declared.reply.TreeError.TheVariants.{TooBig}
-use Rattle.assise_seq_tree.specs.Answer.{◌>>=◌, answer, room_at, file_at, entries_at, may_rename, may_unlink, may_rmdir, reply_and_tree}
-use Rattle.assise_seq_tree.specs.Contents.{overwritten, is_within, resized}
+use Rattle.assise_seq_tree.proofs.Common.{◌≡◌, ℕ, Bool, true, false, cond, ◌==◌, nat_le, List, [], ◌∷◌, length, Result, Ok, Err, refl, sym, subst, same_path}
+use Rattle.assise_seq_tree.proofs.Common.{Op, Create, Mkdir, Read, Write, Truncate, Rename, Unlink, Rmdir, ListCall, Stat, Fsync, Dsync, Done, TreeError}
+use Rattle.assise_seq_tree.proofs.Common.{TooBig, ◌>>=◌, answer, room_at, file_at, entries_at, may_rename, may_unlink, may_rmdir, reply_and_tree, overwritten}
+use Rattle.assise_seq_tree.proofs.Common.{is_within, resized, Tree, file, dir, no_entries, opening, at, put, without, IsOrdered}
 use Rattle.assise_seq_tree.specs.Runs.{tree_after_calls}
-use Rattle.assise_seq_tree.specs.Tree.{Tree, file, dir, no_entries, opening, at, put, without, IsOrdered}
 use Rattle.assise_seq_tree.proofs.Calls.{read_leaves, list_leaves, stat_leaves}
 use Rattle.assise_seq_tree.proofs.Moves.{Path, ordered-without}
 use Rattle.assise_seq_tree.proofs.Order.{ordered-put}
 use Rattle.assise_seq_tree.proofs.TreePlaced.{ordered-at}
 
 -- create and mkdir
-made : (t x : Tree) (p : Path) → IsOrdered t → IsOrdered x → (r : Result (Unit {0}) TreeError) → IsOrdered (reply_and_tree t (r >>= λ _. Ok (Done, put t p x))).1
+made : (t x : Tree) (p : Path) → IsOrdered t → IsOrdered x → (r : Result (Unit {0}) TreeError) →
+    IsOrdered (reply_and_tree t (r >>= λ _. Ok (Done, put t p x))).1
 made t x p s o (Ok y) = ordered-put p t x s o
 made t x p s o (Err e) = s
 

@@ -1,16 +1,11 @@
 -- Where a rename passes its checks, neither path begins with the other.
-use Rattle.std.proofs.Common.{◌≡◌, ◌≢◌, ℕ, ◌<◌, Bool, true, false, not, cond, List, [], ◌∷◌, ◌++◌, length, take, Some, Result, Ok, Err, ◌==◌, refl, ap, sym, ◌∙◌, ◌⊎◌, inl, inr, arith}
-use Rattle.std.specs.Prelude.{nat_lt, ◌||◌, if◌then◌else◌}
+use Rattle.assise_seq_tree.proofs.Common.{◌≡◌, ◌≢◌, ℕ, ◌<◌, Bool, true, false, not, cond, List, [], ◌∷◌, ◌++◌, length, take, Some, Result, Ok, Err, ◌==◌, refl}
+use Rattle.assise_seq_tree.proofs.Common.{ap, sym, ◌∙◌, ◌⊎◌, inl, inr, arith, nat_lt, ◌||◌, if◌then◌else◌, cases_Bool, or_parts, nat_tests, is_proper_prefix}
+use Rattle.assise_seq_tree.proofs.Common.{same_path, TreeError, Invalid, Tree, file, dir, Entries, no_entries, entry, find, count, at, AreDisjointPaths, ◌>>=◌}
+use Rattle.assise_seq_tree.proofs.Common.{parent_of, last_name, as_directory, entries_at, may_receive, may_rename}
 use Rattle.std.specs.Bool.{Decides}
-use Rattle.std.proofs.lemmas.Bool.{cases_Bool, or_parts}
-use Rattle.std.proofs.lemmas.Bool.Decides.{nat_tests}
 use Rattle.std.proofs.lemmas.Slice.Eq.{slice_eq-Decides, bytes_eq-Decides, starts_is}
 use Rattle.std.proofs.lemmas.List.{append-nil}
-use Rattle.assise_names.specs.Path.{is_proper_prefix, same_path}
-use Rattle.assise_names.specs.declared.reply.TreeError.{TreeError}
-use Rattle.assise_names.specs.declared.reply.TreeError.TheVariants.{Invalid}
-use Rattle.assise_seq_tree.specs.Tree.{Tree, file, dir, Entries, no_entries, entry, find, count, at, AreDisjointPaths}
-use Rattle.assise_seq_tree.specs.Answer.{◌>>=◌, parent_of, last_name, as_directory, entries_at, may_receive, may_rename}
 use Rattle.assise_seq_tree.proofs.TreePut.{through_entry, last_entry}
 use Rattle.assise_seq_tree.proofs.Moves.{Path, parent_and_last}
 
@@ -99,7 +94,8 @@ entered p q moved es = if same_path p q then Ok tt else may_receive moved (same_
 
 pub passed : (p q : Path) (t : Tree) → may_rename t p q ≡ Ok tt → same_path p q ≡ false → Passed p q t
 passed p q t h other =
-    let below = no_error (length p == 0 || length q == 0) Invalid (if is_proper_prefix p q then Err Invalid else (at t p >>= λ moved. entries_at t (parent_of q) >>= λ es. entered p q moved es)) tt h in
+    let below = no_error (length p == 0 || length q == 0) Invalid
+    (if is_proper_prefix p q then Err Invalid else (at t p >>= λ moved. entries_at t (parent_of q) >>= λ es. entered p q moved es)) tt h in
     let checked = no_error (is_proper_prefix p q) Invalid (at t p >>= λ moved. entries_at t (parent_of q) >>= λ es. entered p q moved es) tt below.1 in
     let roots = or_parts (length p == 0) (length q == 0) below.0 in
     let source = then_ok (at t p) (λ moved. entries_at t (parent_of q) >>= λ es. entered p q moved es) tt checked.1 in
@@ -108,14 +104,17 @@ passed p q t h other =
     differ : p ≢ q
     differ e = let same = (same_is p q).1 e in cc
 
-    prefix_of : (rest : Path) → p ≡ q ++ rest → (moved : Tree) (es : Entries) → 0 < length q → at t p ≡ Ok moved → at t (parent_of q) ≡ Ok (dir es) → may_receive moved (same_path (parent_of p) (parent_of q)) es (find (last_name q) es) ≡ Ok tt → ⊥
+    prefix_of : (rest : Path) → p ≡ q ++ rest → (moved : Tree) (es : Entries) → 0 < length q → at t p ≡ Ok moved → at t (parent_of q) ≡ Ok (dir es) →
+        may_receive moved (same_path (parent_of p) (parent_of q)) es (find (last_name q) es) ≡ Ok tt → ⊥
     prefix_of [] e moved es some source parent received = differ (e ∙ append-nil q)
     prefix_of (r ∷ rest) e moved es some source parent received =
         let way = on_the_way q rest r t moved (ap (at t) (sym e) ∙ source) in
         let target = last_step (parent_of q) (last_name q) t (dir way.0) es parent (ap (at t) (sym (parent_and_last q some)) ∙ way.1) in
-        no_place moved (same_path (parent_of p) (parent_of q)) es way.0 way.2 (ap (may_receive moved (same_path (parent_of p) (parent_of q)) es) (sym target) ∙ received)
+        no_place moved (same_path (parent_of p) (parent_of q)) es way.0 way.2 (ap (may_receive moved (same_path (parent_of p) (parent_of q)) es) (sym target)
+        ∙ received)
 
-    entering : 0 < length p → 0 < length q → is_proper_prefix p q ≡ false → (moved : Tree) (es : Entries) → at t p ≡ Ok moved → at t (parent_of q) ≡ Ok (dir es) → may_receive moved (same_path (parent_of p) (parent_of q)) es (find (last_name q) es) ≡ Ok tt → Passed p q t
+    entering : 0 < length p → 0 < length q → is_proper_prefix p q ≡ false → (moved : Tree) (es : Entries) → at t p ≡ Ok moved →
+        at t (parent_of q) ≡ Ok (dir es) → may_receive moved (same_path (parent_of p) (parent_of q)) es (find (last_name q) es) ≡ Ok tt → Passed p q t
     entering from to below moved es source parent received = record {
       disjoint = record {
         first = λ begins. prefix_of begins.0 begins.1 moved es to source parent received;
@@ -130,7 +129,8 @@ passed p q t h other =
       to_name = to;
     }
 
-    walked : 0 < length p → 0 < length q → is_proper_prefix p q ≡ false → (moved : Tree) → at t p ≡ Ok moved → (entries_at t (parent_of q) >>= entered p q moved) ≡ Ok tt → Passed p q t
+    walked : 0 < length p → 0 < length q → is_proper_prefix p q ≡ false → (moved : Tree) → at t p ≡ Ok moved →
+        (entries_at t (parent_of q) >>= entered p q moved) ≡ Ok tt → Passed p q t
     walked from to below moved source rest =
         let inside = then_ok (entries_at t (parent_of q)) (entered p q moved) tt rest in
         let parent = then_ok (at t (parent_of q)) as_directory inside.0 inside.1 in

@@ -1,11 +1,7 @@
 -- What is unlinked or removed is gone.
-use Rattle.std.proofs.Common.{◌≡◌, ◌<◌, Bool, true, false, cond, ◌==◌, length, Result, Ok, Err, refl, ap, sym, ◌∙◌, arith}
-use Rattle.std.proofs.lemmas.Bool.Decides.{nat_tests}
-use Rattle.assise_names.specs.declared.reply.Reply.TheVariants.{Done, Error}
-use Rattle.assise_names.specs.declared.reply.TreeError.{TreeError}
-use Rattle.assise_names.specs.declared.reply.TreeError.TheVariants.{NoEnt, IsDir, Invalid}
-use Rattle.assise_seq_tree.specs.Answer.{◌>>=◌, as_directory, as_file, vacant, reply_and_tree, unlink_answer, rmdir_answer, stat_answer}
-use Rattle.assise_seq_tree.specs.Tree.{Tree, file, dir, at, without, IsOrdered}
+use Rattle.assise_seq_tree.proofs.Common.{◌≡◌, ◌<◌, Bool, true, false, cond, ◌==◌, length, Result, Ok, Err, refl, ap, sym, ◌∙◌, arith, nat_tests, Done, Error}
+use Rattle.assise_seq_tree.proofs.Common.{TreeError, NoEnt, IsDir, Invalid, ◌>>=◌, as_directory, as_file, vacant, reply_and_tree, unlink_answer, rmdir_answer}
+use Rattle.assise_seq_tree.proofs.Common.{stat_answer, Tree, file, dir, at, without, IsOrdered}
 use Rattle.assise_seq_tree.proofs.Moves.{Path}
 use Rattle.assise_seq_tree.proofs.Paths.{gone}
 
@@ -38,7 +34,8 @@ removed_is_gone t u p s h = go (length p == 0) (at t p) refl refl h
     vacated (Err e) h = let no = ap (λ r. r.0) h in cc
 
     go : (root : Bool) (r : Result Tree TreeError) → (length p == 0) ≡ root → at t p ≡ r
-        → reply_and_tree t (cond root (Err Invalid) ((r >>= λ found. as_directory found) >>= λ es. vacant es) >>= λ _. Ok (Done, without t p)) ≡ (Done, u) → stat_answer u p ≡ (Error NoEnt, u)
+        → reply_and_tree t (cond root (Err Invalid) ((r >>= λ found. as_directory found) >>= λ es. vacant es) >>= λ _. Ok (Done, without t p)) ≡ (Done, u) →
+        stat_answer u p ≡ (Error NoEnt, u)
     go true r is there h = let no = ap (λ r. r.0) h in cc
     go false (Ok (file bytes)) is there h = let no = ap (λ r. r.0) h in cc
     go false (Ok (dir es)) is there h = gone_after t u (dir es) p s is there (vacated (vacant es) h)

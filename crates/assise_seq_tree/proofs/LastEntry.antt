@@ -1,7 +1,5 @@
 -- A map without its last entry.
-use Rattle.std.proofs.Common.{◌≡◌, ◌+◌, List, [], ◌∷◌, ◌++◌, ℕ, arith}
-use Rattle.assise_seq_tree.specs.Tree.{AreOrdered, IsBelow, size_of, sizes_of}
-use Rattle.assise_seq_tree.specs.View.{map_entries}
+use Rattle.assise_seq_tree.proofs.Common.{◌≡◌, ◌+◌, List, [], ◌∷◌, ◌++◌, ℕ, arith, AreOrdered, IsBelow, size_of, sizes_of, map_entries}
 use Rattle.assise_seq_tree.proofs.Entries.{Stored}
 
 below-front : (name : List ℕ) (es : List Stored) (e : Stored) → IsBelow name (map_entries (es ++ e ∷ [])) → IsBelow name (map_entries es)

@@ -1,9 +1,7 @@
 -- What is put into a tree and taken out of it within the limits.
-use Rattle.std.proofs.Common.{◌≡◌, ◌≤◌, ◌<◌, ◌+◌, arith, ℕ, true, false, cond, is_some, List, [], ◌∷◌, ◌++◌, Some, Ok, Less, Equal, Greater, nat_cmp, refl, ap, sym, inl, inr, subst}
-use Rattle.std.specs.Ordering.{match_ordering}
-use Rattle.std.specs.Cmp.Lexicographic.{slice_cmp}
-use Rattle.std.proofs.lemmas.Bool.{cases_Bool}
-use Rattle.assise_seq_tree.specs.Tree.{Tree, file, dir, Entries, no_entries, entry, same_name, find, replace, insert, set, remove, count, at, put, without, IsWithinLimits, AreWithinLimits}
+use Rattle.assise_seq_tree.proofs.Common.{◌≡◌, ◌≤◌, ◌<◌, ◌+◌, arith, ℕ, true, false, cond, is_some, List, [], ◌∷◌, ◌++◌, Some, Ok, Less, Equal, Greater}
+use Rattle.assise_seq_tree.proofs.Common.{nat_cmp, refl, ap, sym, inl, inr, subst, match_ordering, slice_cmp, cases_Bool, Tree, file, dir, Entries, no_entries}
+use Rattle.assise_seq_tree.proofs.Common.{entry, same_name, find, replace, insert, set, remove, count, at, put, without, IsWithinLimits, AreWithinLimits}
 use Rattle.assise_seq_tree.proofs.TreePut.{cases_option, put_step, through_entry}
 use Rattle.assise_seq_tree.proofs.Moves.{Path, below}
 
@@ -94,7 +92,8 @@ put_there (n ∷ p) (dir es) x u h s o =
     subst IsWithinLimits (sym (put_step es n p x t found)) (within-replaced n (put t p x) es s (put_there p t x u there (within-find n es t s.1 found) o)))
 
 -- what is new has a parent with room
-pub put_new : (p : Path) (n : List ℕ) (t x : Tree) (es : Entries) → at t p ≡ Ok (dir es) → count es < 4096 → IsWithinLimits t → IsWithinLimits x → IsWithinLimits (put t (p ++ n ∷ []) x)
+pub put_new : (p : Path) (n : List ℕ) (t x : Tree) (es : Entries) → at t p ≡ Ok (dir es) → count es < 4096 → IsWithinLimits t → IsWithinLimits x →
+    IsWithinLimits (put t (p ++ n ∷ []) x)
 unfolding at put
 put_new [] n (file bytes) x es h room s o = cc
 put_new [] n (dir fs) x es h room s o = let one : fs ≡ es = cc in within-set n x fs (omega (arith, room, ap count one)) s.1 o

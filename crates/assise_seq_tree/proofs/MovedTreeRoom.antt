@@ -1,13 +1,9 @@
 -- A directory that takes a moved tree has room for it.
-use Rattle.std.proofs.Common.{◌≡◌, ◌≤◌, ◌<◌, ◌+◌, arith, ℕ, Bool, true, false, nat_le, List, [], ◌∷◌, ◌++◌, Some, None, Ok, Err, refl, ap, sym, ◌∙◌, inl, inr, subst}
-use Rattle.std.specs.Option.{option_map_or}
-use Rattle.std.proofs.lemmas.Bool.{cases_Bool}
+use Rattle.assise_seq_tree.proofs.Common.{◌≡◌, ◌≤◌, ◌<◌, ◌+◌, arith, ℕ, Bool, true, false, nat_le, List, [], ◌∷◌, ◌++◌, Some, None, Ok, Err, refl, ap, sym, ◌∙◌}
+use Rattle.assise_seq_tree.proofs.Common.{inl, inr, subst, option_map_or, cases_Bool, nat_tests, same_path, NoEnt, parent_of, last_name, may_receive}
+use Rattle.assise_seq_tree.proofs.Common.{may_rename, Tree, file, dir, Entries, no_entries, entry, same_name, find, replace, remove, count, at, put, without}
+use Rattle.assise_seq_tree.proofs.Common.{IsWithinLimits}
 use Rattle.std.proofs.lemmas.List.{append_assoc}
-use Rattle.std.proofs.lemmas.Bool.Decides.{nat_tests}
-use Rattle.assise_names.specs.Path.{same_path}
-use Rattle.assise_names.specs.declared.reply.TreeError.TheVariants.{NoEnt}
-use Rattle.assise_seq_tree.specs.Answer.{parent_of, last_name, may_receive, may_rename}
-use Rattle.assise_seq_tree.specs.Tree.{Tree, file, dir, Entries, no_entries, entry, same_name, find, replace, remove, count, at, put, without, IsWithinLimits}
 use Rattle.assise_seq_tree.proofs.TreePut.{cases_option, through_entry, last_entry}
 use Rattle.assise_seq_tree.proofs.Sets.{same_itself, one_name}
 use Rattle.assise_seq_tree.proofs.Moves.{Path, below, find_remove_other, find_replace_there, find_replace_other, at-without_disjoint, parent_and_last}
@@ -39,16 +35,31 @@ stays_directory [] (n ∷ []) (dir fs) es h outside =
     record { entries = remove n fs; there = refl; few = omega (arith, count-remove n fs, ap count one) }
 stays_directory [] (n ∷ k ∷ p) (dir fs) es h outside =
     let one : fs ≡ es = cc in
-    record { entries = replace n (without (below n fs) (k ∷ p)) fs; there = refl; few = omega (arith, count-replace n (without (below n fs) (k ∷ p)) fs, ap count one) }
+    record {
+      entries = replace n (without (below n fs) (k ∷ p)) fs;
+      there = refl;
+      few =
+          omega (arith, count-replace n (without (below n fs) (k ∷ p)) fs, ap count one);
+    }
 stays_directory (m ∷ s) (n ∷ p) (file bytes) es h outside = cc
 stays_directory (m ∷ s) (n ∷ []) (dir fs) es h outside =
     elim (cases_Bool (same_name m n)) [
       | inl same ↦ absurd (outside s (ap (λ x. x ∷ s) (one_name m n same)))
-      | inr disjoint ↦ record { entries = es; there = ap (λ o. option_map_or (λ t. at t s) o (Err NoEnt)) (find_remove_other m n fs disjoint) ∙ h; few = omega arith }
+      | inr disjoint ↦ record {
+        entries = es;
+        there = ap (λ o. option_map_or (λ t. at t s) o (Err NoEnt)) (find_remove_other m n fs disjoint) ∙ h;
+        few =
+            omega arith;
+      }
     ]
 stays_directory (m ∷ s) (n ∷ k ∷ p) (dir fs) es h outside =
     elim (cases_Bool (same_name m n)) [
-      | inr disjoint ↦ record { entries = es; there = ap (λ o. option_map_or (λ t. at t s) o (Err NoEnt)) (find_replace_other m n (without (below n fs) (k ∷ p)) fs disjoint) ∙ h; few = omega arith }
+      | inr disjoint ↦ record {
+        entries = es;
+        there = ap (λ o. option_map_or (λ t. at t s) o (Err NoEnt))
+            (find_replace_other m n (without (below n fs) (k ∷ p)) fs disjoint) ∙ h;
+        few = omega arith;
+      }
       | inl same ↦
           let one : m ≡ n = one_name m n same in
           through_entry fs m s (dir es) h (λ v got inside.
@@ -101,7 +112,8 @@ loses_entry (m ∷ s) n (dir fs) u es h there =
 pub entry_there : (s : Path) (n : List ℕ) (t u : Tree) (es : Entries) → at t s ≡ Ok (dir es) → find n es ≡ Some u → at t (s ++ n ∷ []) ≡ Ok u
 unfolding at
 entry_there [] n (file bytes) u es h found = cc
-entry_there [] n (dir fs) u es h found = let one : fs ≡ es = cc in ap (λ gs. option_map_or (λ t. at t []) (find n gs) (Err NoEnt)) one ∙ ap (λ o. option_map_or (λ t. at t []) o (Err NoEnt)) found
+entry_there [] n (dir fs) u es h found =
+    let one : fs ≡ es = cc in ap (λ gs. option_map_or (λ t. at t []) (find n gs) (Err NoEnt)) one ∙ ap (λ o. option_map_or (λ t. at t []) o (Err NoEnt)) found
 entry_there (m ∷ s) n (file bytes) u es h found = cc
 entry_there (m ∷ s) n (dir fs) u es h found =
     through_entry fs m s (dir es) h (λ t got there. ap (λ o. option_map_or (λ t. at t (s ++ n ∷ [])) o (Err NoEnt)) got ∙ entry_there s n t u es there found)
@@ -129,11 +141,13 @@ module _ (t : Tree) (p q : Path) (c : Passed p q t) (s : IsWithinLimits t) where
   over : (target : Tree) → find (last_name q) c.entries ≡ Some target → IsWithinLimits (put (without t p) q c.moved)
   over target found =
       put_there q (without t p) c.moved target
-      (at-without_disjoint p q t (step_disjoint p q c.disjoint) ∙ ap (at t) whole ∙ entry_there (parent_of q) (last_name q) t target c.entries c.parent found) (within-without p t s) moved_within
+      (at-without_disjoint p q t (step_disjoint p q c.disjoint) ∙ ap (at t) whole ∙ entry_there (parent_of q) (last_name q) t target c.entries c.parent found)
+      (within-without p t s) moved_within
 
   onto : (fs : Entries) → at (without t p) (parent_of q) ≡ Ok (dir fs) → count fs < 4096 → IsWithinLimits (put (without t p) q c.moved)
   onto fs there room =
-      subst (λ x. IsWithinLimits (put (without t p) x c.moved)) (sym whole) (put_new (parent_of q) (last_name q) (without t p) c.moved fs there room (within-without p t s) moved_within)
+      subst (λ x. IsWithinLimits (put (without t p) x c.moved)) (sym whole)
+      (put_new (parent_of q) (last_name q) (without t p) c.moved fs there room (within-without p t s) moved_within)
 
   elsewhere : count c.entries < 4096 → IsWithinLimits (put (without t p) q c.moved)
   elsewhere room =
@@ -154,11 +168,13 @@ module _ (t : Tree) (p q : Path) (c : Passed p q t) (s : IsWithinLimits t) where
         | inr some ↦ over some.0 some.1
         | inl none ↦ elim (cases_Bool (same_path (parent_of p) (parent_of q))) [
           | inl same ↦ beside same
-          | inr other ↦ elsewhere (has_room c.moved (same_path (parent_of p) (parent_of q)) c.entries (ap (may_receive c.moved (same_path (parent_of p) (parent_of q)) c.entries) (sym none) ∙ c.receives) other)
+          | inr other ↦ elsewhere (has_room c.moved (same_path (parent_of p) (parent_of q)) c.entries
+              (ap (may_receive c.moved (same_path (parent_of p) (parent_of q)) c.entries) (sym none) ∙ c.receives) other)
         ]
       ]
 
-pub received : (t moved : Tree) (p q : Path) → at t p ≡ Ok moved → may_rename t p q ≡ Ok tt → same_path p q ≡ false → IsWithinLimits t → IsWithinLimits (put (without t p) q moved)
+pub received : (t moved : Tree) (p q : Path) → at t p ≡ Ok moved → may_rename t p q ≡ Ok tt → same_path p q ≡ false → IsWithinLimits t →
+    IsWithinLimits (put (without t p) q moved)
 received t moved p q there passes disjoint s =
     let c = passed p q t passes disjoint in
     let one : c.moved ≡ moved = let both = sym c.source ∙ there in cc in

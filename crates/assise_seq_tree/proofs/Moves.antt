@@ -1,14 +1,12 @@
 -- Two paths of which neither begins with the other: what is done at one leaves the other.
-use Rattle.std.proofs.Common.{◌≡◌, ℕ, suc, ◌-◌, ◌<◌, arith, Bool, true, false, cond, List, [], ◌∷◌, ◌++◌, length, Some, None, is_some, Ok, Err, refl, ap, sym, ◌∙◌, inl, inr, subst}
-use Rattle.std.specs.Prelude.{unwrap_or}
-use Rattle.std.specs.Option.{option_map_or}
-use Rattle.std.proofs.lemmas.Bool.{cases_Bool}
-use Rattle.assise_names.specs.declared.reply.TreeError.TheVariants.{NoEnt}
-use Rattle.assise_seq_tree.specs.Tree.{Tree, file, dir, Entries, no_entries, entry, same_name, find, replace, set, remove, at, put, without, IsOrdered, AreOrdered}
-use Rattle.assise_seq_tree.specs.Answer.{parent_of, last_name}
+use Rattle.assise_seq_tree.proofs.Common.{◌≡◌, ℕ, suc, ◌-◌, ◌<◌, arith, Bool, true, false, cond, List, [], ◌∷◌, ◌++◌, length, Some, None, is_some, Ok, Err}
+use Rattle.assise_seq_tree.proofs.Common.{refl, ap, sym, ◌∙◌, inl, inr, subst, unwrap_or, option_map_or, cases_Bool, NoEnt, Tree, file, dir, Entries}
+use Rattle.assise_seq_tree.proofs.Common.{no_entries, entry, same_name, find, replace, set, remove, at, put, without, IsOrdered, AreOrdered, parent_of}
+use Rattle.assise_seq_tree.proofs.Common.{last_name}
 use Rattle.assise_seq_tree.proofs.TreePut.{cases_option, through_entry}
 use Rattle.assise_seq_tree.proofs.Order.{ordered-replace, ordered-find, ordered-put}
-use Rattle.assise_seq_tree.proofs.Sets.{same_itself, one_name, shadowed, swapped, not_both, find-set, find-replace_any, find-remove, ordered-remove, ordered-set, same_entries}
+use Rattle.assise_seq_tree.proofs.Sets.{same_itself, one_name, shadowed, swapped, not_both, find-set, find-replace_any, find-remove, ordered-remove}
+use Rattle.assise_seq_tree.proofs.Sets.{ordered-set, same_entries}
 
 abbrev pub Path : Type 0
 Path = List (List ℕ)
@@ -68,30 +66,40 @@ find_replace_other q n x es disjoint =
 set-set : (n : List ℕ) (x y : Tree) (es : Entries) → AreOrdered es → IsOrdered x → IsOrdered y → set n y (set n x es) ≡ set n y es
 set-set n x y es s o k =
     same_entries (set n y (set n x es)) (set n y es) (ordered-set n y (set n x es) (ordered-set n x es s o) k) (ordered-set n y es s k)
-    (λ q. find-set q n y (set n x es) ∙ ap (cond (same_name q n) (Some y)) (find-set q n x es) ∙ sym (shadowed (same_name q n) (Some y) (Some x) (find q es)) ∙ sym (find-set q n y es))
+    (λ q. find-set q n y (set n x es) ∙ ap (cond (same_name q n) (Some y)) (find-set q n x es) ∙ sym (shadowed (same_name q n) (Some y) (Some x) (find q es))
+    ∙ sym (find-set q n y es))
 
 remove-set : (n m : List ℕ) (x : Tree) (es : Entries) → AreOrdered es → IsOrdered x → same_name n m ≡ false → remove n (set m x es) ≡ set m x (remove n es)
 remove-set n m x es s o disjoint =
     let set_first = ordered-set m x es s o in
-    same_entries (remove n (set m x es)) (set m x (remove n es)) (ordered-remove n (set m x es) set_first) (ordered-set m x (remove n es) (ordered-remove n es s) o)
-    (λ q. find-remove q n (set m x es) set_first ∙ ap (cond (same_name q n) None) (find-set q m x es) ∙ swapped (same_name q n) (same_name q m) None (Some x) (find q es) (λ a b. not_both q n m disjoint b a)
+    same_entries (remove n (set m x es)) (set m x (remove n es)) (ordered-remove n (set m x es) set_first)
+    (ordered-set m x (remove n es) (ordered-remove n es s) o)
+    (λ q. find-remove q n (set m x es) set_first ∙ ap (cond (same_name q n) None) (find-set q m x es) ∙ swapped (same_name q n) (same_name q m) None (Some x)
+    (find q es) (λ a b. not_both q n m disjoint b a)
     ∙ ap (cond (same_name q m) (Some x)) (sym (find-remove q n es s)) ∙ sym (find-set q m x (remove n es)))
 
-replace-set : (n m : List ℕ) (w x : Tree) (es : Entries) → AreOrdered es → IsOrdered w → IsOrdered x → same_name n m ≡ false → replace n w (set m x es) ≡ set m x (replace n w es)
+replace-set : (n m : List ℕ) (w x : Tree) (es : Entries) → AreOrdered es → IsOrdered w → IsOrdered x → same_name n m ≡ false → replace n w (set m x es)
+    ≡ set m x (replace n w es)
 replace-set n m w x es s v o disjoint =
     elim (cases_option (find n es)) [
       | inl none ↦ replace_absent n w (set m x es) (find_set_other n m x es disjoint ∙ none) ∙ ap (set m x) (sym (replace_absent n w es none))
       | inr some ↦
-          same_entries (replace n w (set m x es)) (set m x (replace n w es)) (ordered-replace n w (set m x es) (ordered-set m x es s o) v) (ordered-set m x (replace n w es) (ordered-replace n w es s v) o)
-          (λ q. find_replace_there q n w some.0 (set m x es) (find_set_other n m x es disjoint ∙ some.1) ∙ ap (cond (same_name q n) (Some w)) (find-set q m x es) ∙ swapped (same_name q n) (same_name q m) (Some w) (Some x) (find q es) (λ a b. not_both q n m disjoint b a)
+          same_entries (replace n w (set m x es)) (set m x (replace n w es)) (ordered-replace n w (set m x es) (ordered-set m x es s o) v)
+          (ordered-set m x (replace n w es) (ordered-replace n w es s v) o)
+          (λ q. find_replace_there q n w some.0 (set m x es) (find_set_other n m x es disjoint ∙ some.1)
+          ∙ ap (cond (same_name q n) (Some w)) (find-set q m x es) ∙ swapped (same_name q n) (same_name q m) (Some w) (Some x) (find q es)
+          (λ a b. not_both q n m disjoint b a)
           ∙ ap (cond (same_name q m) (Some x)) (sym (find_replace_there q n w some.0 es some.1)) ∙ sym (find-set q m x (replace n w es)))
     ]
 
 -- the same entry
-replace-set_same : (n : List ℕ) (w x y : Tree) (es : Entries) → AreOrdered es → IsOrdered w → IsOrdered x → IsOrdered y → replace n y (set n x es) ≡ set n y (replace n w es)
+replace-set_same : (n : List ℕ) (w x y : Tree) (es : Entries) → AreOrdered es → IsOrdered w → IsOrdered x → IsOrdered y → replace n y (set n x es)
+    ≡ set n y (replace n w es)
 replace-set_same n w x y es s v o k =
-    same_entries (replace n y (set n x es)) (set n y (replace n w es)) (ordered-replace n y (set n x es) (ordered-set n x es s o) k) (ordered-set n y (replace n w es) (ordered-replace n w es s v) k)
-    (λ q. find_replace_there q n y x (set n x es) (find_set_same n x es) ∙ ap (cond (same_name q n) (Some y)) (find-set q n x es) ∙ sym (shadowed (same_name q n) (Some y) (Some x) (find q es))
+    same_entries (replace n y (set n x es)) (set n y (replace n w es)) (ordered-replace n y (set n x es) (ordered-set n x es s o) k)
+    (ordered-set n y (replace n w es) (ordered-replace n w es s v) k)
+    (λ q. find_replace_there q n y x (set n x es) (find_set_same n x es) ∙ ap (cond (same_name q n) (Some y)) (find-set q n x es)
+    ∙ sym (shadowed (same_name q n) (Some y) (Some x) (find q es))
     ∙ others q (same_name q n) refl ∙ sym (find-set q n y (replace n w es)))
   where
     others : (q : List ℕ) (b : Bool) → same_name q n ≡ b → cond b (Some y) (find q es) ≡ cond b (Some y) (find q (replace n w es))
@@ -134,7 +142,8 @@ at-put_disjoint (n ∷ p) (m ∷ q) (dir es) x disjoint =
       | inl same ↦
           let one : n ≡ m = one_name n m same in
           let far = disjoint same in
-          ap (λ o. option_map_or (λ t. at t p) o (Err NoEnt)) (ap (λ k. find k (set m (put (below m es) q x) es)) one ∙ find_set_same m (put (below m es) q x) es)
+          ap (λ o. option_map_or (λ t. at t p) o (Err NoEnt))
+          (ap (λ k. find k (set m (put (below m es) q x) es)) one ∙ find_set_same m (put (below m es) q x) es)
           ∙ at-put_disjoint p q (below m es) x far
           ∙ elim (cases_option (find m es)) [
             | inl none ↦ ap (λ o. at (unwrap_or o (dir no_entries)) p) none ∙ at_empty p q far ∙ ap (λ o. option_map_or (λ t. at t p) o (Err NoEnt)) (sym none)
@@ -163,9 +172,12 @@ at-without_disjoint (n ∷ k ∷ p) (m ∷ q) (dir es) disjoint =
             | inl none ↦ ap (λ fs. option_map_or (λ t. at t q) (find m fs) (Err NoEnt)) (replace_absent n (without (below n es) (k ∷ p)) es none)
             | inr some ↦
                 let child : below n es ≡ some.0 = ap (λ o. unwrap_or o (dir no_entries)) some.1 in
-                ap (λ o. option_map_or (λ t. at t q) o (Err NoEnt)) (find_replace_there m n (without (below n es) (k ∷ p)) some.0 es some.1 ∙ ap (λ b. cond b (Some (without (below n es) (k ∷ p))) (find m es)) (ap (λ j. same_name j n) (sym one) ∙ same_itself n))
+                ap (λ o. option_map_or (λ t. at t q) o (Err NoEnt))
+                (find_replace_there m n (without (below n es) (k ∷ p)) some.0 es some.1 ∙ ap (λ b. cond b (Some (without (below n es) (k ∷ p))) (find m es))
+                (ap (λ j. same_name j n) (sym one) ∙ same_itself n))
                 ∙ at-without_disjoint (k ∷ p) q (below n es) (disjoint same)
-                ∙ ap (λ u. at u q) child ∙ ap (λ o. option_map_or (λ t. at t q) o (Err NoEnt)) (sym some.1) ∙ ap (λ j. option_map_or (λ t. at t q) (find j es) (Err NoEnt)) one
+                ∙ ap (λ u. at u q) child ∙ ap (λ o. option_map_or (λ t. at t q) o (Err NoEnt)) (sym some.1)
+                ∙ ap (λ j. option_map_or (λ t. at t q) (find j es) (Err NoEnt)) one
           ]
       | inr other ↦ ap (λ o. option_map_or (λ t. at t q) o (Err NoEnt)) (find_replace_other m n (without (below n es) (k ∷ p)) es (turned n m other))
     ]
@@ -188,13 +200,16 @@ without-put (n ∷ k ∷ p) (m ∷ q) (dir es) x s o disjoint =
     elim (cases_Bool (same_name n m)) [
       | inl same ↦
           let one : m ≡ n = sym (one_name n m same) in
-          subst (λ j. without (put (dir es) (j ∷ q) x) (n ∷ k ∷ p) ≡ put (without (dir es) (n ∷ k ∷ p)) (j ∷ q) x) (sym one) (inside (without-put (k ∷ p) q (below n es) x (ordered_below n es s) o (disjoint same)))
+          subst (λ j. without (put (dir es) (j ∷ q) x) (n ∷ k ∷ p) ≡ put (without (dir es) (n ∷ k ∷ p)) (j ∷ q) x) (sym one)
+          (inside (without-put (k ∷ p) q (below n es) x (ordered_below n es s) o (disjoint same)))
       | inr other ↦
           let new = ordered-put q (below m es) x (ordered_below m es s) o in
           let left = ordered-without (k ∷ p) (below n es) (ordered_below n es s) in
-          ap (λ c. dir (replace n (without (unwrap_or c (dir no_entries)) (k ∷ p)) (set m (put (below m es) q x) es))) (find_set_other n m (put (below m es) q x) es other)
+          ap (λ c. dir (replace n (without (unwrap_or c (dir no_entries)) (k ∷ p)) (set m (put (below m es) q x) es)))
+          (find_set_other n m (put (below m es) q x) es other)
           ∙ ap dir (replace-set n m (without (below n es) (k ∷ p)) (put (below m es) q x) es s left new other
-          ∙ ap (λ c. set m (put (unwrap_or c (dir no_entries)) q x) (replace n (without (below n es) (k ∷ p)) es)) (sym (find_replace_other m n (without (below n es) (k ∷ p)) es (turned n m other))))
+          ∙ ap (λ c. set m (put (unwrap_or c (dir no_entries)) q x) (replace n (without (below n es) (k ∷ p)) es))
+          (sym (find_replace_other m n (without (below n es) (k ∷ p)) es (turned n m other))))
     ]
   where
     kept : below n (replace n (without (below n es) (k ∷ p)) es) ≡ without (below n es) (k ∷ p)
@@ -203,16 +218,20 @@ without-put (n ∷ k ∷ p) (m ∷ q) (dir es) x s o disjoint =
           | inl none ↦
               ap (below n) (replace_absent n (without (below n es) (k ∷ p)) es none) ∙ ap (λ c. unwrap_or c (dir no_entries)) none
               ∙ sym (ap (λ c. without (unwrap_or c (dir no_entries)) (k ∷ p)) none ∙ without_empty k p)
-          | inr some ↦ ap (λ c. unwrap_or c (dir no_entries)) (find_replace_there n n (without (below n es) (k ∷ p)) some.0 es some.1 ∙ ap (λ b. cond b (Some (without (below n es) (k ∷ p))) (find n es)) (same_itself n))
+          | inr some ↦ ap (λ c. unwrap_or c (dir no_entries))
+              (find_replace_there n n (without (below n es) (k ∷ p)) some.0 es some.1 ∙ ap (λ b. cond b (Some (without (below n es) (k ∷ p))) (find n es))
+              (same_itself n))
         ]
 
-    inside : without (put (below n es) q x) (k ∷ p) ≡ put (without (below n es) (k ∷ p)) q x → without (put (dir es) (n ∷ q) x) (n ∷ k ∷ p) ≡ put (without (dir es) (n ∷ k ∷ p)) (n ∷ q) x
+    inside : without (put (below n es) q x) (k ∷ p) ≡ put (without (below n es) (k ∷ p)) q x → without (put (dir es) (n ∷ q) x) (n ∷ k ∷ p)
+        ≡ put (without (dir es) (n ∷ k ∷ p)) (n ∷ q) x
     inside ih =
         let new = ordered-put q (below n es) x (ordered_below n es s) o in
         let left = ordered-without (k ∷ p) (below n es) (ordered_below n es s) in
         ap (λ c. dir (replace n (without (unwrap_or c (dir no_entries)) (k ∷ p)) (set n (put (below n es) q x) es))) (find_set_same n (put (below n es) q x) es)
         ∙ ap (λ z. dir (replace n z (set n (put (below n es) q x) es))) ih
-        ∙ ap dir (replace-set_same n (without (below n es) (k ∷ p)) (put (below n es) q x) (put (without (below n es) (k ∷ p)) q x) es s left new (ordered-put q (without (below n es) (k ∷ p)) x left o))
+        ∙ ap dir (replace-set_same n (without (below n es) (k ∷ p)) (put (below n es) q x) (put (without (below n es) (k ∷ p)) q x) es s left new
+        (ordered-put q (without (below n es) (k ∷ p)) x left o))
         ∙ ap (λ w. dir (set n (put w q x) (replace n (without (below n es) (k ∷ p)) es))) (sym kept)
 
 -- the last that is put at a path stays

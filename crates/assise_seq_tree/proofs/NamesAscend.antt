@@ -1,12 +1,7 @@
 -- The names of a list ascend.
-use Rattle.std.proofs.Common.{◌≡◌, ℕ, List, Result, Ok, Err, Less, nat_cmp, refl, ap, subst}
-use Rattle.std.specs.Cmp.Lexicographic.{slice_cmp}
-use Rattle.std.specs.List.{AllByRecursion}
-use Rattle.std.specs.List.Sorted.{IsStrictlySortedBy}
-use Rattle.assise_names.specs.declared.reply.Reply.TheVariants.{Names}
-use Rattle.assise_names.specs.declared.reply.TreeError.{TreeError}
-use Rattle.assise_seq_tree.specs.Answer.{◌>>=◌, as_directory, reply_and_tree, list_answer}
-use Rattle.assise_seq_tree.specs.Tree.{Tree, file, dir, Entries, no_entries, entry, names_of, at, IsBelow, IsOrdered, AreOrdered}
+use Rattle.assise_seq_tree.proofs.Common.{◌≡◌, ℕ, List, Result, Ok, Err, Less, nat_cmp, refl, ap, subst, slice_cmp, AllByRecursion, IsStrictlySortedBy, Names}
+use Rattle.assise_seq_tree.proofs.Common.{TreeError, ◌>>=◌, as_directory, reply_and_tree, list_answer, Tree, file, dir, Entries, no_entries, entry, names_of}
+use Rattle.assise_seq_tree.proofs.Common.{at, IsBelow, IsOrdered, AreOrdered}
 use Rattle.assise_seq_tree.proofs.Moves.{Path}
 use Rattle.assise_seq_tree.proofs.TreePlaced.{ordered-at}
 
@@ -22,7 +17,8 @@ names_ascend (entry name t es) s = (names_above name es s.0, names_ascend es s.2
 pub listed_names_ascend : (t u : Tree) (p names : Path) → IsOrdered t → list_answer t p ≡ (Names names, u) → IsStrictlySortedBy (slice_cmp nat_cmp) names
 listed_names_ascend t u p names s h = go (at t p) refl h
   where
-    go : (r : Result Tree TreeError) → at t p ≡ r → reply_and_tree t ((r >>= λ found. as_directory found) >>= λ es. Ok (Names (names_of es), t)) ≡ (Names names, u) → IsStrictlySortedBy (slice_cmp nat_cmp) names
+    go : (r : Result Tree TreeError) → at t p ≡ r → reply_and_tree t ((r >>= λ found. as_directory found) >>= λ es. Ok (Names (names_of es), t))
+        ≡ (Names names, u) → IsStrictlySortedBy (slice_cmp nat_cmp) names
     go (Ok (file bytes)) is h = let no = ap (λ r. r.0) h in cc
     go (Ok (dir es)) is h =
         let first = ap (λ r. r.0) h in

@@ -1,11 +1,7 @@
 -- What is put into ordered trees leaves them ordered.
-use Rattle.std.proofs.Common.{◌≡◌, ℕ, List, [], ◌∷◌, Some, Result, Ok, Err, OnOk, OnErr, Ordering, Less, Equal, Greater, nat_cmp, refl, ap, sym, ◌∙◌, ◌⊎◌, inl, inr, subst}
-use Rattle.std.specs.Ordering.{ordering_reverse}
-use Rattle.std.specs.Cmp.Lexicographic.{slice_cmp}
-use Rattle.std.proofs.lemmas.Cmp.{nat_list_cmp_total}
-use Rattle.std.proofs.lemmas.Bool.{cases_Bool}
-use Rattle.assise_seq_tree.specs.Tree.{Tree, file, dir, Entries, no_entries, entry, same_name, find, replace, insert, put, IsBelow, IsOrdered, AreOrdered}
-use Rattle.assise_names.specs.declared.reply.TreeError.{TreeError}
+use Rattle.assise_seq_tree.proofs.Common.{◌≡◌, ℕ, List, [], ◌∷◌, Some, Result, Ok, Err, OnOk, OnErr, Ordering, Less, Equal, Greater, nat_cmp, refl, ap, sym}
+use Rattle.assise_seq_tree.proofs.Common.{◌∙◌, ◌⊎◌, inl, inr, subst, ordering_reverse, slice_cmp, nat_list_cmp_total, cases_Bool, Tree, file, dir, Entries}
+use Rattle.assise_seq_tree.proofs.Common.{no_entries, entry, same_name, find, replace, insert, put, IsBelow, IsOrdered, AreOrdered, TreeError}
 use Rattle.assise_seq_tree.proofs.TreePut.{cases_option}
 
 pub cases_ordering : (o : Ordering) → (o ≡ Less) ⊎ ((o ≡ Equal) ⊎ (o ≡ Greater))
@@ -76,11 +72,13 @@ ordered-put (name ∷ p) (dir es) x s o =
     ]
 
 -- a `put` that failed or not leaves an ordered tree
-pub ordered-after : {T E : Type 0} (r : Result T E) (p : List (List ℕ)) (v t x : Tree) → OnOk r (v ≡ put t p x) → OnErr r (v ≡ t) → IsOrdered t → IsOrdered x → IsOrdered v
+pub ordered-after : {T E : Type 0} (r : Result T E) (p : List (List ℕ)) (v t x : Tree) → OnOk r (v ≡ put t p x) → OnErr r (v ≡ t) → IsOrdered t → IsOrdered x →
+    IsOrdered v
 ordered-after (Ok y) p v t x ok err s o = subst IsOrdered (sym ok) (ordered-put p t x s o)
 ordered-after (Err e) p v t x ok err s o = subst IsOrdered (sym err) s
 
 -- the same where the clauses go by what stands at the path
-pub ordered-exchanged : (r : Result Tree TreeError) (p : List (List ℕ)) (v t x : Tree) {P : Tree → Type 0} {Q : Type 0} → ((u : Tree) → r ≡ Ok u → P u × (v ≡ put t p x)) → ((e : TreeError) → r ≡ Err e → Q × (v ≡ t)) → IsOrdered t → IsOrdered x → IsOrdered v
+pub ordered-exchanged : (r : Result Tree TreeError) (p : List (List ℕ)) (v t x : Tree) {P : Tree → Type 0} {Q : Type 0} →
+    ((u : Tree) → r ≡ Ok u → P u × (v ≡ put t p x)) → ((e : TreeError) → r ≡ Err e → Q × (v ≡ t)) → IsOrdered t → IsOrdered x → IsOrdered v
 ordered-exchanged (Ok u) p v t x there absent s o = subst IsOrdered (sym (there u refl).1) (ordered-put p t x s o)
 ordered-exchanged (Err e) p v t x there absent s o = subst IsOrdered (sym (absent e refl).1) s

@@ -1,10 +1,7 @@
 -- What is put at a path stands there, and what is taken out is gone.
-use Rattle.std.proofs.Common.{◌≡◌, ◌<◌, arith, cond, [], ◌∷◌, ◌++◌, length, Some, None, Ok, Err, refl, ap, sym, ◌∙◌, subst}
-use Rattle.std.specs.Prelude.{unwrap_or}
-use Rattle.std.specs.Option.{option_map_or}
-use Rattle.assise_names.specs.declared.reply.TreeError.TheVariants.{NoEnt}
-use Rattle.assise_seq_tree.specs.Answer.{parent_of, last_name}
-use Rattle.assise_seq_tree.specs.Tree.{Tree, file, dir, Entries, no_entries, find, at, put, without, IsOrdered, AreDisjointPaths}
+use Rattle.assise_seq_tree.proofs.Common.{◌≡◌, ◌<◌, arith, cond, [], ◌∷◌, ◌++◌, length, Some, None, Ok, Err, refl, ap, sym, ◌∙◌, subst, unwrap_or}
+use Rattle.assise_seq_tree.proofs.Common.{option_map_or, NoEnt, parent_of, last_name, Tree, file, dir, Entries, no_entries, find, at, put, without, IsOrdered}
+use Rattle.assise_seq_tree.proofs.Common.{AreDisjointPaths}
 use Rattle.assise_seq_tree.proofs.TreePut.{through_entry}
 use Rattle.assise_seq_tree.proofs.Order.{ordered-find}
 use Rattle.assise_seq_tree.proofs.Sets.{same_itself, one_name, find-remove}

@@ -1,14 +1,10 @@
 -- The places of a tree are the paths below its root, each once, by ascending names.
-use Rattle.std.proofs.Common.{◌≡◌, ℕ, ◌<◌, true, false, List, [], ◌∷◌, ◌++◌, length, Ok, Ordering, Less, nat_cmp, refl, ap, sym, ◌∙◌, inl, inr, subst, arith, append_assoc}
-use Rattle.std.proofs.lemmas.Bool.{cases_Bool}
+use Rattle.assise_seq_tree.proofs.Common.{◌≡◌, ℕ, ◌<◌, true, false, List, [], ◌∷◌, ◌++◌, length, Ok, Ordering, Less, nat_cmp, refl, ap, sym, ◌∙◌, inl, inr}
+use Rattle.assise_seq_tree.proofs.Common.{subst, arith, append_assoc, cases_Bool, tied_itself, slice_cmp, AllByRecursion, Contains, IsStrictlySortedBy, on}
+use Rattle.assise_seq_tree.proofs.Common.{Place, places_below, places_of, Tree, file, dir, Entries, no_entries, entry, same_name, at, IsBelow, IsOrdered}
+use Rattle.assise_seq_tree.proofs.Common.{AreOrdered}
 use Rattle.std.proofs.lemmas.List.Elements.{Contains-append_left, Contains-append_right, Contains-append_cases, Contains-push, Contains-push_cases}
-use Rattle.std.specs.Cmp.{tied_itself}
-use Rattle.std.specs.Cmp.Lexicographic.{slice_cmp, nat_list_cmp_total}
-use Rattle.std.specs.List.{AllByRecursion, Contains}
-use Rattle.std.specs.List.Sorted.{IsStrictlySortedBy}
-use Rattle.std.specs.Ordering.{on}
-use Rattle.assise_seq_tree.specs.Lines.{Place, places_below, places_of}
-use Rattle.assise_seq_tree.specs.Tree.{Tree, file, dir, Entries, no_entries, entry, same_name, at, IsBelow, IsOrdered, AreOrdered}
+use Rattle.std.specs.Cmp.Lexicographic.{nat_list_cmp_total}
 use Rattle.assise_seq_tree.proofs.Moves.{Path}
 use Rattle.assise_seq_tree.proofs.Sets.{find_below, one_name, same_itself}
 
@@ -35,11 +31,13 @@ sorted_none : {X : Type 0} (c : X → X → Ordering) → IsStrictlySortedBy c [
 unfolding IsStrictlySortedBy
 sorted_none c = tt
 
-sorted_cons : {X : Type 0} (c : X → X → Ordering) (x : X) (xs : List X) → AllByRecursion (λ y. c x y ≡ Less) xs → IsStrictlySortedBy c xs → IsStrictlySortedBy c (x ∷ xs)
+sorted_cons : {X : Type 0} (c : X → X → Ordering) (x : X) (xs : List X) → AllByRecursion (λ y. c x y ≡ Less) xs → IsStrictlySortedBy c xs →
+    IsStrictlySortedBy c (x ∷ xs)
 unfolding IsStrictlySortedBy
 sorted_cons c x xs above sorted = (above, sorted)
 
-sorted_append : {X : Type 0} (c : X → X → Ordering) (xs ys : List X) → IsStrictlySortedBy c xs → IsStrictlySortedBy c ys → ((x y : X) → Contains xs x → Contains ys y → c x y ≡ Less) → IsStrictlySortedBy c (xs ++ ys)
+sorted_append : {X : Type 0} (c : X → X → Ordering) (xs ys : List X) → IsStrictlySortedBy c xs → IsStrictlySortedBy c ys →
+    ((x y : X) → Contains xs x → Contains ys y → c x y ≡ Less) → IsStrictlySortedBy c (xs ++ ys)
 unfolding IsStrictlySortedBy
 sorted_append c [] ys first second across = second
 sorted_append c (x ∷ xs) ys first second across = (
@@ -107,7 +105,8 @@ found_first : (n m : List ℕ) (t u : Tree) (es : Entries) (p : Path) → same_n
 unfolding at
 found_first n m t u es p same h = rw same at h
 
-found_later : (n m : List ℕ) (t u : Tree) (es : Entries) (p : Path) → same_name m n ≡ false → at (dir (entry n t es)) (m ∷ p) ≡ Ok u → at (dir es) (m ∷ p) ≡ Ok u
+found_later : (n m : List ℕ) (t u : Tree) (es : Entries) (p : Path) → same_name m n ≡ false → at (dir (entry n t es)) (m ∷ p) ≡ Ok u →
+    at (dir es) (m ∷ p) ≡ Ok u
 unfolding at
 found_later n m t u es p disjoint h = rw disjoint at h
 
@@ -154,11 +153,14 @@ mutual
             subst (λ m. Contains (places_of q (entry n t es)) (q ++ m ∷ p, u)) (sym (one_name name n same))
             (Contains-append_left ((q ++ n ∷ [], t) ∷ places_below (q ++ n ∷ []) t) (places_of q es) (q ++ n ∷ p, u)
             (here p (λ m r more. placed (q ++ n ∷ []) m r t u more) (found_first n name t u es p same h)))
-        | inr disjoint ↦ Contains-append_right ((q ++ n ∷ [], t) ∷ places_below (q ++ n ∷ []) t) (places_of q es) (q ++ name ∷ p, u) (placed_dir q name p es u (found_later n name t u es p disjoint h))
+        | inr disjoint ↦ Contains-append_right ((q ++ n ∷ [], t) ∷ places_below (q ++ n ∷ []) t) (places_of q es) (q ++ name ∷ p, u)
+            (placed_dir q name p es u (found_later n name t u es p disjoint h))
       ]
     where
-      here : (p : Path) → ((m : List ℕ) (r : Path) → at t (m ∷ r) ≡ Ok u → Contains (places_below (q ++ n ∷ []) t) ((q ++ n ∷ []) ++ m ∷ r, u)) → at t p ≡ Ok u → Contains ((q ++ n ∷ [], t) ∷ places_below (q ++ n ∷ []) t) (q ++ n ∷ p, u)
-      here [] more h = subst (λ v. Contains ((q ++ n ∷ [], t) ∷ places_below (q ++ n ∷ []) t) (q ++ n ∷ [], v)) (at_itself t u h) (first_in (q ++ n ∷ [], t) (places_below (q ++ n ∷ []) t))
+      here : (p : Path) → ((m : List ℕ) (r : Path) → at t (m ∷ r) ≡ Ok u → Contains (places_below (q ++ n ∷ []) t) ((q ++ n ∷ []) ++ m ∷ r, u)) →
+          at t p ≡ Ok u → Contains ((q ++ n ∷ [], t) ∷ places_below (q ++ n ∷ []) t) (q ++ n ∷ p, u)
+      here [] more h = subst (λ v. Contains ((q ++ n ∷ [], t) ∷ places_below (q ++ n ∷ []) t) (q ++ n ∷ [], v)) (at_itself t u h)
+          (first_in (q ++ n ∷ [], t) (places_below (q ++ n ∷ []) t))
       here (m ∷ r) more h =
           Contains-append_right ((q ++ n ∷ [], t) ∷ []) (places_below (q ++ n ∷ []) t) (q ++ n ∷ m ∷ r, u)
           (subst (λ path. Contains (places_below (q ++ n ∷ []) t) (path, u)) (append_assoc q (n ∷ []) (m ∷ r)) (more m r h))
@@ -174,7 +176,9 @@ mutual
   ascends_dir q no_entries s = sorted_none place_cmp
   ascends_dir q (entry n t es) s =
       sorted_append place_cmp ((q ++ n ∷ [], t) ∷ places_below (q ++ n ∷ []) t) (places_of q es)
-      (sorted_cons place_cmp (q ++ n ∷ [], t) (places_below (q ++ n ∷ []) t) (all_from (λ y. place_cmp (q ++ n ∷ [], t) y ≡ Less) (places_below (q ++ n ∷ []) t) (λ y there. below y (under (q ++ n ∷ []) t y s.1 there))) (ascends (q ++ n ∷ []) t s.1))
+      (sorted_cons place_cmp (q ++ n ∷ [], t) (places_below (q ++ n ∷ []) t)
+      (all_from (λ y. place_cmp (q ++ n ∷ [], t) y ≡ Less) (places_below (q ++ n ∷ []) t) (λ y there. below y (under (q ++ n ∷ []) t y s.1 there)))
+      (ascends (q ++ n ∷ []) t s.1))
       (ascends_dir q es s.2)
       (λ x y here there. across x y (inside x here) (under_dir q es y s.2 there))
     where

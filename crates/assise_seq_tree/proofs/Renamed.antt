@@ -1,12 +1,7 @@
 -- What a rename leaves at its two paths.
-use Rattle.std.proofs.Common.{◌≡◌, Bool, true, false, cond, ◌∷◌, [], ◌++◌, Result, Ok, Err, refl, ap, sym, ◌∙◌}
+use Rattle.assise_seq_tree.proofs.Common.{◌≡◌, Bool, true, false, cond, ◌∷◌, [], ◌++◌, Result, Ok, Err, refl, ap, sym, ◌∙◌, same_path, Done, TreeError, NoEnt}
+use Rattle.assise_seq_tree.proofs.Common.{◌>>=◌, parent_of, last_name, may_rename, reply_and_tree, rename_answer, Tree, at, put, without, IsOrdered}
 use Rattle.std.proofs.lemmas.List.{append_assoc}
-use Rattle.assise_names.specs.Path.{same_path}
-use Rattle.assise_names.specs.declared.reply.Reply.TheVariants.{Done}
-use Rattle.assise_names.specs.declared.reply.TreeError.{TreeError}
-use Rattle.assise_names.specs.declared.reply.TreeError.TheVariants.{NoEnt}
-use Rattle.assise_seq_tree.specs.Answer.{◌>>=◌, parent_of, last_name, may_rename, reply_and_tree, rename_answer}
-use Rattle.assise_seq_tree.specs.Tree.{Tree, at, put, without, IsOrdered}
 use Rattle.assise_seq_tree.proofs.Moves.{Path, at-put_disjoint, parent_and_last}
 use Rattle.assise_seq_tree.proofs.Paths.{step_disjoint, put_stands, gone}
 use Rattle.assise_seq_tree.proofs.Checks.{Passed, passed}
@@ -31,16 +26,22 @@ renamed t u p q moved h other there =
     go (Err e) found same h there other = let no = ap (λ r. r.0) h in cc
 
 -- at its new path
-pub stands_at_its_new_path : (t u : Tree) (p q : Path) (moved : Tree) → rename_answer t p q ≡ (Done, u) → same_path p q ≡ false → at t p ≡ Ok moved → at u q ≡ Ok moved
+pub stands_at_its_new_path : (t u : Tree) (p q : Path) (moved : Tree) → rename_answer t p q ≡ (Done, u) → same_path p q ≡ false → at t p ≡ Ok moved →
+    at u q ≡ Ok moved
 stands_at_its_new_path t u p q moved h other there =
     let r = renamed t u p q moved h other there in
     let c = r.checks in
     let d = stays_directory (parent_of q) p t c.entries c.parent
-    (λ rest is. c.disjoint.second (rest ++ last_name q ∷ [], parent_and_last q c.to_name ∙ ap (λ x. x ++ last_name q ∷ []) is ∙ append_assoc p rest (last_name q ∷ []))) in
+    (λ rest is. c.disjoint.second (
+      rest ++ last_name q ∷ [],
+      parent_and_last q c.to_name ∙ ap (λ x. x ++ last_name q ∷ []) is
+          ∙ append_assoc p rest (last_name q ∷ []),
+    )) in
     ap (λ v. at v q) r.tree ∙ put_stands (without t p) moved q d.entries d.there
 
 -- and not at its old one
-pub gone_from_its_old_path : (t u : Tree) (p q : Path) (moved : Tree) → IsOrdered t → rename_answer t p q ≡ (Done, u) → same_path p q ≡ false → at t p ≡ Ok moved → at u p ≡ Err NoEnt
+pub gone_from_its_old_path : (t u : Tree) (p q : Path) (moved : Tree) → IsOrdered t → rename_answer t p q ≡ (Done, u) → same_path p q ≡ false →
+    at t p ≡ Ok moved → at u p ≡ Err NoEnt
 gone_from_its_old_path t u p q moved s h other there =
     let r = renamed t u p q moved h other there in
     let c = r.checks in

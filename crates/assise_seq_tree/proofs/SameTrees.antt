@@ -1,9 +1,6 @@
 -- Two trees that are compared entry by entry.
-use Rattle.std.proofs.Common.{◌≡◌, ◌↔◌, ◌+◌, ℕ, List, [], ◌∷◌, ◌++◌, Bor, Ok, Err, Result, Bool, IfOk, IsTrue, refl, ap, sym, ◌∙◌, arith}
-use Rattle.assise_seq_tree.specs.Sameness.{ArePairsSame, size_of_pairs}
-use Rattle.assise_seq_tree.specs.Answer.{as_directory}
-use Rattle.assise_seq_tree.specs.Tree.{Tree, dir, size_of}
-use Rattle.assise_seq_tree.specs.View.{map_entries}
+use Rattle.assise_seq_tree.proofs.Common.{◌≡◌, ◌↔◌, ◌+◌, ℕ, List, [], ◌∷◌, ◌++◌, Bor, Ok, Err, Result, Bool, IfOk, IsTrue, refl, ap, sym, ◌∙◌, arith}
+use Rattle.assise_seq_tree.proofs.Common.{ArePairsSame, size_of_pairs, as_directory, Tree, dir, size_of, map_entries}
 use Rattle.assise_seq_tree.proofs.Entries.{Stored}
 use Rattle.assise_seq_tree.proofs.Checks.{is_directory}
 
@@ -52,7 +49,8 @@ size_more [] pair = omega arith
 size_more (p ∷ pairs) pair = omega (arith, size_more pairs pair)
 
 -- entries of one name: what they lead to is pending
-pub names_more : (left right es fs : List Stored) (n m : List ℕ) (t u : Bor Tree) (pairs more : List Pair) {Q : Type 0} → left ≡ (n, t.now) ∷ es → right ≡ (m, u.now) ∷ fs → n ≡ m → more ≡ pairs ++ (t, u) ∷ [] → ((left ≡ right) × ArePairsSame pairs) ↔ Q → ((es ≡ fs) × ArePairsSame more) ↔ Q
+pub names_more : (left right es fs : List Stored) (n m : List ℕ) (t u : Bor Tree) (pairs more : List Pair) {Q : Type 0} → left ≡ (n, t.now) ∷ es →
+    right ≡ (m, u.now) ∷ fs → n ≡ m → more ≡ pairs ++ (t, u) ∷ [] → ((left ≡ right) × ArePairsSame pairs) ↔ Q → ((es ≡ fs) × ArePairsSame more) ↔ Q
 names_more left right es fs n m t u pairs more one two name all before =
     let (apart, together) = same_last more pairs (t, u) all in (
       λ same.
@@ -68,6 +66,7 @@ names_more left right es fs n m t u pairs more one two name all before =
     )
 
 -- what is said of the entries of two directories is said of the directories
-pub on_same : {E P Q : Type 0} (R S : Type 0) (result : Result Bool E) → P ↔ Q → IfOk result (λ same. (IsTrue same × R) ↔ (P × S)) → IfOk result (λ same. (IsTrue same × R) ↔ (Q × S))
+pub on_same : {E P Q : Type 0} (R S : Type 0) (result : Result Bool E) → P ↔ Q → IfOk result (λ same. (IsTrue same × R) ↔ (P × S)) →
+    IfOk result (λ same. (IsTrue same × R) ↔ (Q × S))
 on_same R S (Ok same) (there, back) said = (λ r. let both = said.0 r in (there both.0, both.1), λ both. said.1 (back both.0, both.1))
 on_same R S (Err e) (there, back) said = tt

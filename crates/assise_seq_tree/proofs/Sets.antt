@@ -1,11 +1,10 @@
 -- One entry is set or taken out: what is found then. Ordered entries are what is found in them.
-use Rattle.std.proofs.Common.{◌≡◌, ◌≢◌, ℕ, Bool, true, false, cond, List, Option, Some, None, is_some, Ordering, Less, Equal, Greater, nat_cmp, refl, ap, sym, ◌∙◌, inl, inr, subst}
-use Rattle.std.proofs.lemmas.Bool.{false≢true, cases_Bool, cond_both}
-use Rattle.std.specs.Ordering.{is_eq, match_ordering, ordering_reverse}
-use Rattle.std.specs.Cmp.{tied_itself}
-use Rattle.std.specs.Cmp.Lexicographic.{slice_cmp, nat_list_cmp_total}
+use Rattle.assise_seq_tree.proofs.Common.{◌≡◌, ◌≢◌, ℕ, Bool, true, false, cond, List, Option, Some, None, is_some, Ordering, Less, Equal, Greater, nat_cmp}
+use Rattle.assise_seq_tree.proofs.Common.{refl, ap, sym, ◌∙◌, inl, inr, subst, false≢true, cases_Bool, cond_both, is_eq, match_ordering, ordering_reverse}
+use Rattle.assise_seq_tree.proofs.Common.{tied_itself, slice_cmp, Tree, Entries, no_entries, entry, same_name, find, replace, insert, set, remove, IsBelow}
+use Rattle.assise_seq_tree.proofs.Common.{IsOrdered, AreOrdered}
+use Rattle.std.specs.Cmp.Lexicographic.{nat_list_cmp_total}
 use Rattle.std.proofs.lemmas.Map.Lookups.{exact_bytes}
-use Rattle.assise_seq_tree.specs.Tree.{Tree, Entries, no_entries, entry, same_name, find, replace, insert, set, remove, IsBelow, IsOrdered, AreOrdered}
 use Rattle.assise_seq_tree.proofs.Order.{cases_ordering, below_trans, ordered-replace, ordered-insert}
 
 -- ---- names
@@ -38,13 +37,17 @@ not_both q n k e a b = two_names n k e (sym (one_name q n b) ∙ one_name q k a)
 
 -- ---- what is found
 find-same : (q n k : List ℕ) (x t : Tree) (es : Entries) → n ≡ k → find q (entry k x es) ≡ cond (same_name q n) (Some x) (find q (entry k t es))
-find-same q n k x t es e = subst (λ m. find q (entry k x es) ≡ cond (same_name q m) (Some x) (find q (entry k t es))) (sym e) (shadowed (same_name q k) (Some x) (Some t) (find q es))
+find-same q n k x t es e = subst (λ m. find q (entry k x es) ≡ cond (same_name q m) (Some x) (find q (entry k t es))) (sym e)
+    (shadowed (same_name q k) (Some x) (Some t) (find q es))
 
-pub find-replace_any : (q n : List ℕ) (x : Tree) (es : Entries) → is_some (find n es) ≡ true → find q (replace n x es) ≡ cond (same_name q n) (Some x) (find q es)
+pub find-replace_any : (q n : List ℕ) (x : Tree) (es : Entries) → is_some (find n es) ≡ true → find q (replace n x es) ≡ cond (same_name q n) (Some x)
+    (find q es)
 find-replace_any q n x no_entries there = absurd (false≢true there)
 find-replace_any q n x (entry k t es) there = go (λ h. find-replace_any q n x es h) (same_name n k) refl there
   where
-    go : (is_some (find n es) ≡ true → find q (replace n x es) ≡ cond (same_name q n) (Some x) (find q es)) → (b : Bool) → same_name n k ≡ b → is_some (cond b (Some t) (find n es)) ≡ true → find q (cond b (entry k x es) (entry k t (replace n x es))) ≡ cond (same_name q n) (Some x) (find q (entry k t es))
+    go : (is_some (find n es) ≡ true → find q (replace n x es) ≡ cond (same_name q n) (Some x) (find q es)) → (b : Bool) → same_name n k ≡ b →
+        is_some (cond b (Some t) (find n es)) ≡ true → find q (cond b (entry k x es) (entry k t (replace n x es))) ≡ cond (same_name q n) (Some x)
+        (find q (entry k t es))
     go ih true e h = find-same q n k x t es (one_name n k e)
     go ih false e h = ap (cond (same_name q k) (Some t)) (ih h) ∙ swapped (same_name q k) (same_name q n) (Some t) (Some x) (find q es) (not_both q n k e)
 
@@ -52,10 +55,12 @@ find-insert : (q n : List ℕ) (x : Tree) (es : Entries) → find q (insert n x 
 find-insert q n x no_entries = refl
 find-insert q n x (entry k t es) = go (find-insert q n x es) (slice_cmp nat_cmp n k) refl
   where
-    go : (find q (insert n x es) ≡ cond (same_name q n) (Some x) (find q es)) → (o : Ordering) → slice_cmp nat_cmp n k ≡ o → find q (match_ordering o (entry n x (entry k t es)) (entry k x es) (entry k t (insert n x es))) ≡ cond (same_name q n) (Some x) (find q (entry k t es))
+    go : (find q (insert n x es) ≡ cond (same_name q n) (Some x) (find q es)) → (o : Ordering) → slice_cmp nat_cmp n k ≡ o →
+        find q (match_ordering o (entry n x (entry k t es)) (entry k x es) (entry k t (insert n x es))) ≡ cond (same_name q n) (Some x) (find q (entry k t es))
     go ih Less e = refl
     go ih Equal e = find-same q n k x t es (one_name n k (ap is_eq e))
-    go ih Greater e = ap (cond (same_name q k) (Some t)) ih ∙ swapped (same_name q k) (same_name q n) (Some t) (Some x) (find q es) (not_both q n k (ap is_eq e))
+    go ih Greater e = ap (cond (same_name q k) (Some t)) ih ∙ swapped (same_name q k) (same_name q n) (Some t) (Some x) (find q es)
+        (not_both q n k (ap is_eq e))
 
 pub find-set : (q n : List ℕ) (x : Tree) (es : Entries) → find q (set n x es) ≡ cond (same_name q n) (Some x) (find q es)
 find-set q n x es =
@@ -86,8 +91,10 @@ find-remove q n (entry k t es) s = go (find-remove q n es s.2) (same_name n k) r
     gone one true e = find_below q es (subst (λ m. IsBelow m es) (sym (one_name q n e ∙ one)) s.0)
     gone one false e = refl
 
-    go : find q (remove n es) ≡ cond (same_name q n) None (find q es) → (b : Bool) → same_name n k ≡ b → find q (cond b es (entry k t (remove n es))) ≡ cond (same_name q n) None (cond (same_name q k) (Some t) (find q es))
-    go ih true e = let one = one_name n k e in subst (λ m. find q es ≡ cond (same_name q n) None (cond (same_name q m) (Some t) (find q es))) one (gone one (same_name q n) refl)
+    go : find q (remove n es) ≡ cond (same_name q n) None (find q es) → (b : Bool) → same_name n k ≡ b → find q (cond b es (entry k t (remove n es)))
+        ≡ cond (same_name q n) None (cond (same_name q k) (Some t) (find q es))
+    go ih true e = let one = one_name n k e in
+        subst (λ m. find q es ≡ cond (same_name q n) None (cond (same_name q m) (Some t) (find q es))) one (gone one (same_name q n) refl)
     go ih false e = ap (cond (same_name q k) (Some t)) ih ∙ swapped (same_name q k) (same_name q n) (Some t) None (find q es) (not_both q n k e)
 
 -- ---- order
@@ -115,7 +122,8 @@ ordered-set n x es s o =
 pub find_first : (n : List ℕ) (t : Tree) (es : Entries) → find n (entry n t es) ≡ Some t
 find_first n t es = ap (λ b. cond b (Some t) (find n es)) (same_itself n)
 
-missed : (n m : List ℕ) (t u : Tree) (es fs : Entries) {P : Type 0} → slice_cmp nat_cmp n m ≡ Less → IsBelow m fs → find n (entry n t es) ≡ find n (entry m u fs) → P
+missed : (n m : List ℕ) (t u : Tree) (es fs : Entries) {P : Type 0} → slice_cmp nat_cmp n m ≡ Less → IsBelow m fs →
+    find n (entry n t es) ≡ find n (entry m u fs) → P
 missed n m t u es fs less below h =
     let none : find n (entry m u fs) ≡ None = find_below n (entry m u fs) (less, below_trans n m fs less below) in
     let some : find n (entry n t es) ≡ Some t = find_first n t es in
@@ -125,7 +133,8 @@ tails : (q n : List ℕ) (t u : Tree) (es fs : Entries) → IsBelow n es → IsB
 tails q n t u es fs a b h = go (same_name q n) refl h
   where
     go : (c : Bool) → same_name q n ≡ c → cond c (Some t) (find q es) ≡ cond c (Some u) (find q fs) → find q es ≡ find q fs
-    go true e f = let one = one_name q n e in find_below q es (subst (λ m. IsBelow m es) (sym one) a) ∙ sym (find_below q fs (subst (λ m. IsBelow m fs) (sym one) b))
+    go true e f = let one = one_name q n e in
+        find_below q es (subst (λ m. IsBelow m es) (sym one) a) ∙ sym (find_below q fs (subst (λ m. IsBelow m fs) (sym one) b))
     go false e f = f
 
 pub same_entries : (es fs : Entries) → AreOrdered es → AreOrdered fs → ((q : List ℕ) → find q es ≡ find q fs) → es ≡ fs
@@ -138,7 +147,8 @@ same_entries (entry n t es) (entry m u fs) s o h =
       | inr more ↦ elim more [
         | inl tie ↦
             let one : n ≡ m = exact_bytes n m tie in
-            let here : ((q : List ℕ) → find q (entry n t es) ≡ find q (entry n u fs)) = subst (λ k. (q : List ℕ) → find q (entry n t es) ≡ find q (entry k u fs)) (sym one) h in
+            let here : ((q : List ℕ) → find q (entry n t es) ≡ find q (entry n u fs)) =
+            subst (λ k. (q : List ℕ) → find q (entry n t es) ≡ find q (entry k u fs)) (sym one) h in
             let below : IsBelow n fs = subst (λ k. IsBelow k fs) (sym one) o.0 in
             let trees : Some t ≡ Some u = sym (find_first n t es) ∙ here n ∙ find_first n u fs in
             let rest : es ≡ fs = same_entries es fs s.2 o.2 (λ q. tails q n t u es fs s.0 below (here q)) in

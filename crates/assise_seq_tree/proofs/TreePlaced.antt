@@ -1,11 +1,11 @@
 -- A move of a tree to another path: a placeholder first, then the tree in its place.
-use Rattle.std.proofs.Common.{◌≡◌, ℕ, ◌<◌, arith, List, [], ◌∷◌, ◌++◌, length, Option, Some, None, Ok, ap, sym, ◌∙◌, subst}
-use Rattle.assise_seq_tree.specs.Answer.{parent_of, last_name}
-use Rattle.assise_seq_tree.specs.Tree.{Tree, file, dir, Entries, no_entries, at, put, without, IsOrdered, AreDisjointPaths}
+use Rattle.assise_seq_tree.proofs.Common.{◌≡◌, ℕ, ◌<◌, arith, List, [], ◌∷◌, ◌++◌, length, Option, Some, None, Ok, ap, sym, ◌∙◌, subst, parent_of, last_name}
+use Rattle.assise_seq_tree.proofs.Common.{Tree, file, dir, Entries, no_entries, at, put, without, IsOrdered, AreDisjointPaths}
 use Rattle.assise_seq_tree.proofs.TreePut.{through_entry}
 use Rattle.assise_seq_tree.proofs.Order.{ordered-find}
 use Rattle.assise_seq_tree.proofs.Paths.{turned_disjoint}
-use Rattle.assise_seq_tree.proofs.Moves.{Path, Disjoint, at-put_disjoint, at-without_disjoint, without-put, put-put_any, at-put_new, ordered-without, parent_and_last}
+use Rattle.assise_seq_tree.proofs.Moves.{Path, Disjoint, at-put_disjoint, at-without_disjoint, without-put, put-put_any, at-put_new, ordered-without}
+use Rattle.assise_seq_tree.proofs.Moves.{parent_and_last}
 
 -- A placeholder at q, the tree at p taken out, and something put over the placeholder.
 pub record Moves (p q : Path) (t e : Tree) : Type 0 where
@@ -13,11 +13,13 @@ pub record Moves (p q : Path) (t e : Tree) : Type 0 where
   pub target : at (without (put t q e) p) q ≡ Ok e
   pub over : (y : Tree) → IsOrdered y → put (without (put t q e) p) q y ≡ put (without t p) q y
 
-pub moves : (p q : Path) (n : List ℕ) (t e : Tree) (es : Entries) → IsOrdered t → IsOrdered e → Disjoint p (q ++ n ∷ []) → at t q ≡ Ok (dir es) → Moves p (q ++ n ∷ []) t e
+pub moves : (p q : Path) (n : List ℕ) (t e : Tree) (es : Entries) → IsOrdered t → IsOrdered e → Disjoint p (q ++ n ∷ []) → at t q ≡ Ok (dir es) →
+    Moves p (q ++ n ∷ []) t e
 moves p q n t e es s o disjoint parent = record {
   source = at-put_disjoint p (q ++ n ∷ []) t e disjoint;
   target = at-without_disjoint p (q ++ n ∷ []) (put t (q ++ n ∷ []) e) disjoint ∙ at-put_new q n t e es parent;
-  over = λ y k. ap (λ u. put u (q ++ n ∷ []) y) (without-put p (q ++ n ∷ []) t e s o disjoint) ∙ put-put_any (q ++ n ∷ []) (without t p) e y (ordered-without p t s) o k;
+  over = λ y k. ap (λ u. put u (q ++ n ∷ []) y) (without-put p (q ++ n ∷ []) t e s o disjoint)
+      ∙ put-put_any (q ++ n ∷ []) (without t p) e y (ordered-without p t s) o k;
 }
 
 -- ---- a whole move
@@ -39,7 +41,8 @@ moves_to p q t e es s o disjoint parent =
     subst (λ r. Moves p r t e) (sym parts) (moves p (parent_of q) (last_name q) t e es s o (subst (λ r. Disjoint p r) parts disjoint) parent)
 
 -- Placed, taken, and exchanged for the placeholder.
-pub moved_whole : (p q : Path) (t t1 t2 t3 y x : Tree) (es : Entries) (r : Option Tree) → IsOrdered t → Disjoint p q → at t (parent_of q) ≡ Ok (dir es) → at t p ≡ Ok y
+pub moved_whole : (p q : Path) (t t1 t2 t3 y x : Tree) (es : Entries) (r : Option Tree) → IsOrdered t → Disjoint p q → at t (parent_of q) ≡ Ok (dir es) →
+    at t p ≡ Ok y
     → t1 ≡ put t q (dir no_entries) → ((u : Tree) → at t1 p ≡ Ok u → r ≡ Some u) → t2 ≡ without t1 p → r ≡ Some x
     → ((u : Tree) → at t2 q ≡ Ok u → t3 ≡ put t2 q x) → t3 ≡ put (without t p) q y
 moved_whole p q t t1 t2 t3 y x es r s disjoint parent there placed taken left is over =
@@ -47,9 +50,11 @@ moved_whole p q t t1 t2 t3 y x es r s disjoint parent there placed taken left is
     let taken_there = taken y (ap (λ u. at u p) placed ∙ m.source ∙ there) in
     let same : x ≡ y = cc in
     let t2_is : t2 ≡ without (put t q (dir no_entries)) p = left ∙ ap (λ u. without u p) placed in
-    over (dir no_entries) (ap (λ u. at u q) t2_is ∙ m.target) ∙ ap (λ u. put u q x) t2_is ∙ ap (put (without (put t q (dir no_entries)) p) q) same ∙ m.over y (ordered-at p t y s there)
+    over (dir no_entries) (ap (λ u. at u q) t2_is ∙ m.target) ∙ ap (λ u. put u q x) t2_is ∙ ap (put (without (put t q (dir no_entries)) p) q) same
+    ∙ m.over y (ordered-at p t y s there)
 
-pub moved_none : (p q : Path) (t t1 y : Tree) (es : Entries) (r : Option Tree) {P : Type 0} → IsOrdered t → Disjoint p q → at t (parent_of q) ≡ Ok (dir es) → at t p ≡ Ok y
+pub moved_none : (p q : Path) (t t1 y : Tree) (es : Entries) (r : Option Tree) {P : Type 0} → IsOrdered t → Disjoint p q → at t (parent_of q) ≡ Ok (dir es) →
+    at t p ≡ Ok y
     → t1 ≡ put t q (dir no_entries) → ((u : Tree) → at t1 p ≡ Ok u → r ≡ Some u) → r ≡ None → P
 moved_none p q t t1 y es r s disjoint parent there placed taken none =
     let m = moves_to p q t (dir no_entries) es s tt disjoint parent in

@@ -1,7 +1,6 @@
 -- Laws of trees: what is put is found, and the last that was put stays.
-use Rattle.std.proofs.Common.{◌≡◌, ℕ, List, [], ◌∷◌, Option, Some, None, Ok, refl, ap, sym, ◌∙◌, ◌⊎◌, inl, inr}
-use Rattle.std.proofs.lemmas.Bool.{cases_Bool}
-use Rattle.assise_seq_tree.specs.Tree.{Tree, file, dir, Entries, no_entries, entry, same_name, find, replace, at, put}
+use Rattle.assise_seq_tree.proofs.Common.{◌≡◌, ℕ, List, [], ◌∷◌, Option, Some, None, Ok, refl, ap, sym, ◌∙◌, ◌⊎◌, inl, inr, cases_Bool, Tree, file, dir}
+use Rattle.assise_seq_tree.proofs.Common.{Entries, no_entries, entry, same_name, find, replace, at, put}
 
 pub cases_option : {A : Type 0} (o : Option A) → (o ≡ None) ⊎ ((x : A) × (o ≡ Some x))
 cases_option None = inl refl
@@ -33,7 +32,8 @@ replace-self name t (entry other v es) h =
     ]
 
 -- one step of `put` where the entry is there
-pub put_step : (es : Entries) (name : List ℕ) (p : List (List ℕ)) (x u : Tree) → find name es ≡ Some u → put (dir es) (name ∷ p) x ≡ dir (replace name (put u p x) es)
+pub put_step : (es : Entries) (name : List ℕ) (p : List (List ℕ)) (x u : Tree) → find name es ≡ Some u → put (dir es) (name ∷ p) x
+    ≡ dir (replace name (put u p x) es)
 unfolding put
 put_step es name p x u h = rw h
 

@@ -1,18 +1,9 @@
 -- One step of each walk.
-use Rattle.std.proofs.lemmas.Bool.Decides.{nat_tests}
-use Rattle.std.proofs.Common.{◌==◌, Bool, true, false, ◌≡◌, ℕ, ◌-◌, ◌≤◌, ◌<◌, List, [], ◌∷◌, length, take, drop, get_or, Option, Some, None, Result, Ok, Err, IsErr, OnErr, BTreeMap, Bor, MutBor, MatchResult, refl, ap, sym, ◌∙◌, arith}
-use Rattle.std.specs.Option.{option_copied, option_map_or}
-use Rattle.std.specs.BTreeMap.{get_by, is_at}
-use Rattle.assise_names.specs.declared.reply.TreeError.{TreeError}
-use Rattle.assise_names.specs.declared.reply.TreeError.TheVariants.{NoEnt, NotDir}
-use Rattle.std.proofs.lemmas.List.{take_rest}
-use Rattle.assise_seq_tree.specs.Tree.{Tree, file, dir, Entries, no_entries, find, at, put, without}
-use Rattle.assise_seq_tree.specs.View.{map_entries}
-use Rattle.std.specs.Option.{option_copied_mut}
+use Rattle.assise_seq_tree.proofs.Common.{nat_tests, ◌==◌, Bool, true, false, ◌≡◌, ℕ, ◌-◌, ◌≤◌, ◌<◌, List, [], ◌∷◌, length, take, drop, get_or, Option, Some}
+use Rattle.assise_seq_tree.proofs.Common.{None, Result, Ok, Err, IsErr, OnErr, BTreeMap, Bor, MutBor, MatchResult, refl, ap, sym, ◌∙◌, arith, option_copied}
+use Rattle.assise_seq_tree.proofs.Common.{option_map_or, get_by, is_at, TreeError, NoEnt, NotDir, take_rest, Tree, file, dir, Entries, no_entries, find, at}
+use Rattle.assise_seq_tree.proofs.Common.{put, without, map_entries, option_copied_mut, set_value, lookup, remove_entry, insert_entry, slice_cmp}
 use Rattle.std.proofs.lemmas.Map.Steps.{set_value_same}
-use Rattle.std.specs.Map.{set_value, lookup, remove_entry}
-use Rattle.std.specs.BTreeMap.{insert_entry}
-use Rattle.std.specs.Cmp.Lexicographic.{slice_cmp}
 use Rattle.std.specs.Ordering.{nat_cmp}
 use Rattle.assise_seq_tree.proofs.Entries.{at_text, find-entries_of, insert-entries_of, replace-entries_of, remove-entries_of}
 use Rattle.assise_seq_tree.proofs.Moves.{replace_absent}
@@ -27,10 +18,12 @@ first_and_rest [] x h e = absurd (omega arith)
 first_and_rest (y ∷ ys) x h e = ap (λ z. z ∷ ys) (sym e) ∙ ap (λ zs. x ∷ zs) (sym (take_rest (y ∷ ys) 1))
 
 -- what a look-up in the map says of the entries
-pub found : (name : List ℕ) (m : BTreeMap (List ℕ) Tree) (r : Option (Bor Tree)) (x : Bor Tree) → r ≡ Some x → option_copied r ≡ get_by (at_text name) m → find name (map_entries m.entries) ≡ Some x.now
+pub found : (name : List ℕ) (m : BTreeMap (List ℕ) Tree) (r : Option (Bor Tree)) (x : Bor Tree) → r ≡ Some x → option_copied r ≡ get_by (at_text name) m →
+    find name (map_entries m.entries) ≡ Some x.now
 found name m r x is value = find-entries_of name m.entries ∙ sym (rw is at value)
 
-pub missing : (name : List ℕ) (m : BTreeMap (List ℕ) Tree) (r : Option (Bor Tree)) → r ≡ None → option_copied r ≡ get_by (at_text name) m → find name (map_entries m.entries) ≡ None
+pub missing : (name : List ℕ) (m : BTreeMap (List ℕ) Tree) (r : Option (Bor Tree)) → r ≡ None → option_copied r ≡ get_by (at_text name) m →
+    find name (map_entries m.entries) ≡ None
 missing name m r is value = find-entries_of name m.entries ∙ sym (rw is at value)
 
 -- the walk
@@ -42,12 +35,15 @@ pub at_file : (t : Tree) (names : List (List ℕ)) (bytes name : List ℕ) (p : 
 unfolding at
 at_file t names bytes name p e is = rw (e, is)
 
-pub at_missing : (t : Tree) (names : List (List ℕ)) (es : Entries) (name : List ℕ) (p : List (List ℕ)) → names ≡ name ∷ p → t ≡ dir es → find name es ≡ None → at t names ≡ Err NoEnt
+pub at_missing : (t : Tree) (names : List (List ℕ)) (es : Entries) (name : List ℕ) (p : List (List ℕ)) → names ≡ name ∷ p → t ≡ dir es → find name es ≡ None →
+    at t names ≡ Err NoEnt
 unfolding at
 at_missing t names es name p e is h = rw (e, is, h)
 
-pub at_found : (t : Tree) (names : List (List ℕ)) (es : Entries) (name : List ℕ) (p : List (List ℕ)) (x : Tree) → names ≡ name ∷ p → t ≡ dir es → find name es ≡ Some x
-    → (r : Result (Bor Tree) TreeError) → MatchResult r (λ y. at x p ≡ Ok y.now) (λ e. at x p ≡ Err e) → MatchResult r (λ y. at t names ≡ Ok y.now) (λ e. at t names ≡ Err e)
+pub at_found : (t : Tree) (names : List (List ℕ)) (es : Entries) (name : List ℕ) (p : List (List ℕ)) (x : Tree) → names ≡ name ∷ p → t ≡ dir es →
+    find name es ≡ Some x
+    → (r : Result (Bor Tree) TreeError) → MatchResult r (λ y. at x p ≡ Ok y.now) (λ e. at x p ≡ Err e) →
+    MatchResult r (λ y. at t names ≡ Ok y.now) (λ e. at t names ≡ Err e)
 unfolding at
 at_found t names es name p x e is h (Ok y) ends = rw (e, is, h) ends
 at_found t names es name p x e is h (Err y) ends = rw (e, is, h) ends
@@ -62,7 +58,8 @@ unfolding put
 put_file t x names bytes name p e is = rw (e, is)
 
 -- what stands at the name is changed in its place
-pub put_found : (t x : Tree) (names : List (List ℕ)) (name : List ℕ) (p : List (List ℕ)) (m n : BTreeMap (List ℕ) Tree) (r : Option (MutBor Tree)) (u : MutBor Tree) (w : Tree)
+pub put_found : (t x : Tree) (names : List (List ℕ)) (name : List ℕ) (p : List (List ℕ)) (m n : BTreeMap (List ℕ) Tree) (r : Option (MutBor Tree))
+    (u : MutBor Tree) (w : Tree)
     → names ≡ name ∷ p → t ≡ dir (map_entries m.entries) → r ≡ Some u → option_copied_mut r ≡ get_by (at_text name) m
     → n.entries ≡ set_value (is_at (at_text name)) m.entries w → w ≡ put u.now p x → dir (map_entries n.entries) ≡ put t names x
 unfolding put
@@ -71,7 +68,8 @@ put_found t x names name p m n r u w e is some value written ends =
     rw (e, is, find-entries_of name m.entries, there, written, ← ends) (ap dir (sym (replace-entries_of name w m.entries)))
 
 -- what is missing is made at its sorted place
-pub put_missing : (t x : Tree) (names : List (List ℕ)) (name : List ℕ) (p : List (List ℕ)) (m n : BTreeMap (List ℕ) Tree) (r : Option (MutBor Tree)) (key : List ℕ) (w : Tree)
+pub put_missing : (t x : Tree) (names : List (List ℕ)) (name : List ℕ) (p : List (List ℕ)) (m n : BTreeMap (List ℕ) Tree) (r : Option (MutBor Tree))
+    (key : List ℕ) (w : Tree)
     → names ≡ name ∷ p → t ≡ dir (map_entries m.entries) → r ≡ None → option_copied_mut r ≡ get_by (at_text name) m
     → key ≡ name → n.entries ≡ insert_entry (slice_cmp nat_cmp) m.entries key w → w ≡ put (dir no_entries) p x → dir (map_entries n.entries) ≡ put t names x
 unfolding put
@@ -81,18 +79,22 @@ put_missing t x names name p m n r key w e is none value spelled written ends =
 
 -- a child that stays as it was leaves the tree as it was
 pub kept_found : (t : Tree) (name : List ℕ) (m n : BTreeMap (List ℕ) Tree) (r : Option (MutBor Tree)) (u : MutBor Tree) (w : Tree)
-    → t ≡ dir (map_entries m.entries) → r ≡ Some u → option_copied_mut r ≡ get_by (at_text name) m → n.entries ≡ set_value (is_at (at_text name)) m.entries w → w ≡ u.now → dir (map_entries n.entries) ≡ t
+    → t ≡ dir (map_entries m.entries) → r ≡ Some u → option_copied_mut r ≡ get_by (at_text name) m → n.entries ≡ set_value (is_at (at_text name)) m.entries w →
+    w ≡ u.now → dir (map_entries n.entries) ≡ t
 kept_found t name m n r u w is some value written same =
     rw (is, written) (ap (λ es. dir (map_entries es)) (set_value_same (is_at (at_text name)) m.entries w (sym (rw some at value) ∙ ap Some (sym same))))
 
 -- the same of a look-up that lends
-pub found_mut : (name : List ℕ) (m : BTreeMap (List ℕ) Tree) (r : Option (MutBor Tree)) (x : MutBor Tree) → r ≡ Some x → option_copied_mut r ≡ get_by (at_text name) m → find name (map_entries m.entries) ≡ Some x.now
+pub found_mut : (name : List ℕ) (m : BTreeMap (List ℕ) Tree) (r : Option (MutBor Tree)) (x : MutBor Tree) → r ≡ Some x →
+    option_copied_mut r ≡ get_by (at_text name) m → find name (map_entries m.entries) ≡ Some x.now
 found_mut name m r x is value = find-entries_of name m.entries ∙ sym (rw is at value)
 
-pub missing_mut : (name : List ℕ) (m : BTreeMap (List ℕ) Tree) (r : Option (MutBor Tree)) → r ≡ None → option_copied_mut r ≡ get_by (at_text name) m → find name (map_entries m.entries) ≡ None
+pub missing_mut : (name : List ℕ) (m : BTreeMap (List ℕ) Tree) (r : Option (MutBor Tree)) → r ≡ None → option_copied_mut r ≡ get_by (at_text name) m →
+    find name (map_entries m.entries) ≡ None
 missing_mut name m r is value = find-entries_of name m.entries ∙ sym (rw is at value)
 
-pub at_below : (t : Tree) (names : List (List ℕ)) (es : Entries) (name : List ℕ) (p : List (List ℕ)) (x : Tree) → names ≡ name ∷ p → t ≡ dir es → find name es ≡ Some x → at t names ≡ at x p
+pub at_below : (t : Tree) (names : List (List ℕ)) (es : Entries) (name : List ℕ) (p : List (List ℕ)) (x : Tree) → names ≡ name ∷ p → t ≡ dir es →
+    find name es ≡ Some x → at t names ≡ at x p
 unfolding at
 at_below t names es name p x e is h = rw (e, is, h)
 
@@ -127,13 +129,15 @@ unfolding without
 without_file t names bytes name p e is = rw (e, is)
 
 pub without_last : (t : Tree) (names : List (List ℕ)) (name : List ℕ) (p : List (List ℕ)) (m n : BTreeMap (List ℕ) Tree)
-    → names ≡ name ∷ p → length p ≡ 0 → t ≡ dir (map_entries m.entries) → n.entries ≡ remove_entry (is_at (at_text name)) m.entries → dir (map_entries n.entries) ≡ without t names
+    → names ≡ name ∷ p → length p ≡ 0 → t ≡ dir (map_entries m.entries) → n.entries ≡ remove_entry (is_at (at_text name)) m.entries →
+    dir (map_entries n.entries) ≡ without t names
 unfolding without
 without_last t names name [] m n e none is left = rw (e, is, left) (ap dir (sym (remove-entries_of name m.entries)))
 without_last t names name (k ∷ p) m n e none is left = absurd (omega arith)
 
 -- what stands at the name is changed in its place
-pub without_found : (t : Tree) (names : List (List ℕ)) (name : List ℕ) (p : List (List ℕ)) (m n : BTreeMap (List ℕ) Tree) (r : Option (MutBor Tree)) (u : MutBor Tree) (w : Tree)
+pub without_found : (t : Tree) (names : List (List ℕ)) (name : List ℕ) (p : List (List ℕ)) (m n : BTreeMap (List ℕ) Tree) (r : Option (MutBor Tree))
+    (u : MutBor Tree) (w : Tree)
     → names ≡ name ∷ p → 0 < length p → t ≡ dir (map_entries m.entries) → r ≡ Some u → option_copied_mut r ≡ get_by (at_text name) m
     → n.entries ≡ set_value (is_at (at_text name)) m.entries w → w ≡ without u.now p → dir (map_entries n.entries) ≡ without t names
 unfolding without

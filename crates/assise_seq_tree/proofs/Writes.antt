@@ -1,14 +1,8 @@
 -- What a write that was done says of the file before and after it.
-use Rattle.std.proofs.Common.{◌≡◌, ℕ, ◌+◌, ◌-◌, ◌≤◌, ◌<◌, Bool, true, false, cond, ◌==◌, List, [], ◌∷◌, length, replicate, Result, Ok, Err, refl, ap, sym, ◌∙◌, arith}
-use Rattle.std.specs.Prelude.{max}
-use Rattle.std.proofs.lemmas.Bool.{cond_both}
-use Rattle.std.proofs.lemmas.Bool.Decides.{nat_tests}
-use Rattle.assise_names.specs.declared.reply.Reply.TheVariants.{Done, Bytes, File}
-use Rattle.assise_names.specs.declared.reply.TreeError.{TreeError}
-use Rattle.assise_names.specs.declared.reply.TreeError.TheVariants.{TooBig}
-use Rattle.assise_seq_tree.specs.Answer.{◌>>=◌, as_file, file_at, reply_and_tree, read_answer, write_answer, stat_answer, tree_after_write}
-use Rattle.assise_seq_tree.specs.Contents.{bytes_from, overwritten, is_within}
-use Rattle.assise_seq_tree.specs.Tree.{Tree, file, dir, at, put}
+use Rattle.assise_seq_tree.proofs.Common.{◌≡◌, ℕ, ◌+◌, ◌-◌, ◌≤◌, ◌<◌, Bool, true, false, cond, ◌==◌, List, [], ◌∷◌, length, replicate, Result, Ok, Err, refl}
+use Rattle.assise_seq_tree.proofs.Common.{ap, sym, ◌∙◌, arith, max, cond_both, nat_tests, Done, Bytes, File, TreeError, TooBig, ◌>>=◌, as_file, file_at}
+use Rattle.assise_seq_tree.proofs.Common.{reply_and_tree, read_answer, write_answer, stat_answer, tree_after_write, bytes_from, overwritten, is_within, Tree}
+use Rattle.assise_seq_tree.proofs.Common.{file, dir, at, put}
 use Rattle.assise_seq_tree.proofs.TreePut.{at-put}
 use Rattle.assise_seq_tree.proofs.Moves.{Path}
 use Rattle.assise_seq_tree.proofs.BytesRead.{read_new, read_again, read_kept, read_behind, read_gap, length-overwritten}
@@ -31,15 +25,19 @@ file_there (Err e) bytes h = cc
 pub wrote : (t u : Tree) (p : Path) (offset : ℕ) (new : List ℕ) → write_answer t p offset new ≡ (Done, u) → Wrote t u p offset new
 wrote t u p offset new h = go (file_at t p) refl h
   where
-    fits : (bytes : List ℕ) → at t p ≡ Ok (file bytes) → (b : Bool) → reply_and_tree t (cond b (Ok (Done, tree_after_write t p offset new bytes)) (Err TooBig)) ≡ (Done, u) → u ≡ tree_after_write t p offset new bytes
+    fits : (bytes : List ℕ) → at t p ≡ Ok (file bytes) → (b : Bool) → reply_and_tree t (cond b (Ok (Done, tree_after_write t p offset new bytes)) (Err TooBig))
+        ≡ (Done, u) → u ≡ tree_after_write t p offset new bytes
     fits bytes there true h = sym (ap (λ r. r.1) h)
     fits bytes there false h = let no = ap (λ r. r.0) h in cc
 
-    after : (bytes : List ℕ) → at t p ≡ Ok (file bytes) → (b : Bool) → at (cond b t (put t p (file (overwritten bytes offset new)))) p ≡ Ok (file (cond b bytes (overwritten bytes offset new)))
+    after : (bytes : List ℕ) → at t p ≡ Ok (file bytes) → (b : Bool) → at (cond b t (put t p (file (overwritten bytes offset new)))) p
+        ≡ Ok (file (cond b bytes (overwritten bytes offset new)))
     after bytes there true = there
     after bytes there false = at-put p t (file (overwritten bytes offset new)) (file bytes) there
 
-    go : (r : Result (List ℕ) TreeError) → file_at t p ≡ r → reply_and_tree t (r >>= λ bytes. cond (is_within offset new) (Ok (Done, tree_after_write t p offset new bytes)) (Err TooBig)) ≡ (Done, u) → Wrote t u p offset new
+    go : (r : Result (List ℕ) TreeError) → file_at t p ≡ r →
+        reply_and_tree t (r >>= λ bytes. cond (is_within offset new) (Ok (Done, tree_after_write t p offset new bytes)) (Err TooBig)) ≡ (Done, u) →
+        Wrote t u p offset new
     go (Err e) is h = let no = ap (λ r. r.0) h in cc
     go (Ok bytes) is h =
         let there = file_there (at t p) bytes is in
@@ -52,10 +50,12 @@ wrote t u p offset new h = go (file_at t p) refl h
         }
 
 -- ---- reads and stats of a file that is there
-pub reads : (u : Tree) (p : Path) (offset most : ℕ) (bytes : List ℕ) → at u p ≡ Ok (file bytes) → read_answer u p offset most ≡ (Bytes (bytes_from offset most bytes), u)
+pub reads : (u : Tree) (p : Path) (offset most : ℕ) (bytes : List ℕ) → at u p ≡ Ok (file bytes) → read_answer u p offset most
+    ≡ (Bytes (bytes_from offset most bytes), u)
 reads u p offset most bytes there = rw there refl
 
-pub have_read : (t : Tree) (p : Path) (offset most : ℕ) (bytes old : List ℕ) → at t p ≡ Ok (file bytes) → read_answer t p offset most ≡ (Bytes old, t) → bytes_from offset most bytes ≡ old
+pub have_read : (t : Tree) (p : Path) (offset most : ℕ) (bytes old : List ℕ) → at t p ≡ Ok (file bytes) → read_answer t p offset most ≡ (Bytes old, t) →
+    bytes_from offset most bytes ≡ old
 have_read t p offset most bytes old there h = let is = ap (λ r. r.0) (rw there at h) in cc
 
 pub has_size : (t : Tree) (p : Path) (bytes : List ℕ) (size : ℕ) → at t p ≡ Ok (file bytes) → stat_answer t p ≡ (File size, t) → length bytes ≡ size
@@ -68,7 +68,8 @@ some_bytes : (new : List ℕ) → 0 < length new → (length new == 0) ≡ false
 some_bytes new h = grind (arith, nat_tests)
 
 -- ---- the laws
-pub written_is_read : (t u : Tree) (p : Path) (offset : ℕ) (new : List ℕ) → write_answer t p offset new ≡ (Done, u) → read_answer u p offset (length new) ≡ (Bytes new, u)
+pub written_is_read : (t u : Tree) (p : Path) (offset : ℕ) (new : List ℕ) → write_answer t p offset new ≡ (Done, u) → read_answer u p offset (length new)
+    ≡ (Bytes new, u)
 written_is_read t u p offset new h =
     let w = wrote t u p offset new h in
     reads u p offset (length new) (bytes_after w.bytes offset new) w.after ∙ ap (λ bytes. (Bytes bytes, u)) (back w.bytes new)
@@ -77,7 +78,8 @@ written_is_read t u p offset new h =
     back bytes [] = refl
     back bytes (b ∷ new) = let some : (length (b ∷ new) == 0) ≡ false = some_bytes (b ∷ new) (omega arith) in rw some (read_new bytes offset (b ∷ new))
 
-pub kept_before : (t u : Tree) (p : Path) (offset from most : ℕ) (new old : List ℕ) → write_answer t p offset new ≡ (Done, u) → read_answer t p from most ≡ (Bytes old, t) → from + length old ≤ offset → read_answer u p from (length old) ≡ (Bytes old, u)
+pub kept_before : (t u : Tree) (p : Path) (offset from most : ℕ) (new old : List ℕ) → write_answer t p offset new ≡ (Done, u) → read_answer t p from most
+    ≡ (Bytes old, t) → from + length old ≤ offset → read_answer u p from (length old) ≡ (Bytes old, u)
 kept_before t u p offset from most new old h r prefix =
     let w = wrote t u p offset new h in
     let is = have_read t p from most w.bytes old w.there r in
@@ -85,7 +87,8 @@ kept_before t u p offset from most new old h r prefix =
     (cond_both (length new == 0) w.bytes (overwritten w.bytes offset new) (λ bytes. bytes_from from (length old) bytes ≡ old)
     (λ _. rw (← is) (read_again from most w.bytes)) (λ _. rw (← is) (read_kept w.bytes offset new from most (omega (arith, prefix, ap length is)))))
 
-pub kept_behind : (t u : Tree) (p : Path) (offset from most : ℕ) (new old : List ℕ) → write_answer t p offset new ≡ (Done, u) → read_answer t p from most ≡ (Bytes old, t) → offset + length new ≤ from → read_answer u p from most ≡ (Bytes old, u)
+pub kept_behind : (t u : Tree) (p : Path) (offset from most : ℕ) (new old : List ℕ) → write_answer t p offset new ≡ (Done, u) → read_answer t p from most
+    ≡ (Bytes old, t) → offset + length new ≤ from → read_answer u p from most ≡ (Bytes old, u)
 kept_behind t u p offset from most new old h r behind =
     let w = wrote t u p offset new h in
     let is = have_read t p from most w.bytes old w.there r in
@@ -93,7 +96,8 @@ kept_behind t u p offset from most new old h r behind =
     (cond_both (length new == 0) w.bytes (overwritten w.bytes offset new) (λ bytes. bytes_from from most bytes ≡ old)
     (λ _. is) (λ _. read_behind w.bytes offset new from most behind ∙ is))
 
-pub gap_is_zeros : (t u : Tree) (p : Path) (offset size : ℕ) (new : List ℕ) → write_answer t p offset new ≡ (Done, u) → stat_answer t p ≡ (File size, t) → 0 < length new → size ≤ offset → read_answer u p size (offset - size) ≡ (Bytes (replicate (offset - size) 0), u)
+pub gap_is_zeros : (t u : Tree) (p : Path) (offset size : ℕ) (new : List ℕ) → write_answer t p offset new ≡ (Done, u) → stat_answer t p ≡ (File size, t) →
+    0 < length new → size ≤ offset → read_answer u p size (offset - size) ≡ (Bytes (replicate (offset - size) 0), u)
 gap_is_zeros t u p offset size new h s some gap =
     let w = wrote t u p offset new h in
     let is = has_size t p w.bytes size w.there s in
@@ -102,7 +106,8 @@ gap_is_zeros t u p offset size new h s some gap =
     zeros : (bytes : List ℕ) → length bytes ≡ size → bytes_from size (offset - size) (bytes_after bytes offset new) ≡ replicate (offset - size) 0
     zeros bytes is = let test = some_bytes new some in rw (test, ← is) (read_gap bytes offset new (omega (arith, gap, is)))
 
-pub size_after : (t u : Tree) (p : Path) (offset size : ℕ) (new : List ℕ) → write_answer t p offset new ≡ (Done, u) → stat_answer t p ≡ (File size, t) → 0 < length new → stat_answer u p ≡ (File (max size (offset + length new)), u)
+pub size_after : (t u : Tree) (p : Path) (offset size : ℕ) (new : List ℕ) → write_answer t p offset new ≡ (Done, u) → stat_answer t p ≡ (File size, t) →
+    0 < length new → stat_answer u p ≡ (File (max size (offset + length new)), u)
 size_after t u p offset size new h s some =
     let w = wrote t u p offset new h in
     let is = has_size t p w.bytes size w.there s in

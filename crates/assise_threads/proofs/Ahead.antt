@@ -1,10 +1,6 @@
 -- The calls in front of commands, and the first line that only a run on one thread serves.
-use Rattle.std.proofs.Common.{◌≡◌, ◌≤◌, ℕ, suc, List, [], ◌∷◌, length, take, get_or, refl, sym, ap, subst, arith}
-use Rattle.assise_fault_script.specs.declared.command.Command.{Command}
-use Rattle.assise_fault_script.specs.declared.command.Command.TheVariants.{Call}
-use Rattle.assise_fault_script.specs.declared.parse.NumberedCommand.{NumberedCommand}
-use Rattle.assise_threads.specs.CallsAhead.{calls_ahead, counts_call}
-use Rattle.assise_threads.specs.Stretches.{AreCalls, IsClientCall}
+use Rattle.assise_threads.proofs.Common.{◌≡◌, ◌≤◌, ℕ, suc, List, [], ◌∷◌, length, take, get_or, refl, sym, ap, subst, arith, Command, Call, NumberedCommand}
+use Rattle.assise_threads.proofs.Common.{calls_ahead, counts_call, AreCalls, IsClientCall}
 
 data CallOrNot (command : Command) : Type 0 where
   is_call : IsClientCall command → ((k : ℕ) → counts_call command k ≡ suc k) → CallOrNot command
@@ -24,7 +20,8 @@ pub few_ahead : (ls : List NumberedCommand) → calls_ahead ls ≤ length ls
 few_ahead [] = omega arith
 few_ahead (l ∷ ls) = few_more l ls (call_or_not l.command) (few_ahead ls)
 
-one_more : (l : NumberedCommand) (ls : List NumberedCommand) → CallOrNot l.command → AreCalls (take (calls_ahead ls) ls) → AreCalls (take (calls_ahead (l ∷ ls)) (l ∷ ls))
+one_more : (l : NumberedCommand) (ls : List NumberedCommand) → CallOrNot l.command → AreCalls (take (calls_ahead ls) ls) →
+    AreCalls (take (calls_ahead (l ∷ ls)) (l ∷ ls))
 one_more l ls (is_call call counts) more = rw (counts (calls_ahead ls)) (call, more)
 one_more l ls (is_none other counts) more = rw (counts (calls_ahead ls)) tt
 

@@ -1,32 +1,13 @@
 -- What a client hears of a stretch of calls, or of one other line, goes on from front to front of the history.
-use Rattle.std.proofs.Common.{◌≡◌, ◌≢◌, ◌∙◌, ℕ, ◌+◌, ◌<◌, ◌≤◌, Bool, true, false, List, [], ◌∷◌, ◌++◌, Option, None, Some, Result, Err, refl, sym, ap, subst, arith, ◌==◌, if◌then◌else◌, ◌⊎◌, inl, inr}
-use Rattle.std.specs.List.{AllByRecursion}
-use Rattle.std.specs.Prelude.{IfSome}
+use Rattle.assise_threads.proofs.Common.{◌≡◌, ◌≢◌, ◌∙◌, ℕ, ◌+◌, ◌<◌, ◌≤◌, Bool, true, false, List, [], ◌∷◌, ◌++◌, Option, None, Some, Result, Err, refl, sym}
+use Rattle.assise_threads.proofs.Common.{ap, subst, arith, ◌==◌, if◌then◌else◌, ◌⊎◌, inl, inr, AllByRecursion, IfSome, ∥∥₁_elim, eqb_tells, Op, Durability}
+use Rattle.assise_threads.proofs.Common.{Refusal, BadClient, Reply, EntryValue, opens, calls, IsLegal, Extends, openings, opened-in, openings-append, Command}
+use Rattle.assise_threads.proofs.Common.{Call, Response, EndsWithOpening, AreCallsMade, TurnedThere, HearsLine, HearsOn, HearsOpening, IsOpenedThen}
+use Rattle.assise_threads.proofs.Common.{HearsStretch, sight_of, Sights, opening_in, openings_said, with_opened, Said, TellsCall, TellsClient, call_in}
+use Rattle.assise_threads.proofs.Common.{calls_in, commands_said, outcome_answer, AreCalls, IsClientCall}
 use Rattle.std.proofs.Math.Bridge.{le_prop}
-use Rattle.std.proofs.Math.Logic.{∥∥₁_elim}
-use Rattle.std.proofs.lemmas.Bool.Decides.{eqb_tells}
 use Rattle.std.proofs.Common.{eq-eqb}
-use Rattle.assise_names.specs.declared.call.Op.{Op}
-use Rattle.assise_names.specs.declared.durability.Durability.{Durability}
-use Rattle.assise_names.specs.declared.refusal.Refusal.{Refusal}
-use Rattle.assise_names.specs.declared.refusal.Refusal.TheVariants.{BadClient}
-use Rattle.assise_names.specs.declared.reply.Reply.{Reply}
-use Rattle.assise_history.specs.Entries.{EntryValue, opens, calls}
-use Rattle.assise_history.specs.Legal.{IsLegal}
 use Rattle.assise_history.proofs.ClientCounts.{opens_once}
-use Rattle.assise_keeper.specs.Clients.{Extends, openings}
-use Rattle.assise_keeper.proofs.PassAdds.{opened-in, openings-append}
-use Rattle.assise_fault_script.specs.declared.command.Command.{Command}
-use Rattle.assise_fault_script.specs.declared.command.Command.TheVariants.{Call}
-use Rattle.assise_console.specs.declared.response.Response.{Response}
-use Rattle.assise_libfs.specs.Lives.{EndsWithOpening}
-use Rattle.assise_workers.specs.Told.{AreCallsMade}
-use Rattle.assise_threads.specs.ClientTurns.{TurnedThere}
-use Rattle.assise_threads.specs.Fronts.{HearsLine, HearsOn, HearsOpening, IsOpenedThen}
-use Rattle.assise_threads.specs.Hearing.{HearsStretch, sight_of}
-use Rattle.assise_threads.specs.Openings.{Sights, opening_in, openings_said, with_opened}
-use Rattle.assise_threads.specs.Said.{Said, TellsCall, TellsClient, call_in, calls_in, commands_said, outcome_answer}
-use Rattle.assise_threads.specs.Stretches.{AreCalls, IsClientCall}
 use Rattle.assise_threads.proofs.FirstOf.{first-skips}
 use Rattle.assise_threads.proofs.CallLines.{one_or_none}
 
@@ -40,11 +21,13 @@ pub calls_open_none : (ss : List Said) → AreCalls (commands_said ss) → openi
 calls_open_none [] are = refl
 calls_open_none (s ∷ ss) (first, rest) = rw (no_opening s.command.command s.answer first) (calls_open_none ss rest)
 
-passes : (turns c : ℕ) (s : Said) (p : Option (List EntryValue)) → IsClientCall s.command.command → call_in c s.command.command ≡ [] → HearsLine turns c s (call_in c s.command.command) p p
+passes : (turns c : ℕ) (s : Said) (p : Option (List EntryValue)) → IsClientCall s.command.command → call_in c s.command.command ≡ [] →
+    HearsLine turns c s (call_in c s.command.command) p p
 passes turns c s p is none = rw (none, no_opening s.command.command s.answer is) refl
 
 module _ (turns c : ℕ) (s : Said) (ss : List Said) (is_call : IsClientCall s.command.command) where
-  none_hears : (now later rs : List (Result Reply Refusal)) → TellsCall (call_in c s.command.command) s.answer now → rs ≡ now ++ later → AllByRecursion (λ r. r ≡ Err BadClient) rs
+  none_hears : (now later rs : List (Result Reply Refusal)) → TellsCall (call_in c s.command.command) s.answer now → rs ≡ now ++ later →
+      AllByRecursion (λ r. r ≡ Err BadClient) rs
       → (AllByRecursion (λ r. r ≡ Err BadClient) later → HearsOn turns c None ss None) → HearsOn turns c None (s ∷ ss) None
   none_hears now later rs first is bad rest = by_case (one_or_none c s.command.command)
     where
@@ -59,32 +42,49 @@ module _ (turns c : ℕ) (s : Said) (ss : List Said) (is_call : IsClientCall s.c
           let all = subst (AllByRecursion (λ r. r ≡ Err BadClient)) same bad in
           (None, (subst (λ z. HearsLine turns c s z None None) (sym one) (told.1.0 ∙ ap outcome_answer all.0, refl), rest all.1))
 
-  some_hears : (now later rs : List (Result Reply Refusal)) (old new : List EntryValue) → TellsCall (call_in c s.command.command) s.answer now → rs ≡ now ++ later → AreCallsMade (TurnedThere turns) c (call_in c s.command.command ++ calls_in c (commands_said ss)) old rs new
-      → ((mid : List EntryValue) → AreCallsMade (TurnedThere turns) c (calls_in c (commands_said ss)) mid later new → HearsOn turns c (Some mid) ss (Some new)) → HearsOn turns c (Some old) (s ∷ ss) (Some new)
+  some_hears : (now later rs : List (Result Reply Refusal)) (old new : List EntryValue) → TellsCall (call_in c s.command.command) s.answer now →
+      rs ≡ now ++ later → AreCallsMade (TurnedThere turns) c (call_in c s.command.command ++ calls_in c (commands_said ss)) old rs new
+      → ((mid : List EntryValue) → AreCallsMade (TurnedThere turns) c (calls_in c (commands_said ss)) mid later new → HearsOn turns c (Some mid) ss (Some new))
+      → HearsOn turns c (Some old) (s ∷ ss) (Some new)
   some_hears now later rs old new first is made rest = by_case (one_or_none c s.command.command)
     where
       by_case : (call_in c s.command.command ≡ []) ⊎ ((op : Op) × (call_in c s.command.command ≡ op ∷ [])) → HearsOn turns c (Some old) (s ∷ ss) (Some new)
       by_case (inl none) =
           let told : now ≡ [] = subst (λ z. TellsCall z s.answer now) none first in
           let same : rs ≡ later = is ∙ ap (λ z. z ++ later) told in
-          let left = subst (λ z. AreCallsMade (TurnedThere turns) c (z ++ calls_in c (commands_said ss)) old rs new) none made in
-          (Some old, (passes turns c s (Some old) is_call none, rest old (subst (λ z. AreCallsMade (TurnedThere turns) c (calls_in c (commands_said ss)) old z new) same left)))
+          let left = subst (λ z. AreCallsMade (TurnedThere turns) c (z ++ calls_in c (commands_said ss)) old rs new) none made in (
+            Some old,
+            (
+              passes turns c s (Some old) is_call none,
+              rest old (subst (λ z. AreCallsMade (TurnedThere turns) c (calls_in c (commands_said ss)) old z new) same left),
+            ),
+          )
       by_case (inr (op, one)) =
           let told = subst (λ z. TellsCall z s.answer now) one first in
           let same : rs ≡ told.0 ∷ later = is ∙ ap (λ z. z ++ later) told.1.1 in
           let left = subst (λ z. AreCallsMade (TurnedThere turns) c (z ++ calls_in c (commands_said ss)) old rs new) one made in
-          let all = subst (λ z. AreCallsMade (TurnedThere turns) c (op ∷ calls_in c (commands_said ss)) old z new) same left in
-          (Some all.0, (subst (λ z. HearsLine turns c s z (Some old) (Some all.0)) (sym one) (told.0, (told.1.0, (all.0, (all.1.0, refl)))), rest all.0 all.1.1))
+          let all = subst (λ z. AreCallsMade (TurnedThere turns) c (op ∷ calls_in c (commands_said ss)) old z new) same left in (
+            Some all.0,
+            (
+              subst (λ z. HearsLine turns c s z (Some old) (Some all.0)) (sym one) (told.0, (told.1.0, (all.0, (all.1.0, refl)))),
+              rest all.0 all.1.1,
+            ),
+          )
 
-none_hear : (turns c : ℕ) (ss : List Said) (rs : List (Result Reply Refusal)) → AreCalls (commands_said ss) → TellsClient c ss rs → AllByRecursion (λ r. r ≡ Err BadClient) rs → HearsOn turns c None ss None
+none_hear : (turns c : ℕ) (ss : List Said) (rs : List (Result Reply Refusal)) → AreCalls (commands_said ss) → TellsClient c ss rs →
+    AllByRecursion (λ r. r ≡ Err BadClient) rs → HearsOn turns c None ss None
 none_hear turns c [] rs are tells bad = refl
-none_hear turns c (s ∷ ss) rs (is_call, are) (now, (later, (first, (rest, is)))) bad = none_hears turns c s ss is_call now later rs first is bad (λ b. none_hear turns c ss later are rest b)
+none_hear turns c (s ∷ ss) rs (is_call, are) (now, (later, (first, (rest, is)))) bad =
+    none_hears turns c s ss is_call now later rs first is bad (λ b. none_hear turns c ss later are rest b)
 
-some_hear : (turns c : ℕ) (ss : List Said) (rs : List (Result Reply Refusal)) (old new : List EntryValue) → AreCalls (commands_said ss) → TellsClient c ss rs → AreCallsMade (TurnedThere turns) c (calls_in c (commands_said ss)) old rs new → HearsOn turns c (Some old) ss (Some new)
+some_hear : (turns c : ℕ) (ss : List Said) (rs : List (Result Reply Refusal)) (old new : List EntryValue) → AreCalls (commands_said ss) → TellsClient c ss rs →
+    AreCallsMade (TurnedThere turns) c (calls_in c (commands_said ss)) old rs new → HearsOn turns c (Some old) ss (Some new)
 some_hear turns c [] rs old new are tells made = ap Some (subst (λ z. AreCallsMade (TurnedThere turns) c [] old z new) tells made)
-some_hear turns c (s ∷ ss) rs old new (is_call, are) (now, (later, (first, (rest, is)))) made = some_hears turns c s ss is_call now later rs old new first is made (λ m b. some_hear turns c ss later m new are rest b)
+some_hear turns c (s ∷ ss) rs old new (is_call, are) (now, (later, (first, (rest, is)))) made =
+    some_hears turns c s ss is_call now later rs old new first is made (λ m b. some_hear turns c ss later m new are rest b)
 
-pub hears_on : (turns c : ℕ) (ss : List Said) (p q : Option (List EntryValue)) → AreCalls (commands_said ss) → HearsStretch turns c ss p q → HearsOn turns c p ss q
+pub hears_on : (turns c : ℕ) (ss : List Said) (p q : Option (List EntryValue)) → AreCalls (commands_said ss) → HearsStretch turns c ss p q →
+    HearsOn turns c p ss q
 hears_on turns c ss None None are (rs, (tells, (count, (none, bad)))) = none_hear turns c ss rs are tells bad
 hears_on turns c ss (Some old) (Some new) are (rs, (tells, sees)) = some_hear turns c ss rs old new are tells sees.each
 hears_on turns c ss _ _ are e = absurd e
@@ -111,17 +111,20 @@ opening_hears c (opens d n u ∷ es) h us new = by_case (eqb_tells d c)
     goal-at b = IsOpenedThen b h (sight_of c us) (sight_of c (us ++ (d, h) ∷ []))
 
     by_case : (((d == c) ≡ true) × (d ≡ c)) ⊎ (((d == c) ≡ false) × (d ≢ c)) → goal-at (d == c)
-    by_case (inl (is, same)) = let none : sight_of c us ≡ None = subst (λ n. sight_of n us ≡ None) same new in subst goal-at (sym is) (none, last_is c d h us is none)
+    by_case (inl (is, same)) = let none : sight_of c us ≡ None =
+        subst (λ n. sight_of n us ≡ None) same new in subst goal-at (sym is) (none, last_is c d h us is none)
     by_case (inr (is, other)) = subst goal-at (sym is) (last_isnt c d h us is)
 opening_hears c _ h us new = refl
 
-pub one_hears : (turns c : ℕ) (s : Said) (earlier later : Sights) → call_in c s.command.command ≡ [] → later ≡ with_opened earlier s.machine.history (opening_in s.command.command s.answer) → AreNew earlier (opening_in s.command.command s.answer)
+pub one_hears : (turns c : ℕ) (s : Said) (earlier later : Sights) → call_in c s.command.command ≡ [] →
+    later ≡ with_opened earlier s.machine.history (opening_in s.command.command s.answer) → AreNew earlier (opening_in s.command.command s.answer)
     → HearsOn turns c (sight_of c earlier) (s ∷ []) (sight_of c later)
 one_hears turns c s earlier later none is new = (
   sight_of c later,
   (
     subst (λ z. HearsLine turns c s z (sight_of c earlier) (sight_of c later)) (sym none)
-        (subst (λ z. HearsOpening c (opening_in s.command.command s.answer) s.machine.history (sight_of c earlier) (sight_of c z)) (sym is) (opening_hears c (opening_in s.command.command s.answer) s.machine.history earlier new)),
+        (subst (λ z. HearsOpening c (opening_in s.command.command s.answer) s.machine.history (sight_of c earlier) (sight_of c z)) (sym is)
+        (opening_hears c (opening_in s.command.command s.answer) s.machine.history earlier new)),
     refl,
   ),
 )
@@ -131,7 +134,8 @@ one_hears turns c s earlier later none is new = (
 abbrev pub AreKnown : Sights → List EntryValue → Type 0
 AreKnown us seen = (c : ℕ) → IfSome (sight_of c us) (λ h. 0 < openings c seen)
 
-known_on : (c : ℕ) (x : Option (List EntryValue)) (old new : List EntryValue) → Extends new old → IfSome x (λ h. 0 < openings c old) → IfSome x (λ h. 0 < openings c new)
+known_on : (c : ℕ) (x : Option (List EntryValue)) (old new : List EntryValue) → Extends new old → IfSome x (λ h. 0 < openings c old) →
+    IfSome x (λ h. 0 < openings c new)
 known_on c None old new more known = tt
 known_on c (Some h) old new more known = opened-in c new old more known
 
@@ -139,7 +143,8 @@ known_anyway : (c : ℕ) (x : Option (List EntryValue)) (seen : List EntryValue)
 known_anyway c None seen some_opening = tt
 known_anyway c (Some h) seen some_opening = some_opening
 
-pub known_then : (turns c : ℕ) (ss : List Said) (x y : Option (List EntryValue)) (seen : List EntryValue) → HearsStretch turns c ss x y → IfSome x (λ h. 0 < openings c seen) → IfSome y (λ h. 0 < openings c seen)
+pub known_then : (turns c : ℕ) (ss : List Said) (x y : Option (List EntryValue)) (seen : List EntryValue) → HearsStretch turns c ss x y →
+    IfSome x (λ h. 0 < openings c seen) → IfSome y (λ h. 0 < openings c seen)
 known_then turns c ss None None seen hears known = tt
 known_then turns c ss (Some old) (Some new) seen hears known = known
 known_then turns c ss _ _ seen hears known = absurd hears
@@ -176,5 +181,6 @@ known_one us (opens d n u ∷ es) old new more known (last, legal) = λ c. by_ca
   where
     by_case : (c : ℕ) → (((d == c) ≡ true) × (d ≡ c)) ⊎ (((d == c) ≡ false) × (d ≢ c)) → IfSome (sight_of c (us ++ (d, new) ∷ [])) (λ h. 0 < openings c new)
     by_case c (inl (is, same)) = known_anyway c (sight_of c (us ++ (d, new) ∷ [])) new (subst (λ k. 0 < openings k new) same (opened_now d n u old new last))
-    by_case c (inr (is, other)) = subst (λ z. IfSome z (λ h. 0 < openings c new)) (sym (last_isnt c d new us is)) (known_on c (sight_of c us) old new more (known c))
+    by_case c (inr (is, other)) =
+        subst (λ z. IfSome z (λ h. 0 < openings c new)) (sym (last_isnt c d new us is)) (known_on c (sight_of c us) old new more (known c))
 known_one us _ old new more known ends = λ c. known_on c (sight_of c us) old new more (known c)

@@ -1,31 +1,11 @@
 -- What the main thread does in one take leads on.
-use Rattle.std.proofs.Common.{◌≡◌, ◌∙◌, ap, Option, None, Some, List, [], ◌∷◌, refl, sym, subst, is_some, true, false}
-use Rattle.std.proofs.Math.Logic.{∥∥₁_map}
-use Rattle.assise_history.specs.Legal.{IsLegal}
-use Rattle.assise_keeper.specs.declared.pass.Pass.{Pass}
-use Rattle.assise_keeper.specs.declared.view.Opens.{Opens}
-use Rattle.assise_keeper.specs.declared.view.Opens.TheVariants.{Alone, Never}
-use Rattle.assise_keeper.specs.Clients.{Extends}
-use Rattle.assise_keeper.specs.Passes.{last, opens, seen}
-use Rattle.assise_libfs.specs.InTurns.{IsPassTurn}
+use Rattle.assise_threads.proofs.Common.{◌≡◌, ◌∙◌, ap, Option, None, Some, List, [], ◌∷◌, refl, sym, subst, is_some, true, false, ∥∥₁_map, IsLegal, Pass, Opens}
+use Rattle.assise_threads.proofs.Common.{Alone, Never, Extends, last, seen, IsPassTurn, Happened, InOneTake, Command, Cluster, NumberedCommand, led_from, IsLed}
+use Rattle.assise_threads.proofs.Common.{machine, IsLedTo, IsWorkedTo, led_by, led_to_itself, ClusterOf, Answer, ClusterEvent, back, crash, digest, fail, join}
+use Rattle.assise_threads.proofs.Common.{raise, refill, release_ready, set_hot, Machine, Response, is_made, is_out, Told, machine_begun, machine_made}
+use Rattle.assise_threads.proofs.Common.{machine_seen, DoesTake}
+use Rattle.assise_keeper.specs.Passes.{opens}
 use Rattle.assise_model_events.specs.Happenings.{Happens}
-use Rattle.assise_threads.specs.Takes.{Happened, InOneTake}
-use Rattle.assise_fault_script.specs.declared.command.Command.{Command}
-use Rattle.assise_fault_script.specs.declared.command.Command.TheVariants.{Cluster}
-use Rattle.assise_fault_script.specs.declared.parse.NumberedCommand.{NumberedCommand}
-use Rattle.assise_keeper.proofs.LedStates.{led_from}
-use Rattle.assise_keeper.specs.Rule.{IsLed}
-use Rattle.assise_machine.specs.Clusters.{machine}
-use Rattle.assise_machine.specs.Following.{IsLedTo, IsWorkedTo, led_by, led_to_itself}
-use Rattle.assise_machine.specs.declared.cluster.ClusterOf.{ClusterOf}
-use Rattle.assise_model_events.specs.Events.{Answer, ClusterEvent, back, crash, digest, fail, join, raise, refill, release_ready, set_hot}
-use Rattle.assise_model_events.specs.Machine.{Machine}
-use Rattle.assise_console.specs.declared.response.Response.{Response}
-use Rattle.assise_console.specs.Steps.{is_made, is_out}
-use Rattle.assise_rounds.specs.Traces.{Told}
-use Rattle.assise_threads.specs.Begun.{machine_begun, machine_made}
-use Rattle.assise_threads.specs.LastSeen.{machine_seen}
-use Rattle.assise_threads.specs.Threads.{DoesTake}
 use Rattle.assise_threads.specs.declared.takes.Take.{Take}
 use Rattle.assise_threads.specs.declared.takes.Take.TheVariants.{Digest, Release, SetHot, Crash, Fail, BeginReturn, Refill, Join, Raise, Tree, Check}
 
@@ -68,16 +48,20 @@ pub not_never : (o : Opens) → o ≡ Alone → o ≡ Never → ⊥
 not_never o alone never = let x : Alone ≡ Never = sym alone ∙ never in cc
 
 module _ {C : Type 0} where
-  pub seen_works : (last : Option (ClusterOf C)) (cluster : ClusterOf C) → is_some last ≡ true → IsLed cluster_works last (Some cluster) → IsWorkedTo (machine_seen last) (machine cluster)
+  pub seen_works : (last : Option (ClusterOf C)) (cluster : ClusterOf C) → is_some last ≡ true → IsLed cluster_works last (Some cluster) →
+      IsWorkedTo (machine_seen last) (machine cluster)
   seen_works None cluster met led = absurd (let x : false ≡ true = met in cc)
   seen_works (Some before) cluster met led = led
 
-  pub works_seen : (last now : Option (ClusterOf C)) (cluster : ClusterOf C) → is_some last ≡ true → now ≡ Some cluster → IsLed cluster_works last (Some cluster) → IsWorkedTo (machine_seen last) (machine_seen now)
+  pub works_seen : (last now : Option (ClusterOf C)) (cluster : ClusterOf C) → is_some last ≡ true → now ≡ Some cluster →
+      IsLed cluster_works last (Some cluster) → IsWorkedTo (machine_seen last) (machine_seen now)
   works_seen last now cluster met is led = subst (λ z. IsWorkedTo (machine_seen last) (machine_seen z)) (sym is) (seen_works last cluster met led)
 
   -- the turn of a pass that alone may open clients is a take
-  pub turn_taken : (e : ClusterEvent) (a : Answer) (old split mid new : Pass (ClusterOf C)) → is_some (last old) ≡ true → seen old ≡ (machine_seen (last old)).history → opens split ≡ Alone → last split ≡ last old → seen split ≡ seen old → last new ≡ last mid
-      → Extends (seen mid) (seen split) → IsPassTurn (λ s. (machine s).history) cluster_leads cluster_works (λ s e a t. Happens (machine s) e a (machine t)) e a split mid → InOneTake (Happened e a) (machine_seen (last old)) (machine_seen (last new))
+  pub turn_taken : (e : ClusterEvent) (a : Answer) (old split mid new : Pass (ClusterOf C)) → is_some (last old) ≡ true →
+      seen old ≡ (machine_seen (last old)).history → opens split ≡ Alone → last split ≡ last old → seen split ≡ seen old → last new ≡ last mid
+      → Extends (seen mid) (seen split) → IsPassTurn (λ s. (machine s).history) cluster_leads cluster_works (λ s e a t. Happens (machine s) e a (machine t)) e a
+      split mid → InOneTake (Happened e a) (machine_seen (last old)) (machine_seen (last new))
   turn_taken e a old split mid new met known alone same_last same_seen is_last more t =
       let now : last new ≡ Some t.after = is_last ∙ t.is_last in
       let after : machine_seen (last new) ≡ machine t.after = ap machine_seen now in
@@ -88,7 +72,8 @@ module _ {C : Type 0} where
         worked = seen_works (last old) t.before met (subst (λ z. IsLed cluster_works z (Some t.before)) same_last (t.worked alone));
         does = subst (Happens (machine t.before) e a) (sym after) t.does;
         legal = subst (λ z. ∥ IsLegal z.history ∥₁) (sym after) (∥∥₁_map t.after.sound.invariant.holds (λ holds. holds.recorded.legal));
-        grows = subst (λ z. Extends z.history (machine_seen (last old)).history) (sym after) (between (λ x y. Extends y x) (seen split) (seen mid) (same_seen ∙ known) t.is_seen more);
+        grows = subst (λ z. Extends z.history (machine_seen (last old)).history) (sym after)
+            (between (λ x y. Extends y x) (seen split) (seen mid) (same_seen ∙ known) t.is_seen more);
       }
 
 -- ---- the first machine

@@ -1,3 +1,4 @@
+mod Common
 pub mod FirstOf
 pub mod SaidMore
 pub mod Heard

@@ -1,25 +1,8 @@
 -- Where clients meet with a pass of nobody, each twice, there is one history with the calls of all.
-use Rattle.std.proofs.Common.{is_some, ◌≡◌, ◌∙◌, ℕ, true, List, [], ◌∷◌, ◌++◌, Option, Some, refl, sym, ap, subst, append_assoc, append-nil, ◌==◌}
-use Rattle.std.specs.List.{AllByRecursion}
-use Rattle.std.proofs.lemmas.Bool.{cond_both, eqb-true}
-use Rattle.std.proofs.lemmas.List.{append_cancel_left}
-use Rattle.assise_history.specs.Entries.{EntryValue}
-use Rattle.assise_history.specs.Legal.{IsLegal}
-use Rattle.assise_keeper.specs.Clients.{Extends, calls_by, calls_of, openings_of}
-use Rattle.assise_keeper.proofs.PassAdds.{calls-append, extends-same}
-use Rattle.assise_workers.proofs.Lists.{extends-on}
-use Rattle.assise_threads.specs.Hearing.{sight_of}
-use Rattle.assise_threads.specs.OneHistory.{AreMet, Covers, CoversSight}
-use Rattle.assise_threads.specs.Openings.{Sights}
-use Rattle.assise_keeper.specs.declared.pass.Pass.{Pass}
-use Rattle.assise_keeper.specs.Passes.{client, last, mine, seen}
-use Rattle.assise_machine.specs.Clusters.{machine}
-use Rattle.assise_machine.specs.Following.{IsWorkedTo, worked_on}
-use Rattle.assise_machine.specs.declared.cluster.ClusterOf.{ClusterOf}
-use Rattle.assise_model_events.specs.Machine.{Machine}
-use Rattle.assise_threads.specs.LastSeen.{machine_seen}
-use Rattle.assise_libfs.specs.Clients.{client_of, pass_of, seen_by}
-use Rattle.assise_libfs.specs.declared.libfs.LibFs.{LibFs}
+use Rattle.assise_threads.proofs.Common.{is_some, ◌≡◌, ◌∙◌, ℕ, true, List, [], ◌∷◌, ◌++◌, Option, Some, refl, sym, ap, subst, append_assoc, append-nil, ◌==◌}
+use Rattle.assise_threads.proofs.Common.{AllByRecursion, cond_both, eqb-true, append_cancel_left, EntryValue, IsLegal, Extends, calls_by, calls_of, openings_of}
+use Rattle.assise_threads.proofs.Common.{calls-append, extends-same, extends-on, sight_of, AreMet, Covers, CoversSight, Sights, Pass, client, last, mine, seen}
+use Rattle.assise_threads.proofs.Common.{machine, IsWorkedTo, worked_on, ClusterOf, Machine, machine_seen, client_of, pass_of, seen_by, LibFs}
 
 first_nothing : (xs ys : List EntryValue) → xs ++ ys ≡ [] → xs ≡ []
 first_nothing [] ys e = refl
@@ -29,7 +12,8 @@ first_nothing (x ∷ xs) ys e = absurd (cc)
 same_between : (c : ℕ) (a b d : List EntryValue) → Extends b a → Extends d b → calls_by c d ≡ calls_by c a → calls_by c b ≡ calls_by c a
 same_between c a b d more behind same =
     let first : calls_by c b ≡ calls_by c a ++ calls_by c more.0 = ap (calls_by c) more.1 ∙ calls-append c a more.0 in
-    let all : calls_by c d ≡ calls_by c a ++ (calls_by c more.0 ++ calls_by c behind.0) = ap (calls_by c) behind.1 ∙ (calls-append c b behind.0 ∙ (ap (λ z. z ++ calls_by c behind.0) first ∙ append_assoc (calls_by c a) (calls_by c more.0) (calls_by c behind.0))) in
+    let all : calls_by c d ≡ calls_by c a ++ (calls_by c more.0 ++ calls_by c behind.0) = ap (calls_by c) behind.1
+    ∙ (calls-append c b behind.0 ∙ (ap (λ z. z ++ calls_by c behind.0) first ∙ append_assoc (calls_by c a) (calls_by c more.0) (calls_by c behind.0))) in
     let none : calls_by c more.0 ≡ [] =
     first_nothing (calls_by c more.0) (calls_by c behind.0)
     (append_cancel_left (calls_by c a) (calls_by c more.0 ++ calls_by c behind.0) [] (sym all ∙ (same ∙ sym (append-nil (calls_by c a))))) in
@@ -39,7 +23,9 @@ same_between c a b d more behind same =
 pub mine_same : (c : ℕ) (o p : Option ℕ) (h g : List EntryValue) → o ≡ p → p ≡ Some c → calls_of o h ≡ calls_of p g → calls_by c h ≡ calls_by c g
 mine_same c o p h g same is calls = subst (λ (z : Option ℕ). calls_of z h ≡ calls_of z g) is (subst (λ (z : Option ℕ). calls_of z h ≡ calls_of p g) same calls)
 
-pub met_one : (c : ℕ) (m0 m1 : Machine) (g : List EntryValue) (us : Sights) (s2 s3 : List EntryValue) → IsWorkedTo m0 m1 → Extends m1.history m0.history → openings_of m1.history ≡ openings_of m0.history → Extends m1.history g → calls_by c m1.history ≡ calls_by c g → AreMet m1 us s2 → Extends s3 s2 → calls_by c s3 ≡ calls_by c m1.history
+pub met_one : (c : ℕ) (m0 m1 : Machine) (g : List EntryValue) (us : Sights) (s2 s3 : List EntryValue) → IsWorkedTo m0 m1 → Extends m1.history m0.history →
+    openings_of m1.history ≡ openings_of m0.history → Extends m1.history g → calls_by c m1.history ≡ calls_by c g → AreMet m1 us s2 → Extends s3 s2 →
+    calls_by c s3 ≡ calls_by c m1.history
     → AreMet m0 ((c, g) ∷ us) s3
 met_one c m0 m1 g us s2 s3 worked from none own first met behind second = let h = met.between.history in record {
   between = met.between;
@@ -54,8 +40,10 @@ met_one c m0 m1 g us s2 s3 worked from none own first met behind second = let h 
   openings = met.openings ∙ none;
 }
 
-pub met_none : (m0 m1 : Machine) → IsWorkedTo m0 m1 → Extends m1.history m0.history → ∥ IsLegal m1.history ∥₁ → openings_of m1.history ≡ openings_of m0.history → AreMet m0 [] m1.history
-met_none m0 m1 worked on legal none = record { between = m1; legal = legal; worked = worked; since = on; until = extends-same m1.history; clients = tt; openings = none }
+pub met_none : (m0 m1 : Machine) → IsWorkedTo m0 m1 → Extends m1.history m0.history → ∥ IsLegal m1.history ∥₁ →
+    openings_of m1.history ≡ openings_of m0.history → AreMet m0 [] m1.history
+met_none m0 m1 worked on legal none =
+    record { between = m1; legal = legal; worked = worked; since = on; until = extends-same m1.history; clients = tt; openings = none }
 
 -- each client that is there is covered
 pub covers_each : (c : ℕ) (h : List EntryValue) (us : Sights) → AllByRecursion (Covers h) us → CoversSight c h (sight_of c us)
@@ -75,8 +63,11 @@ is_known p x seen_is last_is = (ap is_some last_is, seen_is ∙ sym (ap (λ z. (
 
 module _ {C : Type 0} (l : LibFs (ClusterOf C)) (p0 p a b d e f : Pass (ClusterOf C)) (us : Sights) where
   -- a client meets with the pass, what follows is met, and it meets with the pass again
-  pub met_client : p ≡ pass_of l → IsKnown p0 → IsKnown a → IsWorkedTo (machine_seen (last p0)) (machine_seen (last a)) → seen a ≡ seen b → Extends (seen a) (seen p0) → openings_of (seen a) ≡ openings_of (seen p0) → Extends (seen b) (seen p) → client b ≡ client p → mine b ≡ mine p → AreMet (machine_seen (last a)) us (seen d)
-      → Extends (seen e) (seen d) → seen e ≡ seen f → client f ≡ client b → mine f ≡ mine b → AreMet (machine_seen (last p0)) ((client_of l, seen_by l) ∷ us) (seen e)
+  pub met_client : p ≡ pass_of l → IsKnown p0 → IsKnown a → IsWorkedTo (machine_seen (last p0)) (machine_seen (last a)) → seen a ≡ seen b →
+      Extends (seen a) (seen p0) → openings_of (seen a) ≡ openings_of (seen p0) → Extends (seen b) (seen p) → client b ≡ client p → mine b ≡ mine p →
+      AreMet (machine_seen (last a)) us (seen d)
+      → Extends (seen e) (seen d) → seen e ≡ seen f → client f ≡ client b → mine f ≡ mine b → AreMet (machine_seen (last p0)) ((client_of l, seen_by l) ∷ us)
+      (seen e)
   met_client is known0 known1 worked one first none second same own met first2 one2 same2 own2 =
       let its : client p ≡ Some (client_of l) = ap (λ z. client z) is ∙ l.its in
       let here : client b ≡ Some (client_of l) = same ∙ its in
@@ -86,6 +77,8 @@ module _ {C : Type 0} (l : LibFs (ClusterOf C)) (p0 p a b d e f : Pass (ClusterO
       let at0 : seen p0 ≡ m0.history = known0.1 in
       let at1 : seen a ≡ m1.history = known1.1 in
       met_one (client_of l) m0 m1 (seen_by l) us (seen d) (seen e) worked (rw (at0, at1) at first) (rw (at0, at1) at none) (rw (known, ← one, at1) at second)
-      (ap (calls_by (client_of l)) (sym at1 ∙ one) ∙ (mine_same (client_of l) (client b) (client p) (seen b) (seen p) same its own ∙ ap (calls_by (client_of l)) known))
+      (ap (calls_by (client_of l)) (sym at1 ∙ one)
+      ∙ (mine_same (client_of l) (client b) (client p) (seen b) (seen p) same its own ∙ ap (calls_by (client_of l)) known))
       met first2
-      (ap (calls_by (client_of l)) one2 ∙ (mine_same (client_of l) (client f) (client b) (seen f) (seen b) same2 here own2 ∙ ap (calls_by (client_of l)) (sym one ∙ at1)))
+      (ap (calls_by (client_of l)) one2
+      ∙ (mine_same (client_of l) (client f) (client b) (seen f) (seen b) same2 here own2 ∙ ap (calls_by (client_of l)) (sym one ∙ at1)))

@@ -1,17 +1,7 @@
 -- What the main thread does in one take opens no client and answers no call.
-use Rattle.std.proofs.Common.{◌≡◌, ◌∙◌, ℕ, List, [], ◌∷◌, ◌++◌, refl, sym, ap, ap₂, subst, append-nil, drop, length, Option, None}
-use Rattle.std.proofs.Math.Logic.{∥∥₁_map}
-use Rattle.assise_history.specs.Entries.{EntryValue, opens, calls}
-use Rattle.assise_history.specs.Legal.{IsLegal}
-use Rattle.assise_keeper.specs.declared.view.Opens.{Opens}
-use Rattle.assise_keeper.specs.declared.view.Opens.TheVariants.{Never}
-use Rattle.assise_keeper.specs.Clients.{Extends, MayAddAll, MayGive, added, client_after, openings_of}
-use Rattle.assise_keeper.proofs.PassAdds.{all-openings-append, drop-prefix, no_openings}
-use Rattle.assise_machine.specs.Clusters.{machine}
-use Rattle.assise_machine.specs.declared.cluster.ClusterOf.{ClusterOf}
-use Rattle.assise_workers.proofs.Lists.{extends-on}
-use Rattle.assise_threads.specs.Openings.{OpensNone}
-use Rattle.assise_threads.specs.Takes.{AddsNobodys, AreNobodys}
+use Rattle.assise_threads.proofs.Common.{◌≡◌, ◌∙◌, ℕ, List, [], ◌∷◌, ◌++◌, refl, sym, ap, ap₂, subst, append-nil, drop, length, Option, None, ∥∥₁_map}
+use Rattle.assise_threads.proofs.Common.{EntryValue, opens, calls, IsLegal, Opens, Never, Extends, MayAddAll, MayGive, added, client_after, openings_of}
+use Rattle.assise_threads.proofs.Common.{all-openings-append, drop-prefix, no_openings, machine, ClusterOf, extends-on, OpensNone, AddsNobodys, AreNobodys}
 
 -- ---- a pass without a client may give such entries
 
@@ -27,12 +17,15 @@ no_client (opens c n u ∷ es) q = absurd q
 no_client (calls x ∷ es) q = absurd q
 no_client (_ ∷ es) q = no_client es q
 
-pub may_give : (client : Option ℕ) (o : Opens) (taken old new : List EntryValue) → client ≡ None → taken ≡ old → AddsNobodys old new → MayGive client o taken new
+pub may_give : (client : Option ℕ) (o : Opens) (taken old new : List EntryValue) → client ≡ None → taken ≡ old → AddsNobodys old new →
+    MayGive client o taken new
 may_give client o taken old new nobody is adds = rw (nobody, is) (adds.more, adds.split, may_add o adds.more adds.nobodys)
 
-pub stays_nobody : (client : Option ℕ) (taken old new : List EntryValue) → client ≡ None → taken ≡ old → AddsNobodys old new → client_after client (added taken new) ≡ None
+pub stays_nobody : (client : Option ℕ) (taken old new : List EntryValue) → client ≡ None → taken ≡ old → AddsNobodys old new →
+    client_after client (added taken new) ≡ None
 stays_nobody client taken old new nobody is adds =
-    rw (nobody, is) (ap (λ z. client_after None (drop (length old) z)) adds.split ∙ (ap (client_after None) (drop-prefix old adds.more) ∙ no_client adds.more adds.nobodys))
+    rw (nobody, is) (ap (λ z. client_after None (drop (length old) z)) adds.split
+    ∙ (ap (client_after None) (drop-prefix old adds.more) ∙ no_client adds.more adds.nobodys))
 
 -- the same where nothing is added
 pub may_give_same : (client : Option ℕ) (o : Opens) (taken now : List EntryValue) → taken ≡ now → MayGive client o taken now
@@ -48,9 +41,11 @@ given_extends seen before after given prefix adds is = subst (λ h. Extends h se
 -- ---- no client was opened
 
 -- where the history that was taken has no opening that wasn't seen, that which is given has none either
-pub given_opens_none : (seen before after given : List EntryValue) → openings_of before ≡ openings_of seen → AddsNobodys before after → given ≡ after → OpensNone seen given
+pub given_opens_none : (seen before after given : List EntryValue) → openings_of before ≡ openings_of seen → AddsNobodys before after → given ≡ after →
+    OpensNone seen given
 given_opens_none seen before after given known adds is =
-    ap openings_of (is ∙ adds.split) ∙ (all-openings-append before adds.more ∙ ap₂ (λ x y. x ++ y) known (no_openings None adds.more (may_add Never adds.more adds.nobodys)))
+    ap openings_of (is ∙ adds.split)
+    ∙ (all-openings-append before adds.more ∙ ap₂ (λ x y. x ++ y) known (no_openings None adds.more (may_add Never adds.more adds.nobodys)))
 
 pub same_opens_none : (seen taken given : List EntryValue) → openings_of taken ≡ openings_of seen → given ≡ taken → OpensNone seen given
 same_opens_none seen taken given known is = ap openings_of is ∙ (known ∙ sym (append-nil (openings_of seen)))

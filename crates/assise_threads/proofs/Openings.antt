@@ -1,18 +1,9 @@
 -- What the main thread sees goes on from line to line.
-use Rattle.std.proofs.Common.{◌≡◌, ◌∙◌, ℕ, List, [], ◌∷◌, ap, sym, append-nil}
-use Rattle.std.specs.List.{AllByRecursion}
-use Rattle.assise_names.specs.declared.durability.Durability.{Durability}
-use Rattle.assise_history.specs.Entries.{EntryValue}
-use Rattle.assise_keeper.specs.Clients.{Extends}
-use Rattle.assise_fault_script.specs.declared.command.Command.{Command}
-use Rattle.assise_fault_script.specs.declared.command.Command.TheVariants.{Cluster, Manual, Open, Call, Carry, Link, Back, History}
-use Rattle.assise_console.specs.declared.response.Response.{Response}
-use Rattle.assise_model_events.specs.Machine.{Machine}
-use Rattle.assise_workers.proofs.Lists.{extends-on}
-use Rattle.assise_threads.specs.Answered.{AnswersCommand, CarriesSome, ComesBackInTakes, IsCallAnswered, OpensOne, is_busy, is_carried, is_nowhere, is_opened, is_refused, is_replied, joins, lacks_revoker, stops_filling}
-use Rattle.assise_threads.specs.Runs.{IsSaid}
+use Rattle.assise_threads.proofs.Common.{◌≡◌, ◌∙◌, ℕ, List, [], ◌∷◌, ap, sym, append-nil, AllByRecursion, Durability, EntryValue, Extends, Command, Cluster}
+use Rattle.assise_threads.proofs.Common.{Manual, Open, Call, Carry, Link, Back, History, Response, Machine, extends-on, AnswersCommand, CarriesSome}
+use Rattle.assise_threads.proofs.Common.{ComesBackInTakes, IsCallAnswered, OpensOne, is_busy, is_carried, is_nowhere, is_opened, is_refused, is_replied, joins}
+use Rattle.assise_threads.proofs.Common.{lacks_revoker, stops_filling, IsSaid, Said}
 use Rattle.assise_threads.proofs.ReturnTries.{tried_on}
-use Rattle.assise_threads.specs.Said.{Said}
 
 extends_same_as : (new old : Machine) → new ≡ old → Extends new.history old.history
 extends_same_as new old is = ([], ap (λ m. m.history) is ∙ sym (append-nil old.history))
@@ -37,7 +28,8 @@ carry_on n a old new (is_nowhere is far same) = extends_same_as new old same
 back_on : (turns n : ℕ) (a : Response) (old new : Machine) → ComesBackInTakes turns n a old new → Extends new.history old.history
 back_on turns n a old new (is_refused r is h) = h.grows
 back_on turns n a old new (stops_filling r k tried few before is h) = extends-on new.history tried.history old.history h.grows (tried_on n k old tried before)
-back_on turns n a old new (joins k tried filled few before once no_more h) = extends-on new.history filled.history old.history h.grows (extends-on filled.history tried.history old.history once.take.grows (tried_on n k old tried before))
+back_on turns n a old new (joins k tried filled few before once no_more h) = extends-on new.history filled.history old.history h.grows
+    (extends-on filled.history tried.history old.history once.take.grows (tried_on n k old tried before))
 back_on turns n a old new (is_busy is before) = tried_on n turns old new before
 
 pub answers_on : (turns : ℕ) (command : Command) (a : Response) (old new : Machine) → AnswersCommand turns command a old new → Extends new.history old.history
@@ -55,8 +47,11 @@ answers_on turns _ a old new h = h.grows
 
 pub said_on : (turns : ℕ) (old : Machine) (ss : List Said) (new : Machine) → IsSaid turns old ss new → Extends new.history old.history
 said_on turns old [] new same = extends_same_as new old same
-said_on turns old (s ∷ ss) new (first, rest) = extends-on new.history s.machine.history old.history (said_on turns s.machine ss new rest) (answers_on turns s.command.command s.answer old s.machine first)
+said_on turns old (s ∷ ss) new (first, rest) =
+    extends-on new.history s.machine.history old.history (said_on turns s.machine ss new rest) (answers_on turns s.command.command s.answer old s.machine first)
 
-pub all_fronts : (turns : ℕ) (h : List EntryValue) (old : Machine) (ss : List Said) (new : Machine) → Extends h new.history → IsSaid turns old ss new → AllByRecursion (λ s. Extends h s.machine.history) ss
+pub all_fronts : (turns : ℕ) (h : List EntryValue) (old : Machine) (ss : List Said) (new : Machine) → Extends h new.history → IsSaid turns old ss new →
+    AllByRecursion (λ s. Extends h s.machine.history) ss
 all_fronts turns h old [] new more said = tt
-all_fronts turns h old (s ∷ ss) new more (first, rest) = (extends-on h new.history s.machine.history more (said_on turns s.machine ss new rest), all_fronts turns h s.machine ss new more rest)
+all_fronts turns h old (s ∷ ss) new more (first, rest) =
+    (extends-on h new.history s.machine.history more (said_on turns s.machine ss new rest), all_fronts turns h s.machine ss new more rest)

@@ -1,19 +1,10 @@
 -- How often a node that comes back was filled and tried to join.
-use Rattle.std.proofs.Common.{◌≡◌, ℕ, zero, suc, ◌+◌, sym, subst, arith}
-use Rattle.assise_names.specs.declared.refusal.Refusal.TheVariants.{Busy}
-use Rattle.assise_keeper.specs.Clients.{Extends}
-use Rattle.assise_console.specs.OneEvent.{IsOneAt}
-use Rattle.assise_console.specs.declared.response.Response.{Response}
-use Rattle.assise_console.specs.declared.response.Response.TheVariants.{Refused}
-use Rattle.assise_keeper.proofs.PassAdds.{extends-same}
-use Rattle.assise_model_events.specs.Events.{back, join, refill}
-use Rattle.assise_model_events.specs.Machine.{Machine}
-use Rattle.assise_workers.proofs.Lists.{extends-on}
-use Rattle.assise_threads.specs.Answered.{HasFilled, HasTried, IsNoRefusal}
-use Rattle.assise_threads.specs.Takes.{InOneTake}
+use Rattle.assise_threads.proofs.Common.{◌≡◌, ℕ, zero, suc, ◌+◌, sym, subst, arith, Busy, Extends, IsOneAt, Response, Refused, extends-same, back, join, refill}
+use Rattle.assise_threads.proofs.Common.{Machine, extends-on, HasFilled, HasTried, IsNoRefusal, InOneTake}
 
 -- once more
-pub tried_more : (n k : ℕ) (a : Response) (old tried filled new : Machine) → HasTried n k old tried → IsNoRefusal a → InOneTake (IsOneAt refill n a) tried filled → InOneTake (IsOneAt join n (Refused Busy)) filled new → HasTried n (k + 1) old new
+pub tried_more : (n k : ℕ) (a : Response) (old tried filled new : Machine) → HasTried n k old tried → IsNoRefusal a →
+    InOneTake (IsOneAt refill n a) tried filled → InOneTake (IsOneAt join n (Refused Busy)) filled new → HasTried n (k + 1) old new
 tried_more n k a old tried filled new before done take joins =
     let next : suc k ≡ k + 1 = omega arith in
     record {
@@ -26,7 +17,8 @@ tried_more n k a old tried filled new before done take joins =
 
 filled_on : (n k : ℕ) (old new : Machine) → HasFilled n k old new → Extends new.history old.history
 filled_on n zero old new same = subst (λ z. Extends z.history old.history) (sym same) (extends-same old.history)
-filled_on n (suc k) old new (mid, (before, (filled, (once, last)))) = extends-on new.history mid.history old.history (extends-on new.history filled.history mid.history last.grows once.take.grows) (filled_on n k old mid before)
+filled_on n (suc k) old new (mid, (before, (filled, (once, last)))) =
+    extends-on new.history mid.history old.history (extends-on new.history filled.history mid.history last.grows once.take.grows) (filled_on n k old mid before)
 
 pub tried_on : (n k : ℕ) (old new : Machine) → HasTried n k old new → Extends new.history old.history
 tried_on n k old new t = extends-on new.history t.begun.history old.history (filled_on n k t.begun new t.tries) t.begins.take.grows

@@ -1,55 +1,54 @@
 -- A run goes on with what is said next, and is whole in the end.
-use Rattle.std.proofs.Common.{◌≡◌, ℕ, ◌+◌, true, List, [], ◌∷◌, ◌++◌, take, drop, Option, None, refl, sym, subst, take-add, slice_get}
-use Rattle.assise_history.specs.Entries.{EntryValue}
-use Rattle.assise_history.specs.Legal.{IsLegal}
+use Rattle.assise_threads.proofs.Common.{◌≡◌, ℕ, ◌+◌, true, List, [], ◌∷◌, ◌++◌, take, drop, Option, None, refl, sym, subst, take-add, slice_get, EntryValue}
+use Rattle.assise_threads.proofs.Common.{IsLegal, extends-same, worked_to_itself, Command, Cluster, Manual, Open, Call, Carry, Link, Hot, Digest, Release}
+use Rattle.assise_threads.proofs.Common.{Crash, Fail, Back, Refill, Join, Raise, Tree, History, Check, NumberedCommand, Response, Quiet, Client, Replied}
+use Rattle.assise_threads.proofs.Common.{Refused, Carried, Shown, Whole, Checked, BadNode, Busy, OutOfMemory, Machine, line_text, Told, IsVerdict, SetsHot}
+use Rattle.assise_threads.proofs.Common.{Shows, is_verdict, is_made, is_out, is_shown, lacks_memory, lacks_room, not_shown, LibFs, AnswersCommand, joins}
+use Rattle.assise_threads.proofs.Common.{stops_filling, is_refused, is_busy, is_opened, is_carried, is_nowhere, is_replied, lacks_revoker, machine_begun}
+use Rattle.assise_threads.proofs.Common.{AreSaidNext, is_one, is_stretch, sights, IsRunSaid, AreMet, Sights, AreAllSaid}
 use Rattle.assise_history.proofs.Legality.{legal-nil}
-use Rattle.assise_keeper.proofs.PassAdds.{extends-same}
-use Rattle.assise_machine.specs.Following.{worked_to_itself}
-use Rattle.assise_fault_script.specs.declared.command.Command.{Command}
-use Rattle.assise_fault_script.specs.declared.command.Command.TheVariants.{Cluster, Manual, Open, Call, Carry, Link, Hot, Digest, Release, Crash, Fail, Back, Refill, Join, Raise, Tree, History, Check}
-use Rattle.assise_fault_script.specs.declared.parse.NumberedCommand.{NumberedCommand}
-use Rattle.assise_console.specs.declared.response.Response.{Response}
-use Rattle.assise_console.specs.declared.response.Response.TheVariants.{Quiet, Client, Replied, Refused, Carried, Tree as Shown, History as Whole, Checked}
-use Rattle.assise_names.specs.declared.refusal.Refusal.TheVariants.{BadNode, Busy, OutOfMemory}
-use Rattle.assise_model_events.specs.Machine.{Machine}
-use Rattle.assise_console.specs.Lines.{line_text}
-use Rattle.assise_rounds.specs.Traces.{Told}
-use Rattle.assise_console.specs.Steps.{IsVerdict, SetsHot, Shows, is_verdict, is_made, is_out, is_shown, lacks_memory, lacks_room, is_refused as not_shown}
-use Rattle.assise_libfs.specs.declared.libfs.LibFs.{LibFs}
-use Rattle.assise_threads.specs.Answered.{AnswersCommand, joins, stops_filling, is_refused, is_busy, is_opened, is_carried, is_nowhere, is_replied, lacks_revoker}
-use Rattle.assise_threads.specs.Begun.{machine_begun}
-use Rattle.assise_threads.specs.CallsAhead.{AreSaidNext, is_one, is_stretch}
-use Rattle.assise_threads.specs.Hearing.{sights}
-use Rattle.assise_threads.specs.Runs.{IsRunSaid}
-use Rattle.assise_threads.specs.OneHistory.{AreMet}
-use Rattle.assise_threads.specs.Openings.{Sights}
-use Rattle.assise_threads.specs.Spoken.{AreAllSaid}
 use Rattle.assise_threads.proofs.Meetings.{met_none}
 use Rattle.assise_threads.proofs.AllSaid.{is_run, nothing_said, one_added, stretch_added}
 
-pub nothing_yet : (turns : ℕ) (first seen : Machine) (clients : Sights) (old : Option (List ℕ)) → first.history ≡ [] → seen ≡ first → clients ≡ [] → AreAllSaid turns first [] seen clients old old
+pub nothing_yet : (turns : ℕ) (first seen : Machine) (clients : Sights) (old : Option (List ℕ)) → first.history ≡ [] → seen ≡ first → clients ≡ [] →
+    AreAllSaid turns first [] seen clients old old
 nothing_yet turns first seen clients old none is nobody = rw (is, nobody) (nothing_said turns first old none)
 
-said_then : (turns : ℕ) (first : Machine) (done next : List NumberedCommand) (seen now : Machine) (before after : Sights) (old mid new : Option (List ℕ)) → AreAllSaid turns first done seen before old mid → AreSaidNext turns next seen before now after mid new → AreAllSaid turns first (done ++ next) now after old new
-said_then turns first done next seen now before after old mid new all (is_stretch same more) = subst (λ z. AreAllSaid turns first (done ++ next) z after old new) (sym same) (stretch_added turns first done seen before old mid all next after new more)
-said_then turns first done next seen now before after old mid new all (is_one l is none one) = subst (λ z. AreAllSaid turns first (done ++ z) now after old new) (sym is) (one_added turns first done seen before old mid all l now after new none one)
+said_then : (turns : ℕ) (first : Machine) (done next : List NumberedCommand) (seen now : Machine) (before after : Sights) (old mid new : Option (List ℕ)) →
+    AreAllSaid turns first done seen before old mid → AreSaidNext turns next seen before now after mid new → AreAllSaid turns first (done ++ next) now after old
+    new
+said_then turns first done next seen now before after old mid new all (is_stretch same more) =
+    subst (λ z. AreAllSaid turns first (done ++ next) z after old new) (sym same) (stretch_added turns first done seen before old mid all next after new more)
+said_then turns first done next seen now before after old mid new all (is_one l is none one) =
+    subst (λ z. AreAllSaid turns first (done ++ z) now after old new) (sym is) (one_added turns first done seen before old mid all l now after new none one)
 
 -- `count` more of the commands
-pub goes_further : (turns : ℕ) (first : Machine) (ls rest : List NumberedCommand) (i count : ℕ) (seen now : Machine) (before after : Sights) (old mid new : Option (List ℕ)) → rest ≡ drop i ls → AreAllSaid turns first (take i ls) seen before old mid
+pub goes_further : (turns : ℕ) (first : Machine) (ls rest : List NumberedCommand) (i count : ℕ) (seen now : Machine) (before after : Sights)
+    (old mid new : Option (List ℕ)) → rest ≡ drop i ls → AreAllSaid turns first (take i ls) seen before old mid
     → AreSaidNext turns (take count rest) seen before now after mid new → AreAllSaid turns first (take (i + count) ls) now after old new
 goes_further turns first ls rest i count seen now before after old mid new is all more =
     subst (λ z. AreAllSaid turns first z now after old new) (sym (take-add i count ls))
-    (said_then turns first (take i ls) (take count (drop i ls)) seen now before after old mid new all (subst (λ z. AreSaidNext turns (take count z) seen before now after mid new) is more))
+    (said_then turns first (take i ls) (take count (drop i ls)) seen now before after old mid new all
+    (subst (λ z. AreSaidNext turns (take count z) seen before now after mid new) is more))
 
 -- where the clients met
-pub is_run_said : (turns : ℕ) {S : Type 0} (commands : List NumberedCommand) (seen : Machine) (ls : List (LibFs S)) (old new : Option (List ℕ)) (last : List EntryValue) → AreAllSaid turns (machine_begun commands) commands seen (sights ls) old new → AreMet seen (sights ls) last → IsRunSaid turns commands old new
-is_run_said turns commands seen ls old new last all met = record { said = all.said; run = is_run turns commands seen (sights ls) old new all last met; appends = all.appends }
+pub is_run_said : (turns : ℕ) {S : Type 0} (commands : List NumberedCommand) (seen : Machine) (ls : List (LibFs S)) (old new : Option (List ℕ))
+    (last : List EntryValue) → AreAllSaid turns (machine_begun commands) commands seen (sights ls) old new → AreMet seen (sights ls) last →
+    IsRunSaid turns commands old new
+is_run_said turns commands seen ls old new last all met =
+    record { said = all.said; run = is_run turns commands seen (sights ls) old new all last met; appends = all.appends }
 
 no_one_met : (m : Machine) → m.history ≡ [] → AreMet m [] m.history
 no_one_met m none = met_none m m (worked_to_itself m) (extends-same m.history) (subst (λ h. ∥ IsLegal h ∥₁) (sym none) ∣ legal-nil ∣₁) refl
 
 pub nothing_run : (turns : ℕ) (commands : List NumberedCommand) (old : Option (List ℕ)) → slice_get commands 0 ≡ None → IsRunSaid turns commands old old
-nothing_run turns [] old none = let all = nothing_said turns (machine_begun []) old refl in record { said = all.said; run = is_run turns [] (machine_begun []) [] old old all (machine_begun []).history (no_one_met (machine_begun []) refl); appends = all.appends }
+nothing_run turns [] old none = let all = nothing_said turns (machine_begun []) old refl in
+    record {
+      said = all.said;
+      run = is_run turns [] (machine_begun []) [] old old all (machine_begun []).history (no_one_met (machine_begun []) refl);
+      appends =
+          all.appends;
+    }
 nothing_run turns (l ∷ ls) old none = absurd (cc)
 
 -- ---- the history is printed by its own command alone
@@ -97,7 +96,8 @@ not_whole turns (Tree node) old new other h = no_tree h.does.shows
 not_whole turns History old new other h = other refl
 
 -- so a line shows no history where another command was answered
-pub line_shows_none : (turns n : ℕ) (command : Command) (a : Response) (shown : List EntryValue) (old new : Machine) → (command ≡ History → ⊥) → AnswersCommand turns command a old new → line_text n shown a ≡ line_text n new.history a
+pub line_shows_none : (turns n : ℕ) (command : Command) (a : Response) (shown : List EntryValue) (old new : Machine) → (command ≡ History → ⊥) →
+    AnswersCommand turns command a old new → line_text n shown a ≡ line_text n new.history a
 line_shows_none turns n command Whole shown old new other h = absurd (not_whole turns command old new other h)
 line_shows_none turns n command (Checked true) shown old new other h = refl
 line_shows_none turns n command _ shown old new other h = refl

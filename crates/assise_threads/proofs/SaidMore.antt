@@ -1,9 +1,6 @@
 -- More is said and written behind what was.
-use Rattle.std.proofs.Common.{◌∙◌, ℕ, List, [], ◌∷◌, ◌++◌, Option, None, Some, sym, ap, subst, append_assoc, append-nil}
-use Rattle.std.specs.Io.KnownBytes.{Appends}
-use Rattle.assise_model_events.specs.Machine.{Machine}
-use Rattle.assise_threads.specs.Runs.{IsSaid}
-use Rattle.assise_threads.specs.Said.{Said}
+use Rattle.assise_threads.proofs.Common.{◌∙◌, ℕ, List, [], ◌∷◌, ◌++◌, Option, None, Some, sym, ap, subst, append_assoc, append-nil, Appends, Machine, IsSaid}
+use Rattle.assise_threads.proofs.Common.{Said}
 
 -- ---- what is written
 

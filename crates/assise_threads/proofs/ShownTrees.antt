@@ -1,8 +1,6 @@
 -- The tree that a node's region alone spells is that of the replicated calls.
-use Rattle.std.proofs.Common.{◌≡◌, ℕ, List, [], ◌∷◌, Option, None, Some, map, refl, sym, ap, ◌∙◌, subst}
-use Rattle.std.specs.Prelude.{filter}
-use Rattle.std.proofs.Math.Logic.{∥∥₁_map}
-use Rattle.assise_names.specs.declared.refusal.Refusal.TheVariants.{BadNode, OutOfMemory, WrongPhase}
+use Rattle.assise_threads.proofs.Common.{◌≡◌, ℕ, List, [], ◌∷◌, Option, None, Some, map, refl, sym, ap, ◌∙◌, subst, filter, ∥∥₁_map, BadNode, OutOfMemory}
+use Rattle.assise_threads.proofs.Common.{WrongPhase, Machine, MachineInvariant, state_of, Response, Refused, Shown, Shows, is_shown, lacks_memory}
 use Rattle.assise_seq_tree.specs.Runs.{tree_after_calls}
 use Rattle.assise_seq_tree.specs.Tree.{Tree, opening}
 use Rattle.assise_history.specs.Kept.{tree_after}
@@ -14,13 +12,10 @@ use Rattle.assise_model_world.specs.World.{alone_at, first_unreplicated}
 use Rattle.assise_model_history.specs.Numbered.{kept_numbered, plain_call}
 use Rattle.assise_model_history.specs.Traces.{numbered_replicated}
 use Rattle.assise_model_events.specs.Faults.{node_fault, unless_full}
-use Rattle.assise_model_events.specs.Machine.{Machine, MachineInvariant, state_of}
 use Rattle.assise_model_events.proofs.Whatever.{safe}
 use Rattle.assise_machine.specs.Headline.{kept_below}
 use Rattle.assise_machine.proofs.Replicated.{kept_below_is}
-use Rattle.assise_console.specs.declared.response.Response.{Response}
-use Rattle.assise_console.specs.declared.response.Response.TheVariants.{Refused, Tree as Shown}
-use Rattle.assise_console.specs.Steps.{Shows, is_shown, lacks_memory, is_refused}
+use Rattle.assise_console.specs.Steps.{is_refused}
 use Rattle.assise_threads.specs.Trees.{IsReplicatedTree}
 
 is_full : (s : Option Standing) → unless_full WrongPhase s ≡ None → s ≡ Some full
@@ -48,7 +43,8 @@ module _ (m : Machine) (h : MachineInvariant m) where
         tree = spelled_is_one (alone_at m.world n) 0 t _ spells.tree all.tree ∙ sym same_tree;
       }
 
-pub shown_is_replicated : (m : Machine) (n : ℕ) (a : Response) → ∥ MachineInvariant m ∥₁ → Shows n a m → (t : Tree) → a ≡ Shown t → ∥ IsReplicatedTree m.history t ∥₁
+pub shown_is_replicated : (m : Machine) (n : ℕ) (a : Response) → ∥ MachineInvariant m ∥₁ → Shows n a m → (t : Tree) → a ≡ Shown t →
+    ∥ IsReplicatedTree m.history t ∥₁
 shown_is_replicated m n a holds (is_shown tree fine is spells) t same =
     let one : tree ≡ t = (let x : Shown tree ≡ Shown t = sym is ∙ same in cc) in
     ∥∥₁_map holds (λ h. replicated m h n t fine (subst (Spells (alone_at m.world n)) one spells))

@@ -1,19 +1,12 @@
 -- Frames that are carried, one after another.
-use Rattle.std.proofs.Common.{◌≡◌, ◌∙◌, ℕ, ◌+◌, ◌≤◌, ap, arith, Bool, true, false, List, [], ◌∷◌, ◌++◌, map, None, Some, Result, Ok, Err, refl, sym, subst, append_assoc}
-use Rattle.std.specs.Prelude.{is_ok, min}
+use Rattle.assise_workers.proofs.Common.{◌≡◌, ◌∙◌, ℕ, ◌+◌, ◌≤◌, ap, arith, Bool, true, false, List, [], ◌∷◌, ◌++◌, map, None, Some, Result, Ok, Err, refl, sym}
+use Rattle.assise_workers.proofs.Common.{subst, append_assoc, is_ok, min, AllByRecursion, map-append, Refusal, EntryValue, InOneTurn, Answer, ClusterEvent}
+use Rattle.assise_workers.proofs.Common.{deliver, received, HasCarried, HasDone, IsRead, AreReadBy, letter_of, letters_seen}
 use Rattle.std.specs.Int.{from_bool}
-use Rattle.std.specs.List.{AllByRecursion}
 use Rattle.std.proofs.lemmas.Bool.Decides.{nat_tests}
-use Rattle.std.proofs.lemmas.List.{map-append}
-use Rattle.assise_names.specs.declared.refusal.Refusal.{Refusal}
-use Rattle.assise_history.specs.Entries.{EntryValue}
-use Rattle.assise_libfs.specs.InTurns.{InOneTurn}
 use Rattle.assise_machine.specs.Answers.{delivery_answer}
-use Rattle.assise_model_events.specs.Events.{Answer, ClusterEvent, deliver, received}
 use Rattle.assise_record.specs.LogFrame.{LogFrame}
 use Rattle.assise_rounds.specs.Rounds.{AreSame, Carried, IsSame, deliveries, delivery, letter, taken}
-use Rattle.assise_workers.specs.Acting.{HasCarried, HasDone, IsRead}
-use Rattle.assise_workers.specs.Letters.{AreReadBy, letter_of, letters_seen}
 use Rattle.assise_workers.specs.Taking.{taken_for}
 use Rattle.assise_workers.specs.declared.letter.Letter.{Letter}
 
@@ -32,7 +25,8 @@ one_if_ok (Err q) b count is one = (let x : b ≡ false = is in one ∙ ap from_
 
 deliveries-append : (cs ds : List Carried) → deliveries (cs ++ ds) ≡ deliveries cs ++ deliveries ds
 deliveries-append [] ds = refl
-deliveries-append (c ∷ cs) ds = ap (λ es. delivery c.node c.came ++ es) (deliveries-append cs ds) ∙ sym (append_assoc (delivery c.node c.came) (deliveries cs) (deliveries ds))
+deliveries-append (c ∷ cs) ds =
+    ap (λ es. delivery c.node c.came ++ es) (deliveries-append cs ds) ∙ sym (append_assoc (delivery c.node c.came) (deliveries cs) (deliveries ds))
 
 all-append : (P : Carried → Type 0) (cs ds : List Carried) → AllByRecursion P cs → AllByRecursion P ds → AllByRecursion P (cs ++ ds)
 all-append P [] ds all more = more
@@ -59,7 +53,8 @@ one_taken f g n _ = refl
 -- ---- what came of letters
 
 module _ {S : Type 0} (history : S → List EntryValue) (acts : S → ClusterEvent → Answer → S → Type 0) where
-  done-append : (xs ys : List (ClusterEvent × Answer)) (a b d : List EntryValue) → HasDone history acts xs a b → HasDone history acts ys b d → HasDone history acts (xs ++ ys) a d
+  done-append : (xs ys : List (ClusterEvent × Answer)) (a b d : List EntryValue) → HasDone history acts xs a b → HasDone history acts ys b d →
+      HasDone history acts (xs ++ ys) a d
   done-append [] ys a b d same more = subst (λ z. HasDone history acts ys z d) same more
   done-append (x ∷ xs) ys a b d (mid, (first, rest)) more = (mid, (first, done-append xs ys mid b d rest more))
 
@@ -76,7 +71,8 @@ module _ {S : Type 0} (history : S → List EntryValue) (acts : S → ClusterEve
     })
 
     -- one came, and was answered so
-    pub one_carried : (f g : LogFrame) (n count : ℕ) (x : Answer) (a b : List EntryValue) → (F → g ≡ f) → g.version ≤ reads n → count ≡ taken_for x → InOneTurn history acts (deliver g n) x a b → HasCarried history acts F reads ((f, n) ∷ []) count a b
+    pub one_carried : (f g : LogFrame) (n count : ℕ) (x : Answer) (a b : List EntryValue) → (F → g ≡ f) → g.version ≤ reads n → count ≡ taken_for x →
+        InOneTurn history acts (deliver g n) x a b → HasCarried history acts F reads ((f, n) ∷ []) count a b
     one_carried f g n count x a b same read is turn = record {
       carried = record { frame = f; node = n; came = Some (g, x) } ∷ [];
       all = refl;
@@ -96,27 +92,36 @@ module _ {S : Type 0} (history : S → List EntryValue) (acts : S → ClusterEve
           all = map-append letter x.carried y.carried ∙ ap (λ ks. ks ++ map letter y.carried) x.all ∙ ap (λ ks. ls ++ ks) y.all;
           same = λ faithful. all-append (λ c. IsSame c.frame c.came) x.carried y.carried (x.same faithful) (y.same faithful);
           read = all-append (λ c. IsRead (reads c.node) c.came) x.carried y.carried x.read y.read;
-          done = subst (λ es. HasDone history acts es a d) (sym (deliveries-append x.carried y.carried)) (done-append (deliveries x.carried) (deliveries y.carried) a b d x.done y.done);
+          done = subst (λ es. HasDone history acts es a d) (sym (deliveries-append x.carried y.carried))
+              (done-append (deliveries x.carried) (deliveries y.carried) a b d x.done y.done);
           counts = record {
             few = (let m = min_le (n + k) 18446744073709551615 in omega (arith, is, sum, x.counts.few, y.counts.few, m));
-            all = λ less. (let e = x.counts.all (omega (arith, sum, less)) in let f = y.counts.all (omega (arith, sum, less)) in let m = min_small (n + k) 18446744073709551615 (omega (arith, sum, less, e, f)) in omega (arith, is, sum, e, f, m));
+            all = λ less. (let e = x.counts.all (omega (arith, sum, less)) in let f = y.counts.all (omega (arith, sum, less)) in
+                let m = min_small (n + k) 18446744073709551615 (omega (arith, sum, less, e, f)) in omega (arith, is, sum, e, f, m));
           };
         }
 
     -- these went, and then one more
     pub one_more_carried : (ls : List Letter) (l : Letter) (n k both : ℕ) (a b d : List EntryValue) → both ≡ min (n + k) 18446744073709551615
-        → HasCarried history acts F reads (letters_seen ls) n a b → HasCarried history acts F reads (letter_of l ∷ []) k b d → HasCarried history acts F reads (letters_seen (ls ++ l ∷ [])) both a d
+        → HasCarried history acts F reads (letters_seen ls) n a b → HasCarried history acts F reads (letter_of l ∷ []) k b d →
+        HasCarried history acts F reads (letters_seen (ls ++ l ∷ [])) both a d
     one_more_carried ls l n k both a b d is x y =
-        subst (λ ms. HasCarried history acts F reads ms both a d) (sym (map-append letter_of ls (l ∷ []))) (then_carried (letters_seen ls) (letter_of l ∷ []) n k both a b d is x y)
+        subst (λ ms. HasCarried history acts F reads ms both a d) (sym (map-append letter_of ls (l ∷ [])))
+        (then_carried (letters_seen ls) (letter_of l ∷ []) n k both a b d is x y)
 
     -- these went, then one more, and the rest didn't
     pub rest_kept : (ls : List Letter) (l : Letter) (rest all : List Letter) (n k : ℕ) (a b d : List EntryValue) → ls ++ l ∷ rest ≡ all
-        → HasCarried history acts F reads (letters_seen ls) n a b → HasCarried history acts F reads (letter_of l ∷ []) k b d → (x : ℕ) × HasCarried history acts F reads (letters_seen all) x a d
+        → HasCarried history acts F reads (letters_seen ls) n a b → HasCarried history acts F reads (letter_of l ∷ []) k b d →
+        (x : ℕ) × HasCarried history acts F reads (letters_seen all) x a d
     rest_kept ls l rest all n k a b d whole x y =
         let one = then_carried (letters_seen ls) (letter_of l ∷ []) n k (min (n + k) 18446744073709551615) a b d refl x y in
         let both = min (min (n + k) 18446744073709551615 + 0) 18446744073709551615 in
-        let more = then_carried (letters_seen ls ++ letter_of l ∷ []) (letters_seen rest) (min (n + k) 18446744073709551615) 0 both a d d refl one (none_carried (letters_seen rest) d) in
-        (both, subst (λ ms. HasCarried history acts F reads ms both a d) (append_assoc (letters_seen ls) (letter_of l ∷ []) (letters_seen rest) ∙ (sym (map-append letter_of ls (l ∷ rest)) ∙ ap letters_seen whole)) more)
+        let more = then_carried (letters_seen ls ++ letter_of l ∷ []) (letters_seen rest) (min (n + k) 18446744073709551615) 0 both a d d refl one
+        (none_carried (letters_seen rest) d) in (
+          both,
+          subst (λ ms. HasCarried history acts F reads ms both a d)
+              (append_assoc (letters_seen ls) (letter_of l ∷ []) (letters_seen rest) ∙ (sym (map-append letter_of ls (l ∷ rest)) ∙ ap letters_seen whole)) more,
+        )
 
 -- ---- what is read
 

@@ -1,22 +1,19 @@
 -- What follows of lists of calls.
-use Rattle.std.proofs.Common.{◌≡◌, ℕ, suc, ◌+◌, ◌<◌, List, [], ◌∷◌, ◌++◌, length, map, take, get_or, sym, refl, ap, ◌∙◌, subst, arith, append_assoc, append-nil, add-zero, length-append, Result, Ok, Err, Bor}
-use Rattle.std.proofs.lemmas.List.{map-append, take_more}
-use Rattle.std.specs.Prelude.{IfErr, IfOk}
+use Rattle.assise_workers.proofs.Common.{◌≡◌, ℕ, suc, ◌+◌, ◌<◌, List, [], ◌∷◌, ◌++◌, length, map, take, get_or, sym, refl, ap, ◌∙◌, subst, arith, append_assoc}
+use Rattle.assise_workers.proofs.Common.{append-nil, add-zero, length-append, Result, Ok, Err, Bor, map-append, take_more, IfErr, IfOk, Refusal, EntryValue}
+use Rattle.assise_workers.proofs.Common.{calls, calls_by, Extends, AreCallsMade, IsCallMade, SeesAll, told_all}
 use Rattle.assise_names.specs.declared.call.Op.{Op}
-use Rattle.assise_names.specs.declared.refusal.Refusal.{Refusal}
 use Rattle.assise_names.specs.declared.reply.Reply.{Reply}
-use Rattle.assise_history.specs.Entries.{EntryValue, calls}
 use Rattle.assise_history.specs.Legal.{calls_made}
-use Rattle.assise_keeper.specs.Clients.{calls_by, Extends}
 use Rattle.assise_libfs.specs.Calling.{MayRefuse, SeesCall, told_call}
 use Rattle.assise_libfs.proofs.Tries.{one-extends, others-extends}
-use Rattle.assise_workers.specs.Told.{AreCallsMade, IsCallMade, SeesAll, told_all}
 
 pub extends-on : (d b a : List EntryValue) → Extends d b → Extends b a → Extends d a
 extends-on d b a e f = (f.0 ++ e.0, e.1 ∙ (ap (λ z. z ++ e.0) f.1 ∙ append_assoc a f.0 e.0))
 
 -- one more of values that are lent
-pub lent_more : {A : Type 0} (xs : List (Bor A)) (i : ℕ) (d : Bor A) → i < length xs → map (λ x. x.now) (take (i + 1) xs) ≡ map (λ x. x.now) (take i xs) ++ (get_or xs i d).now ∷ []
+pub lent_more : {A : Type 0} (xs : List (Bor A)) (i : ℕ) (d : Bor A) → i < length xs → map (λ x. x.now) (take (i + 1) xs)
+    ≡ map (λ x. x.now) (take i xs) ++ (get_or xs i d).now ∷ []
 lent_more xs i d within = ap (map (λ x. x.now)) (take_more xs i d within) ∙ map-append (λ x. x.now) (take i xs) (get_or xs i d ∷ [])
 
 -- two facts of a value that came
@@ -37,13 +34,15 @@ told-append c k (o ∷ ops) (Err refusal ∷ rs) more came same = let n : length
 told-append c k _ _ more came same = absurd (omega (arith, same))
 
 -- one call more
-pub one_made : (T : ℕ → Op → List EntryValue → Result Reply Refusal → List EntryValue → Type 0) (c : ℕ) (ops : List Op) (a : List EntryValue) (rs : List (Result Reply Refusal)) (b : List EntryValue) (op : Op) (r : Result Reply Refusal) (d : List EntryValue)
+pub one_made : (T : ℕ → Op → List EntryValue → Result Reply Refusal → List EntryValue → Type 0) (c : ℕ) (ops : List Op) (a : List EntryValue)
+    (rs : List (Result Reply Refusal)) (b : List EntryValue) (op : Op) (r : Result Reply Refusal) (d : List EntryValue)
     → AreCallsMade T c ops a rs b → IsCallMade T c op b r d → AreCallsMade T c (ops ++ op ∷ []) a (rs ++ r ∷ []) d
 one_made T c [] a [] b op r d made one = (d, (subst (λ z. IsCallMade T c op z r d) made one, refl))
 one_made T c (o ∷ ops) a (q ∷ rs) b op r d made one = (made.0, (made.1.0, one_made T c ops made.0 rs b op r d made.1.1 one))
 one_made T c _ a _ b op r d made one = absurd made
 
-module _ (T : ℕ → Op → List EntryValue → Result Reply Refusal → List EntryValue → Type 0) (c : ℕ) (ops : List Op) (a : List EntryValue) (rs : List (Result Reply Refusal)) (b : List EntryValue) (s : SeesAll T c ops a rs b) where
+module _ (T : ℕ → Op → List EntryValue → Result Reply Refusal → List EntryValue → Type 0) (c : ℕ) (ops : List Op) (a : List EntryValue)
+    (rs : List (Result Reply Refusal)) (b : List EntryValue) (s : SeesAll T c ops a rs b) where
   count_more : (op : Op) (r : Result Reply Refusal) → length (rs ++ r ∷ []) ≡ length (ops ++ op ∷ [])
   count_more op r = let n = s.count in omega (arith, length-append rs (r ∷ []), length-append ops (op ∷ []))
 
@@ -54,7 +53,8 @@ module _ (T : ℕ → Op → List EntryValue → Result Reply Refusal → List E
   one_more op (Ok reply) d was =
       let one = was.0 in
       let so_far = told_all c (calls_made c a) ops rs in
-      let call : told_call c b op reply ∷ [] ≡ told_all c (calls_made c a + length so_far) (op ∷ []) (Ok reply ∷ []) = ap (λ (k : ℕ). calls (record { client = c; number = k; op = op; reply = reply }) ∷ []) number in
+      let call : told_call c b op reply ∷ [] ≡ told_all c (calls_made c a + length so_far) (op ∷ []) (Ok reply ∷ []) =
+      ap (λ (k : ℕ). calls (record { client = c; number = k; op = op; reply = reply }) ∷ []) number in
       record {
         count = count_more op (Ok reply);
         extends = extends-on d b a (one-extends c b d (told_call c b op reply) one) s.extends;
@@ -68,10 +68,12 @@ module _ (T : ℕ → Op → List EntryValue → Result Reply Refusal → List E
       record {
         count = count_more op (Err refusal);
         extends = extends-on d b a (others-extends c b d one) s.extends;
-        told = one.same ∙ (s.told ∙ ap (λ z. calls_by c a ++ z) (sym (append-nil so_far) ∙ sym (told-append c (calls_made c a) ops rs (op ∷ []) (Err refusal ∷ []) s.count)));
+        told = one.same ∙ (s.told ∙ ap (λ z. calls_by c a ++ z)
+            (sym (append-nil so_far) ∙ sym (told-append c (calls_made c a) ops rs (op ∷ []) (Err refusal ∷ []) s.count)));
         each = one_made T c ops a rs b op (Err refusal) d s.each was;
       }
 
-pub one_more_of : (T : ℕ → Op → List EntryValue → Result Reply Refusal → List EntryValue → Type 0) (c d : ℕ) (ops : List Op) (a : List EntryValue) (rs : List (Result Reply Refusal)) (b : List EntryValue) (op : Op) (r : Result Reply Refusal) (e : List EntryValue) → d ≡ c
+pub one_more_of : (T : ℕ → Op → List EntryValue → Result Reply Refusal → List EntryValue → Type 0) (c d : ℕ) (ops : List Op) (a : List EntryValue)
+    (rs : List (Result Reply Refusal)) (b : List EntryValue) (op : Op) (r : Result Reply Refusal) (e : List EntryValue) → d ≡ c
     → SeesAll T c ops a rs b → SeesCall d op b r e → IfErr r (MayRefuse d op e) → T d op b r e → SeesAll T c (ops ++ op ∷ []) a (rs ++ r ∷ []) e
 one_more_of T c d ops a rs b op r e same s one fits turns = one_more T c ops a rs b s op r e (subst (λ z. IsCallMade T z op b r e) same (one, (fits, turns)))

@@ -1,8 +1,8 @@
 -- Lists whose places are tied to one another.
-use Rattle.std.proofs.Common.{◌≡◌, ◌∙◌, suc, List, [], ◌∷◌, ◌++◌, map, length, sym, ap, subst, arith, append-nil, append_assoc}
-use Rattle.std.specs.List.{AllZip}
+use Rattle.assise_workers.proofs.Common.{◌≡◌, ◌∙◌, suc, List, [], ◌∷◌, ◌++◌, map, length, sym, ap, subst, arith, append-nil, append_assoc, AllZip}
 
-pub all_zip-push : {A B : Type 0} (R : A → B → Type 0) (xs : List A) (ys : List B) (x : A) (y : B) → AllZip R xs ys → R x y → AllZip R (xs ++ x ∷ []) (ys ++ y ∷ [])
+pub all_zip-push : {A B : Type 0} (R : A → B → Type 0) (xs : List A) (ys : List B) (x : A) (y : B) → AllZip R xs ys → R x y →
+    AllZip R (xs ++ x ∷ []) (ys ++ y ∷ [])
 all_zip-push R [] [] x y all one = (one, tt)
 all_zip-push R (a ∷ xs) (b ∷ ys) x y all one = (all.0, all_zip-push R xs ys x y all.1 one)
 all_zip-push R _ _ x y all one = absurd all
@@ -12,7 +12,8 @@ all_zip-map f R [] [] all = tt
 all_zip-map f R (h ∷ hs) (b ∷ ys) all = (all.0, all_zip-map f R hs ys all.1)
 all_zip-map f R _ _ all = absurd all
 
-pub zip_pushed : {A B : Type 0} (R : A → B → Type 0) (xs : List A) (ys zs : List B) (x : A) (y : B) → zs ≡ ys ++ y ∷ [] → AllZip R xs ys → R x y → AllZip R (xs ++ x ∷ []) zs
+pub zip_pushed : {A B : Type 0} (R : A → B → Type 0) (xs : List A) (ys zs : List B) (x : A) (y : B) → zs ≡ ys ++ y ∷ [] → AllZip R xs ys → R x y →
+    AllZip R (xs ++ x ∷ []) zs
 zip_pushed R xs ys zs x y is all one = subst (AllZip R (xs ++ x ∷ [])) (sym is) (all_zip-push R xs ys x y all one)
 
 pub all_taken : {A : Type 0} (xs rest all : List A) → xs ++ rest ≡ all → length rest ≡ 0 → xs ≡ all

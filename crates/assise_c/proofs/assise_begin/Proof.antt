@@ -1,35 +1,13 @@
 -- The export writes an empty desk into memory that nothing is known of.
-use Rattle.std.proofs.Common.{◌≡◌, List, None, [], ◌∷◌, ◌++◌, refl, sym, ap, ◌∙◌}
-use base.Fraction.{full_share}
-use mir.Val.{Val, vptr, vunit}
-use base.Logic.{SProp, emp, sep, never, id⊢, ex, ex_i}
-use prog.Wp.{WpFn}
-use types.Logic.{sem}
-use types.Kit.{‵, raw, ◌⊛◌, some, later, prop, at_ret, ◌$◌, ◌∵◌, !, qed, by, move, keep, drop, use0, use1, use2, split, join, fsplit, fjoin, feq_i, pick, await, rewrite, regoal}
-use types.Run.{stop, unit_lit, init, of_opd, no_more, first, blocks, assigns_last, exec, returns, enter}
-use types.ByLocal.{alloc_all, pass_all, free_all, look_at, get, through, sets, lands_as, env}
-use contract.Monad.{fact, fact_i}
-use contract.Running.{tables}
-use denote.Exit.{yes}
-use denote.RattleType.{RattleType, owns}
-use denote.Laws.{Is, shows}
-use denote.Memory.{part_at}
-use denote.Signature.{types_at, plain}
-use denote.Builtin.{RawPtr}
-use denote.RawPtr.{Ptr, ptr_val, lies_at, room_at, in_a_block}
-use denote.Steps.{nothing, heard, peeks}
-use denote.Triple.Clauses.{Lasts, lasts}
-use denote.Triple.Entry.{alive}
-use denote.Triple.Spec.{triple_of}
-use denote.Triple.Call.{calls_at}
-use denote.Triple.Table.{framed}
-use denote.Triple.Walked.{Stays, stay_dropped, walk_of, Goes-dropped}
-use borrow.Table.OneValue.{part_in}
-use Rattle.std.proofs.raw_atomic.Walks.{proved_at, leaves}
-use Rattle.assise_desk.specs.declared.caller_desk.CallerDesk.{CallerDesk as Desk}
+use Rattle.assise_c.proofs.Common.{◌≡◌, List, None, [], ◌∷◌, ◌++◌, refl, sym, ap, ◌∙◌, full_share, Val, vptr, vunit, SProp, emp, sep, never, id⊢, ex, ex_i}
+use Rattle.assise_c.proofs.Common.{WpFn, sem, ‵, raw, ◌⊛◌, some, later, prop, at_ret, ◌$◌, ◌∵◌, !, qed, by, move, keep, drop, use0, use1, use2, split, join}
+use Rattle.assise_c.proofs.Common.{fsplit, fjoin, feq_i, pick, await, rewrite, regoal, stop, unit_lit, init, of_opd, no_more, first, blocks, assigns_last, exec}
+use Rattle.assise_c.proofs.Common.{returns, enter, alloc_all, pass_all, free_all, look_at, get, through, sets, lands_as, env, fact, fact_i, tables, yes}
+use Rattle.assise_c.proofs.Common.{RattleType, owns, Is, shows, part_at, types_at, plain, RawPtr, Ptr, ptr_val, lies_at, room_at, in_a_block, nothing, heard}
+use Rattle.assise_c.proofs.Common.{peeks, Lasts, lasts, alive, triple_of, calls_at, framed, Stays, stay_dropped, walk_of, Goes-dropped, part_in, proved_at}
+use Rattle.assise_c.proofs.Common.{leaves, Desk, cluster_at}
 use Rattle.assise_desk.specs.contracts.caller_desk.CallerDesk as desk
 use Rattle.assise_desk.proofs.caller_desk.CallerDesk.TheLaws as desk_laws
-use Rattle.assise_desk.specs.DeskAnswers.{cluster_at}
 use Rattle.assise_c.specs.contracts.empty as g
 use Rattle.assise_c.proofs.empty.Met.{met}
 use Rattle.assise_c.specs.contracts.assise_begin as f

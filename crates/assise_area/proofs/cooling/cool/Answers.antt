@@ -1,6 +1,4 @@
-use Rattle.std.proofs.Common.{◌≡◌, [], drop, ◌∙◌}
-use Rattle.std.specs.Map.{keys_of}
-use Rattle.assise_inode_table.specs.Contents.{regular}
+use Rattle.assise_area.proofs.Common.{◌≡◌, [], drop, ◌∙◌, keys_of, regular}
 use Rattle.assise_area.proofs.Cooled.{beyond_absent, beyond_placed, cooled}
 use Rattle.assise_area.proofs.cooling.cool.Goals as goal
 use Rattle.assise_area.proofs.cooling.cool.Goals.{After-as_slice}

@@ -1,6 +1,4 @@
-use Rattle.std.proofs.Common.{◌≡◌, ◌<◌, ◌-◌, length, refl, sym, ap, ◌∙◌, arith, take, drop}
-use Rattle.std.specs.Option.{option_or}
-use Rattle.assise_area.specs.Parts.{cold_at, hot_at}
+use Rattle.assise_area.proofs.Common.{◌≡◌, ◌<◌, ◌-◌, length, refl, sym, ap, ◌∙◌, arith, take, drop, option_or, cold_at, hot_at}
 use Rattle.assise_area.proofs.Cooled.{last_moved, last_placed, length_shorter, shorter_prefix, take_fewer}
 use Rattle.assise_area.proofs.cooling.move_beyond.Goals as goal
 
@@ -9,7 +7,8 @@ overwrite-requires c =
     let hot = c.loop-hot.hot.entries in
     let more : c.args.first < length hot = omega (arith, c.loop-hot-test.true, c.len.ensures.len) in
     record {
-      there = last_placed (length hot) c.args.hot.now.entries hot c.in-Some.entry (omega (arith, more)) c.loop-hot.invariant.prefix (sym c.in-Some.ensures.value)
+      there = last_placed (length hot) c.args.hot.now.entries hot c.in-Some.entry (omega (arith, more)) c.loop-hot.invariant.prefix
+          (sym c.in-Some.ensures.value)
           c.args.first c.args.cold.now.entries c.loop-hot.cold.entries more c.requires.places c.loop-hot.invariant.moved;
     }
 

@@ -1,6 +1,4 @@
-use Rattle.std.proofs.Common.{◌≡◌, ℕ, drop, length, take}
-use Rattle.std.specs.Option.{option_or}
-use Rattle.assise_area.specs.Parts.{cold_at, hot_at}
+use Rattle.assise_area.proofs.Common.{◌≡◌, ℕ, drop, length, take, option_or, cold_at, hot_at}
 use Rattle.assise_area.proofs.cooling.move_beyond.Given as goal
 
 abbrev pub invariant-loop-hot : goal.invariant-loop-hot

@@ -1,5 +1,4 @@
-use Rattle.std.proofs.Common.{None, take}
-use Rattle.assise_area.specs.Parts.{AreWritten}
+use Rattle.assise_area.proofs.Common.{None, take, AreWritten}
 use Rattle.assise_area.proofs.cooling.take_places.Given as goal
 
 abbrev pub invariant-loop-number : goal.invariant-loop-number

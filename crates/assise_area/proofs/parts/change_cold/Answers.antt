@@ -1,6 +1,4 @@
-use Rattle.std.proofs.Common.{◌∙◌, ap, sym, nat_eq, Some}
-use Rattle.std.proofs.lemmas.Map.Steps.{set_value_same}
-use Rattle.assise_inode_table.proofs.TableView.{on_err}
+use Rattle.assise_area.proofs.Common.{◌∙◌, ap, sym, nat_eq, Some, set_value_same, on_err}
 use Rattle.assise_area.proofs.parts.change_cold.Goals as goal
 
 pub returns-in_err-change-clause-err : goal.returns-in_err-change-clause-err

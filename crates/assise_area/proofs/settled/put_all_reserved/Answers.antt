@@ -1,9 +1,5 @@
-use Rattle.std.proofs.Common.{◌∙◌, ap, arith, sym}
+use Rattle.assise_area.proofs.Common.{◌∙◌, ap, arith, sym, option_or, nat_cmp, spare, value_in}
 use Rattle.std.specs.FinMap as map
-use Rattle.std.specs.Option.{option_or}
-use Rattle.std.specs.Ordering.{nat_cmp}
-use Rattle.indexmap.specs.IndexMap.{spare}
-use Rattle.assise_area.specs.Parts.{value_in}
 use Rattle.assise_area.proofs.AllPut.{fewer, put_next, room_left, some_there}
 use Rattle.assise_area.proofs.settled.put_all_reserved.Goals as goal
 
@@ -30,7 +26,8 @@ loop-inode-preserved c =
       keys = put.keys ∙ kept.keys;
       cap = put.cap ∙ kept.cap;
       disjoint = put.disjoint;
-      values = λ q. put_next all rest k v there others c.loop-inode.hot.entries c.loop-inode.cold.entries c.put_reserved.new.hot.entries c.put_reserved.new.cold.entries put.values q ∙ kept.values q;
+      values = λ q. put_next all rest k v there others c.loop-inode.hot.entries c.loop-inode.cold.entries c.put_reserved.new.hot.entries
+          c.put_reserved.new.cold.entries put.values q ∙ kept.values q;
     }
 
 pub returns-clause-values : goal.returns-clause-values

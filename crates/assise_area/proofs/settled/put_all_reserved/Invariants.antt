@@ -1,9 +1,5 @@
-use Rattle.std.proofs.Common.{◌≡◌, ◌≤◌, ℕ}
+use Rattle.assise_area.proofs.Common.{◌≡◌, ◌≤◌, ℕ, keys_of, option_or, spare, AreDisjoint, value_in}
 use Rattle.std.specs.FinMap as map
-use Rattle.std.specs.Map.{keys_of}
-use Rattle.std.specs.Option.{option_or}
-use Rattle.indexmap.specs.IndexMap.{spare}
-use Rattle.assise_area.specs.Parts.{AreDisjoint, value_in}
 use Rattle.assise_area.proofs.settled.put_all_reserved.Given as goal
 
 -- those that are still to come, put over what is held, are as all of them over what was held

@@ -1,4 +1,4 @@
-use Rattle.std.proofs.Common.{◌≡◌, ◌++◌, map, true}
+use Rattle.assise_chain.proofs.Common.{◌≡◌, ◌++◌, map, true}
 use Rattle.assise_chain.proofs.acceptance.accept.Given as goal
 
 -- what the log had, and then what came so far

@@ -1,6 +1,4 @@
-use Rattle.std.proofs.Common.{[], ◌∷◌, ap, ◌∙◌, subst}
-use Rattle.assise_chain.specs.Chains.{behind, chain}
-use Rattle.assise_chain.specs.Lists.{AllDiffer}
+use Rattle.assise_chain.proofs.Common.{[], ◌∷◌, ap, ◌∙◌, subst, behind, chain, AllDiffer}
 use Rattle.assise_chain.proofs.Rows.{chain_differs}
 use Rattle.assise_chain.proofs.ChainOrder.{behind_other, behind_place}
 use Rattle.assise_chain.proofs.laws.each_node_passes_to_the_next.Goals as goal

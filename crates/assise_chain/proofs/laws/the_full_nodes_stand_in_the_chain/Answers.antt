@@ -1,4 +1,4 @@
-use Rattle.assise_chain.specs.Chains.{chain}
+use Rattle.assise_chain.proofs.Common.{chain}
 use Rattle.assise_chain.proofs.Rows.{in_chain, of_chain}
 use Rattle.assise_chain.proofs.ChainOrder.{nobody_behind}
 use Rattle.assise_chain.proofs.laws.the_full_nodes_stand_in_the_chain.Goals as goal

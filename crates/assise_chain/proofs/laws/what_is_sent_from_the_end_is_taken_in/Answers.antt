@@ -1,6 +1,4 @@
-use Rattle.std.proofs.Common.{◌≡◌, ◌-◌, drop, ap, ◌∙◌, arith}
-use Rattle.assise_private_log.specs.NumberedLog.{end}
-use Rattle.assise_chain.specs.Messages.{first_sent, sent}
+use Rattle.assise_chain.proofs.Common.{◌≡◌, ◌-◌, drop, ap, ◌∙◌, arith, end, first_sent, sent}
 use Rattle.assise_chain.proofs.RecordPrefixes.{parts_of_frame}
 use Rattle.assise_chain.proofs.laws.what_is_sent_from_the_end_is_taken_in.Goals as goal
 

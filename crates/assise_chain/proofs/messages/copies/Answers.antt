@@ -1,5 +1,4 @@
-use Rattle.std.proofs.Common.{List, [], ◌∷◌, take, append_assoc}
-use Rattle.assise_record.specs.LogRecord.{LogRecord}
+use Rattle.assise_chain.proofs.Common.{List, [], ◌∷◌, take, append_assoc, LogRecord}
 use Rattle.assise_chain.proofs.RecordPrefixes.{taken_first}
 use Rattle.assise_chain.proofs.messages.copies.Goals as goal
 

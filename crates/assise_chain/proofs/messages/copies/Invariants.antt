@@ -1,5 +1,4 @@
-use Rattle.std.proofs.Common.{◌≡◌, ◌++◌, take}
-use Rattle.assise_private_log.specs.NumberedLog.{records_from}
+use Rattle.assise_chain.proofs.Common.{◌≡◌, ◌++◌, take, records_from}
 use Rattle.assise_chain.proofs.messages.copies.Given as goal
 
 -- what was copied is the prefix of the records

@@ -1,5 +1,4 @@
-use Rattle.std.proofs.Common.{◌≡◌}
-use Rattle.assise_chain.specs.Messages.{last_marks}
+use Rattle.assise_chain.proofs.Common.{◌≡◌, last_marks}
 use Rattle.assise_chain.proofs.messages.last_marks.Given as goal
 
 abbrev pub invariant-loop-place : goal.invariant-loop-place

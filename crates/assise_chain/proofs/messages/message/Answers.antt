@@ -1,7 +1,6 @@
-use Rattle.std.proofs.Common.{◌≡◌, ◌-◌, true, get_or, ◌<◌, length, ap, sym, ◌∙◌, Some, arith}
-use Rattle.assise_private_log.specs.NumberedLog.{is_border}
-use Rattle.assise_chain.specs.Messages.{first_sent, frame_of, last_marks, sent}
-use Rattle.assise_chain.proofs.RecordPrefixes.{IsCounted, frame_of_none, marked_some, marks_last, marks_length, plain_some, sent_border, sent_first, sent_length}
+use Rattle.assise_chain.proofs.Common.{◌≡◌, ◌-◌, true, get_or, ◌<◌, length, ap, sym, ◌∙◌, Some, arith, is_border, first_sent, frame_of, last_marks, sent}
+use Rattle.assise_chain.proofs.RecordPrefixes.{IsCounted, frame_of_none, marked_some, marks_last, marks_length, plain_some, sent_border, sent_first}
+use Rattle.assise_chain.proofs.RecordPrefixes.{sent_length}
 use Rattle.assise_chain.proofs.messages.message.Goals as goal
 use Rattle.assise_chain.proofs.messages.message.Goals.{After-whole_count-count, In_ok-records}
 

@@ -1,6 +1,4 @@
-use Rattle.std.proofs.Common.{◌↔◌, IsTrue, refl, subst}
-use Rattle.assise_history.specs.Legal.{IsLegal}
-use Rattle.assise_console.specs.Steps.{is_verdict}
+use Rattle.assise_console.proofs.Common.{◌↔◌, IsTrue, refl, subst, IsLegal, is_verdict}
 use Rattle.assise_console.proofs.commands.check.Goals as goal
 
 pub returns-in-Ok : goal.returns-in-Ok

@@ -1,7 +1,4 @@
-use Rattle.std.proofs.Common.{rules, ◌≡◌, refl, subst}
-use Rattle.assise_model_events.specs.Events.{hot_set, refused}
-use Rattle.assise_model_events.specs.NodeEvents.{SettingHot}
-use Rattle.assise_machine.specs.Clusters.{machine}
+use Rattle.assise_console.proofs.Common.{rules, ◌≡◌, refl, subst, hot_set, refused, SettingHot, machine}
 use Rattle.assise_console.proofs.SmallNumbers.{no_node_so_large}
 use Rattle.assise_console.proofs.OneCommand.{hot_nowhere, sets_hot}
 use Rattle.assise_console.proofs.commands.set_hot.Goals as goal
@@ -16,12 +13,16 @@ pub returns-in-Ok : goal.returns-in-Ok
 returns-in-Ok g c =
     let within = c.in-Some.ensures.within.0 refl in
     let same : c.get.result ≡ c.args.capacity = search rules in
-    sets_hot (machine c.args.cluster.now) c.args.node c.in-Some-number_of.node c.args.capacity _ _ (machine c.set_hot.new.self) c.in-Some-number_of.ensures.some within.0 within.1 (refl, refl)
-    (subst (λ capacity. SettingHot (machine c.args.cluster.now) c.in-Some-number_of.node capacity hot_set (machine c.set_hot.new.self)) same c.in-Ok.ensures.happens)
+    sets_hot (machine c.args.cluster.now) c.args.node c.in-Some-number_of.node c.args.capacity _ _ (machine c.set_hot.new.self) c.in-Some-number_of.ensures.some
+    within.0 within.1 (refl, refl)
+    (subst (λ capacity. SettingHot (machine c.args.cluster.now) c.in-Some-number_of.node capacity hot_set (machine c.set_hot.new.self)) same
+    c.in-Ok.ensures.happens)
 
 pub returns-in-Err : goal.returns-in-Err
 returns-in-Err g c =
     let within = c.in-Some.ensures.within.0 refl in
     let same : c.get.result ≡ c.args.capacity = search rules in
-    sets_hot (machine c.args.cluster.now) c.args.node c.in-Some-number_of.node c.args.capacity _ _ (machine c.set_hot.new.self) c.in-Some-number_of.ensures.some within.0 within.1 refl
-    (subst (λ capacity. SettingHot (machine c.args.cluster.now) c.in-Some-number_of.node capacity (refused c.in-Err.refusal) (machine c.set_hot.new.self)) same c.in-Err.ensures.happens)
+    sets_hot (machine c.args.cluster.now) c.args.node c.in-Some-number_of.node c.args.capacity _ _ (machine c.set_hot.new.self) c.in-Some-number_of.ensures.some
+    within.0 within.1 refl
+    (subst (λ capacity. SettingHot (machine c.args.cluster.now) c.in-Some-number_of.node capacity (refused c.in-Err.refusal) (machine c.set_hot.new.self)) same
+    c.in-Err.ensures.happens)

@@ -1,7 +1,4 @@
-use Rattle.std.proofs.Common.{rules, ◌≡◌, ◌<◌, ◌∙◌, ap, length, replicate, subst}
-use Rattle.assise_names.specs.declared.limits.TheConstants.{MOST_NODES}
-use Rattle.assise_link.specs.Kinds.{perfect}
-use Rattle.assise_link.specs.TestLinks.{kind_of_link}
+use Rattle.assise_console.proofs.Common.{rules, ◌≡◌, ◌<◌, ◌∙◌, ap, length, replicate, subst, MOST_NODES, perfect, kind_of_link}
 use Rattle.assise_console.proofs.Links.{all_alike}
 use Rattle.assise_console.proofs.console.perfect_links.Goals as goal
 

@@ -1,4 +1,4 @@
-use Rattle.assise_console.specs.Consoles.{console_seen, stocks}
+use Rattle.assise_console.proofs.Common.{console_seen, stocks}
 use Rattle.assise_console.proofs.PrintedLines.{on_ok}
 use Rattle.assise_console.proofs.ScriptRuns.{ran_all}
 use Rattle.assise_console.proofs.engine.run_commands.Goals as goal

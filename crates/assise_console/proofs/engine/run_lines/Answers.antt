@@ -1,7 +1,4 @@
-use Rattle.std.proofs.Common.{◌≡◌, ◌∙◌, ◌+◌, ◌++◌, ◌∷◌, [], refl, ap, subst, sym, take}
-use Rattle.std.proofs.lemmas.List.{take_more}
-use Rattle.assise_console.specs.Consoles.{console_seen}
-use Rattle.assise_console.specs.Lines.{Prints, line_text}
+use Rattle.assise_console.proofs.Common.{◌≡◌, ◌∙◌, ◌+◌, ◌++◌, ◌∷◌, [], refl, ap, subst, sym, take, take_more, console_seen, Prints, line_text}
 use Rattle.assise_console.proofs.PrintedLines.{appends-none, appends-then, prints-push}
 use Rattle.assise_console.proofs.engine.run_lines.Goals as goal
 
@@ -20,7 +17,8 @@ loop-command-preserved g c =
     let line = line_text command.line now.machine.history one.answer in
     let next : take (i + 1) commands ≡ take i commands ++ command ∷ [] =
     take_more commands i command c.loop-command-test.true ∙ ap (λ z. take i commands ++ z ∷ []) (sym c.command-item.is) in
-    let printed = prints-push first (take i commands) before.0 before.1.0 (console_seen c.loop-command.console) command one.told one.answer now before.1.1.0 one.serves in (
+    let printed = prints-push first (take i commands) before.0 before.1.0 (console_seen c.loop-command.console) command one.told one.answer now before.1.1.0
+    one.serves in (
       before.0 ++ one.told,
       (
         before.1.0 ++ line,

@@ -1,4 +1,4 @@
-use Rattle.assise_console.specs.Consoles.{console_seen}
+use Rattle.assise_console.proofs.Common.{console_seen}
 use Rattle.assise_console.proofs.PrintedLines.{appends-keeps, on_ok}
 use Rattle.assise_console.proofs.engine.run_to_end.Goals as goal
 

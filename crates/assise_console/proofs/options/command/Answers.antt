@@ -1,7 +1,4 @@
-use Rattle.std.proofs.Common.{◌≡◌, ◌∙◌, ap₂, rules}
-use Rattle.std.proofs.lemmas.Result.{IfOk-weaker}
-use Rattle.clap.specs.Words.{app_of, with_rule}
-use Rattle.assise_console.specs.CommandLine.{named, script_rule, turns_rule}
+use Rattle.assise_console.proofs.Common.{◌≡◌, ◌∙◌, ap₂, rules, IfOk-weaker, app_of, with_rule, named, script_rule, turns_rule}
 use Rattle.assise_console.proofs.options.command.Goals as goal
 
 pub returns : goal.returns

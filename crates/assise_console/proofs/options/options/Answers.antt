@@ -1,32 +1,22 @@
-use Rattle.std.proofs.Common.{◌≡◌, ◌∙◌, ◌<◌, ◌≤◌, ◌&&◌, ◌||◌, ap, subst, sym, refl, inl, inr, arith, zero, suc, ℕ, Bool, true, false, not, List, [], ◌∷◌, length, map, codes, Option, Some, None, is_some, true≢false, slice_index}
-use Rattle.std.specs.Prelude.{Result, option_map, pos}
-use Rattle.std.specs.List.{list_all, slice_index_or}
-use Rattle.std.specs.Str.{bytes_eq}
+use Rattle.assise_console.proofs.Common.{◌≡◌, ◌∙◌, ◌<◌, ◌≤◌, ◌&&◌, ◌||◌, ap, subst, sym, refl, inl, inr, arith, zero, suc, ℕ, Bool, true, false, not, List, []}
+use Rattle.assise_console.proofs.Common.{◌∷◌, length, map, codes, Option, Some, None, is_some, true≢false, slice_index, option_map, pos, list_all}
+use Rattle.assise_console.proofs.Common.{slice_index_or, bytes_eq, get_or-map, length-map, err_from_is_err_and, bytes_eq-Decides, required_has_value}
+use Rattle.assise_console.proofs.Common.{some_of_text, IsAuto, IsParsedFrom, IsPlain, args_of, least_values, unwrap_or_range, found_of, first_value, one_text}
+use Rattle.assise_console.proofs.Common.{ReadsOne, IsSignedIn, Rule, Text, first_of, one_of, rule_of, HasKind, fault_of, is_simple_and_free, kind_of, takes}
+use Rattle.assise_console.proofs.Common.{without_minus, Arg, Command, ArgMatches, faults_of, is_taken, number_written, program, reads_true, script_rule}
+use Rattle.assise_console.proofs.Common.{threads_rule, turns_rule}
+use Rattle.std.specs.Prelude.{Result}
 use Rattle.std.specs.Str.Parse.{ParsesUnsigned, ExplainsUnsignedError, HasUnsignedDigitsIfOk}
 use Rattle.std.specs.declared.num.ParseIntError.{ParseIntError}
-use Rattle.std.proofs.lemmas.List.{get_or-map, length-map}
-use Rattle.std.proofs.lemmas.Result.{err_from_is_err_and}
-use Rattle.std.proofs.lemmas.Slice.Eq.{bytes_eq-Decides}
-use Rattle.clap.proofs.CallerLemmas.{required_has_value, some_of_text}
 use Rattle.clap.proofs.CallerReads.{signed_reads}
 use Rattle.clap.proofs.OnLiterals.{clap_on_literals}
 use Rattle.clap.proofs.SimpleLemmas.{is_false, ready_simple, simple_groups}
 use Rattle.clap.proofs.TakesLemmas.{each_rule, free_arg}
 use Rattle.clap.proofs.WalkLemmas.{both, first_value-rows, one_text-rows}
-use Rattle.clap.specs.Built.{IsAuto, IsParsedFrom, IsPlain}
-use Rattle.clap.specs.Facts.{args_of, least_values, unwrap_or_range}
-use Rattle.clap.specs.Matches.{found_of, first_value, one_text, ReadsOne}
 use Rattle.clap.specs.Simple.{App, IsSimple, app_of, is_ready, is_ready_leaf, is_simple, matches_of}
-use Rattle.clap.specs.Values.{IsSignedIn}
-use Rattle.clap.specs.Walk.{Rule, Text, first_of, one_of, rule_of}
-use Rattle.clap.specs.Words.{HasKind, fault_of, is_simple_and_free, kind_of, takes, without_minus}
-use Rattle.clap.specs.declared.builder.arg.Arg.{Arg}
-use Rattle.clap.specs.declared.builder.command.Command.{Command}
 use Rattle.clap.specs.declared.builder.value_parser.ValueParser.TheVariants as vp
-use Rattle.clap.specs.declared.parser.matches.ArgMatches.{ArgMatches}
 use Rattle.clap.specs.Texts.{items_of}
 use Rattle.assise_console.proofs.Defaults.{default_read, parsed_read}
-use Rattle.assise_console.specs.CommandLine.{faults_of, is_taken, number_written, program, reads_true, script_rule, threads_rule, turns_rule}
 use Rattle.assise_console.proofs.options.options.Goals as goal
 
 -- ---- a command with the program's rules
@@ -193,7 +183,8 @@ unreachable-requires g c =
 
 pub unreachable-requires-in_default-get_one : goal.unreachable-requires-in_default-get_one
 unreachable-requires-in_default-get_one g c =
-    let read = turns_read c.in_ok-command.command c.in_ok-matches.matches c.get_one.result c.in_ok-command.ensures c.in_ok-matches.ensures.parsed c.get_one.ensures.value in
+    let read = turns_read c.in_ok-command.command c.in_ok-matches.matches c.get_one.result c.in_ok-command.ensures c.in_ok-matches.ensures.parsed
+    c.get_one.ensures.value in
     not_none c.get_one.result c.in_default-get_one.is (rw read.1 refl)
 
 pub returns-in_err-matches-clause-taken : goal.returns-in_err-matches-clause-taken
@@ -209,7 +200,8 @@ returns-in_err-matches-clause-fault g c =
     let words = map g.S.AsStr.text c.args.words.now in
     let is = c.in_ok-command.ensures in
     let error = err_from_is_err_and c.from_residual-in_err-matches.result c.from_residual-in_err-matches.ensures.1 in
-    let fault = subst (λ (a : App). HasKind (fault_of a words) c.in_err-matches.field-0.0) is (c.in_err-matches.ensures.kinds (ap is_simple_and_free is ∙ is_free_program)) in
+    let fault = subst (λ (a : App). HasKind (fault_of a words) c.in_err-matches.field-0.0) is
+    (c.in_err-matches.ensures.kinds (ap is_simple_and_free is ∙ is_free_program)) in
     rw error.1 (subst (HasKind (faults_of words)) (sym error.2) fault)
 
 pub returns-clause-faultless : goal.returns-clause-faultless
@@ -238,14 +230,16 @@ returns-clause-turns g c =
 
 pub returns-clause-some_turns : goal.returns-clause-some_turns
 returns-clause-some_turns g c =
-    let read = turns_read c.in_ok-command.command c.in_ok-matches.matches c.get_one.result c.in_ok-command.ensures c.in_ok-matches.ensures.parsed c.get_one.ensures.value in
+    let read = turns_read c.in_ok-command.command c.in_ok-matches.matches c.get_one.result c.in_ok-command.ensures c.in_ok-matches.ensures.parsed
+    c.get_one.ensures.value in
     let same : Some read.0 ≡ Some c.in-Some-get_one.turns = sym read.1 ∙ c.in-Some-get_one.is in
     let number : read.0 ≡ c.in-Some-get_one.turns = cc in
     omega arith
 
 pub returns-clause-few_turns : goal.returns-clause-few_turns
 returns-clause-few_turns g c =
-    let read = turns_read c.in_ok-command.command c.in_ok-matches.matches c.get_one.result c.in_ok-command.ensures c.in_ok-matches.ensures.parsed c.get_one.ensures.value in
+    let read = turns_read c.in_ok-command.command c.in_ok-matches.matches c.get_one.result c.in_ok-command.ensures c.in_ok-matches.ensures.parsed
+    c.get_one.ensures.value in
     let same : Some read.0 ≡ Some c.in-Some-get_one.turns = sym read.1 ∙ c.in-Some-get_one.is in
     let number : read.0 ≡ c.in-Some-get_one.turns = cc in
     omega arith
@@ -257,5 +251,6 @@ returns-clause-threads g c =
     let m = c.in_ok-matches.matches in
     let rows = (c.in_ok-matches.ensures.matches (ap is_simple is ∙ is_simple_program)).0 ∙ ap (λ (a : App). matches_of a words) is in
     let only = threads_found c.in_ok-command.command m is c.in_ok-matches.ensures.parsed in
-    let flag = flag_read (one_text (found_of m) (codes "threads")) c.get_flag.result only c.get_flag.ensures.none c.get_flag.ensures.value c.get_flag.ensures.other in
+    let flag = flag_read (one_text (found_of m) (codes "threads")) c.get_flag.result only c.get_flag.ensures.none c.get_flag.ensures.value
+    c.get_flag.ensures.other in
     flag ∙ ap reads_true (one_text-rows (found_of m) (codes "threads") ∙ ap (one_of (codes "threads")) rows)

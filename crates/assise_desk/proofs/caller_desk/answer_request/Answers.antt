@@ -1,18 +1,19 @@
-use Rattle.std.proofs.Common.{refl, ap, subst}
+use Rattle.assise_desk.proofs.Common.{refl, ap, subst, answers_alone, request_calls, has_no_cluster, request_makes, request_manages, request_prints}
+use Rattle.assise_desk.proofs.Common.{request_queries, request_renews, request_shows_listed, owned, ShowsListed}
 use Rattle.assise_desk.specs.declared.desk_call.DeskCall.TheVariants.{Client, Cluster, Listed, Make, Print, Query, Renew}
-use Rattle.assise_desk.specs.DeskAnswers.{answers_alone, request_calls, has_no_cluster, request_makes, request_manages, request_prints, request_queries, request_renews, request_shows_listed, owned}
-use Rattle.assise_desk.specs.Listings.{ShowsListed}
 use Rattle.assise_desk.proofs.DeskSteps.{number_is, owned_is}
 use Rattle.assise_desk.proofs.caller_desk.answer_request.Goals as goal
 
 pub returns-in-Some-Make-clause-answered : goal.returns-in-Some-Make-clause-answered
 returns-in-Some-Make-clause-answered c =
-    answers_alone (request_makes (number_is c.in-Some-Make.field-0 Make c.args.desk.now.request.call c.in-Some-Make.field-0-is c.in-Some-Make.ensures) c.make.ensures refl) record { bytes = refl; stays = refl }
+    answers_alone (request_makes (number_is c.in-Some-Make.field-0 Make c.args.desk.now.request.call c.in-Some-Make.field-0-is c.in-Some-Make.ensures)
+    c.make.ensures refl) record { bytes = refl; stays = refl }
 
 pub returns-in-None-files-clause-answered : goal.returns-in-None-files-clause-answered
 returns-in-None-files-clause-answered c =
     answers_alone (has_no_cluster (Cluster c.in-Some-Cluster.call)
-    (number_is c.in-Some-Cluster.field-0 (Cluster c.in-Some-Cluster.call) c.args.desk.now.request.call c.in-Some-Cluster.field-0-is c.in-Some-Cluster.ensures) tt
+    (number_is c.in-Some-Cluster.field-0 (Cluster c.in-Some-Cluster.call) c.args.desk.now.request.call c.in-Some-Cluster.field-0-is c.in-Some-Cluster.ensures)
+    tt
     (ap owned c.in-None-files.is) (ap owned c.in-None-files.is) refl refl) record { bytes = refl; stays = refl }
 
 pub returns-in-Some-clause-answered : goal.returns-in-Some-clause-answered
@@ -50,7 +51,8 @@ returns-in-Some-files-2-clause-answered c =
     request_calls c.in-Some-Client.call c.deref_mut-in-Some-files-2.result.now c.serve_client.new.files
     (number_is c.in-Some-Client.field-0 (Client c.in-Some-Client.call) c.args.desk.now.request.call c.in-Some-Client.field-0-is c.in-Some-Client.ensures)
     record {
-      from = owned_is c.args.desk.now.files c.in-Some-files-2.files c.deref_mut-in-Some-files-2.result.now c.in-Some-files-2.is c.deref_mut-in-Some-files-2.ensures.value;
+      from = owned_is c.args.desk.now.files c.in-Some-files-2.files c.deref_mut-in-Some-files-2.result.now c.in-Some-files-2.is
+          c.deref_mut-in-Some-files-2.ensures.value;
       leaves = refl;
       turns = c.serve_client.ensures.turns;
       text = refl;
@@ -73,7 +75,8 @@ returns-in-Some-files-3-clause-answered c =
     request_renews c.deref_mut-in-Some-files-3.result.now c.renew_cluster.new.files
     (number_is c.in-Some-Renew.field-0 Renew c.args.desk.now.request.call c.in-Some-Renew.field-0-is c.in-Some-Renew.ensures)
     record {
-      from = owned_is c.args.desk.now.files c.in-Some-files-3.files c.deref_mut-in-Some-files-3.result.now c.in-Some-files-3.is c.deref_mut-in-Some-files-3.ensures.value;
+      from = owned_is c.args.desk.now.files c.in-Some-files-3.files c.deref_mut-in-Some-files-3.result.now c.in-Some-files-3.is
+          c.deref_mut-in-Some-files-3.ensures.value;
       leaves = refl;
       turns = c.renew_cluster.ensures.turns;
       text = refl;
@@ -87,8 +90,10 @@ returns-in-None-files-5-clause-answered c =
 
 pub returns-in-Some-files-4-clause-answered : goal.returns-in-Some-files-4-clause-answered
 returns-in-Some-files-4-clause-answered c =
-    let there = owned_is c.args.desk.now.files c.in-Some-files-4.files c.deref-in-Some-files-4.result.now c.in-Some-files-4.is c.deref-in-Some-files-4.ensures in
+    let there = owned_is c.args.desk.now.files c.in-Some-files-4.files c.deref-in-Some-files-4.result.now c.in-Some-files-4.is c.deref-in-Some-files-4.ensures
+    in
     let d = c.args.desk.now in
     request_shows_listed c.deref-in-Some-files-4.result.now
     (number_is c.in-Some-Listed.field-0 Listed c.args.desk.now.request.call c.in-Some-Listed.field-0-is c.in-Some-Listed.ensures) there there
-    (subst (λ h. ShowsListed h d.request.second d.request.first c.show_listed.result d.bytes c.show_listed.new.out d.stands c.show_listed.new.stands) c.history.ensures c.show_listed.ensures) refl
+    (subst (λ h. ShowsListed h d.request.second d.request.first c.show_listed.result d.bytes c.show_listed.new.out d.stands c.show_listed.new.stands)
+    c.history.ensures c.show_listed.ensures) refl

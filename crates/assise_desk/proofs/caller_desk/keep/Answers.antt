@@ -1,5 +1,4 @@
-use Rattle.std.proofs.Common.{rules, ◌≡◌, Ok, length, string_bytes, refl, ap}
-use Rattle.assise_desk.specs.Texts.{keeps_text, prints_none, prints_text}
+use Rattle.assise_desk.proofs.Common.{rules, ◌≡◌, Ok, length, string_bytes, refl, ap, keeps_text, prints_none, prints_text}
 use Rattle.assise_desk.proofs.DeskSteps.{owned_is}
 use Rattle.assise_desk.proofs.caller_desk.keep.Goals as goal
 

@@ -1,5 +1,4 @@
-use Rattle.std.proofs.Common.{refl}
-use Rattle.assise_desk.specs.DeskAnswers.{makes_cluster, makes_no_cluster}
+use Rattle.assise_desk.proofs.Common.{refl, makes_cluster, makes_no_cluster}
 use Rattle.assise_desk.proofs.caller_desk.make.Goals as goal
 
 pub returns-in-Ok : goal.returns-in-Ok

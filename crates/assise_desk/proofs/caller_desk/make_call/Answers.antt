@@ -1,5 +1,4 @@
-use Rattle.std.proofs.Common.{[], refl}
-use Rattle.assise_desk.specs.DeskAnswers.{asks_for_none, is_called}
+use Rattle.assise_desk.proofs.Common.{[], refl, asks_for_none, is_called}
 use Rattle.assise_desk.proofs.caller_desk.make_call.Goals as goal
 
 pub returns-in-Ok-clause-calls : goal.returns-in-Ok-clause-calls

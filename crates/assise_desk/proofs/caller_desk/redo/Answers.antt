@@ -1,4 +1,4 @@
-use Rattle.std.proofs.Common.{Ok, Err, refl, ap}
+use Rattle.assise_desk.proofs.Common.{Ok, Err, refl, ap}
 use Rattle.assise_desk.proofs.Losses.{loss_shown}
 use Rattle.assise_desk.proofs.caller_desk.redo.Goals as goal
 
@@ -10,7 +10,11 @@ returns-in-Err-clause-tells c = (
   c.in-Err.ensures.made.0,
   record {
     redone = Err c.in-Err.unmade;
-    shown = (ap Err c.redo_fault.ensures, loss_shown c.place_loss.result c.args.out.now c.place_loss.new.out (c.args.request.now.kind, c.in-Err.unmade.call) c.place_loss.ensures.place c.place_loss.ensures.written);
+    shown = (
+      ap Err c.redo_fault.ensures,
+      loss_shown c.place_loss.result c.args.out.now c.place_loss.new.out (c.args.request.now.kind, c.in-Err.unmade.call)
+          c.place_loss.ensures.place c.place_loss.ensures.written,
+    );
     made = c.in-Err.ensures.made.1;
   },
 )

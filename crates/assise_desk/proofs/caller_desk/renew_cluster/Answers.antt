@@ -1,5 +1,4 @@
-use Rattle.std.proofs.Common.{rules, inr, refl, sym, ◌∙◌}
-use Rattle.assise_desk.specs.DeskAnswers.{is_not_renewed, renewal_is_out_of_range}
+use Rattle.assise_desk.proofs.Common.{rules, inr, refl, sym, ◌∙◌, is_not_renewed, renewal_is_out_of_range}
 use Rattle.assise_desk.proofs.caller_desk.renew_cluster.Goals as goal
 
 pub returns-in_default-clause-renews : goal.returns-in_default-clause-renews

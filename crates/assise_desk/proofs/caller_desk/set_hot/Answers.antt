@@ -1,5 +1,4 @@
-use Rattle.std.proofs.Common.{arith}
-use Rattle.assise_files.specs.FilesSeen.{cluster_seen}
+use Rattle.assise_desk.proofs.Common.{arith, cluster_seen}
 use Rattle.assise_desk.proofs.DeskSteps.{hot_set}
 use Rattle.assise_desk.proofs.caller_desk.set_hot.Goals as goal
 

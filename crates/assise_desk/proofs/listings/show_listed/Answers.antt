@@ -1,6 +1,4 @@
-use Rattle.std.proofs.Common.{◌∙◌, refl, ap, sym}
-use Rattle.std.specs.Option.{option_map}
-use Rattle.assise_desk.specs.Listings.{shows_listed}
+use Rattle.assise_desk.proofs.Common.{◌∙◌, refl, ap, sym, option_map, shows_listed}
 use Rattle.assise_desk.proofs.listings.show_listed.Goals as goal
 
 pub returns-in-Some : goal.returns-in-Some

@@ -1,5 +1,4 @@
-use Rattle.std.proofs.Common.{take}
-use Rattle.std.specs.Int.{to_le_bytes, w32, w64}
+use Rattle.assise_desk.proofs.Common.{take, to_le_bytes, w32, w64}
 use Rattle.assise_desk.proofs.TwoPieces.{two_pieces}
 use Rattle.assise_desk.proofs.page.place_loss.Goals as goal
 

@@ -1,4 +1,4 @@
-use Rattle.std.proofs.Common.{arith}
+use Rattle.assise_desk.proofs.Common.{arith}
 use Rattle.assise_desk.proofs.Losses.{losses-length}
 use Rattle.assise_desk.proofs.page.place_losses.Goals as goal
 

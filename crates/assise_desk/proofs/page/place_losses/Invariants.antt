@@ -1,6 +1,4 @@
-use Rattle.std.proofs.Common.{◌≡◌, ◌*◌, ◌≤◌, take}
-use Rattle.assise_desk.specs.Pages.{losses_bytes}
-use Rattle.assise_desk.specs.declared.desk_request.TheConstants.{DESK_BYTES}
+use Rattle.assise_desk.proofs.Common.{◌≡◌, ◌*◌, ◌≤◌, take, losses_bytes, DESK_BYTES}
 use Rattle.assise_desk.proofs.page.place_losses.Given as goal
 
 -- the losses in front of `client-index` are written

@@ -1,6 +1,4 @@
-use Rattle.std.proofs.Common.{◌≡◌, ◌<◌, ◌≤◌, take}
-use Rattle.assise_desk.specs.Pages.{zero_ended}
-use Rattle.assise_desk.specs.declared.desk_request.TheConstants.{DESK_BYTES}
+use Rattle.assise_desk.proofs.Common.{◌≡◌, ◌<◌, ◌≤◌, take, zero_ended, DESK_BYTES}
 use Rattle.assise_desk.proofs.page.place_page.Given as goal
 
 -- the names in front of `name-index` are written

@@ -1,4 +1,4 @@
-use Rattle.std.proofs.Common.{Ok, ap, ◌∙◌}
+use Rattle.assise_desk.proofs.Common.{Ok, ap, ◌∙◌}
 use Rattle.assise_desk.specs.Queries.{tells_known}
 use Rattle.assise_desk.proofs.queries.tell.Goals as goal
 

@@ -1,5 +1,4 @@
-use Rattle.std.proofs.Common.{◌≡◌, drop}
-use Rattle.assise_digest.specs.Pending.{HasAllNumbers, last_noted}
+use Rattle.assise_digest.proofs.Common.{◌≡◌, drop, HasAllNumbers, last_noted}
 use Rattle.assise_digest.proofs.pending.note.Given as goal
 
 abbrev pub invariant-loop-effect : goal.invariant-loop-effect

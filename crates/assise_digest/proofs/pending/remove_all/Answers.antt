@@ -1,6 +1,5 @@
-use Rattle.std.proofs.Common.{◌+◌, ◌∙◌, None, ap, cond, drop, nat_eq, slice_index_or}
+use Rattle.assise_digest.proofs.Common.{◌+◌, ◌∙◌, None, ap, cond, drop, nat_eq, slice_index_or, list_any}
 use Rattle.std.specs.FinMap as map
-use Rattle.std.specs.List.{list_any}
 use Rattle.assise_digest.proofs.MovedInodes.{left_number, removed_next}
 use Rattle.assise_digest.proofs.pending.remove_all.Goals as goal
 

@@ -1,5 +1,4 @@
-use Rattle.std.proofs.Common.{◌∙◌, ap, sym}
-use Rattle.assise_inode_table.specs.Effects.{with_value}
+use Rattle.assise_digest.proofs.Common.{◌∙◌, ap, sym, with_value}
 use Rattle.assise_digest.proofs.KeptInodes.{nothing_removed}
 use Rattle.assise_digest.proofs.pending.set_value.Goals as goal
 

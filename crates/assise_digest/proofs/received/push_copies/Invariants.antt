@@ -1,4 +1,4 @@
-use Rattle.std.proofs.Common.{◌≡◌, ◌++◌, take}
+use Rattle.assise_digest.proofs.Common.{◌≡◌, ◌++◌, take}
 use Rattle.assise_digest.proofs.received.push_copies.Given as goal
 
 -- the first of them were added

@@ -1,6 +1,4 @@
-use Rattle.std.proofs.Common.{◌≡◌, ◌∷◌, [], length, map, reverse, sym, ap, ◌∙◌, append-nil, arith}
-use Rattle.std.proofs.lemmas.List.{same_from_push}
-use Rattle.assise_digest.specs.Postorder.{postorder, shape}
+use Rattle.assise_digest.proofs.Common.{◌≡◌, ◌∷◌, [], length, map, reverse, sym, ap, ◌∙◌, append-nil, arith, same_from_push, postorder, shape}
 use Rattle.assise_digest.proofs.Forests.{enough}
 use Rattle.assise_digest.proofs.PostorderTrees.{opened, closed, whole_tree}
 use Rattle.assise_digest.proofs.spelled.assembled.Goals as goal
@@ -8,14 +6,17 @@ use Rattle.assise_digest.proofs.spelled.assembled.Goals as goal
 pub grown-requires : goal.grown-requires
 grown-requires g c =
     enough (map shape c.pop.new.self.items) (shape c.in-Some.place) c.loop-place.trees.items (g.t ∷ [])
-    (opened c.loop-place.places.items c.pop.new.self.items c.in-Some.place c.loop-place.trees.items (postorder g.t) c.in-Some.ensures.items c.loop-place.invariant ∙ sym (append-nil (postorder g.t)))
+    (opened c.loop-place.places.items c.pop.new.self.items c.in-Some.place c.loop-place.trees.items (postorder g.t) c.in-Some.ensures.items
+    c.loop-place.invariant ∙ sym (append-nil (postorder g.t)))
 
 pub loop-place-preserved : goal.loop-place-preserved
 loop-place-preserved g c =
     let taken = c.in_ok-tree.ensures.tree in
-    closed c.loop-place.trees.items c.grown.new.trees.items c.push.new.self.items c.in_ok-tree.tree (shape c.in-Some.place) (reverse (map shape c.pop.new.self.items)) (postorder g.t)
+    closed c.loop-place.trees.items c.grown.new.trees.items c.push.new.self.items c.in_ok-tree.tree (shape c.in-Some.place)
+    (reverse (map shape c.pop.new.self.items)) (postorder g.t)
     taken.taken taken.is c.in_ok-push.ensures.items
-    (opened c.loop-place.places.items c.pop.new.self.items c.in-Some.place c.loop-place.trees.items (postorder g.t) c.in-Some.ensures.items c.loop-place.invariant)
+    (opened c.loop-place.places.items c.pop.new.self.items c.in-Some.place c.loop-place.trees.items (postorder g.t) c.in-Some.ensures.items
+    c.loop-place.invariant)
 
 pub unreachable-requires : goal.unreachable-requires
 unreachable-requires g c =

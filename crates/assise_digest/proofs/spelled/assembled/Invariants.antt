@@ -1,5 +1,4 @@
-use Rattle.std.proofs.Common.{◌≡◌, ◌++◌, length, map, reverse}
-use Rattle.assise_digest.specs.Postorder.{postorder, shape}
+use Rattle.assise_digest.proofs.Common.{◌≡◌, ◌++◌, length, map, reverse, postorder, shape}
 use Rattle.assise_digest.proofs.Forests.{forest}
 use Rattle.assise_digest.proofs.spelled.assembled.Given as goal
 

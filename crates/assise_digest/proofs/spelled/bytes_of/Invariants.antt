@@ -1,4 +1,4 @@
-use Rattle.std.proofs.Common.{◌≡◌, ◌++◌, ◌-◌, ℕ, List, length, vec_len}
+use Rattle.assise_digest.proofs.Common.{◌≡◌, ◌++◌, ◌-◌, ℕ, List, length, vec_len}
 use Rattle.assise_digest.proofs.spelled.bytes_of.Given as goal
 
 -- the bytes so far are the first of the file

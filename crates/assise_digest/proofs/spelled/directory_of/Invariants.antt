@@ -1,6 +1,4 @@
-use Rattle.std.proofs.Common.{◌≡◌, ◌++◌, length}
-use Rattle.assise_seq_tree.specs.Tree.{Entries, dir, names_of}
-use Rattle.assise_digest.specs.Postorder.{subtrees_of}
+use Rattle.assise_digest.proofs.Common.{◌≡◌, ◌++◌, length, Entries, dir, names_of, subtrees_of}
 use Rattle.assise_digest.proofs.spelled.directory_of.Given as goal
 
 -- the last names are entries of the tree, each with one of the last trees

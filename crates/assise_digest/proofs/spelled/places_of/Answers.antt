@@ -1,11 +1,6 @@
-use Rattle.std.proofs.Common.{◌≡◌, ◌≤◌, ℕ, ◌∷◌, ◌++◌, [], Option, Some, None, length, map, refl, sym, ap, ◌∙◌, arith, List}
-use Rattle.std.specs.Option.{option_copied}
-use Rattle.std.proofs.lemmas.List.{length-map}
-use Rattle.std.proofs.lemmas.Bool.{false≢true}
+use Rattle.assise_digest.proofs.Common.{◌≡◌, ◌≤◌, ℕ, ◌∷◌, ◌++◌, [], Option, Some, None, length, map, refl, sym, ap, ◌∙◌, arith, List, option_copied, length-map}
+use Rattle.assise_digest.proofs.Common.{false≢true, Content, values, postorder, shape, targets}
 use Rattle.std.specs.Prelude.{is_some}
-use Rattle.assise_inode_table.specs.Contents.{Content, values}
-use Rattle.assise_digest.specs.Postorder.{postorder, shape}
-use Rattle.assise_digest.specs.Targets.{targets}
 use Rattle.assise_digest.proofs.PostorderTrees.{shapes_more, one_more}
 use Rattle.assise_digest.proofs.Listed.{listed_as, listed_first, listed_next, next_is_there, not_more}
 use Rattle.assise_digest.proofs.spelled.places_of.Goals as goal
@@ -18,7 +13,8 @@ loop-next-init g c =
 pub unreachable-requires : goal.unreachable-requires
 unreachable-requires g c =
     let v = values (g.I.Inodes.contents c.args.inodes.now) in
-    let l = listed_as v g.t _ (c.pop.new.self.items ++ c.in-Some.next ∷ []) _ (map shape c.loop-next.places.items) c.loop-next.invariant (sym {A = List ℕ} c.in-Some.ensures.items) refl in
+    let l = listed_as v g.t _ (c.pop.new.self.items ++ c.in-Some.next ∷ []) _ (map shape c.loop-next.places.items) c.loop-next.invariant
+    (sym {A = List ℕ} c.in-Some.ensures.items) refl in
     let none : v c.in-Some.next ≡ None = sym {A = Option Content} c.get.ensures ∙ ap option_copied c.in_default-get.is in
     false≢true (sym (ap is_some none) ∙ next_is_there v g.t c.pop.new.self.items c.in-Some.next (map shape c.loop-next.places.items) l)
 

@@ -1,6 +1,4 @@
-use Rattle.std.proofs.Common.{◌-◌, length, map}
-use Rattle.assise_inode_table.specs.Contents.{values}
-use Rattle.assise_digest.specs.Postorder.{postorder, shape}
+use Rattle.assise_digest.proofs.Common.{◌-◌, length, map, values, postorder, shape}
 use Rattle.assise_digest.proofs.Listed.{IsListed}
 use Rattle.assise_digest.proofs.spelled.places_of.Given as goal
 

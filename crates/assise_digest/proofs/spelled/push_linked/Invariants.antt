@@ -1,5 +1,4 @@
-use Rattle.std.proofs.Common.{◌≡◌, ◌++◌, drop}
-use Rattle.assise_digest.specs.Targets.{linked}
+use Rattle.assise_digest.proofs.Common.{◌≡◌, ◌++◌, drop, linked}
 use Rattle.assise_digest.proofs.spelled.push_linked.Given as goal
 
 -- what is pending, and what the names that are left link to

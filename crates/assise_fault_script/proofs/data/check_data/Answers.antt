@@ -1,10 +1,10 @@
-use Rattle.std.proofs.Common.{lit<, sym, ◌∙◌}
-use Rattle.std.proofs.lemmas.Str.Pattern.{strip_prefix_char}
+use Rattle.assise_fault_script.proofs.Common.{lit<, sym, ◌∙◌, strip_prefix_char}
 use Rattle.assise_fault_script.proofs.Letters.{does_not, given_text, no_text, other_letter}
 use Rattle.assise_fault_script.proofs.data.check_data.Goals as goal
 
 pub returns-then-is_some : goal.returns-then-is_some
-returns-then-is_some c = given_text c.args.word.now _ (strip_prefix_char 116 _ _ c.strip_prefix.ensures.cases (lit< tt)) (sym c.if-is_some.true ∙ c.is_some.ensures)
+returns-then-is_some c = given_text c.args.word.now _ (strip_prefix_char 116 _ _ c.strip_prefix.ensures.cases (lit< tt))
+    (sym c.if-is_some.true ∙ c.is_some.ensures)
 
 pub returns : goal.returns
 returns c =

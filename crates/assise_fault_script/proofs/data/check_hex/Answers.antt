@@ -1,4 +1,4 @@
-use Rattle.std.proofs.Common.{◌∷◌, ◌++◌, [], sym, ◌∙◌}
+use Rattle.assise_fault_script.proofs.Common.{◌∷◌, ◌++◌, [], sym, ◌∙◌}
 use Rattle.assise_fault_script.proofs.Hex.{two_more, with_prefix-nil}
 use Rattle.assise_fault_script.proofs.data.check_hex.Goals as goal
 

@@ -1,5 +1,4 @@
-use Rattle.std.proofs.Common.{◌≡◌, ℕ, List, length}
-use Rattle.assise_fault_script.specs.Data.{hex_bytes}
+use Rattle.assise_fault_script.proofs.Common.{◌≡◌, ℕ, List, length, hex_bytes}
 use Rattle.assise_fault_script.proofs.Hex.{with_prefix}
 use Rattle.assise_fault_script.proofs.data.check_hex.Given as goal
 

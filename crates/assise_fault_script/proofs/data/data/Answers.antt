@@ -1,5 +1,4 @@
-use Rattle.std.proofs.Common.{lit<, inr}
-use Rattle.std.proofs.lemmas.Str.Pattern.{strip_prefix_char}
+use Rattle.assise_fault_script.proofs.Common.{lit<, inr, strip_prefix_char}
 use Rattle.assise_fault_script.proofs.Letters.{does_not, other_letter}
 use Rattle.assise_fault_script.proofs.data.data.Goals as goal
 

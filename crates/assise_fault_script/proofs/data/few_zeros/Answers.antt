@@ -1,5 +1,4 @@
-use Rattle.std.proofs.Common.{◌≡◌, nat_le, true, replicate, refl, arith}
-use Rattle.std.proofs.lemmas.Bool.Decides.{nat_tests}
+use Rattle.assise_fault_script.proofs.Common.{◌≡◌, nat_le, true, replicate, refl, arith, nat_tests}
 use Rattle.assise_fault_script.proofs.data.few_zeros.Goals as goal
 
 pub returns-then-count-le-MOST_ZEROS : goal.returns-then-count-le-MOST_ZEROS

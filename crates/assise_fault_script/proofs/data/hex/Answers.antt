@@ -1,4 +1,4 @@
-use Rattle.std.proofs.Common.{sym, ◌∙◌, arith}
+use Rattle.assise_fault_script.proofs.Common.{sym, ◌∙◌, arith}
 use Rattle.assise_fault_script.proofs.Hex.{two_more}
 use Rattle.assise_fault_script.proofs.data.hex.Goals as goal
 

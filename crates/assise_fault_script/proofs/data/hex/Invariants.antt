@@ -1,5 +1,4 @@
-use Rattle.std.proofs.Common.{◌≡◌, ◌≤◌, ◌+◌, ◌*◌, length, vec_len, vec_capacity}
-use Rattle.assise_fault_script.specs.Data.{hex_bytes}
+use Rattle.assise_fault_script.proofs.Common.{◌≡◌, ◌≤◌, ◌+◌, ◌*◌, length, vec_len, vec_capacity, hex_bytes}
 use Rattle.assise_fault_script.proofs.Hex.{with_prefix}
 use Rattle.assise_fault_script.proofs.data.hex.Given as goal
 

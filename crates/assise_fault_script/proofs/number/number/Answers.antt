@@ -1,5 +1,4 @@
-use Rattle.std.proofs.Common.{◌≡◌, sym, ◌∙◌, true, false}
-use Rattle.assise_fault_script.specs.Number.{is_digits}
+use Rattle.assise_fault_script.proofs.Common.{◌≡◌, sym, ◌∙◌, true, false, is_digits}
 use Rattle.assise_fault_script.proofs.Digits.{no_digits, parsed}
 use Rattle.assise_fault_script.proofs.number.number.Goals as goal
 

@@ -1,5 +1,4 @@
-use Rattle.std.proofs.Common.{◌+◌, ◌≤◌, length}
-use Rattle.assise_fault_script.specs.Words.{lines_of}
+use Rattle.assise_fault_script.proofs.Common.{◌+◌, ◌≤◌, length, lines_of}
 use Rattle.assise_fault_script.proofs.Steps.{IsReadTo}
 use Rattle.assise_fault_script.proofs.parse.parse.Given as goal
 

@@ -1,4 +1,4 @@
-use Rattle.std.proofs.Common.{◌∙◌, ap, Err}
+use Rattle.assise_fault_script.proofs.Common.{◌∙◌, ap, Err}
 use Rattle.assise_fault_script.proofs.Rows.{spelled}
 use Rattle.assise_fault_script.proofs.recent_paths.parsed.Goals as goal
 

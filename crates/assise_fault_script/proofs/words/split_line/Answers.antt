@@ -1,4 +1,4 @@
-use Rattle.std.proofs.Common.{sym}
+use Rattle.assise_fault_script.proofs.Common.{sym}
 use Rattle.assise_fault_script.proofs.Lines.{cut, uncut}
 use Rattle.assise_fault_script.proofs.words.split_line.Goals as goal
 

@@ -1,5 +1,4 @@
-use Rattle.std.proofs.Common.{◌∙◌, ◌++◌, ap, sym, map, take, rules}
-use Rattle.assise_fault_script.specs.Words.{words_of}
+use Rattle.assise_fault_script.proofs.Common.{◌∙◌, ◌++◌, ap, sym, map, take, rules, words_of}
 use Rattle.assise_fault_script.proofs.Spaces.{cut, uncut, joined}
 use Rattle.assise_fault_script.proofs.words.words.Goals as goal
 
@@ -8,7 +7,8 @@ loop-piece-preserved c =
     let parts = cut c.loop-piece.rest.now c.split_once.result _ c.split_once.ensures.cases c.in-Some.is in
     record {
       text = search rules;
-      same = joined (map (λ w. w.now) c.loop-piece.words.items) _ _ (words_of c.loop-piece.rest.now) c.keep.ensures (words_of c.in-Some.more.now) parts ∙ c.loop-piece.invariant.same;
+      same = joined (map (λ w. w.now) c.loop-piece.words.items) _ _ (words_of c.loop-piece.rest.now) c.keep.ensures (words_of c.in-Some.more.now) parts
+          ∙ c.loop-piece.invariant.same;
     }
 
 pub returns : goal.returns

@@ -1,6 +1,4 @@
-use Rattle.std.proofs.Common.{◌≡◌, ◌++◌, length, map, take}
-use Rattle.std.specs.Str.{IsUtf8}
-use Rattle.assise_fault_script.specs.Words.{words_of}
+use Rattle.assise_fault_script.proofs.Common.{◌≡◌, ◌++◌, length, map, take, IsUtf8, words_of}
 use Rattle.assise_fault_script.proofs.words.words.Given as goal
 
 abbrev pub invariant-loop-piece : goal.invariant-loop-piece

@@ -1,5 +1,4 @@
-use Rattle.assise_rounds.specs.NodeLinks.{FaithfulAt}
-use Rattle.assise_rounds.proofs.CallTrace.{call_trace}
+use Rattle.assise_files.proofs.Common.{FaithfulAt, call_trace}
 use Rattle.assise_files.proofs.TriesTrace.{redo_trace}
 use Rattle.assise_files.proofs.laws.a_call_is_a_trace_of_events.Goals as goal
 

@@ -1,6 +1,4 @@
-use Rattle.std.proofs.Common.{◌≡◌, ◌++◌, List, length}
-use Rattle.assise_history.specs.Entries.{EntryValue}
-use Rattle.assise_files.specs.LostSearch.{AreFound}
+use Rattle.assise_files.proofs.Common.{◌≡◌, ◌++◌, List, length, EntryValue, AreFound}
 use Rattle.assise_files.proofs.redo.lost_changes.Given as goal
 
 -- what is found in the entries behind those that are left

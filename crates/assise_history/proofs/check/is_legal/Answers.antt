@@ -1,8 +1,5 @@
-use Rattle.std.proofs.Common.{◌≡◌, ◌∙◌, ap, sym, take, true, false, subst}
-use Rattle.assise_seq_tree.specs.Tree.{opening}
-use Rattle.assise_history.specs.Kept.{kept, kept_more, IsRun}
-use Rattle.assise_history.specs.Summary.{summary, follows, summary_after}
-use Rattle.assise_history.specs.Played.{Goes, played_calls}
+use Rattle.assise_history.proofs.Common.{◌≡◌, ◌∙◌, ap, sym, take, true, false, subst, opening, kept, kept_more, IsRun, summary, follows, summary_after, Goes}
+use Rattle.assise_history.proofs.Common.{played_calls}
 use Rattle.assise_history.proofs.Legality.{legal-nil}
 use Rattle.assise_history.proofs.CheckLoop.{not_allowed, no_run, checked_more, kept_at, summary_at}
 use Rattle.assise_history.proofs.check.is_legal.Goals as goal
@@ -15,7 +12,8 @@ returns-then-not-allows-clause-decided c =
     let es = c.args.entries.now in
     let i = c.loop-entry.entry-index in
     let e = c.entry-item.result in
-    let barred : follows (summary (take i es)) e ≡ false = ap (λ s. follows s e) (sym c.loop-entry.invariant.known) ∙ sym c.allows.ensures ∙ c.if-not-allows.true in
+    let barred : follows (summary (take i es)) e ≡ false = ap (λ s. follows s e) (sym c.loop-entry.invariant.known) ∙ sym c.allows.ensures
+    ∙ c.if-not-allows.true in
     ((λ h. cc), λ legal. absurd (not_allowed es i e c.loop-entry-test.true c.entry-item.is barred legal))
 
 pub returns-then-not-branch-clause-decided : goal.returns-then-not-branch-clause-decided
@@ -23,7 +21,8 @@ returns-then-not-branch-clause-decided c =
     let es = c.args.entries.now in
     let i = c.loop-entry.entry-index in
     let e = c.entry-item.result in
-    let goes : Goes false (kept_more (played_calls c.loop-entry.played) e) c.take.new.self = subst (λ b. Goes b (kept_more (played_calls c.loop-entry.played) e) c.take.new.self) c.if-not-branch.true c.in_ok-take.ensures.ok in
+    let goes : Goes false (kept_more (played_calls c.loop-entry.played) e) c.take.new.self =
+    subst (λ b. Goes b (kept_more (played_calls c.loop-entry.played) e) c.take.new.self) c.if-not-branch.true c.in_ok-take.ensures.ok in
     ((λ h. cc), λ legal. absurd (no_run es i e c.loop-entry-test.true c.entry-item.is (λ run. goes (rw c.loop-entry.invariant.kept_is run)) legal))
 
 pub loop-entry-preserved : goal.loop-entry-preserved
@@ -32,8 +31,10 @@ loop-entry-preserved c =
     let i = c.loop-entry.entry-index in
     let e = c.entry-item.result in
     let h = c.loop-entry-test.true in
-    let goes : Goes true (kept_more (played_calls c.loop-entry.played) e) c.take.new.self = subst (λ b. Goes b (kept_more (played_calls c.loop-entry.played) e) c.take.new.self) c.if-not-branch.false c.in_ok-take.ensures.ok in
-    let rule : follows (summary (take i es)) e ≡ true = ap (λ s. follows s e) (sym c.loop-entry.invariant.known) ∙ sym c.allows.ensures ∙ c.if-not-allows.false in
+    let goes : Goes true (kept_more (played_calls c.loop-entry.played) e) c.take.new.self =
+    subst (λ b. Goes b (kept_more (played_calls c.loop-entry.played) e) c.take.new.self) c.if-not-branch.false c.in_ok-take.ensures.ok in
+    let rule : follows (summary (take i es)) e ≡ true = ap (λ s. follows s e) (sym c.loop-entry.invariant.known) ∙ sym c.allows.ensures
+    ∙ c.if-not-allows.false in
     let kept_is : played_calls c.take.new.self ≡ kept_more (kept (take i es)) e = goes.0 ∙ ap (λ cs. kept_more cs e) c.loop-entry.invariant.kept_is in
     record {
       legal = checked_more es i e h c.entry-item.is c.loop-entry.invariant.legal rule (subst (IsRun opening) kept_is goes.1.0);

@@ -1,8 +1,4 @@
-use Rattle.std.proofs.Common.{◌≡◌, take}
-use Rattle.assise_history.specs.Kept.{kept}
-use Rattle.assise_history.specs.Legal.{IsLegal}
-use Rattle.assise_history.specs.Summary.{summary}
-use Rattle.assise_history.specs.Played.{IsPlayed, played_calls}
+use Rattle.assise_history.proofs.Common.{◌≡◌, take, kept, IsLegal, summary, IsPlayed, played_calls}
 use Rattle.assise_history.proofs.check.is_legal.Given as goal
 
 abbrev pub invariant-loop-entry : goal.invariant-loop-entry

@@ -1,6 +1,4 @@
-use Rattle.std.proofs.Common.{◌≡◌, ◌∙◌, ap, false, length, map, nat_lt, not, rules}
-use Rattle.std.proofs.lemmas.Fn.{filter_same}
-use Rattle.assise_history.specs.Kept.{loses}
+use Rattle.assise_history.proofs.Common.{◌≡◌, ◌∙◌, ap, false, length, map, nat_lt, not, rules, filter_same, loses}
 use Rattle.assise_history.proofs.Runs.{filter_mapped, map-filter}
 use Rattle.assise_history.proofs.kept.drop_lost.Goals as goal
 

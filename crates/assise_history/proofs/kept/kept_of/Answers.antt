@@ -1,6 +1,4 @@
-use Rattle.std.proofs.Common.{◌≡◌, ◌∙◌, ap, sym, take, ◌+◌, ◌++◌, ◌∷◌, []}
-use Rattle.std.proofs.lemmas.List.{take_more}
-use Rattle.assise_history.specs.Kept.{kept, kept_more}
+use Rattle.assise_history.proofs.Common.{◌≡◌, ◌∙◌, ap, sym, take, ◌+◌, ◌++◌, ◌∷◌, [], take_more, kept, kept_more}
 use Rattle.assise_history.proofs.Runs.{kept-push}
 use Rattle.assise_history.proofs.kept.kept_of.Goals as goal
 

@@ -1,5 +1,4 @@
-use Rattle.std.proofs.Common.{◌≡◌, map, take}
-use Rattle.assise_history.specs.Kept.{kept}
+use Rattle.assise_history.proofs.Common.{◌≡◌, map, take, kept}
 use Rattle.assise_history.proofs.kept.kept_of.Given as goal
 
 abbrev pub invariant-loop-entry : goal.invariant-loop-entry

@@ -1,11 +1,10 @@
-use Rattle.std.proofs.Common.{◌++◌, ◌∷◌, refl}
-use Rattle.assise_history.specs.Entries.{fails}
-use Rattle.assise_history.specs.Legal.{IsFair, MayLose}
+use Rattle.assise_history.proofs.Common.{◌++◌, ◌∷◌, refl, fails, IsFair, MayLose}
 use Rattle.assise_history.proofs.OneMore.{follows_in}
 use Rattle.assise_history.proofs.laws.a_failure_is_fair.Goals as goal
 
 pub returns-clause-ascending : goal.returns-clause-ascending
-returns-clause-ascending c = λ h before later n losses legal split. let fair : IsFair before n losses = follows_in h before later (fails n losses) legal split in fair.ascending
+returns-clause-ascending c =
+    λ h before later n losses legal split. let fair : IsFair before n losses = follows_in h before later (fails n losses) legal split in fair.ascending
 
 pub returns-clause-on : goal.returns-clause-on
 returns-clause-on c = λ h before later n lower higher l legal split.

@@ -1,4 +1,4 @@
-use Rattle.std.proofs.Common.{ap, length, arith}
+use Rattle.assise_history.proofs.Common.{ap, length, arith}
 use Rattle.assise_history.proofs.Payloads.{names_taken}
 use Rattle.assise_history.proofs.payload.listed.Goals as goal
 

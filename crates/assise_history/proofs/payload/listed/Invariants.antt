@@ -1,5 +1,4 @@
-use Rattle.std.proofs.Common.{◌≡◌, ◌-◌, ◌^◌, min, take}
-use Rattle.assise_history.specs.Payload.{name_bytes}
+use Rattle.assise_history.proofs.Common.{◌≡◌, ◌-◌, ◌^◌, min, take, name_bytes}
 use Rattle.assise_history.proofs.payload.listed.Given as goal
 
 -- the names in front were counted

@@ -1,5 +1,4 @@
-use Rattle.std.proofs.Common.{◌≡◌, drop, None}
-use Rattle.assise_history.specs.Summary.{ascend_from}
+use Rattle.assise_history.proofs.Common.{◌≡◌, drop, None, ascend_from}
 use Rattle.assise_history.proofs.prefix.ascend.Given as goal
 
 abbrev pub invariant-loop-loss : goal.invariant-loop-loss

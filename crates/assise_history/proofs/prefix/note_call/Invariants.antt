@@ -1,5 +1,4 @@
-use Rattle.std.proofs.Common.{◌≡◌, ◌++◌, map, take, drop}
-use Rattle.assise_history.specs.Summary.{summary_with_call}
+use Rattle.assise_history.proofs.Common.{◌≡◌, ◌++◌, map, take, drop, summary_with_call}
 use Rattle.assise_history.proofs.prefix.note_call.Given as goal
 
 abbrev pub invariant-loop-k : goal.invariant-loop-k

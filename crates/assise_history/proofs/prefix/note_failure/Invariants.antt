@@ -1,5 +1,4 @@
-use Rattle.std.proofs.Common.{◌≡◌, ◌++◌, map, take, drop}
-use Rattle.assise_history.specs.Summary.{with_failure}
+use Rattle.assise_history.proofs.Common.{◌≡◌, ◌++◌, map, take, drop, with_failure}
 use Rattle.assise_history.proofs.prefix.note_failure.Given as goal
 
 abbrev pub invariant-loop-k : goal.invariant-loop-k

@@ -1,5 +1,4 @@
-use Rattle.std.proofs.Common.{not, rules, ◌==◌}
-use Rattle.std.proofs.lemmas.Fn.{filter_same}
+use Rattle.assise_history.proofs.Common.{not, rules, ◌==◌, filter_same}
 use Rattle.assise_history.proofs.prefix.note_return.Goals as goal
 
 pub returns : goal.returns

@@ -1,6 +1,4 @@
-use Rattle.std.proofs.Common.{◌≡◌, map, take}
-use Rattle.assise_seq_tree.specs.Tree.{opening}
-use Rattle.assise_history.specs.Kept.{IsRun, tree_after}
+use Rattle.assise_history.proofs.Common.{◌≡◌, map, take, opening, IsRun, tree_after}
 use Rattle.assise_history.proofs.replay.replay.Given as goal
 
 abbrev pub invariant-loop-call : goal.invariant-loop-call

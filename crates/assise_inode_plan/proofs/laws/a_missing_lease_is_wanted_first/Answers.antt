@@ -1,4 +1,4 @@
-use Rattle.assise_inode_plan.specs.Leased.{wants}
+use Rattle.assise_inode_plan.proofs.Common.{wants}
 use Rattle.assise_inode_plan.proofs.LackedLeases.{missing_is_first, ready_has_all}
 use Rattle.assise_inode_plan.proofs.laws.a_missing_lease_is_wanted_first.Goals as goal
 

@@ -1,9 +1,4 @@
-use Rattle.std.proofs.Common.{◌∙◌, ap, sym, subst}
-use Rattle.assise_inode_table.specs.Calls.{step}
-use Rattle.assise_inode_table.specs.Contents.{values}
-use Rattle.assise_inode_table.specs.Whole.{CanBeMadeWhole}
-use Rattle.assise_seq_tree.specs.Answer.{answer}
-use Rattle.assise_inode_plan.specs.Planning.{PlanAnswers, changed_plan_of, effects_planned, shown}
+use Rattle.assise_inode_plan.proofs.Common.{◌∙◌, ap, sym, subst, step, values, CanBeMadeWhole, answer, PlanAnswers, changed_plan_of, effects_planned, shown}
 use Rattle.assise_inode_plan.proofs.WholeStepPlan.{answers_kept, visits_then_changes, whole_kept}
 use Rattle.assise_inode_plan.proofs.plan.plan.Goals as goal
 
@@ -20,4 +15,5 @@ returns-clause-answers g c = λ t spells new.
     (answers_kept v (answer t c.args.op.now) (g.V.View.leased c.args.view.now) (shown c.in_ok-planned.planned) (c.in_ok-planned.ensures.answers t spells new))
 
 pub returns-clause-whole : goal.returns-clause-whole
-returns-clause-whole g c = subst (λ p. CanBeMadeWhole (effects_planned p)) (sym c.plan_changes.ensures) (whole_kept (g.V.View.leased c.args.view.now) (shown c.in_ok-planned.planned) c.in_ok-planned.ensures.whole)
+returns-clause-whole g c = subst (λ p. CanBeMadeWhole (effects_planned p)) (sym c.plan_changes.ensures)
+    (whole_kept (g.V.View.leased c.args.view.now) (shown c.in_ok-planned.planned) c.in_ok-planned.ensures.whole)

@@ -1,5 +1,4 @@
-use Rattle.std.proofs.Common.{rules, sym, ◌∙◌}
-use Rattle.assise_inode_table.specs.Contents.{values}
+use Rattle.assise_inode_plan.proofs.Common.{rules, sym, ◌∙◌, values}
 use Rattle.assise_inode_plan.proofs.RenamePlans.{planned_for, rename_stops, rename_goes_on}
 use Rattle.assise_inode_plan.proofs.renaming.plan_rename.Goals as goal
 

@@ -1,4 +1,4 @@
-use Rattle.std.proofs.Common.{◌≡◌, ◌++◌, ◌+◌, ◌≤◌, length, take}
+use Rattle.assise_inode_plan.proofs.Common.{◌≡◌, ◌++◌, ◌+◌, ◌≤◌, length, take}
 use Rattle.assise_inode_plan.proofs.renaming.repeat.Given as goal
 
 abbrev pub invariant-loop-place : goal.invariant-loop-place

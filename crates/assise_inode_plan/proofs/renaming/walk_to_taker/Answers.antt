@@ -1,6 +1,4 @@
-use Rattle.std.proofs.Common.{take, sym, ap, ◌∙◌}
-use Rattle.assise_inode_table.specs.Contents.{values}
-use Rattle.assise_inode_plan.specs.Walking.{plan_from}
+use Rattle.assise_inode_plan.proofs.Common.{take, sym, ap, ◌∙◌, values, plan_from}
 use Rattle.assise_inode_plan.proofs.WalkTwice.{walk_again}
 use Rattle.assise_inode_plan.proofs.renaming.walk_to_taker.Goals as goal
 

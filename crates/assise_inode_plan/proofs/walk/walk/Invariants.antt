@@ -1,4 +1,4 @@
-use Rattle.assise_inode_table.specs.Contents.{values}
+use Rattle.assise_inode_plan.proofs.Common.{values}
 use Rattle.assise_inode_plan.proofs.WalkRest.{Left, RootIsSeen}
 use Rattle.assise_inode_plan.proofs.walk.walk.Given as goal
 

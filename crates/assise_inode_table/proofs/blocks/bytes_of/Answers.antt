@@ -1,4 +1,4 @@
-use Rattle.std.proofs.Common.{◌∙◌}
+use Rattle.assise_inode_table.proofs.Common.{◌∙◌}
 use Rattle.assise_inode_table.proofs.BlockBytes.{block_at, block_past}
 use Rattle.assise_inode_table.proofs.blocks.bytes_of.Goals as goal
 

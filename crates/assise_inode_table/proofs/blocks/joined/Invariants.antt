@@ -1,4 +1,4 @@
-use Rattle.std.proofs.Common.{take}
+use Rattle.assise_inode_table.proofs.Common.{take}
 use Rattle.assise_inode_table.proofs.BlockBytes.{JoinedSoFar}
 use Rattle.assise_inode_table.proofs.blocks.joined.Given as goal
 

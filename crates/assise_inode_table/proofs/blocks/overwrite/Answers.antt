@@ -1,9 +1,5 @@
-use Rattle.std.proofs.Common.{◌≡◌, ◌∙◌, suc, ◌+◌, ◌-◌, ◌/◌, ◌*◌, ap, arith, length, take, drop, set, subst, sym}
-use Rattle.std.specs.List.{concat}
-use Rattle.std.proofs.lemmas.Result.{on_ok_weaker}
-use Rattle.std.proofs.lemmas.List.{take_all}
-use Rattle.assise_seq_tree.specs.Contents.{overwritten}
-use Rattle.assise_inode_table.specs.Blocks.{IsCut}
+use Rattle.assise_inode_table.proofs.Common.{◌≡◌, ◌∙◌, suc, ◌+◌, ◌-◌, ◌/◌, ◌*◌, ap, arith, length, take, drop, set, subst, sym, concat, on_ok_weaker, take_all}
+use Rattle.assise_inode_table.proofs.Common.{overwritten, IsCut}
 use Rattle.assise_inode_table.proofs.BlockWrites.{Reach, reach, first_held, until_held, cut_reached, reached_held, made_is, one_written, written, still_cut}
 use Rattle.assise_inode_table.proofs.blocks.overwrite.Goals as goal
 use Rattle.assise_inode_table.proofs.blocks.overwrite.Goals.{After-min-until, In_ok-made, Joined-index_mut-alone}
@@ -31,17 +27,24 @@ overwritten-requires-clause-cut c =
 pub overwritten-requires-clause-held : goal.overwritten-requires-clause-held
 overwritten-requires-clause-held c =
     let held = reached_held (reached (goal.at.overwritten-requires-clause-held c).After-min-until) in
-    omega (arith, held, ap (λ xs. length (concat (take (c.min-until.result - c.min-first.result / 4096) (drop (c.min-first.result / 4096) xs)))) c.deref.ensures.value)
+    omega (
+      arith,
+      held,
+      ap (λ xs. length (concat (take (c.min-until.result - c.min-first.result / 4096) (drop (c.min-first.result / 4096) xs))))
+          c.deref.ensures.value,
+    )
 
 pub replace-requires : goal.replace-requires
 replace-requires c = let r = reached (goal.at.replace-requires c).After-min-until in (first_held r, until_held r)
 
 made_anew : (c : In_ok-made) → let first = c.min-first.result / 4096 in let past = (c.args.offset + length c.args.new.now - 1) / 4096 + 1 in
-    concat c.in_ok-made.made.items ≡ overwritten (take (4096 * past - 4096 * first) (drop (4096 * first) (concat c.args.blocks.now.items))) (c.args.offset - 4096 * first) c.args.new.now
+    concat c.in_ok-made.made.items ≡ overwritten (take (4096 * past - 4096 * first) (drop (4096 * first) (concat c.args.blocks.now.items)))
+    (c.args.offset - 4096 * first) c.args.new.now
 made_anew c =
     let first = c.min-first.result / 4096 in
     made_is (reached (goal.at.In_ok-made c).After-min-until) _
-    (c.in_ok-made.ensures.bytes ∙ ap (λ xs. overwritten (concat (take (c.min-until.result - first) (drop first xs))) (c.args.offset - first * 4096) c.args.new.now) c.deref.ensures.value)
+    (c.in_ok-made.ensures.bytes ∙ ap (λ xs. overwritten (concat (take (c.min-until.result - first) (drop first xs))) (c.args.offset - first * 4096)
+    c.args.new.now) c.deref.ensures.value)
 
 pub returns-clause-cut : goal.returns-clause-cut
 returns-clause-cut c =
@@ -57,7 +60,8 @@ returns-clause-bytes c =
 
 -- the one block that is reached is made anew, and the others stay
 alone_written : (c : Joined-index_mut-alone) → IsCut (set c.args.blocks.now.items (c.min-first.result / 4096) c.in_ok-alone.alone)
-    × (concat (set c.args.blocks.now.items (c.min-first.result / 4096) c.in_ok-alone.alone) ≡ overwritten (concat c.args.blocks.now.items) c.args.offset c.args.new.now)
+    × (concat (set c.args.blocks.now.items (c.min-first.result / 4096) c.in_ok-alone.alone) ≡ overwritten (concat c.args.blocks.now.items) c.args.offset
+    c.args.new.now)
 alone_written c =
     let r = reached (goal.at.Joined-index_mut-alone c).After-min-until in
     let next : suc (c.min-first.result / 4096) ≡ c.min-until.result = omega (arith, c.if-first-until.true) in

@@ -1,9 +1,5 @@
-use Rattle.std.proofs.Common.{◌≡◌, ◌∙◌, ◌+◌, ◌-◌, ◌*◌, ap, sym, arith, length, min, max, subst}
-use Rattle.std.proofs.lemmas.List.{take_all}
-use Rattle.std.specs.Int.{div_ceil}
-use Rattle.std.specs.List.{concat}
-use Rattle.assise_seq_tree.specs.Contents.{bytes_from, overwritten}
-use Rattle.assise_seq_tree.proofs.BytesRead.{length-overwritten}
+use Rattle.assise_inode_table.proofs.Common.{◌≡◌, ◌∙◌, ◌+◌, ◌-◌, ◌*◌, ap, sym, arith, length, min, max, subst, take_all, div_ceil, concat, bytes_from}
+use Rattle.assise_inode_table.proofs.Common.{overwritten, length-overwritten}
 use Rattle.assise_inode_table.proofs.BlockBytes.{CutSoFar, cut_nothing, cut_more}
 use Rattle.assise_inode_table.proofs.BlockWrites.{part_over, over_more, over_room}
 use Rattle.assise_inode_table.proofs.blocks.overwritten.Goals as goal
@@ -15,7 +11,8 @@ pub overflow_mul-start : goal.overflow_mul-start
 overflow_mul-start c =
     let bs = c.args.blocks.now in
     let new = c.args.new.now in
-    let count : c.max-count.result ≡ max (length bs) (div_ceil (c.args.offset + length new) 4096) = c.max-count.ensures ∙ ap (max (length bs)) (c.div_ceil.ensures ∙ ap (λ n. div_ceil (c.args.offset + n) 4096) c.len.ensures.value) in
+    let count : c.max-count.result ≡ max (length bs) (div_ceil (c.args.offset + length new) 4096) = c.max-count.ensures
+    ∙ ap (max (length bs)) (c.div_ceil.ensures ∙ ap (λ n. div_ceil (c.args.offset + n) 4096) c.len.ensures.value) in
     let more = over_more bs c.args.offset new c.max-count.result c.loop-index.index c.requires.cut count c.loop-index-test.true in
     omega (arith, more, length-overwritten (concat bs) c.args.offset new, c.requires.held, c.requires.fits)
 
@@ -25,7 +22,8 @@ loop-index-preserved c =
     let new = c.args.new.now in
     let o = c.args.offset in
     let k = 4096 * c.loop-index.index in
-    let count : c.max-count.result ≡ max (length bs) (div_ceil (o + length new) 4096) = c.max-count.ensures ∙ ap (max (length bs)) (c.div_ceil.ensures ∙ ap (λ n. div_ceil (c.args.offset + n) 4096) c.len.ensures.value) in
+    let count : c.max-count.result ≡ max (length bs) (div_ceil (o + length new) 4096) = c.max-count.ensures
+    ∙ ap (max (length bs)) (c.div_ceil.ensures ∙ ap (λ n. div_ceil (c.args.offset + n) 4096) c.len.ensures.value) in
     let more = over_more bs o new c.max-count.result c.loop-index.index c.requires.cut count c.loop-index-test.true in
     let at : c.min-at.result ≡ min (o - k) 4096 = omega (arith, c.min-at.ensures, c.saturating_sub.ensures) in
     let passed : c.saturating_sub-passed.result ≡ k - o = omega (arith, c.saturating_sub-passed.ensures) in
@@ -43,6 +41,7 @@ returns-clause-bytes c =
     let bs = c.args.blocks.now in
     let new = c.args.new.now in
     let o = c.args.offset in
-    let count : c.max-count.result ≡ max (length bs) (div_ceil (o + length new) 4096) = c.max-count.ensures ∙ ap (max (length bs)) (c.div_ceil.ensures ∙ ap (λ n. div_ceil (c.args.offset + n) 4096) c.len.ensures.value) in
+    let count : c.max-count.result ≡ max (length bs) (div_ceil (o + length new) 4096) = c.max-count.ensures
+    ∙ ap (max (length bs)) (c.div_ceil.ensures ∙ ap (λ n. div_ceil (c.args.offset + n) 4096) c.len.ensures.value) in
     let room = over_room bs o new c.max-count.result c.requires.cut count in
     c.loop-index.invariant.whole ∙ take_all (4096 * c.loop-index.index) (overwritten (concat bs) o new) (omega (arith, room, c.loop-index-test.false))

@@ -1,5 +1,4 @@
-use Rattle.std.specs.List.{concat}
-use Rattle.assise_seq_tree.specs.Contents.{overwritten}
+use Rattle.assise_inode_table.proofs.Common.{concat, overwritten}
 use Rattle.assise_inode_table.proofs.BlockBytes.{CutSoFar}
 use Rattle.assise_inode_table.proofs.blocks.overwritten.Given as goal
 

@@ -1,7 +1,5 @@
-use Rattle.std.proofs.Common.{◌≡◌, ◌||◌, ℕ, drop}
+use Rattle.assise_inode_table.proofs.Common.{◌≡◌, ◌||◌, ℕ, drop, contains, touched, value_after, AreDistinctChanges, found, is_among}
 use Rattle.std.specs.FinMap as map
-use Rattle.assise_inode_table.specs.Effects.{contains, touched, value_after}
-use Rattle.assise_inode_table.specs.Changes.{AreDistinctChanges, found, is_among}
 use Rattle.assise_inode_table.proofs.changes.changes_over.Given as goal
 
 abbrev pub invariant-loop-effect : goal.invariant-loop-effect

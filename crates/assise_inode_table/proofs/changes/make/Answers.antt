@@ -1,9 +1,5 @@
-use Rattle.std.proofs.Common.{◌≡◌, ◌||◌, ◌==◌, subst, ℕ, List, Option, set, ap, ◌∙◌}
-use Rattle.std.proofs.lemmas.Result.{on_ok_weaker}
+use Rattle.assise_inode_table.proofs.Common.{◌≡◌, ◌||◌, ◌==◌, subst, ℕ, List, Option, set, ap, ◌∙◌, on_ok_weaker, Content, IsPlace, found, is_among, Change}
 use Rattle.std.specs.FinMap as map
-use Rattle.assise_inode_table.specs.Contents.{Content}
-use Rattle.assise_inode_table.specs.Changes.{IsPlace, found, is_among}
-use Rattle.assise_inode_table.specs.declared.changes.Change.{Change}
 use Rattle.assise_inode_table.proofs.FewChanges.{among_set, made, made_distinct}
 use Rattle.assise_inode_table.proofs.changes.make.Goals as goal
 
@@ -18,8 +14,10 @@ pub returns-clause-values : goal.returns-clause-values
 returns-clause-values g c =
     let base : ℕ → Option Content = λ i. map.get (g.I.Inodes.contents c.args.base.now) i in
     on_ok_weaker c.change_value.result
-    (λ e. made c.put_in.new.changes.items c.in_ok-place.place c.index_mut-change.result.now c.args.effect.now base (λ i. found c.args.changes.now.items i (base i)) c.change_value.new.value
-    c.in_ok-place.ensures.distinct (subst (IsPlace c.put_in.new.changes.items c.in_ok-place.place) c.touches.ensures c.in_ok-place.ensures.place) c.index_mut-change.ensures.value e c.in_ok-place.ensures.values)
+    (λ e. made c.put_in.new.changes.items c.in_ok-place.place c.index_mut-change.result.now c.args.effect.now base
+    (λ i. found c.args.changes.now.items i (base i)) c.change_value.new.value
+    c.in_ok-place.ensures.distinct (subst (IsPlace c.put_in.new.changes.items c.in_ok-place.place) c.touches.ensures c.in_ok-place.ensures.place)
+    c.index_mut-change.ensures.value e c.in_ok-place.ensures.values)
     c.change_value.ensures.ok
 
 pub returns-clause-among : goal.returns-clause-among

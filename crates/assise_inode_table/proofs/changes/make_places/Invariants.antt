@@ -1,5 +1,4 @@
-use Rattle.std.proofs.Common.{◌≡◌, take}
-use Rattle.assise_inode_table.specs.Changes.{placed, map_without}
+use Rattle.assise_inode_table.proofs.Common.{◌≡◌, take, placed, map_without}
 use Rattle.assise_inode_table.proofs.changes.make_places.Given as goal
 
 abbrev pub invariant-loop-change : goal.invariant-loop-change

@@ -1,4 +1,4 @@
-use Rattle.std.proofs.Common.{ap, ◌∙◌}
+use Rattle.assise_inode_table.proofs.Common.{ap, ◌∙◌}
 use Rattle.assise_inode_table.proofs.FewChanges.{lacks_next}
 use Rattle.assise_inode_table.proofs.changes.place_of.Goals as goal
 

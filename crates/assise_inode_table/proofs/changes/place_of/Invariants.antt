@@ -1,5 +1,4 @@
-use Rattle.std.proofs.Common.{take}
-use Rattle.assise_inode_table.specs.Changes.{Lacks}
+use Rattle.assise_inode_table.proofs.Common.{take, Lacks}
 use Rattle.assise_inode_table.proofs.changes.place_of.Given as goal
 
 abbrev pub invariant-loop-place : goal.invariant-loop-place

@@ -1,4 +1,4 @@
-use Rattle.std.proofs.Common.{◌≡◌}
+use Rattle.assise_inode_table.proofs.Common.{◌≡◌}
 use Rattle.assise_inode_table.proofs.MapChanges.{IsLeft}
 use Rattle.assise_inode_table.proofs.changes.put_all.Given as goal
 

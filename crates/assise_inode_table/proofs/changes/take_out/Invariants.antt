@@ -1,5 +1,4 @@
-use Rattle.std.proofs.Common.{◌≡◌}
-use Rattle.assise_inode_table.specs.Changes.{map_without}
+use Rattle.assise_inode_table.proofs.Common.{◌≡◌, map_without}
 use Rattle.assise_inode_table.proofs.changes.take_out.Given as goal
 
 abbrev pub invariant-loop-inode : goal.invariant-loop-inode

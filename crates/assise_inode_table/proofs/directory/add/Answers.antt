@@ -1,5 +1,4 @@
-use Rattle.std.proofs.Common.{◌+◌, ◌≤◌, ◌∙◌, Some, ap, refl, length, set, insert, arith}
-use Rattle.assise_inode_table.specs.Pieces.{Slot, piece_at, slots_in}
+use Rattle.assise_inode_table.proofs.Common.{◌+◌, ◌≤◌, ◌∙◌, Some, ap, refl, length, set, insert, arith, Slot, piece_at, slots_in}
 use Rattle.assise_inode_table.proofs.PieceSlots.{read_piece, inserted_slots, begun_behind}
 use Rattle.assise_inode_table.proofs.directory.add.Goals as goal
 
@@ -17,7 +16,13 @@ returns-clause-ok c =
     let ps = c.args.pieces.now.items in
     let w = c.args.piece in
     let s : Slot = (c.args.name, Some c.args.inode) in
-    let full : length (piece_at ps w) ≤ c.args.at = omega (arith, ap length (read_piece ps w c.index.result.now c.requires.piece c.index.ensures), c.has_room.ensures.full c.if-has_room.false, c.if-at-lt-MOST_NAMES.false) in
+    let full : length (piece_at ps w) ≤ c.args.at =
+    omega (
+      arith,
+      ap length (read_piece ps w c.index.result.now c.requires.piece c.index.ensures),
+      c.has_room.ensures.full c.if-has_room.false,
+      c.if-at-lt-MOST_NAMES.false,
+    ) in
     ap slots_in c.in_ok-insert-2.ensures.items
     ∙ ap (λ p. slots_in (insert ps (w + 1) p)) c.in_ok-of_one.ensures
     ∙ begun_behind ps w (w + 1) c.args.at s c.requires.piece refl full

@@ -1,6 +1,4 @@
-use Rattle.std.proofs.Common.{◌≡◌, ◌∙◌, ◌++◌, sym, ap, ap₂, subst, length, take, drop, arith}
-use Rattle.std.proofs.lemmas.List.{length-drop, length-take}
-use Rattle.assise_inode_table.specs.Pieces.{Ascend, live, piece_at}
+use Rattle.assise_inode_table.proofs.Common.{◌≡◌, ◌∙◌, ◌++◌, sym, ap, ap₂, subst, length, take, drop, arith, length-drop, length-take, Ascend, live, piece_at}
 use Rattle.assise_inode_table.proofs.PieceSlots.{read_piece}
 use Rattle.assise_inode_table.proofs.PieceChanges.{halves}
 use Rattle.assise_inode_table.proofs.directory.halve.Goals as goal

@@ -1,5 +1,4 @@
-use Rattle.std.proofs.Common.{◌∙◌, sym, ap, subst}
-use Rattle.assise_inode_table.specs.Pieces.{Ascend, live, slots_in}
+use Rattle.assise_inode_table.proofs.Common.{◌∙◌, sym, ap, subst, Ascend, live, slots_in}
 use Rattle.assise_inode_table.proofs.PieceSlots.{read_piece}
 use Rattle.assise_inode_table.proofs.PieceChanges.{gone_live, gone_ascend}
 use Rattle.assise_inode_table.proofs.directory.let_go.Goals as goal
@@ -9,7 +8,8 @@ returns-then-is_gone-clause-live c =
     let ps = c.args.pieces.now.items in
     let w = c.args.piece in
     ap (λ qs. live (slots_in qs)) c.remove.ensures.items
-    ∙ gone_live ps w c.requires.piece (ap live (sym (read_piece ps w c.index.result.now c.requires.piece c.index.ensures)) ∙ c.is_gone.ensures c.if-is_gone.true)
+    ∙ gone_live ps w c.requires.piece (ap live (sym (read_piece ps w c.index.result.now c.requires.piece c.index.ensures))
+    ∙ c.is_gone.ensures c.if-is_gone.true)
 
 pub returns-then-is_gone-clause-ascend : goal.returns-then-is_gone-clause-ascend
 returns-then-is_gone-clause-ascend c s =

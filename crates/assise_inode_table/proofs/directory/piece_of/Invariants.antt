@@ -1,6 +1,4 @@
-use Rattle.std.proofs.Common.{◌≡◌, ◌-◌, ◌<◌, ◌≤◌, length, true, false, is_gt, nat_cmp}
-use Rattle.std.specs.Cmp.Lexicographic.{slice_cmp}
-use Rattle.assise_inode_table.specs.Pieces.{slot_name, piece_at}
+use Rattle.assise_inode_table.proofs.Common.{◌≡◌, ◌-◌, ◌<◌, ◌≤◌, length, true, false, is_gt, nat_cmp, slice_cmp, slot_name, piece_at}
 use Rattle.assise_inode_table.proofs.directory.piece_of.Given as goal
 
 -- the piece is one from low up to high

@@ -1,5 +1,4 @@
-use Rattle.std.proofs.Common.{sym, subst, arith, rules, tests}
-use Rattle.assise_inode_table.specs.Pieces.{Ascend, IsGapFor}
+use Rattle.assise_inode_table.proofs.Common.{sym, subst, arith, rules, tests, Ascend, IsGapFor}
 use Rattle.assise_inode_table.proofs.PieceSlots.{got_none, nothing_at, piece_ascend, read_piece}
 use Rattle.assise_inode_table.proofs.directory.place_of.Goals as goal
 
@@ -9,7 +8,8 @@ returns-then-is_empty-clause-absent c = nothing_at c.args.name.now c.args.pieces
 pub find-requires : goal.find-requires
 find-requires c =
     let h = c.piece_of-piece.ensures.within in
-    subst Ascend (sym (read_piece c.args.pieces.now c.piece_of-piece.result c.index-pieces-piece.result h c.index-pieces-piece.is)) (piece_ascend c.args.pieces.now c.piece_of-piece.result h c.requires.ascend)
+    subst Ascend (sym (read_piece c.args.pieces.now c.piece_of-piece.result c.index-pieces-piece.result h c.index-pieces-piece.is))
+    (piece_ascend c.args.pieces.now c.piece_of-piece.result h c.requires.ascend)
 
 pub returns-in-Err-clause-absent : goal.returns-in-Err-clause-absent
 returns-in-Err-clause-absent c =

@@ -1,5 +1,4 @@
-use Rattle.std.proofs.Common.{◌≡◌, ◌<◌, ◌+◌, ◌-◌, ◌∙◌, ◌++◌, sym, ap, subst, length, set, refl, arith}
-use Rattle.assise_inode_table.specs.Pieces.{AreFilled, slots_in, piece_at}
+use Rattle.assise_inode_table.proofs.Common.{◌≡◌, ◌<◌, ◌+◌, ◌-◌, ◌∙◌, ◌++◌, sym, ap, subst, length, set, refl, arith, AreFilled, slots_in, piece_at}
 use Rattle.assise_inode_table.proofs.PieceSlots.{read_piece}
 use Rattle.assise_inode_table.proofs.PieceChanges.{split_slots, join_slots, join_filled}
 use Rattle.assise_inode_table.proofs.directory.put_halves.Goals as goal

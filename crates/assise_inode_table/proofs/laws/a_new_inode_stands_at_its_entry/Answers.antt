@@ -1,5 +1,4 @@
-use Rattle.std.proofs.Common.{[]}
-use Rattle.assise_seq_tree.specs.Tree.{file, dir, no_entries}
+use Rattle.assise_inode_table.proofs.Common.{[], file, dir, no_entries}
 use Rattle.assise_inode_table.proofs.Leaves.{file_nowhere, file_spells, empty_nowhere, empty_spells}
 use Rattle.assise_inode_table.proofs.NewInodeLinked.{created}
 use Rattle.assise_inode_table.proofs.laws.a_new_inode_stands_at_its_entry.Goals as goal

@@ -1,5 +1,4 @@
-use Rattle.std.proofs.Common.{[]}
-use Rattle.assise_inode_table.specs.Reach.{children}
+use Rattle.assise_inode_table.proofs.Common.{[], children}
 use Rattle.assise_inode_table.proofs.PathReach.{reach_step}
 use Rattle.assise_inode_table.proofs.EntryUnlinked.{rest, held, disjoint}
 use Rattle.assise_inode_table.proofs.EntryFreed.{freed}

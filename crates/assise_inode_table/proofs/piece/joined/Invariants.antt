@@ -1,4 +1,4 @@
-use Rattle.std.proofs.Common.{◌≡◌, ◌++◌, take}
+use Rattle.assise_inode_table.proofs.Common.{◌≡◌, ◌++◌, take}
 use Rattle.assise_inode_table.proofs.piece.joined.Given as goal
 
 abbrev pub invariant-loop-name : goal.invariant-loop-name

@@ -1,5 +1,4 @@
-use Rattle.std.proofs.Common.{◌∙◌, sym, ap, false, set}
-use Rattle.assise_inode_table.specs.Pieces.{links_or_none}
+use Rattle.assise_inode_table.proofs.Common.{◌∙◌, sym, ap, false, set, links_or_none}
 use Rattle.assise_inode_table.proofs.PieceLinks.{links-set, links-gone}
 use Rattle.assise_inode_table.proofs.piece.set_link.Goals as goal
 

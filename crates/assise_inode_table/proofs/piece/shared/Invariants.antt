@@ -1,4 +1,4 @@
-use Rattle.std.proofs.Common.{◌≡◌, ◌≤◌, take, length, vec_len, vec_capacity}
+use Rattle.assise_inode_table.proofs.Common.{◌≡◌, ◌≤◌, take, length, vec_len, vec_capacity}
 use Rattle.assise_inode_table.proofs.piece.shared.Given as goal
 
 abbrev pub invariant-loop-piece : goal.invariant-loop-piece

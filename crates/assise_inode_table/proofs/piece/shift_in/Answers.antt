@@ -1,6 +1,4 @@
-use Rattle.std.proofs.Common.{◌≡◌, ◌-◌, ◌+◌, ◌∙◌, ◌++◌, ◌∷◌, ◌<◌, [], List, ap, append-nil, arith, length, take, set}
-use Rattle.std.proofs.lemmas.List.{drop_all}
-use Rattle.std.specs.List.{copy_within}
+use Rattle.assise_inode_table.proofs.Common.{◌≡◌, ◌-◌, ◌+◌, ◌∙◌, ◌++◌, ◌∷◌, ◌<◌, [], List, ap, append-nil, arith, length, take, set, drop_all, copy_within}
 use Rattle.assise_inode_table.proofs.piece.shift_in.Goals as goal
 
 -- a row moved up by one, and its first place set

@@ -1,11 +1,11 @@
-use Rattle.std.proofs.Common.{◌-◌, length, take, ◌∙◌, sym}
-use Rattle.std.proofs.lemmas.Bool.{false≢true}
+use Rattle.assise_inode_table.proofs.Common.{◌-◌, length, take, ◌∙◌, sym, false≢true}
 use Rattle.assise_inode_table.proofs.LinkingFirst.{all_take_away, last_behind, link_last_asks, made_in_order}
 use Rattle.assise_inode_table.proofs.whole.apply_changes.Goals.{else-is_link-via-then-is_link+else-only_take_away, else-is_link-via-else-is_link}
 use Rattle.assise_inode_table.proofs.whole.apply_changes.Goals as goal
 
 pub apply_link_first-requires-clause-take_away : goal.apply_link_first-requires-clause-take_away
-apply_link_first-requires-clause-take_away g c = all_take_away (take (length c.args.effects.now - 1) c.args.effects.now) (sym c.only_take_away.ensures ∙ c.if-only_take_away.true)
+apply_link_first-requires-clause-take_away g c =
+    all_take_away (take (length c.args.effects.now - 1) c.args.effects.now) (sym c.only_take_away.ensures ∙ c.if-only_take_away.true)
 
 pub apply_in_order-requires : goal.apply_in_order-requires
 apply_in_order-requires g c =

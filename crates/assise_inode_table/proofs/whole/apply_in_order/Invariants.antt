@@ -1,5 +1,4 @@
-use Rattle.std.proofs.Common.{◌≡◌, take}
-use Rattle.assise_inode_table.specs.Effects.{all_applied}
+use Rattle.assise_inode_table.proofs.Common.{◌≡◌, take, all_applied}
 use Rattle.assise_inode_table.proofs.whole.apply_in_order.Given as goal
 
 abbrev pub invariant-loop-effect : goal.invariant-loop-effect

@@ -1,12 +1,10 @@
-use Rattle.std.proofs.Common.{◌≡◌, take}
-use Rattle.std.specs.List.{filter}
-use Rattle.assise_inode_table.specs.Effects.{all_applied, applied}
-use Rattle.assise_inode_table.specs.Whole.{leaves_entry}
+use Rattle.assise_inode_table.proofs.Common.{◌≡◌, take, filter, all_applied, applied, leaves_entry}
 use Rattle.assise_inode_table.proofs.whole.apply_link_first.Given as goal
 
 abbrev pub invariant-loop-effect : goal.invariant-loop-effect
 invariant-loop-effect g l =
     record {
-      made : g.S.Inodes.contents l.store ≡ all_applied (applied (g.S.Inodes.contents l.fn.store) l.link) (filter (leaves_entry l.directory l.name) (take l.effect-index l.before));
+      made : g.S.Inodes.contents l.store ≡ all_applied (applied (g.S.Inodes.contents l.fn.store) l.link)
+          (filter (leaves_entry l.directory l.name) (take l.effect-index l.before));
       setting : g.S.InodeStore.setting l.store ≡ g.S.InodeStore.setting l.fn.store;
     }

@@ -1,8 +1,4 @@
-use Rattle.std.proofs.Common.{◌&&◌, not, ◌∙◌, ap, sym}
-use Rattle.std.proofs.lemmas.Bool.{eq-eqb}
-use Rattle.std.specs.Cmp.Lexicographic.{texts_ties}
-use Rattle.assise_seq_tree.specs.Tree.{same_name}
-use Rattle.assise_inode_table.specs.Whole.{leaves_entry}
+use Rattle.assise_inode_table.proofs.Common.{◌&&◌, not, ◌∙◌, ap, sym, eq-eqb, texts_ties, same_name, leaves_entry}
 use Rattle.assise_inode_table.proofs.whole.leaves_entry.Goals as goal
 
 pub returns-else-changed-directory : goal.returns-else-changed-directory

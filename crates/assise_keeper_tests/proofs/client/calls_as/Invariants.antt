@@ -1,6 +1,4 @@
-use Rattle.std.proofs.Common.{◌≡◌, ◌++◌, map, Some}
-use Rattle.assise_keeper.specs.Passes.{client, mine, IsPassOf}
-use Rattle.assise_keeper_tests.specs.Made.{made}
+use Rattle.assise_keeper_tests.proofs.Common.{◌≡◌, ◌++◌, map, Some, client, mine, IsPassOf, made}
 use Rattle.assise_keeper_tests.proofs.client.calls_as.Given as goal
 
 abbrev pub invariant-loop : goal.invariant-loop

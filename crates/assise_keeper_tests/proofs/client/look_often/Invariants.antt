@@ -1,4 +1,4 @@
-use Rattle.assise_keeper.specs.Passes.{IsPassOf}
+use Rattle.assise_keeper_tests.proofs.Common.{IsPassOf}
 use Rattle.assise_keeper.specs.Working.{pass_of}
 use Rattle.assise_keeper_tests.proofs.client.look_often.Given as goal
 

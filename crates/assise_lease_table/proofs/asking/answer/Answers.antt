@@ -1,4 +1,4 @@
-use Rattle.std.proofs.Common.{refl, rules, subst, sym}
+use Rattle.assise_lease_table.proofs.Common.{refl, rules, subst, sym}
 use Rattle.assise_private_log.specs.Touches.{Covers}
 use Rattle.assise_lease_table.proofs.asking.answer.Goals as goal
 

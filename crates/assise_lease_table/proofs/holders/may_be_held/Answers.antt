@@ -1,5 +1,4 @@
-use Rattle.std.proofs.Common.{sym, ◌∙◌}
-use Rattle.std.proofs.lemmas.Bool.{not-true}
+use Rattle.assise_lease_table.proofs.Common.{sym, ◌∙◌, not-true}
 use Rattle.assise_lease_table.proofs.Compatibles.{no_rivals}
 use Rattle.assise_lease_table.proofs.holders.may_be_held.Goals as goal
 

@@ -1,5 +1,4 @@
-use Rattle.std.proofs.Common.{◌∙◌, not, ap, ◌++◌, ◌∷◌, [], arith}
-use Rattle.assise_lease_table.specs.Leases.{is_own, leave_out}
+use Rattle.assise_lease_table.proofs.Common.{◌∙◌, not, ap, ◌++◌, ◌∷◌, [], arith, is_own, leave_out}
 use Rattle.assise_lease_table.proofs.Room.{either_order}
 use Rattle.assise_lease_table.proofs.holders.put_over.Goals as goal
 

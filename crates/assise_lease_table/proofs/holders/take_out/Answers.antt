@@ -1,4 +1,4 @@
-use Rattle.std.proofs.Common.{not, rules}
+use Rattle.assise_lease_table.proofs.Common.{not, rules}
 use Rattle.assise_lease_table.proofs.Lists.{passed}
 use Rattle.assise_lease_table.proofs.holders.take_out.Goals as goal
 

@@ -1,5 +1,4 @@
-use Rattle.std.proofs.Common.{◌≡◌, drop}
-use Rattle.std.specs.List.{list_any}
+use Rattle.assise_lease_table.proofs.Common.{◌≡◌, drop, list_any}
 use Rattle.assise_lease_table.proofs.lease.is_any_chosen.Given as goal
 
 abbrev pub invariant-loop-lease : goal.invariant-loop-lease

@@ -1,9 +1,4 @@
-use Rattle.std.proofs.Common.{rules, ◌≡◌, ◌∙◌, sym, subst}
-use Rattle.std.specs.Prelude.{IfOk}
-use Rattle.assise_history.specs.Legal.{calls_made}
-use Rattle.assise_keeper.specs.Clients.{MayOpenClients}
-use Rattle.assise_keeper.specs.Passes.{seen}
-use Rattle.assise_keeper.proofs.LedStates.{led_from}
+use Rattle.assise_libfs.proofs.Common.{rules, ◌≡◌, ◌∙◌, sym, subst, IfOk, calls_made, MayOpenClients, seen, led_from}
 use Rattle.assise_libfs.proofs.Openings.{no_other_opened, none_opened}
 use Rattle.assise_libfs.proofs.Tries.{none_of_opened}
 use Rattle.assise_libfs.proofs.turns.open_turn.Goals as goal
@@ -11,20 +6,23 @@ use Rattle.assise_libfs.proofs.turns.open_turn.Goals as goal
 pub returns-clause-no_calls : goal.returns-clause-no_calls
 returns-clause-no_calls g c =
     let given : seen c.give.new.pass ≡ g.S.Growing.history c.open-opened.new.self = search rules in
-    let none = none_of_opened _ _ c.args.node c.args.durability c.open-opened.result c.open-opened.ensures.opened (g.met.S.Served.legal c.open-opened.new.self) in
+    let none = none_of_opened _ _ c.args.node c.args.durability c.open-opened.result c.open-opened.ensures.opened (g.met.S.Served.legal c.open-opened.new.self)
+    in
     subst (λ h. IfOk c.open-opened.result (λ client. calls_made client h ≡ 0)) (sym given) none
 
 pub returns-clause-alone : goal.returns-clause-alone
 returns-clause-alone g c =
     let given : seen c.give.new.pass ≡ g.S.Growing.history c.open-opened.new.self = search rules in
     let opened = rw c.state.ensures.value at c.open-opened.ensures.opened in
-    no_other_opened (seen c.args.pass.now) (g.S.Growing.history c.take-held.result) (g.S.Growing.history c.open-opened.new.self) (seen c.give.new.pass) c.args.node c.args.durability c.open-opened.result c.take-held.ensures.alone opened given
+    no_other_opened (seen c.args.pass.now) (g.S.Growing.history c.take-held.result) (g.S.Growing.history c.open-opened.new.self) (seen c.give.new.pass)
+    c.args.node c.args.durability c.open-opened.result c.take-held.ensures.alone opened given
 
 pub returns-clause-no_opening : goal.returns-clause-no_opening
 returns-clause-no_opening g c =
     let given : seen c.give.new.pass ≡ g.S.Growing.history c.open-opened.new.self = search rules in
     let unchanged = rw c.state.ensures.value at c.open-opened.ensures.unchanged in
-    none_opened (seen c.args.pass.now) (g.S.Growing.history c.take-held.result) (g.S.Growing.history c.open-opened.new.self) (seen c.give.new.pass) c.open-opened.result c.take-held.ensures.alone unchanged given
+    none_opened (seen c.args.pass.now) (g.S.Growing.history c.take-held.result) (g.S.Growing.history c.open-opened.new.self) (seen c.give.new.pass)
+    c.open-opened.result c.take-held.ensures.alone unchanged given
 
 pub give-requires-clause-leads : goal.give-requires-clause-leads
 give-requires-clause-leads g c =

@@ -1,7 +1,4 @@
-use Rattle.std.proofs.Common.{rules, ◌≡◌, sym, subst}
-use Rattle.assise_keeper.specs.Passes.{client, seen}
-use Rattle.assise_keeper.proofs.LedStates.{led_from}
-use Rattle.assise_libfs.specs.Calling.{SeesTry}
+use Rattle.assise_libfs.proofs.Common.{rules, ◌≡◌, sym, subst, client, seen, led_from, SeesTry}
 use Rattle.assise_libfs.proofs.Sights.{refused-given, sees}
 use Rattle.assise_libfs.proofs.turns.try_turn.Goals as goal
 

@@ -1,4 +1,4 @@
-use Rattle.std.proofs.Common.{length}
+use Rattle.assise_machine.proofs.Common.{length}
 use Rattle.assise_machine.proofs.delivery.+has_marks.Given as goal
 
 abbrev pub decreases-has_marks : goal.decreases-has_marks

@@ -1,8 +1,6 @@
-use Rattle.std.proofs.Common.{◌+◌, ◌<◌, ◌∙◌, length, refl, ap, sym, arith}
-use Rattle.assise_model_events.specs.NodeEvents.{is_refused, is_stale}
-use Rattle.assise_machine_state.specs.Observed.{world_of}
-use Rattle.assise_machine_state.specs.Whole.{value_of}
-use Rattle.assise_machine.proofs.DeliveryHappens.{Comes, Gives, begun, client, comes, given, groups, has, has_own, lives_elsewhere, not_timely, nothing_new, numbers, own_other, room, some_new}
+use Rattle.assise_machine.proofs.Common.{◌+◌, ◌<◌, ◌∙◌, length, refl, ap, sym, arith, is_refused, is_stale, world_of, value_of}
+use Rattle.assise_machine.proofs.DeliveryHappens.{Comes, Gives, begun, client, comes, given, groups, has, has_own, lives_elsewhere, not_timely, nothing_new}
+use Rattle.assise_machine.proofs.DeliveryHappens.{numbers, own_other, room, some_new}
 use Rattle.assise_machine.proofs.delivery.deliver.Given as given_of
 use Rattle.assise_machine.proofs.delivery.deliver.Goals as goal
 use Rattle.assise_machine.proofs.delivery.deliver.Goals.{After-end-received, After-extend, After-with_own_payloads-records}

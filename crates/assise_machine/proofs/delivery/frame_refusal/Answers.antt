@@ -1,6 +1,4 @@
-use Rattle.std.proofs.Common.{◌∙◌, refl, sym}
-use Rattle.assise_machine_state.specs.Observed.{world_of}
-use Rattle.assise_machine_state.specs.Whole.{value_of}
+use Rattle.assise_machine.proofs.Common.{◌∙◌, refl, sym, world_of, value_of}
 use Rattle.assise_machine.proofs.DeliveryHappens.{Comes, begun, client, comes, has, is_next, not_timely}
 use Rattle.assise_machine.proofs.delivery.frame_refusal.Given as given
 use Rattle.assise_machine.proofs.delivery.frame_refusal.Goals as goal

@@ -1,5 +1,4 @@
-use Rattle.std.proofs.Common.{◌-◌, drop, subst}
-use Rattle.assise_digest.specs.Region.{AreWhole}
+use Rattle.assise_machine.proofs.Common.{◌-◌, drop, subst, AreWhole}
 use Rattle.assise_machine.proofs.LogAgrees.{whole_new}
 use Rattle.assise_machine.proofs.delivery.is_next.Goals as goal
 

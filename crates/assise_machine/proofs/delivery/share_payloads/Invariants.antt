@@ -1,4 +1,4 @@
-use Rattle.std.proofs.Common.{◌≡◌}
+use Rattle.assise_machine.proofs.Common.{◌≡◌}
 use Rattle.assise_machine.proofs.delivery.share_payloads.Given as goal
 
 abbrev pub invariant-loop-place : goal.invariant-loop-place

@@ -1,17 +1,13 @@
-use Rattle.std.proofs.Common.{◌<◌, length, refl, ap, sym, subst, ◌∙◌, arith}
-use Rattle.assise_model_events.specs.NodeEvents.{undigested_to}
+use Rattle.assise_machine.proofs.Common.{◌<◌, length, refl, ap, sym, subst, ◌∙◌, arith, undigested_to, observed, world_of, value_of, MachineInvariant}
+use Rattle.assise_machine.proofs.Common.{CutsInvariant, ShapeInvariant, sound_so}
 use Rattle.assise_model_events.specs.NodeEvents.Digesting.{is_refused}
-use Rattle.assise_machine_state.specs.Observed.{observed, world_of}
-use Rattle.assise_machine_state.specs.Whole.{value_of}
-use Rattle.assise_model_events.specs.Machine.{MachineInvariant}
-use Rattle.assise_machine_state.specs.Invariant.{CutsInvariant, ShapeInvariant}
-use Rattle.assise_machine_failures.proofs.TakenDown.{sound_so}
 use Rattle.assise_machine.proofs.Frames.{few_clients, fine_node}
 use Rattle.assise_machine.proofs.WholeDigest.{Begins, Gives, begins, gives_as, lacks, lists_of, nothing_digested, same}
 use Rattle.assise_machine.proofs.DigestedTo.{GoesTo}
 use Rattle.assise_machine.proofs.digesting.digest.Given as given
 use Rattle.assise_machine.proofs.digesting.digest.Goals as goal
-use Rattle.assise_machine.proofs.digesting.digest.Goals.{else-progress-via-then-progress+else-progress-eq0, else-progress-via-else-progress, After-digest_to-progress, After-drop_digested}
+use Rattle.assise_machine.proofs.digesting.digest.Goals.{else-progress-via-then-progress+else-progress-eq0, else-progress-via-else-progress}
+use Rattle.assise_machine.proofs.digesting.digest.Goals.{After-digest_to-progress, After-drop_digested}
 
 pub returns-in-Some-clause-happens : goal.returns-in-Some-clause-happens
 returns-in-Some-clause-happens g c = is_refused c.in-Some.refusal (sym c.node_refusal.ensures ∙ c.in-Some.is) refl refl

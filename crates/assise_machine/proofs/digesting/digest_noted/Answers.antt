@@ -1,15 +1,6 @@
-use Rattle.std.proofs.Common.{◌≡◌, ◌≤◌, ◌++◌, length, take, ap, sym, subst, ◌∙◌, arith}
-use Rattle.std.proofs.lemmas.List.{length-map, length-take}
+use Rattle.assise_machine.proofs.Common.{◌≡◌, ◌≤◌, ◌++◌, length, take, ap, sym, subst, ◌∙◌, arith, length-map, length-take, all_effects, touched, touched_by}
+use Rattle.assise_machine.proofs.Common.{records_from, ahead, noted, membership, HasLog, log_in, value_of}
 use Rattle.std.specs.FinSet as set
-use Rattle.assise_record.specs.Records.{all_effects}
-use Rattle.assise_inode_table.specs.Effects.{touched}
-use Rattle.assise_record.specs.Touched.{touched_by}
-use Rattle.assise_private_log.specs.NumberedLog.{records_from}
-use Rattle.assise_digest.specs.Region.{ahead}
-use Rattle.assise_manager.specs.Changes.{noted}
-use Rattle.assise_manager.specs.Whole.{membership}
-use Rattle.assise_machine_state.specs.NodeValues.{HasLog, log_in}
-use Rattle.assise_machine_state.specs.Whole.{value_of}
 use Rattle.assise_machine.proofs.Digested.{digests_as, has_after, has_here, log_after, touch_disjoint, whole_as}
 use Rattle.assise_machine.proofs.Fewer.{room_for_fewer}
 use Rattle.assise_machine.proofs.TouchedInodes.{fewer_effects, prefix_touched}
@@ -29,10 +20,12 @@ log-requires g c = record {
 }
 
 pub digest_some-requires-clause-there : goal.digest_some-requires-clause-there
-digest_some-requires-clause-there g c = has_here (value_of c.args.state.now) c.args.node c.args.client c.requires.parts.shape c.requires.parts.world c.requires.full c.requires.client
+digest_some-requires-clause-there g c =
+    has_here (value_of c.args.state.now) c.args.node c.args.client c.requires.parts.shape c.requires.parts.world c.requires.full c.requires.client
 
 pub digest_some-requires-clause-disjoint : goal.digest_some-requires-clause-disjoint
-digest_some-requires-clause-disjoint g c = touch_disjoint (value_of c.args.state.now) c.args.node c.args.client c.requires.parts.shape c.requires.parts.world c.requires.full c.requires.client
+digest_some-requires-clause-disjoint g c =
+    touch_disjoint (value_of c.args.state.now) c.args.node c.args.client c.requires.parts.shape c.requires.parts.world c.requires.full c.requires.client
 
 pub log-requires-2 : goal.log-requires-2
 log-requires-2 g c =
@@ -53,7 +46,8 @@ all_touched : (g : given.Over) (c : goal.After-deref g) →
 all_touched g c =
     let log = c.log.ensures.log in
     let from = c.digested-from.ensures in
-    let added = c.in_ok-push_touched_from.ensures.added ∙ ap (λ xs. xs ++ touched (all_effects (take c.args.wanted (records_from c.log.result.now c.digested-from.result)))) c.new-inodes.ensures.items in
+    let added = c.in_ok-push_touched_from.ensures.added
+    ∙ ap (λ xs. xs ++ touched (all_effects (take c.args.wanted (records_from c.log.result.now c.digested-from.result)))) c.new-inodes.ensures.items in
     c.deref.ensures.value ∙ added ∙ (λ i. touched (all_effects (take c.args.wanted (records_from (log i) (from i)))))
 
 counted_now : (g : given.Over) (c : goal.After-deref g) →
@@ -83,7 +77,8 @@ note_reserved-requires g c =
     let taken = length-take c.effects_from-written.result c.deref.result.now in
     record {
       room =
-          room_for_fewer (length (take c.effects_from-written.result c.deref.result.now)) c.len.result (omega (arith, taken, c.deref.ensures.len, c.len.ensures)) c.reserve_written.new.self c.args.node
+          room_for_fewer (length (take c.effects_from-written.result c.deref.result.now)) c.len.result
+          (omega (arith, taken, c.deref.ensures.len, c.len.ensures)) c.reserve_written.new.self c.args.node
           c.in_ok-reserve_written.ensures.room;
     }
 
@@ -92,12 +87,16 @@ returns-clause-ok g c =
     let s = value_of c.args.state.now in
     let rs = ahead (log_in s.nodes c.args.node c.args.client) in
     let has = has_here s c.args.node c.args.client c.requires.parts.shape c.requires.parts.world c.requires.full c.requires.client in
-    let inodes = (λ i. take (counted_now g c.before.before i) (all_touched g c.before.before i)) ∙ prefix_touched rs c.in_ok-count.count c.args.wanted c.in_ok-count.ensures.at_most in
-    let members = c.note_reserved.ensures ∙ ap (λ m. noted m c.args.node (set.from_list (take c.effects_from-written.result c.deref.result.now))) c.reserve_written.ensures.same in
-    digests_as s c.args.node c.args.client c.in_ok-count.count has c.digest_some.new.self (membership c.note_reserved.new.self) (take c.effects_from-written.result c.deref.result.now)
+    let inodes = (λ i. take (counted_now g c.before.before i) (all_touched g c.before.before i)) ∙ prefix_touched rs c.in_ok-count.count c.args.wanted
+    c.in_ok-count.ensures.at_most in
+    let members = c.note_reserved.ensures ∙ ap (λ m. noted m c.args.node (set.from_list (take c.effects_from-written.result c.deref.result.now)))
+    c.reserve_written.ensures.same in
+    digests_as s c.args.node c.args.client c.in_ok-count.count has c.digest_some.new.self (membership c.note_reserved.new.self)
+    (take c.effects_from-written.result c.deref.result.now)
     c.in_ok-count.ensures.ok members inodes
 
 pub returns-clause-group : goal.returns-clause-group
 returns-clause-group g c =
-    whole_as (value_of c.args.state.now) c.args.node c.args.client c.requires.parts.shape c.requires.parts.world c.requires.full c.requires.client c.in_ok-count.count (omega (arith, c.in_ok-count.ensures.at_most, c.requires.wanted))
+    whole_as (value_of c.args.state.now) c.args.node c.args.client c.requires.parts.shape c.requires.parts.world c.requires.full c.requires.client
+    c.in_ok-count.count (omega (arith, c.in_ok-count.ensures.at_most, c.requires.wanted))
     c.in_ok-count.ensures.groups

@@ -1,8 +1,4 @@
-use Rattle.std.proofs.Common.{◌≡◌, ◌<◌, min, sym, ◌∙◌, arith}
-use Rattle.std.proofs.lemmas.Bool.{ltb-false, ltb-true}
-use Rattle.assise_model_events.specs.NodeEvents.{undigested}
-use Rattle.assise_machine_state.specs.Observed.{world_of}
-use Rattle.assise_machine_state.specs.Whole.{value_of}
+use Rattle.assise_machine.proofs.Common.{◌≡◌, ◌<◌, min, sym, ◌∙◌, arith, ltb-false, ltb-true, undigested, world_of, value_of}
 use Rattle.assise_machine.proofs.Digested.{digested_is, has_here, none_digested, none_whole, order, some_wanted, wanted_as}
 use Rattle.assise_machine.proofs.digesting.digest_of.Given as given
 use Rattle.assise_machine.proofs.digesting.digest_of.Goals as goal
@@ -47,10 +43,12 @@ some g c =
 pub returns-then-wanted-eq0-clause-digests : goal.returns-then-wanted-eq0-clause-digests
 returns-then-wanted-eq0-clause-digests g c =
     let s = value_of c.args.state.now in
-    sym (none_digested s c.args.node c.args.client (has_here s c.args.node c.args.client c.requires.parts.shape c.requires.parts.world c.requires.full c.requires.client))
+    sym (none_digested s c.args.node c.args.client
+    (has_here s c.args.node c.args.client c.requires.parts.shape c.requires.parts.world c.requires.full c.requires.client))
 
 pub returns-then-wanted-eq0-clause-group : goal.returns-then-wanted-eq0-clause-group
-returns-then-wanted-eq0-clause-group g c = none_whole (value_of c.args.state.now) c.args.node c.args.client c.requires.parts.shape c.requires.parts.world c.requires.full c.requires.client
+returns-then-wanted-eq0-clause-group g c =
+    none_whole (value_of c.args.state.now) c.args.node c.args.client c.requires.parts.shape c.requires.parts.world c.requires.full c.requires.client
 
 pub returns-then-wanted-eq0-clause-all : goal.returns-then-wanted-eq0-clause-all
 returns-then-wanted-eq0-clause-all g c whole =
@@ -92,10 +90,12 @@ returns-in-Ok-clause-some g c fine all left =
 pub returns-in-Err-clause-digests : goal.returns-in-Err-clause-digests
 returns-in-Err-clause-digests g c =
     let s = value_of c.args.state.now in
-    c.in-Err.ensures.err ∙ sym (none_digested s c.args.node c.args.client (has_here s c.args.node c.args.client c.requires.parts.shape c.requires.parts.world c.requires.full c.requires.client))
+    c.in-Err.ensures.err ∙ sym (none_digested s c.args.node c.args.client
+    (has_here s c.args.node c.args.client c.requires.parts.shape c.requires.parts.world c.requires.full c.requires.client))
 
 pub returns-in-Err-clause-group : goal.returns-in-Err-clause-group
-returns-in-Err-clause-group g c = none_whole (value_of c.args.state.now) c.args.node c.args.client c.requires.parts.shape c.requires.parts.world c.requires.full c.requires.client
+returns-in-Err-clause-group g c =
+    none_whole (value_of c.args.state.now) c.args.node c.args.client c.requires.parts.shape c.requires.parts.world c.requires.full c.requires.client
 
 pub returns-in-Err-clause-ended : goal.returns-in-Err-clause-ended
 returns-in-Err-clause-ended g c ended =

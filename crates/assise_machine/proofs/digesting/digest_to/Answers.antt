@@ -1,6 +1,4 @@
-use Rattle.std.proofs.Common.{◌≡◌, ◌<◌, ◌≤◌, ◌+◌, ◌-◌, length, ap, subst, ◌∙◌, arith}
-use Rattle.std.proofs.lemmas.Bool.{not-false, not-true}
-use Rattle.assise_machine_state.specs.Whole.{value_of}
+use Rattle.assise_machine.proofs.Common.{◌≡◌, ◌<◌, ◌≤◌, ◌+◌, ◌-◌, length, ap, subst, ◌∙◌, arith, not-false, not-true, value_of}
 use Rattle.assise_machine.proofs.DigestedTo.{GoesTo, goes_on, goes_past, next_here, same_as}
 use Rattle.assise_machine.proofs.digesting.digest_to.Given as given
 use Rattle.assise_machine.proofs.digesting.digest_to.Goals as goal

@@ -1,5 +1,4 @@
-use Rattle.std.proofs.Common.{◌≡◌, ◌+◌, ◌-◌, ◌≤◌}
-use Rattle.assise_machine_state.specs.Whole.{value_of}
+use Rattle.assise_machine.proofs.Common.{◌≡◌, ◌+◌, ◌-◌, ◌≤◌, value_of}
 use Rattle.assise_machine.proofs.DigestedTo.{GoesTo}
 use Rattle.assise_machine.proofs.digesting.digest_to.Given as goal
 

@@ -1,7 +1,5 @@
-use Rattle.std.proofs.Common.{◌≡◌, ◌+◌, ◌≤◌, length, take, ap, ◌∙◌, arith}
+use Rattle.assise_machine.proofs.Common.{◌≡◌, ◌+◌, ◌≤◌, length, take, ap, ◌∙◌, arith, LogRecord, all_effects}
 use Rattle.std.proofs.lemmas.List.{length-append}
-use Rattle.assise_record.specs.LogRecord.{LogRecord}
-use Rattle.assise_record.specs.Records.{all_effects}
 use Rattle.assise_machine_state.proofs.TouchedFrom.{taken_first}
 use Rattle.assise_machine.proofs.digesting.effects_from.Goals as goal
 

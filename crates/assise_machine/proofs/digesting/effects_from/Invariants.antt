@@ -1,6 +1,4 @@
-use Rattle.std.proofs.Common.{◌≡◌, ◌+◌, ◌*◌, ◌≤◌, length, take}
-use Rattle.assise_record.specs.Records.{all_effects}
-use Rattle.assise_private_log.specs.NumberedLog.{records_from}
+use Rattle.assise_machine.proofs.Common.{◌≡◌, ◌+◌, ◌*◌, ◌≤◌, length, take, all_effects, records_from}
 use Rattle.assise_machine.proofs.digesting.effects_from.Given as goal
 
 -- what was counted are the effects of the prefix of the records, of which each has four at most

@@ -1,9 +1,4 @@
-use Rattle.std.proofs.Common.{◌<◌, ◌∙◌, subst, sym}
-use Rattle.std.proofs.Math.Logic.{∥∥₁_map}
-use Rattle.assise_history.specs.Legal.{clients_opened}
-use Rattle.assise_machine_state.specs.Observed.{observed}
-use Rattle.assise_machine_state.specs.Whole.{value_of}
-use Rattle.assise_machine.specs.Headline.{all_acked, history_of}
+use Rattle.assise_machine.proofs.Common.{◌<◌, ◌∙◌, subst, sym, ∥∥₁_map, clients_opened, observed, value_of, all_acked, history_of}
 use Rattle.assise_machine.proofs.Decided.{legal_known}
 use Rattle.assise_machine.proofs.Replicated.{alone_gives, count_known, first_at, first_length, one_is_up, run_known, synced_known, up_is_full}
 use Rattle.assise_machine.proofs.headline.headline.Goals as goal

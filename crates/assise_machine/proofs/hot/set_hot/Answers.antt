@@ -1,7 +1,5 @@
-use Rattle.std.proofs.Common.{◌<◌, ◌∙◌, OnErr, refl, subst, sym}
+use Rattle.assise_machine.proofs.Common.{◌<◌, ◌∙◌, OnErr, refl, subst, sym, region_in, value_of}
 use Rattle.assise_model_events.specs.NodeEvents.SettingHot.{is_refused}
-use Rattle.assise_machine_state.specs.NodeValues.{region_in}
-use Rattle.assise_machine_state.specs.Whole.{value_of}
 use Rattle.assise_machine.proofs.HotSet.{Sets, node_there, sets}
 use Rattle.assise_machine.proofs.hot.set_hot.Given as given
 use Rattle.assise_machine.proofs.hot.set_hot.Goals as goal
@@ -14,7 +12,8 @@ set_hot_capacity-requires-clause-node g c =
     node_there (value_of c.args.sound.now.state) c.args.node c.args.capacity c.args.sound.now.invariant.shape (sym c.node_refusal.ensures ∙ c.in_default.is)
 
 set_now : (g : given.Over) (c : goal.After-set_hot_capacity g) →
-    Sets (value_of c.args.sound.now.state) c.args.node c.args.capacity c.set_hot_capacity.result (record (value_of c.args.sound.now.state) { nodes = c.set_hot_capacity.new.self })
+    Sets (value_of c.args.sound.now.state) c.args.node c.args.capacity c.set_hot_capacity.result
+    (record (value_of c.args.sound.now.state) { nodes = c.set_hot_capacity.new.self })
 set_now g c =
     sets (value_of c.args.sound.now.state) c.args.node c.args.capacity c.args.sound.now.invariant.shape (sym c.node_refusal.ensures ∙ c.in_default.is)
     c.args.sound.now.invariant.holds c.args.sound.now.invariant.noted c.set_hot_capacity.result c.set_hot_capacity.new.self

@@ -1,5 +1,4 @@
-use Rattle.assise_manager.specs.Whole.{membership}
-use Rattle.assise_machine_state.specs.Whole.{value_of}
+use Rattle.assise_machine.proofs.Common.{membership, value_of}
 use Rattle.assise_machine.proofs.RaisedNode.{Raises, raises}
 use Rattle.assise_machine.proofs.raising.raise.Given as given
 use Rattle.assise_machine.proofs.raising.raise.Goals as goal

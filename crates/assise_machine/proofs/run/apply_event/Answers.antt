@@ -1,11 +1,4 @@
-use Rattle.std.proofs.Common.{◌≡◌, ℕ, sym, subst}
-use Rattle.assise_model_events.specs.Events.{Answer}
-use Rattle.assise_model_events.specs.Machine.{Machine}
-use Rattle.assise_model_events.specs.NodeEvents.{SettingHot}
-use Rattle.assise_machine.specs.declared.event.Event.{Event}
-use Rattle.assise_machine.specs.Answers.{setting_answer}
-use Rattle.assise_machine.specs.Clusters.{machine}
-use Rattle.assise_machine.specs.Running.{IsServed, event_seen, happens}
+use Rattle.assise_machine.proofs.Common.{◌≡◌, ℕ, sym, subst, Answer, Machine, SettingHot, Event, setting_answer, machine, IsServed, event_seen, happens}
 use Rattle.assise_machine.proofs.run.apply_event.Goals as goal
 
 -- the event by its case
@@ -32,7 +25,8 @@ returns-in-ReleaseReady-clause-served g c = seen_so c.in-ReleaseReady.is (happen
 
 pub returns-in-SetHot-clause-served : goal.returns-in-SetHot-clause-served
 returns-in-SetHot-clause-served g c =
-    let set = subst (λ capacity. SettingHot (machine c.args.cluster.now) c.in-SetHot.node capacity (setting_answer c.set_hot.result) (machine c.set_hot.new.self)) c.get.ensures.value c.set_hot.ensures.happens in
+    let set = subst (λ capacity. SettingHot (machine c.args.cluster.now) c.in-SetHot.node capacity (setting_answer c.set_hot.result)
+    (machine c.set_hot.new.self)) c.get.ensures.value c.set_hot.ensures.happens in
     seen_so c.in-SetHot.is (happens set)
 
 pub returns-in-Crash-clause-served : goal.returns-in-Crash-clause-served

@@ -1,9 +1,5 @@
-use Rattle.std.proofs.Common.{◌≡◌, ◌≤◌, ◌++◌, ◌∙◌, ℕ, Contains, length, subst, sym, take, arith}
-use Rattle.std.proofs.lemmas.List.{take_all}
-use Rattle.assise_machine_state.specs.Observed.{observed}
-use Rattle.assise_machine.specs.Clusters.{machine, revokers}
-use Rattle.assise_machine.specs.Headline.{history_of}
-use Rattle.assise_machine.specs.Running.{all_opened, answer_seen, event_seen, last_first, stocked, told}
+use Rattle.assise_machine.proofs.Common.{◌≡◌, ◌≤◌, ◌++◌, ◌∙◌, ℕ, Contains, length, subst, sym, take, arith, take_all, observed, machine, revokers, history_of}
+use Rattle.assise_machine.proofs.Common.{all_opened, answer_seen, event_seen, last_first, stocked, told}
 use Rattle.assise_machine.proofs.Opened.{gets_on, opened_anew, opened_now, others_on}
 use Rattle.assise_machine.proofs.Replicated.{bounds_stay, calls_stay, nodes_stay}
 use Rattle.assise_machine.proofs.EventLists.{all_last, applied_on, count_on, prefix_on, left_on, served_on, told_all}
@@ -34,14 +30,16 @@ loop-event-preserved g c =
       served = served_on k j m v u es bs ds i e a before.count c.loop-event-test.true c.event-item.is pushed.items before.stock before.served step.served;
       applied =
           applied_on k j m v u es bs ds i e a before.count c.loop-event-test.true c.event-item.is pushed.items before.stock
-          g.C.Revokes.answers (stocked c.args.cluster.now c.args.stock.now.items) (stocked c.loop-event.cluster c.loop-event.stock.items) (stocked c.apply_event-answer.new.cluster c.apply_event-answer.new.stock.items)
+          g.C.Revokes.answers (stocked c.args.cluster.now c.args.stock.now.items) (stocked c.loop-event.cluster c.loop-event.stock.items)
+          (stocked c.apply_event-answer.new.cluster c.apply_event-answer.new.stock.items)
           before.applied (assumption step);
       stock = step.stock ∙ left_on k j m v u es bs ds i e a before.count c.loop-event-test.true c.event-item.is pushed.items before.stock;
       prefix = prefix_on c.args.stock.now.items c.loop-event.stock.items c.apply_event-answer.new.stock.items before.prefix step.prefix;
       count = count_on k j m v u es bs ds i e a before.count c.loop-event-test.true c.event-item.is pushed.items before.stock;
       gets = subst (λ cs. c.args.stock.now.items ≡ c.apply_event-answer.new.stock.items ++ last_first f' cs) (sym grown)
           (gets_on f f' c.args.stock.now.items c.loop-event.stock.items c.apply_event-answer.new.stock.items (all_opened ts) (answer_seen a) before.gets
-          (opened_anew k j m v u ts (event_seen e) (answer_seen a) c.args.cluster.now.sound.invariant.holds before.served step.served) step.gets step.others step.stock step.prefix);
+          (opened_anew k j m v u ts (event_seen e) (answer_seen a) c.args.cluster.now.sound.invariant.holds before.served step.served) step.gets step.others
+          step.stock step.prefix);
       others = subst (λ cs. (d : ℕ) → (Contains cs d → ⊥) → f' d ≡ revokers c.args.cluster.now d) (sym grown)
           (others_on (revokers c.args.cluster.now) f f' (all_opened ts) (answer_seen a) before.others step.others);
       room = omega (arith, before.room, pushed.capacity);
@@ -50,13 +48,15 @@ loop-event-preserved g c =
 pub returns-clause-extends : goal.returns-clause-extends
 returns-clause-extends g c =
     let past : length c.args.events.now ≤ c.loop-event.event-index = omega (arith, c.loop-event-test.false) in
-    told_all (length c.args.stock.now.items) (machine c.args.cluster.now) (machine c.loop-event.cluster) c.args.events.now c.loop-event.answers.items c.loop-event.event-index past c.loop-event.invariant.served
+    told_all (length c.args.stock.now.items) (machine c.args.cluster.now) (machine c.loop-event.cluster) c.args.events.now c.loop-event.answers.items
+    c.loop-event.event-index past c.loop-event.invariant.served
 
 pub returns-clause-grows : goal.returns-clause-grows
 unfolding observed
 returns-clause-grows g c =
     let past : length c.args.events.now ≤ c.loop-event.event-index = omega (arith, c.loop-event-test.false) in
-    told_all (length c.args.stock.now.items) (machine c.args.cluster.now) (machine c.loop-event.cluster) c.args.events.now c.loop-event.answers.items c.loop-event.event-index past c.loop-event.invariant.served
+    told_all (length c.args.stock.now.items) (machine c.args.cluster.now) (machine c.loop-event.cluster) c.args.events.now c.loop-event.answers.items
+    c.loop-event.event-index past c.loop-event.invariant.served
     ∙ sym (history_told (history_of c.args.cluster.now) c.args.events.now c.loop-event.answers.items)
 
 pub returns-clause-never_falls : goal.returns-clause-never_falls
@@ -80,7 +80,8 @@ returns-clause-nodes g c =
 pub returns-clause-gets : goal.returns-clause-gets
 returns-clause-gets g c =
     let past : length c.args.events.now ≤ c.loop-event.event-index = omega (arith, c.loop-event-test.false) in
-    subst (λ es. c.args.stock.now.items ≡ c.loop-event.stock.items ++ last_first (revokers c.loop-event.cluster) (all_opened (told es c.loop-event.answers.items)))
+    subst (λ es. c.args.stock.now.items ≡ c.loop-event.stock.items ++ last_first (revokers c.loop-event.cluster)
+    (all_opened (told es c.loop-event.answers.items)))
     (take_all c.loop-event.event-index c.args.events.now past) c.loop-event.invariant.gets
 
 pub returns-clause-others : goal.returns-clause-others

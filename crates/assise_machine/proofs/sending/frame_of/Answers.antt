@@ -1,13 +1,5 @@
-use Rattle.std.proofs.Common.{◌≡◌, ◌∙◌, rules, sym}
-use Rattle.std.specs.Option.{option_to_list}
-use Rattle.assise_chain.specs.Chains.{behind, chain}
-use Rattle.assise_manager.specs.Standings.{full_nodes}
-use Rattle.assise_model_events.specs.NodeEvents.{for_node}
-use Rattle.assise_machine_state.specs.ClientValues.{client_in}
-use Rattle.assise_machine_state.specs.StateValues.{standings}
-use Rattle.assise_machine_state.specs.Whole.{value_of}
-use Rattle.assise_machine_state.proofs.Fullness.{has_log}
-use Rattle.assise_machine_failures.proofs.RefusedFailures.{never}
+use Rattle.assise_machine.proofs.Common.{◌≡◌, ◌∙◌, rules, sym, option_to_list, behind, chain, full_nodes, for_node, client_in, standings, value_of, has_log}
+use Rattle.assise_machine.proofs.Common.{never}
 use Rattle.assise_machine.proofs.Frames.{next_log, none_sent, nothing_sent, some_sent}
 use Rattle.assise_machine.proofs.sending.frame_of.Given as given
 use Rattle.assise_machine.proofs.sending.frame_of.Goals as goal

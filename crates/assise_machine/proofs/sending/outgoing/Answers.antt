@@ -1,14 +1,10 @@
-use Rattle.std.proofs.Common.{◌≡◌, ◌≤◌, ◌+◌, ◌-◌, refl, ap, sym, ◌∙◌, length, arith}
-use Rattle.std.specs.Option.{option_to_list}
+use Rattle.assise_machine.proofs.Common.{◌≡◌, ◌≤◌, ◌+◌, ◌-◌, refl, ap, sym, ◌∙◌, length, arith, option_to_list, refused, sent, frames_to, is_refused, is_sent}
+use Rattle.assise_machine.proofs.Common.{lacks_memory, machine_of, value_of, sending_answer, never}
 use Rattle.std.proofs.lemmas.Result.{err_from_is_err_and}
-use Rattle.assise_model_events.specs.Events.{refused, sent}
-use Rattle.assise_model_events.specs.NodeEvents.{frames_to, is_refused, is_sent, lacks_memory}
-use Rattle.assise_machine_state.specs.Whole.{machine_of, value_of}
-use Rattle.assise_machine.specs.Answers.{sending_answer}
-use Rattle.assise_machine_failures.proofs.RefusedFailures.{never}
 use Rattle.assise_machine.proofs.Frames.{all_clients, few_clients, fine_node, is_one, some_frames, with_frame, without_frame}
 use Rattle.assise_machine.proofs.sending.outgoing.Goals as goal
-use Rattle.assise_machine.proofs.sending.outgoing.Goals.{else-loop-client-test, then-loop-client-test+in_ok-frame+else-client-client-end, in-Some-2+in_ok-push, in_default-2}
+use Rattle.assise_machine.proofs.sending.outgoing.Goals.{else-loop-client-test, then-loop-client-test+in_ok-frame+else-client-client-end, in-Some-2+in_ok-push}
+use Rattle.assise_machine.proofs.sending.outgoing.Goals.{in_default-2}
 
 pub returns-in-Some : goal.returns-in-Some
 returns-in-Some g c = is_refused c.in-Some.refusal (sym c.node_refusal.ensures ∙ c.in-Some.is) refl refl
@@ -20,7 +16,8 @@ pub frame_of-requires-clause-full : goal.frame_of-requires-clause-full
 frame_of-requires-clause-full g c = fine_node (value_of c.args.sound.now.state) c.args.node (sym c.node_refusal.ensures ∙ c.in_default.is)
 
 pub overflow_step-client : goal.overflow_step-client
-overflow_step-client g c = omega (arith, c.loop-client-test.true, c.len-client-end.ensures, few_clients (value_of c.args.sound.now.state) c.args.sound.now.invariant.holds)
+overflow_step-client g c = omega
+    (arith, c.loop-client-test.true, c.len-client-end.ensures, few_clients (value_of c.args.sound.now.state) c.args.sound.now.invariant.holds)
 
 pub loop-client-preserved : goal.loop-client-preserved
 loop-client-preserved g c =

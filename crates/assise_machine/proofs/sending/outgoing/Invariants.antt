@@ -1,6 +1,4 @@
-use Rattle.std.proofs.Common.{◌≡◌, ◌+◌, ◌-◌, ◌≤◌, length}
-use Rattle.assise_model_events.specs.NodeEvents.{frames_to}
-use Rattle.assise_machine_state.specs.Whole.{machine_of}
+use Rattle.assise_machine.proofs.Common.{◌≡◌, ◌+◌, ◌-◌, ◌≤◌, length, frames_to, machine_of}
 use Rattle.assise_machine.proofs.sending.outgoing.Given as goal
 
 -- the frames of the first clients

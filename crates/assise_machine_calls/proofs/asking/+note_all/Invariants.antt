@@ -1,4 +1,4 @@
-use Rattle.std.proofs.Common.{length}
+use Rattle.assise_machine_calls.proofs.Common.{length}
 use Rattle.assise_machine_calls.proofs.asking.+note_all.Given as goal
 
 abbrev pub decreases-note_all : goal.decreases-note_all

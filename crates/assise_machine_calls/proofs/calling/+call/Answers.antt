@@ -1,26 +1,11 @@
-use Rattle.std.proofs.Common.{◌≡◌, ◌<◌, true, refl, Some, ap, arith, sym, subst, ◌∙◌}
-use Rattle.std.proofs.lemmas.Result.{err_from_is_err_and}
-use Rattle.assise_inode_plan.specs.Leased.{first_missing, wants}
-use Rattle.assise_inode_plan.specs.Planning.{shown}
-use Rattle.assise_inode_table.specs.Numbers.{inode_number}
-use Rattle.assise_lease_table.specs.Leases.{lease_of}
-use Rattle.assise_lease_tree.specs.Levels.{is_revoked}
-use Rattle.assise_lease_tree.specs.Trees.{levels_of, stored_by}
-use Rattle.assise_lease_tree.specs.TwoLevels.{IsGranted, is_free_for}
-use Rattle.assise_model_events.specs.ClientEvents.{Calling}
-use Rattle.assise_model_events.specs.Events.{refused}
-use Rattle.assise_machine_state.specs.Changes.{after_leases}
-use Rattle.assise_machine_state.specs.ClientValues.{client_in}
-use Rattle.assise_machine_state.specs.Observed.{observed, world_of}
-use Rattle.assise_machine_state.specs.Invariant.{CutsInvariant}
-use Rattle.assise_machine_state.specs.StateValues.{leases_of}
-use Rattle.assise_machine_state.specs.Whole.{machine_of, value_of}
-use Rattle.assise_machine_calls.specs.Answers.{turn_answer}
-use Rattle.assise_machine_calls.specs.Leasing.{next_step, step_in}
+use Rattle.assise_machine_calls.proofs.Common.{◌≡◌, ◌<◌, true, refl, Some, ap, arith, sym, subst, ◌∙◌, err_from_is_err_and, first_missing, wants, shown}
+use Rattle.assise_machine_calls.proofs.Common.{inode_number, lease_of, is_revoked, levels_of, stored_by, IsGranted, is_free_for, Calling, refused, after_leases}
+use Rattle.assise_machine_calls.proofs.Common.{client_in, observed, world_of, CutsInvariant, leases_of, machine_of, value_of, turn_answer, next_step, step_in}
 use Rattle.assise_machine_calls.proofs.AnsweredCuts.{nothing_revoked}
 use Rattle.assise_machine_calls.proofs.CallCommits.{call_made, call_number, call_unfailed}
 use Rattle.assise_machine_calls.proofs.LeaseFacts.{home_known}
-use Rattle.assise_machine_calls.proofs.CallTries.{awaited, cuts_then, fewer_then, fine_then, goes_on, holds_then, lacking_as, lacks_visit, noted_then, planned_now, visited_now, same_levels, same_levels_revoked, served, shape_then}
+use Rattle.assise_machine_calls.proofs.CallTries.{awaited, cuts_then, fewer_then, fine_then, goes_on, holds_then, lacking_as, lacks_visit, noted_then}
+use Rattle.assise_machine_calls.proofs.CallTries.{planned_now, visited_now, same_levels, same_levels_revoked, served, shape_then}
 use Rattle.assise_machine_calls.proofs.FewerLacked.{unserved}
 use Rattle.assise_machine_calls.proofs.calling.+call.Given.{Over}
 use Rattle.assise_machine_calls.proofs.calling.+call.Goals.{In-Missing, In_ok-grant-in-Missing}

@@ -1,12 +1,7 @@
-use Rattle.assise_inode_plan.specs.Leased.{wants}
-use Rattle.assise_lease_table.specs.Leases.{serves}
-use Rattle.assise_model_leases.specs.Leases.{client_lease}
-use Rattle.assise_machine_state.specs.Observed.{world_of}
-use Rattle.assise_machine_state.specs.StateValues.{leases_of}
-use Rattle.assise_machine_state.specs.Whole.{value_of}
-use Rattle.assise_machine_calls.specs.Leasing.{next_step}
+use Rattle.assise_machine_calls.proofs.Common.{wants, serves, client_lease, world_of, leases_of, value_of, next_step}
 use Rattle.assise_machine_calls.proofs.FewerLacked.{unserved}
 use Rattle.assise_machine_calls.proofs.calling.+call.Given as goal
 
 abbrev pub decreases-call : goal.decreases-call
-decreases-call g l = unserved (λ i mode. serves (client_lease (leases_of (value_of l.state.now)) l.client i) mode) (wants (next_step (world_of (value_of l.state.now)) l.client l.op.now))
+decreases-call g l = unserved (λ i mode. serves (client_lease (leases_of (value_of l.state.now)) l.client i) mode)
+    (wants (next_step (world_of (value_of l.state.now)) l.client l.op.now))

@@ -1,17 +1,6 @@
-use Rattle.std.proofs.Common.{◌≡◌, true, refl, Some, IfErr, ap, sym, subst, ◌∙◌}
-use Rattle.std.proofs.lemmas.Result.{err_from_is_err_and}
-use Rattle.assise_names.specs.declared.mode.Mode.TheVariants.{Write}
-use Rattle.assise_names.specs.declared.refusal.Refusal.{Refusal}
-use Rattle.assise_lease_tree.specs.Trees.{levels_of, stored_by}
-use Rattle.assise_lease_tree.specs.TwoLevels.{IsGranted, is_free_for}
-use Rattle.assise_model_events.specs.ClientEvents.{Calling}
-use Rattle.assise_model_events.specs.Events.{refused}
-use Rattle.assise_machine_state.specs.Changes.{after_leases}
-use Rattle.assise_machine_state.specs.Invariant.{CutsInvariant, ShapeInvariant}
-use Rattle.assise_machine_state.specs.Observed.{observed, world_of}
-use Rattle.assise_machine_state.specs.StateValues.{StateValue, leases_of}
-use Rattle.assise_machine_state.specs.Whole.{machine_of, value_of}
-use Rattle.assise_machine_calls.specs.Leasing.{GotLeases, step_in}
+use Rattle.assise_machine_calls.proofs.Common.{◌≡◌, true, refl, Some, IfErr, ap, sym, subst, ◌∙◌, err_from_is_err_and, Write, Refusal, levels_of, stored_by}
+use Rattle.assise_machine_calls.proofs.Common.{IsGranted, is_free_for, Calling, refused, after_leases, CutsInvariant, ShapeInvariant, observed, world_of}
+use Rattle.assise_machine_calls.proofs.Common.{StateValue, leases_of, machine_of, value_of, GotLeases, step_in}
 use Rattle.assise_machine_calls.proofs.AnsweredCuts.{nothing_revoked}
 use Rattle.assise_machine_calls.proofs.CallCommits.{call_number}
 use Rattle.assise_machine_calls.proofs.LeaseFacts.{home_known}

@@ -1,21 +1,10 @@
-use Rattle.std.proofs.Common.{◌≡◌, ◌+◌, false, Some, IfErr, ap, arith, sym, subst, ◌∙◌, take}
-use Rattle.std.proofs.lemmas.Result.{err_from_is_err_and}
-use Rattle.assise_names.specs.declared.mode.Mode.TheVariants.{Write}
-use Rattle.assise_names.specs.declared.refusal.Refusal.{Refusal}
-use Rattle.assise_record.specs.Touched.{touched_by}
-use Rattle.assise_inode_table.specs.Effects.{touched}
-use Rattle.assise_inode_plan.specs.Leased.{LeaseView, first_missing, for_writing}
-use Rattle.assise_lease_table.specs.Leases.{lease_of, serves}
-use Rattle.assise_lease_tree.specs.Trees.{levels_of}
-use Rattle.assise_model_events.specs.ClientEvents.{Calling}
-use Rattle.assise_model_events.specs.Events.{not_yet, refused}
-use Rattle.assise_machine_state.specs.Observed.{observed}
-use Rattle.assise_machine_state.specs.StateValues.{leases_of}
-use Rattle.assise_machine_state.specs.Whole.{machine_of, value_of}
-use Rattle.assise_machine_calls.specs.Leasing.{step_in}
+use Rattle.assise_machine_calls.proofs.Common.{◌≡◌, ◌+◌, false, Some, IfErr, ap, arith, sym, subst, ◌∙◌, take, err_from_is_err_and, Write, Refusal, touched_by}
+use Rattle.assise_machine_calls.proofs.Common.{touched, LeaseView, first_missing, for_writing, lease_of, serves, levels_of, Calling, not_yet, refused, observed}
+use Rattle.assise_machine_calls.proofs.Common.{leases_of, machine_of, value_of, step_in}
 use Rattle.assise_machine_calls.proofs.CallTries.{ready_now}
 use Rattle.assise_machine_calls.proofs.LeasedChanges.{LeasesSoFar, got_more, lacked_first, leased_more, none_lacked, still_leased}
-use Rattle.assise_machine_calls.proofs.calling.lease_changes.Goals.{else-not-holds-via-then-not-holds+in_ok-lease_change+else-not-branch, else-not-holds-via-else-not-holds}
+use Rattle.assise_machine_calls.proofs.calling.lease_changes.Goals.{else-not-holds-via-then-not-holds+in_ok-lease_change+else-not-branch}
+use Rattle.assise_machine_calls.proofs.calling.lease_changes.Goals.{else-not-holds-via-else-not-holds}
 use Rattle.assise_machine_calls.proofs.calling.lease_changes.Goals as goal
 
 pub lease_change-requires-clause-lacked : goal.lease_change-requires-clause-lacked
@@ -90,7 +79,8 @@ returns-clause-all g c = λ is.
       fine = so_far.got.fine;
       holds = so_far.got.holds;
       ready =
-          ready_now (value_of c.loop-effect.state) c.args.client c.args.op.now so_far.shape so_far.got.holds so_far.got.fine (step_in c.args.outcome.now) so_far.got.visited none;
+          ready_now (value_of c.loop-effect.state) c.args.client c.args.op.now so_far.shape so_far.got.holds so_far.got.fine (step_in c.args.outcome.now)
+          so_far.got.visited none;
       unrevoked = so_far.got.unrevoked;
       onward = so_far.got.onward;
     }

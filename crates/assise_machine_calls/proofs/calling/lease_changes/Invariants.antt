@@ -1,4 +1,4 @@
-use Rattle.assise_machine_calls.specs.Leasing.{step_in}
+use Rattle.assise_machine_calls.proofs.Common.{step_in}
 use Rattle.assise_machine_calls.proofs.LeasedChanges.{LeasesSoFar}
 use Rattle.assise_machine_calls.proofs.calling.lease_changes.Given as goal
 

@@ -1,39 +1,38 @@
-use Rattle.std.proofs.Common.{Err, refl, sym, subst, ◌∙◌}
-use Rattle.std.proofs.Math.Logic.{∥∥₁_map}
-use Rattle.assise_history.specs.Legal.{durability_of}
-use Rattle.assise_lease_tree.specs.Trees.{stored_by}
-use Rattle.assise_model_events.specs.ClientEvents.{is_refused}
-use Rattle.assise_model_events.specs.Happenings.{Trying}
-use Rattle.assise_model_events.proofs.CallKeeps.{calling_keeps}
-use Rattle.assise_machine_state.specs.Whole.{machine_of}
-use Rattle.assise_machine_calls.specs.Answers.{turn_answer}
+use Rattle.assise_machine_calls.proofs.Common.{Err, refl, sym, subst, ◌∙◌, ∥∥₁_map, durability_of, stored_by, is_refused, Trying, calling_keeps, machine_of}
+use Rattle.assise_machine_calls.proofs.Common.{turn_answer}
 use Rattle.assise_machine_calls.proofs.AnsweredCuts.{dsync_revokes_nothing, fsync_revokes_nothing, nothing_revoked}
 use Rattle.assise_machine_calls.proofs.CallTries.{is_tried, no_sync}
 use Rattle.assise_machine_calls.proofs.calling.try_call.Goals as goal
 
 pub returns-in-Fsync-clause-happens : goal.returns-in-Fsync-clause-happens
 returns-in-Fsync-clause-happens g c =
-    subst (λ op. Trying (machine_of c.args.sound.now.state) c.args.client op (turn_answer c.try_fsync.result) (machine_of c.try_fsync.new.sound.state)) (sym c.in-Fsync.is) c.try_fsync.ensures.happens
+    subst (λ op. Trying (machine_of c.args.sound.now.state) c.args.client op (turn_answer c.try_fsync.result) (machine_of c.try_fsync.new.sound.state))
+    (sym c.in-Fsync.is) c.try_fsync.ensures.happens
 
 pub returns-in-Fsync-clause-cuts : goal.returns-in-Fsync-clause-cuts
 returns-in-Fsync-clause-cuts g c =
     let m = machine_of c.args.sound.now.state in
-    fsync_revokes_nothing g.C.Revokes.answers (stored_by c.args.sound.now.state.leases) m (machine_of c.try_fsync.new.sound.state) c.args.client (durability_of c.args.client m.history) (turn_answer c.try_fsync.result) c.try_fsync.ensures.happens
+    fsync_revokes_nothing g.C.Revokes.answers (stored_by c.args.sound.now.state.leases) m (machine_of c.try_fsync.new.sound.state) c.args.client
+    (durability_of c.args.client m.history) (turn_answer c.try_fsync.result) c.try_fsync.ensures.happens
 
 pub returns-in-Dsync-clause-happens : goal.returns-in-Dsync-clause-happens
 returns-in-Dsync-clause-happens g c =
-    subst (λ op. Trying (machine_of c.args.sound.now.state) c.args.client op (turn_answer c.try_dsync.result) (machine_of c.try_dsync.new.sound.state)) (sym c.in-Dsync.is) c.try_dsync.ensures.happens
+    subst (λ op. Trying (machine_of c.args.sound.now.state) c.args.client op (turn_answer c.try_dsync.result) (machine_of c.try_dsync.new.sound.state))
+    (sym c.in-Dsync.is) c.try_dsync.ensures.happens
 
 pub returns-in-Dsync-clause-cuts : goal.returns-in-Dsync-clause-cuts
 returns-in-Dsync-clause-cuts g c =
     let m = machine_of c.args.sound.now.state in
-    dsync_revokes_nothing g.C.Revokes.answers (stored_by c.args.sound.now.state.leases) m (machine_of c.try_dsync.new.sound.state) c.args.client (durability_of c.args.client m.history) (turn_answer c.try_dsync.result) c.try_dsync.ensures.happens
+    dsync_revokes_nothing g.C.Revokes.answers (stored_by c.args.sound.now.state.leases) m (machine_of c.try_dsync.new.sound.state) c.args.client
+    (durability_of c.args.client m.history) (turn_answer c.try_dsync.result) c.try_dsync.ensures.happens
 
 pub returns-in-Some : goal.returns-in-Some
 returns-in-Some g c =
     let m = machine_of c.args.sound.now.state in
     record {
-      happens = is_tried m m c.args.client c.args.op.now (turn_answer (Err c.in-Some.refusal)) (no_sync c.args.op.now c.in_default.not-Fsync c.in_default.not-Dsync) (is_refused c.in-Some.refusal (sym c.call_refusal.ensures ∙ c.in-Some.is) refl refl);
+      happens = is_tried m m c.args.client c.args.op.now (turn_answer (Err c.in-Some.refusal))
+          (no_sync c.args.op.now c.in_default.not-Fsync c.in_default.not-Dsync)
+          (is_refused c.in-Some.refusal (sym c.call_refusal.ensures ∙ c.in-Some.is) refl refl);
       cuts = nothing_revoked g.C.Revokes.answers (stored_by c.args.sound.now.state.leases) m m (λ d i. refl);
       revokers = λ d. refl;
     }
@@ -42,7 +41,9 @@ pub invariant_of-sound-2 : goal.invariant_of-sound-2
 invariant_of-sound-2 g c = record {
   invariant = record {
     holds = ∥∥₁_map c.args.sound.now.invariant.holds
-        (λ h. calling_keeps (machine_of c.args.sound.now.state) (machine_of c.call.new.state) c.args.client c.args.op.now (turn_answer c.call.result) h (no_sync c.args.op.now c.in_default.not-Fsync c.in_default.not-Dsync (durability_of c.args.client (machine_of c.args.sound.now.state).history)) c.call.ensures.happens);
+        (λ h. calling_keeps (machine_of c.args.sound.now.state) (machine_of c.call.new.state) c.args.client c.args.op.now (turn_answer c.call.result) h
+        (no_sync c.args.op.now c.in_default.not-Fsync c.in_default.not-Dsync (durability_of c.args.client (machine_of c.args.sound.now.state).history))
+        c.call.ensures.happens);
     shape = c.call.ensures.shape;
     noted = c.call.ensures.noted;
   };
@@ -50,7 +51,8 @@ invariant_of-sound-2 g c = record {
 
 pub returns : goal.returns
 returns g c = record {
-  happens = is_tried (machine_of c.args.sound.now.state) (machine_of c.call.new.state) c.args.client c.args.op.now (turn_answer c.call.result) (no_sync c.args.op.now c.in_default.not-Fsync c.in_default.not-Dsync) c.call.ensures.happens;
+  happens = is_tried (machine_of c.args.sound.now.state) (machine_of c.call.new.state) c.args.client c.args.op.now (turn_answer c.call.result)
+      (no_sync c.args.op.now c.in_default.not-Fsync c.in_default.not-Dsync) c.call.ensures.happens;
   cuts = c.call.ensures.cuts;
   revokers = c.call.ensures.revokers;
 }

@@ -1,4 +1,4 @@
-use Rattle.std.proofs.Common.{◌≡◌}
+use Rattle.assise_machine_calls.proofs.Common.{◌≡◌}
 use Rattle.assise_machine_calls.proofs.commit.touch_all.Given as goal
 
 abbrev pub invariant-loop-inode : goal.invariant-loop-inode

@@ -1,12 +1,6 @@
-use Rattle.std.proofs.Common.{◌≡◌, ◌++◌, ◌∷◌, [], None, ap, refl, sym, ◌∙◌}
-use Rattle.assise_lease_tree.specs.Trees.{levels_of}
-use Rattle.assise_model_world.specs.World.{end_of_log}
+use Rattle.assise_machine_calls.proofs.Common.{◌≡◌, ◌++◌, ◌∷◌, [], None, ap, refl, sym, ◌∙◌, levels_of, end_of_log, client_fault, client_in, crashed_at}
+use Rattle.assise_machine_calls.proofs.Common.{with_client, observed, world_of, StateValue, value_of}
 use Rattle.assise_model_events.specs.ClientEvents.Crashing.{is_refused}
-use Rattle.assise_model_events.specs.Faults.{client_fault}
-use Rattle.assise_machine_state.specs.ClientValues.{client_in, crashed_at, with_client}
-use Rattle.assise_machine_state.specs.Observed.{observed, world_of}
-use Rattle.assise_machine_state.specs.StateValues.{StateValue}
-use Rattle.assise_machine_state.specs.Whole.{value_of}
 use Rattle.assise_machine_calls.proofs.SyncChanges.{fine_number, place_is}
 use Rattle.assise_machine_calls.proofs.Crashed.{HasCrashed, given}
 use Rattle.assise_machine_calls.proofs.crash.crash.Given as over

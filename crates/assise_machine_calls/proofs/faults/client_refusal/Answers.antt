@@ -1,6 +1,4 @@
-use Rattle.std.proofs.Common.{◌<◌, ◌∙◌, arith, ap, sym}
-use Rattle.assise_machine_state.specs.Places.{IsNumber}
-use Rattle.assise_machine_state.specs.Whole.{value_of}
+use Rattle.assise_machine_calls.proofs.Common.{◌<◌, ◌∙◌, arith, ap, sym, IsNumber, value_of}
 use Rattle.assise_machine_calls.proofs.ClientFaults.{down_fault, gone_fault, no_fault, past_fault, zero_fault}
 use Rattle.assise_machine_calls.proofs.faults.client_refusal.Goals as goal
 use Rattle.assise_machine_calls.proofs.faults.client_refusal.Goals.{then-client-eq0-via-then-client-eq0, then-client-eq0-via-else-client-eq0+then-client-len}

@@ -1,20 +1,7 @@
-use Rattle.std.proofs.Common.{◌≡◌, ◌+◌, ◌<◌, ◌∙◌, [], ◌∷◌, ◌++◌, None, suc, length, refl, ap, subst, sym, arith}
-use Rattle.std.proofs.Math.Logic.{∥∥₁_map}
-use Rattle.assise_names.specs.declared.limits.TheConstants.{MOST_CLIENTS}
-use Rattle.assise_lease_tree.specs.Trees.{levels_of}
-use Rattle.assise_lease_tree.specs.TwoLevels.{EnrolsAt}
-use Rattle.assise_history.specs.Entries.{opens}
-use Rattle.assise_model_events.specs.ClientEvents.{Opening, is_refused, lacks_memory}
-use Rattle.assise_model_events.specs.Events.{opened, open_client, refused}
-use Rattle.assise_model_events.specs.Faults.{open_fault}
-use Rattle.assise_model_events.specs.Machine.{MachineInvariant}
-use Rattle.assise_model_events.proofs.EachEvent.{event_keeps}
-use Rattle.assise_machine_state.specs.Changes.{after_open}
-use Rattle.assise_machine_state.specs.NodeValues.{with_logs_ended}
-use Rattle.assise_machine_state.specs.Observed.{observed}
-use Rattle.assise_machine_state.specs.Invariant.{CutsInvariant, ShapeInvariant}
-use Rattle.assise_machine_state.specs.Whole.{value_of}
-use Rattle.assise_machine_state.proofs.Noted.{open_noted}
+use Rattle.assise_machine_calls.proofs.Common.{◌≡◌, ◌+◌, ◌<◌, ◌∙◌, [], ◌∷◌, ◌++◌, None, suc, length, refl, ap, subst, sym, arith, ∥∥₁_map, MOST_CLIENTS}
+use Rattle.assise_machine_calls.proofs.Common.{levels_of, EnrolsAt, opens, Opening, is_refused, lacks_memory, opened, open_client, refused, open_fault}
+use Rattle.assise_machine_calls.proofs.Common.{MachineInvariant, event_keeps, after_open, with_logs_ended, observed, CutsInvariant, ShapeInvariant, value_of}
+use Rattle.assise_machine_calls.proofs.Common.{open_noted}
 use Rattle.assise_machine_calls.proofs.OpenFaults.{fine_few}
 use Rattle.assise_machine_calls.proofs.Opened.{done, is_event, keeps_shape, stranger, undone}
 use Rattle.assise_machine_calls.proofs.opening.open.Goals as goal
@@ -24,12 +11,14 @@ returns-in-Some-clause-happens g c = is_refused c.in-Some.refusal (sym c.open_re
 
 pub overflow_cast-client : goal.overflow_cast-client
 overflow_cast-client g c =
-    let few : length c.args.sound.now.state.clients < MOST_CLIENTS = fine_few (value_of c.args.sound.now.state) c.args.node (sym c.open_refusal.ensures ∙ c.in_default.is) in
+    let few : length c.args.sound.now.state.clients < MOST_CLIENTS = fine_few (value_of c.args.sound.now.state) c.args.node
+    (sym c.open_refusal.ensures ∙ c.in_default.is) in
     omega (arith, few, c.len.ensures)
 
 pub overflow_add-client : goal.overflow_add-client
 overflow_add-client g c =
-    let few : length c.args.sound.now.state.clients < MOST_CLIENTS = fine_few (value_of c.args.sound.now.state) c.args.node (sym c.open_refusal.ensures ∙ c.in_default.is) in
+    let few : length c.args.sound.now.state.clients < MOST_CLIENTS = fine_few (value_of c.args.sound.now.state) c.args.node
+    (sym c.open_refusal.ensures ∙ c.in_default.is) in
     omega (arith, few, c.len.ensures)
 
 pub enrol-requires : goal.enrol-requires
@@ -48,7 +37,8 @@ invariant_of-sound-in-Err-enrol g c =
     let s = value_of c.args.sound.now.state in
     let v = value_of c.begin.new.state in
     let number : c.len.result + 1 ≡ suc (length c.args.sound.now.state.clients) = omega (arith, c.len.ensures) in
-    let same = undone s v c.args.node c.end_logs.new.self (levels_of c.enrol.new.self) c.args.sound.now.invariant.shape c.in_default-begin.ensures.ok (c.end_logs.ensures ∙ ap (with_logs_ended v.nodes) number) c.in-Err-enrol.ensures.err in
+    let same = undone s v c.args.node c.end_logs.new.self (levels_of c.enrol.new.self) c.args.sound.now.invariant.shape c.in_default-begin.ensures.ok
+    (c.end_logs.ensures ∙ ap (with_logs_ended v.nodes) number) c.in-Err-enrol.ensures.err in
     record {
       invariant = record {
         holds = subst (λ u. ∥ MachineInvariant (observed u) ∥₁) (sym same) c.args.sound.now.invariant.holds;
@@ -62,12 +52,14 @@ returns-in-Err-enrol-clause-happens g c =
     let s = value_of c.args.sound.now.state in
     let v = value_of c.begin.new.state in
     let number : c.len.result + 1 ≡ suc (length c.args.sound.now.state.clients) = omega (arith, c.len.ensures) in
-    let same = undone s v c.args.node c.end_logs.new.self (levels_of c.enrol.new.self) c.args.sound.now.invariant.shape c.in_default-begin.ensures.ok (c.end_logs.ensures ∙ ap (with_logs_ended v.nodes) number) c.in-Err-enrol.ensures.err in
+    let same = undone s v c.args.node c.end_logs.new.self (levels_of c.enrol.new.self) c.args.sound.now.invariant.shape c.in_default-begin.ensures.ok
+    (c.end_logs.ensures ∙ ap (with_logs_ended v.nodes) number) c.in-Err-enrol.ensures.err in
     lacks_memory (sym c.open_refusal.ensures ∙ c.in_default.is) (ap (λ b. refused b.0) c.in-Err-enrol.ensures.given_back) (ap observed same)
 
 pub open-requires : goal.open-requires
 open-requires g c =
-    let few : length c.args.sound.now.state.clients < MOST_CLIENTS = fine_few (value_of c.args.sound.now.state) c.args.node (sym c.open_refusal.ensures ∙ c.in_default.is) in
+    let few : length c.args.sound.now.state.clients < MOST_CLIENTS = fine_few (value_of c.args.sound.now.state) c.args.node
+    (sym c.open_refusal.ensures ∙ c.in_default.is) in
     record { room = subst (λ cs. length cs < MOST_CLIENTS) (sym (ap (λ u. u.clients) c.in_default-begin.ensures.ok)) few }
 
 pub invariant_of-sound-2 : goal.invariant_of-sound-2
@@ -80,11 +72,15 @@ invariant_of-sound-2 g c =
     let told = c.push.ensures.grown ∙ ap (λ e. v.history ++ e ∷ []) (c.open-2.ensures ∙ ap (λ k. opens k c.args.node c.args.durability) number) in
     let same = done s v c.args.node c.args.durability c.open.new.self levels c.push.new.self.events c.in_default-begin.ensures.ok c.open.ensures told in
     let enrols : EnrolsAt s.levels levels (suc (length s.clients)) c.args.node =
-    subst (λ t. EnrolsAt (levels_of t) levels (suc (length s.clients)) c.args.node) c.begin.ensures.revokers (subst (λ k. EnrolsAt (levels_of c.begin.new.state.leases) levels k c.args.node) number c.in_default-enrol.ensures.ok) in
+    subst (λ t. EnrolsAt (levels_of t) levels (suc (length s.clients)) c.args.node) c.begin.ensures.revokers
+    (subst (λ k. EnrolsAt (levels_of c.begin.new.state.leases) levels k c.args.node) number c.in_default-enrol.ensures.ok) in
     record {
       invariant = record {
         holds = subst (λ u. ∥ MachineInvariant (observed u) ∥₁) (sym same)
-            (∥∥₁_map c.args.sound.now.invariant.holds (λ h. event_keeps (observed s) (observed (after_open s c.args.node c.args.durability levels)) (open_client c.args.node c.args.durability) (opened (suc (length s.clients))) h (is_event s c.args.node c.args.durability levels c.args.sound.now.invariant.shape fine c.args.sound.now.invariant.noted enrols)));
+            (∥∥₁_map c.args.sound.now.invariant.holds
+            (λ h. event_keeps (observed s) (observed (after_open s c.args.node c.args.durability levels)) (open_client c.args.node c.args.durability)
+            (opened (suc (length s.clients))) h
+            (is_event s c.args.node c.args.durability levels c.args.sound.now.invariant.shape fine c.args.sound.now.invariant.noted enrols)));
         shape = subst ShapeInvariant (sym same) (keeps_shape s c.args.node c.args.durability levels c.args.sound.now.invariant.shape fine);
         noted = subst CutsInvariant (sym same) (open_noted s c.args.node c.args.durability levels c.args.sound.now.invariant.noted enrols);
       };
@@ -100,6 +96,8 @@ returns-clause-happens g c =
     let told = c.push.ensures.grown ∙ ap (λ e. v.history ++ e ∷ []) (c.open-2.ensures ∙ ap (λ k. opens k c.args.node c.args.durability) number) in
     let same = done s v c.args.node c.args.durability c.open.new.self levels c.push.new.self.events c.in_default-begin.ensures.ok c.open.ensures told in
     let enrols : EnrolsAt s.levels levels (suc (length s.clients)) c.args.node =
-    subst (λ t. EnrolsAt (levels_of t) levels (suc (length s.clients)) c.args.node) c.begin.ensures.revokers (subst (λ k. EnrolsAt (levels_of c.begin.new.state.leases) levels k c.args.node) number c.in_default-enrol.ensures.ok) in
+    subst (λ t. EnrolsAt (levels_of t) levels (suc (length s.clients)) c.args.node) c.begin.ensures.revokers
+    (subst (λ k. EnrolsAt (levels_of c.begin.new.state.leases) levels k c.args.node) number c.in_default-enrol.ensures.ok) in
     subst (λ u. Opening (observed s) c.args.node c.args.durability (opened (c.len.result + 1)) (observed u)) (sym same)
-    (subst (λ k. Opening (observed s) c.args.node c.args.durability (opened k) (observed (after_open s c.args.node c.args.durability levels))) (sym number) (is_event s c.args.node c.args.durability levels c.args.sound.now.invariant.shape fine c.args.sound.now.invariant.noted enrols))
+    (subst (λ k. Opening (observed s) c.args.node c.args.durability (opened k) (observed (after_open s c.args.node c.args.durability levels))) (sym number)
+    (is_event s c.args.node c.args.durability levels c.args.sound.now.invariant.shape fine c.args.sound.now.invariant.noted enrols))

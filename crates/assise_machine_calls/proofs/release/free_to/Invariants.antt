@@ -1,9 +1,4 @@
-use Rattle.std.proofs.Common.{◌+◌, ◌-◌, ◌≤◌}
-use Rattle.assise_lease_tree.specs.Trees.{stored_by}
-use Rattle.assise_lease_table.specs.Tables.{SameRevokers}
-use Rattle.assise_machine_state.specs.Invariant.{CutsInvariant, ShapeInvariant}
-use Rattle.assise_machine_state.specs.Whole.{value_of}
-use Rattle.assise_machine_calls.specs.Releasing.{FreesAmong}
+use Rattle.assise_machine_calls.proofs.Common.{◌+◌, ◌-◌, ◌≤◌, stored_by, SameRevokers, CutsInvariant, ShapeInvariant, value_of, FreesAmong}
 use Rattle.assise_machine_calls.proofs.release.free_to.Given as goal
 
 -- the nodes before gave up their leases

@@ -1,7 +1,4 @@
-use Rattle.std.proofs.Common.{ap, ◌∙◌}
-use Rattle.assise_inode_table.specs.Effects.{contains}
-use Rattle.assise_manager.specs.Whole.{membership}
-use Rattle.assise_machine_state.proofs.OwnLogs.{listed_is}
+use Rattle.assise_machine_calls.proofs.Common.{ap, ◌∙◌, contains, membership, listed_is}
 use Rattle.assise_machine_calls.proofs.release.is_full.Goals as goal
 
 pub returns : goal.returns

@@ -1,13 +1,6 @@
-use Rattle.std.proofs.Common.{ap, refl, subst, sym, ◌∙◌}
-use Rattle.std.proofs.lemmas.Result.{err_from_is_err_and}
-use Rattle.assise_private_log.specs.NumberedLog.{end}
+use Rattle.assise_machine_calls.proofs.Common.{ap, refl, subst, sym, ◌∙◌, err_from_is_err_and, end, refused, MachineInvariant, observed, CutsInvariant}
+use Rattle.assise_machine_calls.proofs.Common.{ShapeInvariant, value_of, turn_answer}
 use Rattle.assise_model_events.specs.Dsyncs.Coalescing.{lacks_memory}
-use Rattle.assise_model_events.specs.Events.{refused}
-use Rattle.assise_model_events.specs.Machine.{MachineInvariant}
-use Rattle.assise_machine_state.specs.Observed.{observed}
-use Rattle.assise_machine_state.specs.Invariant.{CutsInvariant, ShapeInvariant}
-use Rattle.assise_machine_state.specs.Whole.{value_of}
-use Rattle.assise_machine_calls.specs.Answers.{turn_answer}
 use Rattle.assise_machine_calls.proofs.GroupedSyncs.{coalesced_given, from_digested, from_high, home_log, lacking_seen, still_log}
 use Rattle.assise_machine_calls.proofs.SyncChanges.{fine_number}
 use Rattle.assise_machine_calls.proofs.sync.coalesce.Goals as goal
@@ -25,8 +18,10 @@ coalesce-requires g c =
     let home = c.home-home.ensures ∙ ap (λ y. y.home) c.get.ensures in
     record {
       there = home_log s c.args.client x.invariant.shape c.requires.fine c.home-home.result home;
-      digested = from_digested s c.args.client x.invariant.shape c.requires.fine c.home-home.result home x.invariant.holds c.coalesced_from-from.result c.coalesced_from-from.ensures;
-      to_end = from_high s c.args.client x.invariant.shape c.requires.fine c.home-home.result home x.invariant.holds c.coalesced_from-from.result c.coalesced_from-from.ensures;
+      digested = from_digested s c.args.client x.invariant.shape c.requires.fine c.home-home.result home x.invariant.holds c.coalesced_from-from.result
+          c.coalesced_from-from.ensures;
+      to_end = from_high s c.args.client x.invariant.shape c.requires.fine c.home-home.result home x.invariant.holds c.coalesced_from-from.result
+          c.coalesced_from-from.ensures;
     }
 
 pub log-requires : goal.log-requires
@@ -63,7 +58,8 @@ returns-in_err-coalesce g c =
     let s = value_of c.args.sound.now.state in
     let error = err_from_is_err_and c.from_residual.result c.from_residual.ensures.1 in
     record {
-      happens = lacks_memory c.requires.fine (ap turn_answer error.1 ∙ ap refused (error.2 ∙ c.in_err-coalesce.ensures.only_memory)) (ap (λ ns. observed (record s { nodes = ns })) c.in_err-coalesce.ensures.err);
+      happens = lacks_memory c.requires.fine (ap turn_answer error.1 ∙ ap refused (error.2 ∙ c.in_err-coalesce.ensures.only_memory))
+          (ap (λ ns. observed (record s { nodes = ns })) c.in_err-coalesce.ensures.err);
       revokers = λ d. refl;
     }
 
@@ -73,8 +69,10 @@ invariant_of-sound-2 g c =
     let x = c.args.sound.now in
     let home = c.home-home.ensures ∙ ap (λ y. y.home) c.get.ensures in
     let place = c.end-end.ensures.end ∙ ap end c.log.ensures.log in
-    let given = coalesced_given s c.args.client x.invariant.shape c.requires.fine c.home-home.result home x.invariant.holds c.coalesced_from-from.result c.coalesced_from-from.ensures c.coalesce.ensures.lawful
-    x.invariant.noted (lacking_seen s c.args.client c.requires.lacking) c.in_ok-coalesce.ensures.effects x.state.members.lawful.some_full c.coalesce.new.self c.end-end.result c.raise_goal.new.self c.in_ok-coalesce.ensures.ok place c.raise_goal.ensures in
+    let given = coalesced_given s c.args.client x.invariant.shape c.requires.fine c.home-home.result home x.invariant.holds c.coalesced_from-from.result
+    c.coalesced_from-from.ensures c.coalesce.ensures.lawful
+    x.invariant.noted (lacking_seen s c.args.client c.requires.lacking) c.in_ok-coalesce.ensures.effects x.state.members.lawful.some_full c.coalesce.new.self
+    c.end-end.result c.raise_goal.new.self c.in_ok-coalesce.ensures.ok place c.raise_goal.ensures in
     record { invariant = record { holds = given.holds; shape = given.shape; noted = given.noted } }
 
 pub returns : goal.returns
@@ -83,6 +81,8 @@ returns g c =
     let x = c.args.sound.now in
     let home = c.home-home.ensures ∙ ap (λ y. y.home) c.get.ensures in
     let place = c.end-end.ensures.end ∙ ap end c.log.ensures.log in
-    let given = coalesced_given s c.args.client x.invariant.shape c.requires.fine c.home-home.result home x.invariant.holds c.coalesced_from-from.result c.coalesced_from-from.ensures c.coalesce.ensures.lawful
-    x.invariant.noted (lacking_seen s c.args.client c.requires.lacking) c.in_ok-coalesce.ensures.effects x.state.members.lawful.some_full c.coalesce.new.self c.end-end.result c.raise_goal.new.self c.in_ok-coalesce.ensures.ok place c.raise_goal.ensures in
+    let given = coalesced_given s c.args.client x.invariant.shape c.requires.fine c.home-home.result home x.invariant.holds c.coalesced_from-from.result
+    c.coalesced_from-from.ensures c.coalesce.ensures.lawful
+    x.invariant.noted (lacking_seen s c.args.client c.requires.lacking) c.in_ok-coalesce.ensures.effects x.state.members.lawful.some_full c.coalesce.new.self
+    c.end-end.result c.raise_goal.new.self c.in_ok-coalesce.ensures.ok place c.raise_goal.ensures in
     record { happens = given.happens; revokers = λ d. refl }

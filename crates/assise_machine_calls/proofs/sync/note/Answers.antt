@@ -1,12 +1,6 @@
-use Rattle.std.proofs.Common.{◌≡◌, ◌+◌, ◌++◌, ◌∷◌, [], length, refl, ap, ◌∙◌, arith}
-use Rattle.std.proofs.lemmas.List.{length_push}
-use Rattle.std.proofs.lemmas.Result.{err_from_is_err_and}
+use Rattle.assise_machine_calls.proofs.Common.{◌≡◌, ◌+◌, ◌++◌, ◌∷◌, [], length, refl, ap, ◌∙◌, arith, length_push, err_from_is_err_and, refused, client_in}
+use Rattle.assise_machine_calls.proofs.Common.{observed, value_of, turn_answer}
 use Rattle.assise_model_events.specs.ClientEvents.Noting.{lacks_memory}
-use Rattle.assise_model_events.specs.Events.{refused}
-use Rattle.assise_machine_state.specs.ClientValues.{client_in}
-use Rattle.assise_machine_state.specs.Observed.{observed}
-use Rattle.assise_machine_state.specs.Whole.{value_of}
-use Rattle.assise_machine_calls.specs.Answers.{turn_answer}
 use Rattle.assise_machine_calls.proofs.SyncChanges.{fine_number, made_fits, next_fits, noted_given}
 use Rattle.assise_machine_calls.proofs.sync.note.Goals as goal
 
@@ -44,7 +38,8 @@ pub invariant_of-sound-2 : goal.invariant_of-sound-2
 invariant_of-sound-2 g c =
     let s = value_of c.args.sound.now.state in
     let given =
-    noted_given s c.args.client c.args.sound.now.invariant.shape c.requires.fine c.args.sound.now.invariant.holds c.requires.optimistic c.args.sound.now.invariant.noted
+    noted_given s c.args.client c.args.sound.now.invariant.shape c.requires.fine c.args.sound.now.invariant.holds c.requires.optimistic
+    c.args.sound.now.invariant.noted
     c.next-number.result c.call.result c.note_call.new.self c.reserve.new.self.events c.push.new.self.events
     (c.next-number.ensures ∙ ap (λ x. x.next) c.get.ensures) c.call.ensures c.note_call.ensures c.reserve.ensures.same c.push.ensures.grown
     in
@@ -54,7 +49,8 @@ pub returns : goal.returns
 returns g c =
     let s = value_of c.args.sound.now.state in
     let given =
-    noted_given s c.args.client c.args.sound.now.invariant.shape c.requires.fine c.args.sound.now.invariant.holds c.requires.optimistic c.args.sound.now.invariant.noted
+    noted_given s c.args.client c.args.sound.now.invariant.shape c.requires.fine c.args.sound.now.invariant.holds c.requires.optimistic
+    c.args.sound.now.invariant.noted
     c.next-number.result c.call.result c.note_call.new.self c.reserve.new.self.events c.push.new.self.events
     (c.next-number.ensures ∙ ap (λ x. x.next) c.get.ensures) c.call.ensures c.note_call.ensures c.reserve.ensures.same c.push.ensures.grown
     in

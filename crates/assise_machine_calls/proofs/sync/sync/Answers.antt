@@ -1,17 +1,8 @@
-use Rattle.std.proofs.Common.{◌≡◌, ◌+◌, ◌++◌, ◌∷◌, [], length, refl, ap, ◌∙◌, arith}
-use Rattle.std.proofs.lemmas.List.{length_push}
-use Rattle.std.proofs.lemmas.Result.{err_from_is_err_and}
-use Rattle.assise_names.specs.declared.reply.Reply.TheVariants.{Done}
-use Rattle.assise_history.specs.Entries.{calls}
-use Rattle.assise_model_world.specs.World.{end_of_log, received_by_all}
+use Rattle.assise_machine_calls.proofs.Common.{◌≡◌, ◌+◌, ◌++◌, ◌∷◌, [], length, refl, ap, ◌∙◌, arith, length_push, err_from_is_err_and, Done, calls, end_of_log}
+use Rattle.assise_machine_calls.proofs.Common.{received_by_all, refused, client_in, observed, world_of, value_of, turn_answer, op_of}
 use Rattle.assise_model_events.specs.ClientEvents.Syncing.{lacks_memory}
-use Rattle.assise_model_events.specs.Events.{refused}
-use Rattle.assise_machine_state.specs.ClientValues.{client_in}
-use Rattle.assise_machine_state.specs.Observed.{observed, world_of}
-use Rattle.assise_machine_state.specs.Whole.{value_of}
-use Rattle.assise_machine_calls.specs.Answers.{turn_answer}
-use Rattle.assise_machine_calls.proofs.SyncChanges.{all_received, answered_given, awaited_given, client_now, fine_number, made_fits, next_fits, place_is, still_number, syncs_some}
-use Rattle.assise_machine_calls.specs.SyncCalls.{op_of}
+use Rattle.assise_machine_calls.proofs.SyncChanges.{all_received, answered_given, awaited_given, client_now, fine_number, made_fits, next_fits, place_is}
+use Rattle.assise_machine_calls.proofs.SyncChanges.{still_number, syncs_some}
 use Rattle.assise_machine_calls.proofs.sync.sync.Goals as goal
 
 pub own_log-requires-clause-client : goal.own_log-requires-clause-client
@@ -30,7 +21,8 @@ invariant_of-sound g c =
     place_is s c.args.client c.end-end.result c.own_log.result.now c.args.sound.now.invariant.shape c.requires.fine
     c.args.sound.now.state.members.lawful.some_full
     c.own_log.ensures.log c.end-end.ensures.end in
-    let given = awaited_given s c.args.client (op_of c.args.which) c.end-end.result c.raise_goal.new.self c.args.sound.now.invariant.shape c.requires.fine c.args.sound.now.invariant.holds c.raise_goal.ensures
+    let given = awaited_given s c.args.client (op_of c.args.which) c.end-end.result c.raise_goal.new.self c.args.sound.now.invariant.shape c.requires.fine
+    c.args.sound.now.invariant.holds c.raise_goal.ensures
     place (syncs_some c.args.which) c.args.sound.now.invariant.noted c.acked.result c.acked.ensures c.if-acked-end.true in
     record { invariant = record { holds = given.holds; shape = given.shape; noted = given.noted } }
 
@@ -41,7 +33,8 @@ returns-then-acked-end g c =
     place_is s c.args.client c.end-end.result c.own_log.result.now c.args.sound.now.invariant.shape c.requires.fine
     c.args.sound.now.state.members.lawful.some_full
     c.own_log.ensures.log c.end-end.ensures.end in
-    let given = awaited_given s c.args.client (op_of c.args.which) c.end-end.result c.raise_goal.new.self c.args.sound.now.invariant.shape c.requires.fine c.args.sound.now.invariant.holds c.raise_goal.ensures
+    let given = awaited_given s c.args.client (op_of c.args.which) c.end-end.result c.raise_goal.new.self c.args.sound.now.invariant.shape c.requires.fine
+    c.args.sound.now.invariant.holds c.raise_goal.ensures
     place (syncs_some c.args.which) c.args.sound.now.invariant.noted c.acked.result c.acked.ensures c.if-acked-end.true in
     record { happens = given.happens; revokers = λ d. refl }
 
@@ -71,20 +64,24 @@ raise_goal-requires-2 g c = record { client = fine_number (value_of c.args.sound
 pub note_call-requires-clause-client : goal.note_call-requires-clause-client
 note_call-requires-clause-client g c =
     let s = value_of c.args.sound.now.state in
-    still_number s c.args.client (op_of c.args.which) c.end-end.result c.raise_goal-2.new.self c.args.sound.now.invariant.shape c.requires.fine c.args.sound.now.invariant.holds c.raise_goal-2.ensures
+    still_number s c.args.client (op_of c.args.which) c.end-end.result c.raise_goal-2.new.self c.args.sound.now.invariant.shape c.requires.fine
+    c.args.sound.now.invariant.holds c.raise_goal-2.ensures
 
 pub note_call-requires-clause-next : goal.note_call-requires-clause-next
 note_call-requires-clause-next g c =
     let s = value_of c.args.sound.now.state in
     let more : length c.push.new.self.events ≡ length s.history + 1 =
     ap length (c.push.ensures.grown ∙ ap (λ h. h ++ c.call.result ∷ []) c.reserve.ensures.same) ∙ length_push s.history c.call.result in
-    let now = client_now s c.args.client (op_of c.args.which) c.end-end.result c.raise_goal-2.new.self c.args.sound.now.invariant.shape c.requires.fine c.args.sound.now.invariant.holds c.raise_goal-2.ensures in
-    next_fits s c.args.client c.requires.fine c.args.sound.now.invariant.holds (client_in c.raise_goal-2.new.self c.args.client) (ap (λ y. y.next) now) (omega (arith, more, c.push.ensures.few))
+    let now = client_now s c.args.client (op_of c.args.which) c.end-end.result c.raise_goal-2.new.self c.args.sound.now.invariant.shape c.requires.fine
+    c.args.sound.now.invariant.holds c.raise_goal-2.ensures in
+    next_fits s c.args.client c.requires.fine c.args.sound.now.invariant.holds (client_in c.raise_goal-2.new.self c.args.client) (ap (λ y. y.next) now)
+    (omega (arith, more, c.push.ensures.few))
 
 pub note_call-requires-clause-made : goal.note_call-requires-clause-made
 note_call-requires-clause-made g c =
     let s = value_of c.args.sound.now.state in
-    let now = client_now s c.args.client (op_of c.args.which) c.end-end.result c.raise_goal-2.new.self c.args.sound.now.invariant.shape c.requires.fine c.args.sound.now.invariant.holds c.raise_goal-2.ensures in
+    let now = client_now s c.args.client (op_of c.args.which) c.end-end.result c.raise_goal-2.new.self c.args.sound.now.invariant.shape c.requires.fine
+    c.args.sound.now.invariant.holds c.raise_goal-2.ensures in
     made_fits s c.args.client c.requires.fine c.args.sound.now.invariant.holds (client_in c.raise_goal-2.new.self c.args.client) (ap (λ y. y.made) now)
 
 pub invariant_of-sound-2 : goal.invariant_of-sound-2
@@ -97,9 +94,12 @@ invariant_of-sound-2 g c =
     let all : received_by_all (world_of s) c.args.client ≡ end_of_log (world_of s) c.args.client =
     all_received s c.args.client c.acked.result c.end-end.result c.acked.ensures place c.if-acked-end.false in
     let given =
-    answered_given s c.args.client (op_of c.args.which) c.end-end.result c.raise_goal-2.new.self c.args.sound.now.invariant.shape c.requires.fine c.args.sound.now.invariant.holds c.raise_goal-2.ensures place (syncs_some c.args.which) c.args.sound.now.invariant.noted all
+    answered_given s c.args.client (op_of c.args.which) c.end-end.result c.raise_goal-2.new.self c.args.sound.now.invariant.shape c.requires.fine
+    c.args.sound.now.invariant.holds c.raise_goal-2.ensures place (syncs_some c.args.which) c.args.sound.now.invariant.noted all
     c.next-number.result c.call.result c.note_call.new.self c.reserve.new.self.events c.push.new.self.events
-    (c.next-number.ensures ∙ ap (λ x. x.next) c.get.ensures) (c.call.ensures ∙ ap (λ o. calls (record { client = c.args.client; number = c.next-number.result; op = o; reply = Done })) c.op_of.ensures) c.note_call.ensures c.reserve.ensures.same c.push.ensures.grown
+    (c.next-number.ensures ∙ ap (λ x. x.next) c.get.ensures)
+    (c.call.ensures ∙ ap (λ o. calls (record { client = c.args.client; number = c.next-number.result; op = o; reply = Done })) c.op_of.ensures)
+    c.note_call.ensures c.reserve.ensures.same c.push.ensures.grown
     in
     record { invariant = record { holds = given.holds; shape = given.shape; noted = given.noted } }
 
@@ -113,8 +113,11 @@ returns g c =
     let all : received_by_all (world_of s) c.args.client ≡ end_of_log (world_of s) c.args.client =
     all_received s c.args.client c.acked.result c.end-end.result c.acked.ensures place c.if-acked-end.false in
     let given =
-    answered_given s c.args.client (op_of c.args.which) c.end-end.result c.raise_goal-2.new.self c.args.sound.now.invariant.shape c.requires.fine c.args.sound.now.invariant.holds c.raise_goal-2.ensures place (syncs_some c.args.which) c.args.sound.now.invariant.noted all
+    answered_given s c.args.client (op_of c.args.which) c.end-end.result c.raise_goal-2.new.self c.args.sound.now.invariant.shape c.requires.fine
+    c.args.sound.now.invariant.holds c.raise_goal-2.ensures place (syncs_some c.args.which) c.args.sound.now.invariant.noted all
     c.next-number.result c.call.result c.note_call.new.self c.reserve.new.self.events c.push.new.self.events
-    (c.next-number.ensures ∙ ap (λ x. x.next) c.get.ensures) (c.call.ensures ∙ ap (λ o. calls (record { client = c.args.client; number = c.next-number.result; op = o; reply = Done })) c.op_of.ensures) c.note_call.ensures c.reserve.ensures.same c.push.ensures.grown
+    (c.next-number.ensures ∙ ap (λ x. x.next) c.get.ensures)
+    (c.call.ensures ∙ ap (λ o. calls (record { client = c.args.client; number = c.next-number.result; op = o; reply = Done })) c.op_of.ensures)
+    c.note_call.ensures c.reserve.ensures.same c.push.ensures.grown
     in
     record { happens = given.happens; revokers = λ d. refl }

@@ -1,8 +1,4 @@
-use Rattle.std.proofs.Common.{◌≡◌, arith}
-use Rattle.assise_model_world.specs.World.{end_of_log, received_by_all}
-use Rattle.assise_machine_state.specs.Observed.{observed, world_of}
-use Rattle.assise_machine_state.specs.Whole.{machine_of, value_of}
-use Rattle.assise_machine_calls.specs.Answers.{turn_answer}
+use Rattle.assise_machine_calls.proofs.Common.{◌≡◌, arith, end_of_log, received_by_all, observed, world_of, machine_of, value_of, turn_answer}
 use Rattle.assise_machine_calls.proofs.GroupedSyncs.{as_coalescing}
 use Rattle.assise_machine_calls.proofs.SyncChanges.{all_received, fine_number, place_is}
 use Rattle.assise_machine_calls.proofs.sync.sync_groups.Goals as goal
@@ -31,7 +27,8 @@ returns g c =
     place_is s c.args.client c.end-end.result c.own_log.result.now c.args.sound.now.invariant.shape c.requires.fine
     c.args.sound.now.state.members.lawful.some_full
     c.own_log.ensures.log c.end-end.ensures.end in
-    let all : received_by_all (world_of s) c.args.client ≡ end_of_log (world_of s) c.args.client = all_received s c.args.client c.acked.result c.end-end.result c.acked.ensures place c.if-acked-end.false in
+    let all : received_by_all (world_of s) c.args.client ≡ end_of_log (world_of s) c.args.client = all_received s c.args.client c.acked.result c.end-end.result
+    c.acked.ensures place c.if-acked-end.false in
     record {
       happens = as_coalescing (observed s) (machine_of c.sync.new.sound.state) c.args.client (turn_answer c.sync.result) all c.sync.ensures.happens;
       revokers = c.sync.ensures.revokers;

@@ -1,14 +1,5 @@
-use Rattle.std.proofs.Common.{ap, ◌∙◌}
-use Rattle.std.proofs.Math.Logic.{∥∥₁_map}
-use Rattle.std.proofs.lemmas.Result.{err_from_is_err_and}
-use Rattle.assise_manager.specs.Changes.{return_fault}
-use Rattle.assise_manager.specs.Whole.{membership}
-use Rattle.assise_model_events.specs.Events.{back as back_event, began, refused}
-use Rattle.assise_model_events.specs.MemberEvents.{Returning}
-use Rattle.assise_model_events.proofs.EachEvent.{event_keeps}
-use Rattle.assise_machine_state.specs.Observed.{observed}
-use Rattle.assise_machine_state.specs.Whole.{value_of}
-use Rattle.assise_machine_failures.specs.Answers.{returning_answer}
+use Rattle.assise_machine_failures.proofs.Common.{ap, ◌∙◌, ∥∥₁_map, err_from_is_err_and, return_fault, membership, back_event, began, refused, Returning}
+use Rattle.assise_machine_failures.proofs.Common.{event_keeps, observed, value_of, returning_answer}
 use Rattle.assise_machine_failures.proofs.ComingBack.{IsComing, back_happens, back_left, back_noted, back_refused, back_shaped}
 use Rattle.assise_machine_failures.proofs.RefusedFailures.{fault_or}
 use Rattle.assise_machine_failures.proofs.back.back.Given as given
@@ -18,8 +9,10 @@ pub returns-in_err-stale-clause-happens : goal.returns-in_err-stale-clause-happe
 returns-in_err-stale-clause-happens g c =
     let error = err_from_is_err_and c.from_residual.result c.from_residual.ensures.1 in
     let m = membership c.args.sound.now.state.members in
-    back_refused (value_of c.args.sound.now.state) c.args.node (membership c.back.new.self) c.in_err-stale.field-0.0 (returning_answer c.from_residual.result) c.in_err-stale.ensures.err
-    (ap returning_answer error.1 ∙ ap refused error.2) (fault_or (return_fault m c.args.node) c.in_err-stale.field-0.0 c.in_err-stale.ensures.fault c.in_err-stale.ensures.only_memory)
+    back_refused (value_of c.args.sound.now.state) c.args.node (membership c.back.new.self) c.in_err-stale.field-0.0 (returning_answer c.from_residual.result)
+    c.in_err-stale.ensures.err
+    (ap returning_answer error.1 ∙ ap refused error.2)
+    (fault_or (return_fault m c.args.node) c.in_err-stale.field-0.0 c.in_err-stale.ensures.fault c.in_err-stale.ensures.only_memory)
 
 -- the node begins to come back
 coming : (g : given.Over) (c : goal.In_ok-stale g) → IsComing (value_of c.args.sound.now.state) c.args.node (membership c.back.new.self)
@@ -39,7 +32,8 @@ invariant_of-sound-2 g c =
     let comes = coming g c.before in
     record {
       invariant = record {
-        holds = ∥∥₁_map c.args.sound.now.invariant.holds (λ h. event_keeps (observed s) (observed u) (back_event c.args.node) (began c.in_ok-stale.stale) h (happens_now g c));
+        holds = ∥∥₁_map c.args.sound.now.invariant.holds
+            (λ h. event_keeps (observed s) (observed u) (back_event c.args.node) (began c.in_ok-stale.stale) h (happens_now g c));
         shape = back_left comes c.drop_copies.ensures.copies;
         noted = back_noted comes c.drop_copies.ensures.copies c.args.sound.now.invariant.noted;
       };

@@ -1,9 +1,4 @@
-use Rattle.std.proofs.Common.{ap, subst, sym, ◌∙◌}
-use Rattle.std.specs.VecDeque.Iter.{deque_iter_rest}
-use Rattle.std.proofs.lemmas.List.{nil_from_length}
-use Rattle.assise_machine_state.specs.NodeValues.{region_in}
-use Rattle.assise_machine_state.specs.Places.{IsNumber}
-use Rattle.assise_machine_failures.specs.Copies.{nodes_without}
+use Rattle.assise_machine_failures.proofs.Common.{ap, subst, sym, ◌∙◌, deque_iter_rest, nil_from_length, region_in, IsNumber, nodes_without}
 use Rattle.assise_machine_failures.proofs.DroppedCopies.{logless_quiet, one_logless, one_number}
 use Rattle.assise_machine_failures.proofs.copies.drop_all.Goals as goal
 
@@ -19,8 +14,10 @@ stale-requires-clause-quiet c = logless_quiet (region_in c.loop-inode.nodes c.ar
 
 pub loop-inode-preserved : goal.loop-inode-preserved
 loop-inode-preserved c = record {
-  there = subst (λ rs. IsNumber rs c.args.node) (sym c.stale.ensures) (one_number c.loop-inode.nodes c.args.node c.in-Some.inode.now c.loop-inode.invariant.there);
-  no_logs = ap (λ rs. (region_in rs c.args.node).logs) c.stale.ensures ∙ one_logless c.loop-inode.nodes c.args.node c.in-Some.inode.now c.loop-inode.invariant.there c.loop-inode.invariant.no_logs;
+  there = subst (λ rs. IsNumber rs c.args.node) (sym c.stale.ensures)
+      (one_number c.loop-inode.nodes c.args.node c.in-Some.inode.now c.loop-inode.invariant.there);
+  no_logs = ap (λ rs. (region_in rs c.args.node).logs) c.stale.ensures ∙ one_logless c.loop-inode.nodes c.args.node c.in-Some.inode.now
+      c.loop-inode.invariant.there c.loop-inode.invariant.no_logs;
   left =
       ap (λ rs. nodes_without rs c.args.node (deque_iter_rest c.next.new.self)) c.stale.ensures
       ∙ ap (nodes_without c.loop-inode.nodes c.args.node) (sym c.in-Some.ensures.steps)

@@ -1,8 +1,4 @@
-use Rattle.std.proofs.Common.{◌≡◌, []}
-use Rattle.std.specs.VecDeque.Iter.{deque_iter_rest}
-use Rattle.assise_machine_state.specs.NodeValues.{region_in}
-use Rattle.assise_machine_state.specs.Places.{IsNumber}
-use Rattle.assise_machine_failures.specs.Copies.{nodes_without}
+use Rattle.assise_machine_failures.proofs.Common.{◌≡◌, [], deque_iter_rest, region_in, IsNumber, nodes_without}
 use Rattle.assise_machine_failures.proofs.copies.drop_all.Given as goal
 
 abbrev pub invariant-loop-inode : goal.invariant-loop-inode

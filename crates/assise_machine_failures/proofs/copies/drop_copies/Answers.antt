@@ -1,4 +1,4 @@
-use Rattle.assise_machine_state.specs.Whole.{value_of}
+use Rattle.assise_machine_failures.proofs.Common.{value_of}
 use Rattle.assise_machine_failures.proofs.DroppedCopies.{loses, returning_logless}
 use Rattle.assise_machine_failures.proofs.copies.drop_copies.Goals as goal
 

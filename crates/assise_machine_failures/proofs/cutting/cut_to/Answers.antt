@@ -1,23 +1,21 @@
-use Rattle.std.proofs.Common.{◌≡◌, ◌≢◌, ◌+◌, ◌-◌, ap, sym, subst, ◌∙◌, arith}
-use Rattle.assise_machine_state.specs.Changes.{with_clients_cut, with_clients_failed}
-use Rattle.assise_machine_state.specs.ClientValues.{client_in, failed_at, with_client}
-use Rattle.assise_machine_state.specs.NodeValues.{AreUndigested, with_tails_cut}
-use Rattle.assise_machine_state.specs.Places.{IsNumber}
-use Rattle.assise_machine_failures.specs.Listing.{kept_in}
+use Rattle.assise_machine_failures.proofs.Common.{◌≡◌, ◌≢◌, ◌+◌, ◌-◌, ap, sym, subst, ◌∙◌, arith, with_clients_cut, with_clients_failed, client_in, failed_at}
+use Rattle.assise_machine_failures.proofs.Common.{with_client, AreUndigested, with_tails_cut, IsNumber, kept_in}
 use Rattle.assise_machine_failures.proofs.CutOff.{all_undigested, home_found, next_cut, next_fails, next_lives, next_stays, number_found, undigested_then}
 use Rattle.assise_machine_failures.proofs.cutting.cut_to.Goals as goal
 use Rattle.assise_machine_failures.proofs.cutting.cut_to.Goals.{else-home-node, then-home-node, Joined-home-node}
 
 pub get-requires : goal.get-requires
 get-requires c =
-    let there : IsNumber c.args.clients.now c.loop-client.client = record { some = omega (arith, c.loop-client.auto.client); there = omega (arith, c.loop-client-test.true, c.requires.last) } in
+    let there : IsNumber c.args.clients.now c.loop-client.client =
+    record { some = omega (arith, c.loop-client.auto.client); there = omega (arith, c.loop-client-test.true, c.requires.last) } in
     record { client = number_found c.args.node (kept_in c.args.kept.now) c.args.clients.now c.loop-client.client there c.loop-client.invariant.clients }
 
 pub cut_tails-requires-clause-elsewhere : goal.cut_tails-requires-clause-elsewhere
 cut_tails-requires-clause-elsewhere c =
     let k = c.loop-client.client in
     let kept = kept_in c.args.kept.now in
-    let there : IsNumber c.args.clients.now k = record { some = omega (arith, c.loop-client.auto.client); there = omega (arith, c.loop-client-test.true, c.requires.last) } in
+    let there : IsNumber c.args.clients.now k =
+    record { some = omega (arith, c.loop-client.auto.client); there = omega (arith, c.loop-client-test.true, c.requires.last) } in
     let found = home_found c.args.node kept c.args.clients.now k there c.loop-client.invariant.clients c.get.ensures c.home.ensures in
     let home : (client_in c.args.clients.now k).home ≡ c.args.node = omega (arith, c.if-home-node.true, found) in
     subst (λ rs. AreUndigested rs k (kept k)) (sym c.loop-client.invariant.nodes)
@@ -27,7 +25,8 @@ cut_tails-requires-clause-elsewhere c =
 
 pub fail-requires : goal.fail-requires
 fail-requires c =
-    let there : IsNumber c.args.clients.now c.loop-client.client = record { some = omega (arith, c.loop-client.auto.client); there = omega (arith, c.loop-client-test.true, c.requires.last) } in
+    let there : IsNumber c.args.clients.now c.loop-client.client =
+    record { some = omega (arith, c.loop-client.auto.client); there = omega (arith, c.loop-client-test.true, c.requires.last) } in
     record { client = number_found c.args.node (kept_in c.args.kept.now) c.args.clients.now c.loop-client.client there c.loop-client.invariant.clients }
 
 -- with the client, if it was opened there

@@ -1,6 +1,4 @@
-use Rattle.std.proofs.Common.{◌≡◌, ◌+◌, ◌-◌, ◌≤◌}
-use Rattle.assise_machine_state.specs.Changes.{with_clients_cut, with_clients_failed}
-use Rattle.assise_machine_failures.specs.Listing.{kept_in}
+use Rattle.assise_machine_failures.proofs.Common.{◌≡◌, ◌+◌, ◌-◌, ◌≤◌, with_clients_cut, with_clients_failed, kept_in}
 use Rattle.assise_machine_failures.proofs.cutting.cut_to.Given as goal
 
 -- the clients before are over, if they were opened there

@@ -1,6 +1,4 @@
-use Rattle.std.proofs.Common.{◌≡◌, take}
-use Rattle.assise_machine_state.specs.Whole.{value_of}
-use Rattle.assise_machine_failures.specs.Copies.{AllLose}
+use Rattle.assise_machine_failures.proofs.Common.{◌≡◌, take, value_of, AllLose}
 use Rattle.assise_machine_failures.proofs.fail.drop_filled.Given as goal
 
 -- the nodes before have lost their copies

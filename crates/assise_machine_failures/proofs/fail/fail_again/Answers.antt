@@ -1,10 +1,5 @@
-use Rattle.std.proofs.Common.{◌<◌, ◌++◌, ◌∷◌, [], length, map, ap, subst, ◌∙◌}
-use Rattle.std.proofs.lemmas.Result.{err_from_is_err_and}
-use Rattle.assise_history.specs.Entries.{fails}
-use Rattle.assise_manager.specs.Whole.{membership}
-use Rattle.assise_model_events.specs.Events.{refused}
-use Rattle.assise_machine_state.specs.Whole.{value_of}
-use Rattle.assise_machine_failures.specs.Answers.{failing_answer, loss_of}
+use Rattle.assise_machine_failures.proofs.Common.{◌<◌, ◌++◌, ◌∷◌, [], length, map, ap, subst, ◌∙◌, err_from_is_err_and, fails, membership, refused, value_of}
+use Rattle.assise_machine_failures.proofs.Common.{failing_answer, loss_of}
 use Rattle.assise_machine_failures.proofs.FailedAgain.{IsDownAgain, back_fine, happens_again, holds_again, noted_again, shaped_again}
 use Rattle.assise_machine_failures.proofs.FailedFull.{lacks_so}
 use Rattle.assise_machine_failures.proofs.TakenIn.{epoch_fits}
@@ -15,7 +10,8 @@ pub returns-in_err-reserve-clause-happens : goal.returns-in_err-reserve-clause-h
 returns-in_err-reserve-clause-happens g c =
     let s = value_of c.args.sound.now.state in
     let error = err_from_is_err_and c.from_residual.result c.from_residual.ensures.1 in
-    lacks_so s (record s { history = c.reserve.new.self.events }) c.args.node (failing_answer c.from_residual.result) (back_fine s.members _ c.requires.returning)
+    lacks_so s (record s { history = c.reserve.new.self.events }) c.args.node (failing_answer c.from_residual.result)
+    (back_fine s.members _ c.requires.returning)
     (ap failing_answer error.1 ∙ ap refused (error.2 ∙ c.in_err-reserve.ensures.only_memory)) (λ i. record s { history = c.reserve.ensures.same i })
 
 pub fail-requires : goal.fail-requires

@@ -1,9 +1,4 @@
-use Rattle.std.proofs.Common.{ap, refl, ◌∙◌, arith}
-use Rattle.std.proofs.lemmas.Result.{err_from_is_err_and}
-use Rattle.assise_lease_tree.specs.Trees.{levels_of}
-use Rattle.assise_model_events.specs.Events.{refused}
-use Rattle.assise_machine_state.specs.Whole.{value_of}
-use Rattle.assise_machine_failures.specs.Answers.{failing_answer}
+use Rattle.assise_machine_failures.proofs.Common.{ap, refl, ◌∙◌, arith, err_from_is_err_and, levels_of, refused, value_of, failing_answer}
 use Rattle.assise_machine_failures.proofs.Failed.{IsRefreshed}
 use Rattle.assise_machine_failures.proofs.FailedFull.{AreCopiesDropped, ArePrefixesDropped, IsTakenDown, given_now, happens_now, refreshed_now}
 use Rattle.assise_machine_failures.proofs.FailedFull.{lacks_so, last_fault, no_fault, refused_as, returning_now, shaped_now}
@@ -101,7 +96,8 @@ drop_digested-requires-clause-parts g c = record {
 }
 
 pub invariant_of-sound-2 : goal.invariant_of-sound-2
-invariant_of-sound-2 g c = let done = given_now (prefixes_dropped g c) in record { invariant = record { holds = done.holds; shape = done.shape; noted = done.noted } }
+invariant_of-sound-2 g c = let done =
+    given_now (prefixes_dropped g c) in record { invariant = record { holds = done.holds; shape = done.shape; noted = done.noted } }
 
 pub returns-clause-happens : goal.returns-clause-happens
 returns-clause-happens g c =

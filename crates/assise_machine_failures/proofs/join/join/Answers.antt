@@ -1,16 +1,6 @@
-use Rattle.std.proofs.Common.{◌≡◌, ℕ, ◌<◌, ◌++◌, ◌∷◌, [], length, ap, refl, subst, sym, ◌∙◌}
-use Rattle.std.proofs.Math.Logic.{∥∥₁_map}
-use Rattle.std.proofs.lemmas.Result.{err_from_is_err_and}
-use Rattle.assise_manager.specs.Changes.{filling_fault}
-use Rattle.assise_manager.specs.Whole.{membership}
-use Rattle.assise_model_events.specs.Events.{join as join_event, joined, refused}
-use Rattle.assise_model_events.specs.Machine.{MachineInvariant}
-use Rattle.assise_model_events.proofs.EachEvent.{event_keeps}
-use Rattle.assise_machine_state.specs.Observed.{observed}
-use Rattle.assise_machine_state.specs.Invariant.{CutsInvariant, ShapeInvariant}
-use Rattle.assise_machine_state.specs.StateValues.{StateValue}
-use Rattle.assise_machine_state.specs.Whole.{value_of}
-use Rattle.assise_machine_failures.specs.Answers.{joining_answer}
+use Rattle.assise_machine_failures.proofs.Common.{◌≡◌, ℕ, ◌<◌, ◌++◌, ◌∷◌, [], length, ap, refl, subst, sym, ◌∙◌, ∥∥₁_map, err_from_is_err_and, filling_fault}
+use Rattle.assise_machine_failures.proofs.Common.{membership, join_event, joined, refused, MachineInvariant, event_keeps, observed, CutsInvariant}
+use Rattle.assise_machine_failures.proofs.Common.{ShapeInvariant, StateValue, value_of, joining_answer}
 use Rattle.assise_machine_failures.proofs.RefillHappens.{donor_number, filled_logless, filled_number, filling}
 use Rattle.assise_machine_failures.proofs.RefusedFailures.{fault_or, never}
 use Rattle.assise_machine_failures.proofs.TakenIn.{IsTakenIn, epoch_fits, got_number, join_busy, join_fine, join_happens}

@@ -1,7 +1,4 @@
-use Rattle.std.proofs.Common.{◌≡◌, ◌+◌, ◌-◌, ◌≤◌, length}
-use Rattle.assise_machine_state.specs.Observed.{world_of}
-use Rattle.assise_machine_state.specs.Whole.{value_of}
-use Rattle.assise_machine_failures.specs.Listing.{kept_to}
+use Rattle.assise_machine_failures.proofs.Common.{◌≡◌, ◌+◌, ◌-◌, ◌≤◌, length, world_of, value_of, kept_to}
 use Rattle.assise_machine_failures.proofs.listing.all_kept.Given as goal
 
 -- the places of the first clients

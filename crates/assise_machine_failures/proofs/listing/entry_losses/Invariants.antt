@@ -1,5 +1,4 @@
-use Rattle.std.proofs.Common.{◌≡◌, map, take}
-use Rattle.assise_machine_failures.specs.Answers.{loss_of}
+use Rattle.assise_machine_failures.proofs.Common.{◌≡◌, map, take, loss_of}
 use Rattle.assise_machine_failures.proofs.listing.entry_losses.Given as goal
 
 -- the first of them

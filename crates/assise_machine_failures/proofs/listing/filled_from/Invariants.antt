@@ -1,7 +1,4 @@
-use Rattle.std.proofs.Common.{◌≡◌, ◌+◌, ◌-◌, ◌≤◌, length}
-use Rattle.assise_machine_state.specs.StateValues.{standings}
-use Rattle.assise_machine_state.specs.Whole.{value_of}
-use Rattle.assise_machine_failures.specs.Listing.{filled_from}
+use Rattle.assise_machine_failures.proofs.Common.{◌≡◌, ◌+◌, ◌-◌, ◌≤◌, length, standings, value_of, filled_from}
 use Rattle.assise_machine_failures.proofs.listing.filled_from.Given as goal
 
 -- those of the first nodes

@@ -1,11 +1,4 @@
-use Rattle.std.proofs.Common.{◌≡◌, take}
-use Rattle.assise_private_log.specs.NumberedLog.{end}
-use Rattle.assise_manager.specs.Standings.{full_nodes}
-use Rattle.assise_manager.specs.Whole.{membership}
-use Rattle.assise_model_world.specs.World.{least_of}
-use Rattle.assise_machine_state.specs.ClientValues.{client_in}
-use Rattle.assise_machine_state.specs.NodeValues.{log_in}
-use Rattle.assise_machine_state.specs.Observed.{own_node}
+use Rattle.assise_machine_failures.proofs.Common.{◌≡◌, take, end, full_nodes, membership, least_of, client_in, log_in, own_node}
 use Rattle.assise_machine_failures.proofs.KeptPlaces.{others}
 use Rattle.assise_machine_failures.proofs.listing.kept.Given as goal
 

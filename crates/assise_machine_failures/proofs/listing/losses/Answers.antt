@@ -1,18 +1,23 @@
-use Rattle.std.proofs.Common.{◌≡◌, ◌+◌, option_copied, ap, sym, ◌∙◌, arith}
-use Rattle.assise_private_log.specs.NumberedLog.{record_at}
-use Rattle.assise_model_world.specs.NodeSteps.{kept_at_failure}
-use Rattle.assise_model_history.specs.Lost.{losses_to}
-use Rattle.assise_machine_state.specs.Observed.{world_of}
-use Rattle.assise_machine_state.specs.Whole.{value_of}
+use Rattle.assise_machine_failures.proofs.Common.{◌≡◌, ◌+◌, option_copied, ap, sym, ◌∙◌, arith, record_at, kept_at_failure, losses_to, world_of, value_of}
 use Rattle.assise_machine_failures.proofs.Cuts.{all_places, lost_here, none_lost, one_lost, place_client, place_kept, place_within, whole_here}
 use Rattle.assise_machine_failures.proofs.listing.losses.Goals as goal
 use Rattle.assise_machine_failures.proofs.listing.losses.Goals.{in-Some+in_ok-push, in_default}
 
 pub overflow_cast-client : goal.overflow_cast-client
-overflow_cast-client g c = omega (arith, c.requires.few, place_within (value_of c.args.state.now) c.args.node c.args.kept.now c.requires.kept c.loop-place.place c.loop-place-test.true)
+overflow_cast-client g c = omega (
+  arith,
+  c.requires.few,
+  place_within (value_of c.args.state.now) c.args.node c.args.kept.now c.requires.kept c.loop-place.place
+      c.loop-place-test.true,
+)
 
 pub overflow_add-client : goal.overflow_add-client
-overflow_add-client g c = omega (arith, c.requires.few, place_within (value_of c.args.state.now) c.args.node c.args.kept.now c.requires.kept c.loop-place.place c.loop-place-test.true)
+overflow_add-client g c = omega (
+  arith,
+  c.requires.few,
+  place_within (value_of c.args.state.now) c.args.node c.args.kept.now c.requires.kept c.loop-place.place
+      c.loop-place-test.true,
+)
 
 pub own_log-log-requires-clause-client : goal.own_log-log-requires-clause-client
 own_log-log-requires-clause-client g c =
@@ -33,7 +38,8 @@ loop-place-preserved g c =
       | in-Some+in_ok-push b ↦
           let lost =
           lost_here s n (k + 1) c.requires.parts.shape client some c.own_log-log.result.now b.in-Some.lost.now log (sym get ∙ ap option_copied b.in-Some.is) in
-          one_lost w n k b.call.result c.loop-place.losses.items c.match-get.losses.items c.loop-place.invariant (ap (λ v. v.items) b.losses-is ∙ b.in_ok-push.ensures.items) lost.0 (lost.1 ∙ sym b.call.ensures)
+          one_lost w n k b.call.result c.loop-place.losses.items c.match-get.losses.items c.loop-place.invariant
+          (ap (λ v. v.items) b.losses-is ∙ b.in_ok-push.ensures.items) lost.0 (lost.1 ∙ sym b.call.ensures)
       | in_default b ↦
           let whole =
           whole_here s n (k + 1) c.requires.parts.shape client some c.own_log-log.result.now c.requires.parts.world log
@@ -43,4 +49,5 @@ loop-place-preserved g c =
 
 pub returns-clause-losses : goal.returns-clause-losses
 unfolding world_of
-returns-clause-losses g c = c.loop-place.invariant ∙ ap (losses_to (world_of (value_of c.args.state.now)) c.args.node) (all_places (value_of c.args.state.now) c.args.node c.args.kept.now c.loop-place.place c.requires.kept c.loop-place.auto.place-end c.loop-place-test.false)
+returns-clause-losses g c = c.loop-place.invariant ∙ ap (losses_to (world_of (value_of c.args.state.now)) c.args.node)
+    (all_places (value_of c.args.state.now) c.args.node c.args.kept.now c.loop-place.place c.requires.kept c.loop-place.auto.place-end c.loop-place-test.false)

@@ -1,8 +1,4 @@
-use Rattle.std.proofs.Common.{◌≡◌, map}
-use Rattle.assise_model_history.specs.Lost.{losses_to}
-use Rattle.assise_machine_state.specs.Observed.{world_of}
-use Rattle.assise_machine_state.specs.Whole.{value_of}
-use Rattle.assise_machine_failures.specs.Answers.{loss_of}
+use Rattle.assise_machine_failures.proofs.Common.{◌≡◌, map, losses_to, world_of, value_of, loss_of}
 use Rattle.assise_machine_failures.proofs.listing.losses.Given as goal
 
 -- what the first clients lose

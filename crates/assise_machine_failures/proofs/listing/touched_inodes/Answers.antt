@@ -1,18 +1,22 @@
-use Rattle.std.proofs.Common.{◌+◌, ◌-◌, ◌++◌, take, ap, ◌∙◌, arith}
-use Rattle.assise_record.specs.Records.{all_effects}
-use Rattle.assise_inode_table.specs.Effects.{touched}
-use Rattle.assise_private_log.specs.NumberedLog.{records_from}
-use Rattle.assise_machine_state.specs.Observed.{world_of}
-use Rattle.assise_machine_state.specs.Whole.{value_of}
-use Rattle.assise_machine_failures.specs.Listing.{kept_inodes}
+use Rattle.assise_machine_failures.proofs.Common.{◌+◌, ◌-◌, ◌++◌, take, ap, ◌∙◌, arith, all_effects, touched, records_from, world_of, value_of, kept_inodes}
 use Rattle.assise_machine_failures.proofs.Cuts.{all_places, first_kept, one_touched, place_client, place_kept, place_within, touched_here}
 use Rattle.assise_machine_failures.proofs.listing.touched_inodes.Goals as goal
 
 pub overflow_cast-place : goal.overflow_cast-place
-overflow_cast-place g c = omega (arith, c.requires.few, place_within (value_of c.args.state.now) c.args.node c.args.kept.now c.requires.kept c.loop-place.place c.loop-place-test.true)
+overflow_cast-place g c = omega (
+  arith,
+  c.requires.few,
+  place_within (value_of c.args.state.now) c.args.node c.args.kept.now c.requires.kept c.loop-place.place
+      c.loop-place-test.true,
+)
 
 pub overflow_add-place : goal.overflow_add-place
-overflow_add-place g c = omega (arith, c.requires.few, place_within (value_of c.args.state.now) c.args.node c.args.kept.now c.requires.kept c.loop-place.place c.loop-place-test.true)
+overflow_add-place g c = omega (
+  arith,
+  c.requires.few,
+  place_within (value_of c.args.state.now) c.args.node c.args.kept.now c.requires.kept c.loop-place.place
+      c.loop-place-test.true,
+)
 
 pub own_log-log-requires-clause-client : goal.own_log-log-requires-clause-client
 own_log-log-requires-clause-client g c =
@@ -37,8 +41,11 @@ loop-place-preserved g c =
     let own = c.own_log-log.result.now in
     let kept = place_kept s n c.args.kept.now c.requires.kept k c.loop-place-test.true in
     let first = c.first-first.ensures in
-    let added = (λ i. touched (all_effects (take (kept i - first i) (records_from own (first i))))) ∙ touched_here s n (k + 1) c.requires.parts.shape client c.args.state.now.members.lawful.some_full own log in
-    one_touched (world_of s) n k c.loop-place.inodes.items c.push_touched_from.new.inodes.items c.loop-place.invariant (c.in_ok-push_touched_from.ensures.added ∙ ap (λ is. c.loop-place.inodes.items ++ is) added)
+    let added = (λ i. touched (all_effects (take (kept i - first i) (records_from own (first i))))) ∙ touched_here s n (k + 1) c.requires.parts.shape client
+    c.args.state.now.members.lawful.some_full own log in
+    one_touched (world_of s) n k c.loop-place.inodes.items c.push_touched_from.new.inodes.items c.loop-place.invariant
+    (c.in_ok-push_touched_from.ensures.added ∙ ap (λ is. c.loop-place.inodes.items ++ is) added)
 
 pub returns-clause-inodes : goal.returns-clause-inodes
-returns-clause-inodes g c = c.loop-place.invariant ∙ ap (kept_inodes (world_of (value_of c.args.state.now)) c.args.node) (all_places (value_of c.args.state.now) c.args.node c.args.kept.now c.loop-place.place c.requires.kept c.loop-place.auto.place-end c.loop-place-test.false)
+returns-clause-inodes g c = c.loop-place.invariant ∙ ap (kept_inodes (world_of (value_of c.args.state.now)) c.args.node)
+    (all_places (value_of c.args.state.now) c.args.node c.args.kept.now c.loop-place.place c.requires.kept c.loop-place.auto.place-end c.loop-place-test.false)

@@ -1,7 +1,4 @@
-use Rattle.std.proofs.Common.{◌≡◌}
-use Rattle.assise_machine_state.specs.Observed.{world_of}
-use Rattle.assise_machine_state.specs.Whole.{value_of}
-use Rattle.assise_machine_failures.specs.Listing.{kept_inodes}
+use Rattle.assise_machine_failures.proofs.Common.{◌≡◌, world_of, value_of, kept_inodes}
 use Rattle.assise_machine_failures.proofs.listing.touched_inodes.Given as goal
 
 -- the inodes of the first clients' records

@@ -1,17 +1,6 @@
-use Rattle.std.proofs.Common.{ℕ, ap, subst, sym, ◌∙◌}
-use Rattle.std.proofs.Math.Logic.{∥∥₁_map}
-use Rattle.std.proofs.lemmas.Result.{err_from_is_err_and}
-use Rattle.assise_manager.specs.Changes.{IsLowestOf, filling_fault, stale_of}
-use Rattle.assise_manager.specs.Standings.{standing_of}
-use Rattle.assise_manager.specs.Whole.{membership}
-use Rattle.assise_model_events.specs.Events.{refill as refill_event, refused}
-use Rattle.assise_model_events.specs.MemberEvents.{Refilling}
-use Rattle.assise_model_events.proofs.EachEvent.{event_keeps}
-use Rattle.assise_machine_state.specs.NodeValues.{region_in}
-use Rattle.assise_machine_state.specs.Observed.{observed}
-use Rattle.assise_machine_state.specs.StateValues.{StateValue, standings}
-use Rattle.assise_machine_state.specs.Whole.{value_of}
-use Rattle.assise_machine_failures.specs.Answers.{refilling_answer}
+use Rattle.assise_machine_failures.proofs.Common.{ℕ, ap, subst, sym, ◌∙◌, ∥∥₁_map, err_from_is_err_and, IsLowestOf, filling_fault, stale_of, standing_of}
+use Rattle.assise_machine_failures.proofs.Common.{membership, refill_event, refused, Refilling, event_keeps, region_in, observed, StateValue, standings}
+use Rattle.assise_machine_failures.proofs.Common.{value_of, refilling_answer}
 use Rattle.assise_machine_failures.proofs.DroppedCopies.{logless_quiet}
 use Rattle.assise_machine_failures.proofs.RefillHappens.{IsCopied, donor_number, filled_fine, filled_logless, filled_number, filling, lacks_memory_so}
 use Rattle.assise_machine_failures.proofs.RefillHappens.{refill_answers, refill_noted, refill_refused, refill_shaped, whole_so}
@@ -23,7 +12,8 @@ pub returns-in_err-donor-clause-happens : goal.returns-in_err-donor-clause-happe
 returns-in_err-donor-clause-happens g c =
     let s = value_of c.args.sound.now.state in
     let error = err_from_is_err_and c.from_residual.result c.from_residual.ensures.1 in
-    refill_refused s c.args.node c.in_err-donor.field-0.0 (refilling_answer c.from_residual.result) (ap refilling_answer error.1 ∙ ap refused error.2) (never c.in_err-donor.ensures.ok.1)
+    refill_refused s c.args.node c.in_err-donor.field-0.0 (refilling_answer c.from_residual.result) (ap refilling_answer error.1 ∙ ap refused error.2)
+    (never c.in_err-donor.ensures.ok.1)
     (fault_or {X = ℕ} (filling_fault s.members c.args.node) c.in_err-donor.field-0.0 c.in_err-donor.ensures.fault
     (λ fine. absurd (never c.in_err-donor.ensures.ok.1 fine)))
 

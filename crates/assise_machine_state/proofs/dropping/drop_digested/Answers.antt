@@ -1,5 +1,4 @@
-use Rattle.std.proofs.Common.{subst, sym, arith}
-use Rattle.assise_machine_state.specs.NodeValues.{AreDigested}
+use Rattle.assise_machine_state.proofs.Common.{subst, sym, arith, AreDigested}
 use Rattle.assise_machine_state.proofs.Dropped.{found}
 use Rattle.assise_machine_state.proofs.dropping.drop_digested.Goals as goal
 

@@ -1,6 +1,4 @@
-use Rattle.std.proofs.Common.{◌≡◌, ◌+◌, ◌-◌, ◌≤◌}
-use Rattle.assise_machine_state.specs.Changes.{drops_to}
-use Rattle.assise_machine_state.specs.Whole.{value_of}
+use Rattle.assise_machine_state.proofs.Common.{◌≡◌, ◌+◌, ◌-◌, ◌≤◌, drops_to, value_of}
 use Rattle.assise_machine_state.proofs.dropping.drop_digested.Given as goal
 
 -- the clients before let go

@@ -1,4 +1,4 @@
-use Rattle.std.proofs.Common.{length}
+use Rattle.assise_machine_state.proofs.Common.{length}
 use Rattle.assise_machine_state.proofs.nodes.+add_copies.Given as goal
 
 abbrev pub decreases-add_copies : goal.decreases-add_copies

@@ -1,10 +1,5 @@
-use Rattle.std.proofs.Common.{◌≡◌, ◌∷◌, ◌+◌, ◌∙◌, true, false, ap, sym}
-use Rattle.std.proofs.lemmas.Result.{on_ok_weaker}
-use Rattle.assise_inode_table.specs.Effects.{contains}
-use Rattle.assise_manager.specs.Standings.{full_nodes}
-use Rattle.assise_manager.specs.Whole.{membership}
-use Rattle.assise_machine_state.specs.NodeValues.{with_logs_begun}
-use Rattle.assise_machine_state.specs.Observed.{is_full_in}
+use Rattle.assise_machine_state.proofs.Common.{◌≡◌, ◌∷◌, ◌+◌, ◌∙◌, true, false, ap, sym, on_ok_weaker, contains, full_nodes, membership, with_logs_begun}
+use Rattle.assise_machine_state.proofs.Common.{is_full_in}
 use Rattle.assise_machine_state.proofs.NodesAway.{begins, begins_none}
 use Rattle.assise_machine_state.proofs.nodes.+begin_all.Goals as goal
 

@@ -1,4 +1,4 @@
-use Rattle.std.proofs.Common.{length}
+use Rattle.assise_machine_state.proofs.Common.{length}
 use Rattle.assise_machine_state.proofs.nodes.+drop_all.Given as goal
 
 abbrev pub decreases-drop_all : goal.decreases-drop_all

@@ -1,5 +1,4 @@
-use Rattle.std.proofs.Common.{◌≡◌, map, take}
-use Rattle.assise_machine_state.specs.NodeValues.{AreTaken, away, copied}
+use Rattle.assise_machine_state.proofs.Common.{◌≡◌, map, take, AreTaken, away, copied}
 use Rattle.assise_machine_state.proofs.nodes.copies_of.Given as goal
 
 -- the first logs are copied

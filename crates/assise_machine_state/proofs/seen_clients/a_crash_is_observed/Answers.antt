@@ -1,4 +1,4 @@
-use Rattle.std.proofs.Common.{arith}
+use Rattle.assise_machine_state.proofs.Common.{arith}
 use Rattle.assise_machine_state.proofs.CrashObserved.{crash_seen, crash_shaped}
 use Rattle.assise_machine_state.proofs.Noted.{crash_noted}
 use Rattle.assise_machine_state.proofs.ShapedClients.{areas_stay}

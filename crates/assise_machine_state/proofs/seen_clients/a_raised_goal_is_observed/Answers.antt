@@ -1,4 +1,4 @@
-use Rattle.std.proofs.Common.{arith}
+use Rattle.assise_machine_state.proofs.Common.{arith}
 use Rattle.assise_machine_state.proofs.Noted.{goal_noted}
 use Rattle.assise_machine_state.proofs.GoalObserved.{goal_raised, goal_shaped}
 use Rattle.assise_machine_state.proofs.ShapedClients.{areas_stay}

@@ -1,5 +1,4 @@
-use Rattle.std.proofs.Common.{arith}
-use Rattle.assise_machine_state.specs.Observed.{world_of}
+use Rattle.assise_machine_state.proofs.Common.{arith, world_of}
 use Rattle.assise_machine_state.proofs.AskingSeen.{asking_noted, asking_seen, asking_shaped}
 use Rattle.assise_machine_state.proofs.ShapedClients.{areas_stay}
 use Rattle.assise_machine_state.proofs.seen_clients.an_asking_is_observed.Goals as goal

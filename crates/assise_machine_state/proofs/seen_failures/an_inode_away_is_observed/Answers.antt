@@ -1,4 +1,4 @@
-use Rattle.std.proofs.Common.{arith}
+use Rattle.assise_machine_state.proofs.Common.{arith}
 use Rattle.assise_machine_state.proofs.AwayObserved.{inode_else, inode_here, inode_rests, inode_shaped}
 use Rattle.assise_machine_state.proofs.seen_failures.an_inode_away_is_observed.Goals as goal
 

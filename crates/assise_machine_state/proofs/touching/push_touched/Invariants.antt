@@ -1,5 +1,4 @@
-use Rattle.std.proofs.Common.{◌≡◌, ◌++◌, take}
-use Rattle.assise_inode_table.specs.Effects.{touched}
+use Rattle.assise_machine_state.proofs.Common.{◌≡◌, ◌++◌, take, touched}
 use Rattle.assise_machine_state.proofs.touching.push_touched.Given as goal
 
 -- the inodes of the first effects were added

@@ -1,5 +1,5 @@
-use Rattle.std.proofs.Common.{append_assoc, arith}
-use Rattle.assise_inode_table.proofs.EffectValues.{touched-append}
+use Rattle.assise_machine_state.proofs.Common.{arith, touched-append}
+use Rattle.std.proofs.Common.{append_assoc}
 use Rattle.assise_machine_state.proofs.TouchedFrom.{taken_first}
 use Rattle.assise_machine_state.proofs.touching.push_touched_from.Goals as goal
 

@@ -1,5 +1,4 @@
-use Rattle.std.proofs.Common.{◌≡◌, ◌<◌, ◌∙◌, Ok, Err, get_or, length, rules, refl}
-use Rattle.assise_libfs.specs.Clients.{client_of, seen_by}
+use Rattle.assise_mail.proofs.Common.{◌≡◌, ◌<◌, ◌∙◌, Ok, Err, get_or, length, rules, refl, client_of, seen_by}
 use Rattle.assise_mail.proofs.Stopped.{err≢ok, is_due, is_not_due, ok-value, one_call_more, stops_here, where_err}
 use Rattle.assise_mail.proofs.due_call.make_all.Goals as goal
 
@@ -12,7 +11,8 @@ loop-wanted-preserved g c =
     record {
       same = search rules;
       sees = one_call_more _ c.args.calls.now i wanted _ (seen_by c.loop-wanted.files) (seen_by c.call.new.self) there is c.loop-wanted.invariant.sees
-          (client_of c.loop-wanted.files) c.in_ok-reply.reply c.loop-wanted.invariant.same.client (is_due _ _ c.ne.result c.ne.ensures c.if-ne.false) c.in_ok-reply.ensures.sees;
+          (client_of c.loop-wanted.files) c.in_ok-reply.reply c.loop-wanted.invariant.same.client (is_due _ _ c.ne.result c.ne.ensures c.if-ne.false)
+          c.in_ok-reply.ensures.sees;
     }
 
 pub returns-in_err-reply-clause-stops : goal.returns-in_err-reply-clause-stops
@@ -34,4 +34,10 @@ returns-then-ne-clause-stops g c =
     let is : get_or c.args.calls.now i wanted ≡ wanted = search rules in
     stops_here _ c.args.calls.now i wanted _ (seen_by c.loop-wanted.files) (seen_by c.call.new.self) there is c.loop-wanted.invariant.sees
     (client_of c.loop-wanted.files) _ c.loop-wanted.invariant.same.client
-    (record { came = Ok c.in_ok-reply.reply; sees = c.in_ok-reply.ensures.sees; fault = refl; undue = λ reply came due. is_not_due c.in_ok-reply.reply wanted.reply c.ne.result c.ne.ensures c.if-ne.true (ok-value came ∙ due) })
+    (record {
+      came = Ok c.in_ok-reply.reply;
+      sees = c.in_ok-reply.ensures.sees;
+      fault = refl;
+      undue = λ reply came due. is_not_due c.in_ok-reply.reply
+          wanted.reply c.ne.result c.ne.ensures c.if-ne.true (ok-value came ∙ due);
+    })

@@ -1,6 +1,4 @@
-use Rattle.std.proofs.Common.{◌≡◌, ◌≤◌, ◌+◌, ◌++◌, map, drop, vec_len, vec_capacity}
-use Rattle.assise_manager.specs.Seen.{standing}
-use Rattle.assise_manager.specs.Standings.{full_nodes, full_from}
+use Rattle.assise_manager.proofs.Common.{◌≡◌, ◌≤◌, ◌+◌, ◌++◌, map, drop, vec_len, vec_capacity, standing, full_nodes, full_from}
 use Rattle.assise_manager.proofs.node.list_full.Given as goal
 
 abbrev pub invariant-loop-node : goal.invariant-loop-node

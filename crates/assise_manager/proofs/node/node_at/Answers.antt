@@ -1,7 +1,4 @@
-use Rattle.std.proofs.Common.{◌∙◌, sym, ap}
-use Rattle.std.specs.List.{slice_get}
-use Rattle.std.specs.Option.{option_map}
-use Rattle.assise_manager.specs.Seen.{standing}
+use Rattle.assise_manager.proofs.Common.{◌∙◌, sym, ap, slice_get, option_map, standing}
 use Rattle.assise_manager.proofs.Places.{standing_at, item_is}
 use Rattle.assise_manager.proofs.node.node_at.Goals as goal
 

@@ -1,5 +1,4 @@
-use Rattle.std.proofs.lemmas.List.{map-set}
-use Rattle.assise_manager.specs.Seen.{standing}
+use Rattle.assise_manager.proofs.Common.{map-set, standing}
 use Rattle.assise_manager.proofs.node.put.Goals as goal
 
 pub returns-clause-nodes : goal.returns-clause-nodes

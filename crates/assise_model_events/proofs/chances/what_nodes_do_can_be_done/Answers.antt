@@ -1,5 +1,4 @@
-use Rattle.std.proofs.Common.{refl}
-use Rattle.assise_model_events.specs.Machine.{with_hot}
+use Rattle.assise_model_events.proofs.Common.{refl, with_hot}
 use Rattle.assise_model_events.specs.NodeEvents.SettingHot.{is_set}
 use Rattle.assise_model_events.proofs.Digestible.{digested_can}
 use Rattle.assise_model_events.proofs.Doable.{delivered_can}

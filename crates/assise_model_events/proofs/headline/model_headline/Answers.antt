@@ -1,4 +1,4 @@
-use Rattle.assise_model_events.specs.Machine.{begun_as}
+use Rattle.assise_model_events.proofs.Common.{begun_as}
 use Rattle.assise_model_events.proofs.Whatever.{all_told, handed_over_replicated, lasts, only_tails, reached_holds, remaining, safe}
 use Rattle.assise_model_events.proofs.headline.model_headline.Goals as goal
 
@@ -21,7 +21,8 @@ pub returns-clause-alone : goal.returns-clause-alone
 returns-clause-alone r = λ nodes limit hot es m some run n full. (safe m (reached_holds nodes limit hot es m some run)).rebuilt n full
 
 pub returns-clause-synced : goal.returns-clause-synced
-returns-clause-synced r = λ nodes limit hot es m some run before later x split is. (safe m (reached_holds nodes limit hot es m some run)).synced before later x split is
+returns-clause-synced r = λ nodes limit hot es m some run before later x split is. (safe m (reached_holds nodes limit hot es m some run)).synced before later x
+    split is
 
 pub returns-clause-handed_over : goal.returns-clause-handed_over
 returns-clause-handed_over r = λ nodes limit hot es m some run c i away. handed_over_replicated m (reached_holds nodes limit hot es m some run) c i away

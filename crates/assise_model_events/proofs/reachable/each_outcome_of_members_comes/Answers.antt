@@ -1,4 +1,6 @@
-use Rattle.assise_model_events.proofs.MembersCome.{back_comes, busy_comes, failed_again_comes, joined_comes, not_back_comes, not_back_for_memory_comes, not_failed_comes, not_failed_for_memory_comes, not_joined_for_memory_comes, not_raised_comes, not_refilled_comes, not_refilled_for_memory_comes, raised_comes, refilled_comes, whole_comes}
+use Rattle.assise_model_events.proofs.MembersCome.{back_comes, busy_comes, failed_again_comes, joined_comes, not_back_comes, not_back_for_memory_comes}
+use Rattle.assise_model_events.proofs.MembersCome.{not_failed_comes, not_failed_for_memory_comes, not_joined_for_memory_comes, not_raised_comes}
+use Rattle.assise_model_events.proofs.MembersCome.{not_refilled_comes, not_refilled_for_memory_comes, raised_comes, refilled_comes, whole_comes}
 use Rattle.assise_model_events.proofs.MembersFail.{failed_comes}
 use Rattle.assise_model_events.proofs.reachable.each_outcome_of_members_comes.Goals as goal
 

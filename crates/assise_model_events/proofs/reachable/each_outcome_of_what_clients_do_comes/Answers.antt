@@ -1,4 +1,7 @@
-use Rattle.assise_model_events.proofs.ClientsCome.{coalesced_comes, coalescing_synced_comes, not_coalesced_comes, not_coalesced_for_memory_comes, called_comes, call_awaited_comes, log_full_comes, opened_comes, not_opened_comes, not_opened_for_memory_comes, not_called_comes, not_called_for_memory_comes, synced_comes, sync_awaited_comes, not_synced_comes, not_synced_for_memory_comes, crashed_comes, not_crashed_comes, not_crashed_for_memory_comes}
+use Rattle.assise_model_events.proofs.ClientsCome.{coalesced_comes, coalescing_synced_comes, not_coalesced_comes, not_coalesced_for_memory_comes, called_comes}
+use Rattle.assise_model_events.proofs.ClientsCome.{call_awaited_comes, log_full_comes, opened_comes, not_opened_comes, not_opened_for_memory_comes}
+use Rattle.assise_model_events.proofs.ClientsCome.{not_called_comes, not_called_for_memory_comes, synced_comes, sync_awaited_comes, not_synced_comes}
+use Rattle.assise_model_events.proofs.ClientsCome.{not_synced_for_memory_comes, crashed_comes, not_crashed_comes, not_crashed_for_memory_comes}
 use Rattle.assise_model_events.proofs.reachable.each_outcome_of_what_clients_do_comes.Goals as goal
 
 pub returns-clause-opened : goal.returns-clause-opened

@@ -1,5 +1,7 @@
 use Rattle.assise_model_events.proofs.LeasesGo.{released_some}
-use Rattle.assise_model_events.proofs.NodesCome.{delivered, digested_one, hot_is_set, hot_not_set, hot_not_set_for_memory, not_delivered, not_delivered_for_memory, not_digested, not_digested_for_memory, not_sent, not_sent_for_memory, sent_one, stale}
+use Rattle.assise_model_events.proofs.NodesCome.{delivered, digested_one, hot_is_set, hot_not_set, hot_not_set_for_memory, not_delivered}
+use Rattle.assise_model_events.proofs.NodesCome.{not_delivered_for_memory, not_digested, not_digested_for_memory, not_sent, not_sent_for_memory, sent_one}
+use Rattle.assise_model_events.proofs.NodesCome.{stale}
 use Rattle.assise_model_events.proofs.reachable.each_outcome_of_what_nodes_do_comes.Goals as goal
 
 pub returns-clause-sent : goal.returns-clause-sent

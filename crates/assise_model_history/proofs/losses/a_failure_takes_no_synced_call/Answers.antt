@@ -1,4 +1,4 @@
-use Rattle.assise_model_history.specs.Lost.{losses_of}
+use Rattle.assise_model_history.proofs.Common.{losses_of}
 use Rattle.assise_model_history.proofs.FailureKeeps.{loss_answered, past_syncs}
 use Rattle.assise_model_history.proofs.FailureList.{in_midst}
 use Rattle.assise_model_history.proofs.losses.a_failure_takes_no_synced_call.Goals as goal

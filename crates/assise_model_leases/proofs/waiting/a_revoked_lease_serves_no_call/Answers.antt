@@ -1,4 +1,4 @@
-use Rattle.assise_model_leases.specs.Leases.{client_lease}
+use Rattle.assise_model_leases.proofs.Common.{client_lease}
 use Rattle.assise_model_leases.proofs.LookUps.{revoked_serves, none_serves}
 use Rattle.assise_model_leases.proofs.waiting.a_revoked_lease_serves_no_call.Goals as goal
 

@@ -1,4 +1,4 @@
-use Rattle.std.proofs.Common.{◌≡◌, take}
+use Rattle.assise_names.proofs.Common.{◌≡◌, take}
 use Rattle.assise_names.proofs.name.copy_names.Given as goal
 
 abbrev pub invariant-loop-name : goal.invariant-loop-name

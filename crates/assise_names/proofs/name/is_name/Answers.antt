@@ -1,5 +1,4 @@
-use Rattle.std.proofs.Common.{◌∙◌}
-use Rattle.std.proofs.lemmas.Str.{is_utf8-from_IsUtf8}
+use Rattle.assise_names.proofs.Common.{◌∙◌, is_utf8-from_IsUtf8}
 use Rattle.assise_names.proofs.Spellings.{is_faultless}
 use Rattle.assise_names.proofs.name.is_name.Goals as goal
 

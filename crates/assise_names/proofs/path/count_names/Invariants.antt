@@ -1,7 +1,4 @@
-use Rattle.std.proofs.Common.{◌≡◌, ◌==◌, ◌+◌, ◌≤◌, length}
-use Rattle.std.specs.List.{slice_split}
-use Rattle.std.specs.Str.{IsUtf8}
-use Rattle.assise_names.specs.Path.{name_count, pieces_as_names}
+use Rattle.assise_names.proofs.Common.{◌≡◌, ◌==◌, ◌+◌, ◌≤◌, length, slice_split, IsUtf8, name_count, pieces_as_names}
 use Rattle.assise_names.proofs.PathLemmas.{count_on}
 use Rattle.assise_names.proofs.path.count_names.Given as goal
 

@@ -1,8 +1,4 @@
-use Rattle.std.proofs.Common.{◌==◌, ◌∙◌, sym, rules, IsTrue}
-use Rattle.std.proofs.lemmas.List.Elements.{All-push}
-use Rattle.std.proofs.lemmas.Result.{err_from_is_err_and}
-use Rattle.std.specs.List.{slice_split}
-use Rattle.assise_names.specs.Name.{is_name}
+use Rattle.assise_names.proofs.Common.{◌==◌, ◌∙◌, sym, rules, IsTrue, All-push, err_from_is_err_and, slice_split, is_name}
 use Rattle.assise_names.proofs.PathLemmas.{next_faulty, next_name, none_left}
 use Rattle.assise_names.proofs.path.path_of_many.Goals as goal
 

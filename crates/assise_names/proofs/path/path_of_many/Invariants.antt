@@ -1,7 +1,4 @@
-use Rattle.std.proofs.Common.{◌≡◌, ◌==◌, All, IsTrue, drop}
-use Rattle.std.specs.List.{slice_split}
-use Rattle.assise_names.specs.Name.{is_name}
-use Rattle.assise_names.specs.Path.{pieces_as_names, with_prefix}
+use Rattle.assise_names.proofs.Common.{◌≡◌, ◌==◌, All, IsTrue, drop, slice_split, is_name, pieces_as_names, with_prefix}
 use Rattle.assise_names.proofs.PathLemmas.{pieces_left}
 use Rattle.assise_names.proofs.path.path_of_many.Given as goal
 

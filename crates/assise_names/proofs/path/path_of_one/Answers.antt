@@ -1,5 +1,4 @@
-use Rattle.std.proofs.Common.{[], Ok, ap, sym, ◌∙◌}
-use Rattle.std.proofs.lemmas.Result.{err_from_is_err_and}
+use Rattle.assise_names.proofs.Common.{[], Ok, ap, sym, ◌∙◌, err_from_is_err_and}
 use Rattle.assise_names.proofs.FewNames.{no_first, one_named}
 use Rattle.assise_names.proofs.PathLemmas.{faulty}
 use Rattle.assise_names.proofs.path.path_of_one.Goals as goal

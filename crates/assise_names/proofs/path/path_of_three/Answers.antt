@@ -1,5 +1,4 @@
-use Rattle.std.proofs.Common.{[], ◌∷◌, Ok, ap, sym, ◌∙◌}
-use Rattle.std.proofs.lemmas.Result.{err_from_is_err_and}
+use Rattle.assise_names.proofs.Common.{[], ◌∷◌, Ok, ap, sym, ◌∙◌, err_from_is_err_and}
 use Rattle.assise_names.proofs.FewNames.{no_first, no_second, no_third, three_named}
 use Rattle.assise_names.proofs.PathLemmas.{faulty}
 use Rattle.assise_names.proofs.path.path_of_three.Goals as goal
@@ -12,7 +11,8 @@ returns-in_err-first-clause-first_fault c =
 pub returns-in_err-second-clause-first_fault : goal.returns-in_err-second-clause-first_fault
 returns-in_err-second-clause-first_fault c =
     let y = err_from_is_err_and c.from_residual-in_err-second.result c.from_residual-in_err-second.ensures.1 in
-    rw y.1 (faulty _ c.args.next.now _ _ y.2 c.in_err-second.ensures.first_fault (no_second c.args.text.now c.args.next.now _ (c.args.last.now ∷ []) _ c.in_ok-first.ensures.first_fault))
+    rw y.1 (faulty _ c.args.next.now _ _ y.2 c.in_err-second.ensures.first_fault
+    (no_second c.args.text.now c.args.next.now _ (c.args.last.now ∷ []) _ c.in_ok-first.ensures.first_fault))
 
 pub returns-in_err-third-clause-first_fault : goal.returns-in_err-third-clause-first_fault
 returns-in_err-third-clause-first_fault c =

@@ -1,14 +1,11 @@
-use Rattle.std.proofs.Common.{◌≡◌, ◌==◌, length, All, IsTrue}
-use Rattle.std.specs.List.{slice_split}
-use Rattle.std.specs.Str.{IsUtf8}
-use Rattle.assise_names.specs.Name.{is_name}
-use Rattle.assise_names.specs.Path.{pieces_as_names, with_prefix}
+use Rattle.assise_names.proofs.Common.{◌≡◌, ◌==◌, length, All, IsTrue, slice_split, IsUtf8, is_name, pieces_as_names, with_prefix}
 use Rattle.assise_names.proofs.path.push_names.Given as goal
 
 abbrev pub invariant-loop-piece : goal.invariant-loop-piece
 invariant-loop-piece l = record {
   text : IsUtf8 l.rest;
-  same : with_prefix l.names.items (pieces_as_names (slice_split (λ b. b == 47) l.rest)) ≡ with_prefix l.fn.names.items (pieces_as_names (slice_split (λ b. b == 47) l.fn.text));
+  same : with_prefix l.names.items (pieces_as_names (slice_split (λ b. b == 47) l.rest)) ≡ with_prefix l.fn.names.items
+      (pieces_as_names (slice_split (λ b. b == 47) l.fn.text));
   lawful : All (λ name. IsTrue (is_name name)) l.fn.names.items → All (λ name. IsTrue (is_name name)) l.names.items;
 }
 

@@ -1,5 +1,4 @@
-use Rattle.std.proofs.Common.{◌≡◌, ◌*◌, ◌++◌, take, drop}
-use Rattle.hex.specs.Hex.{encode_lower}
+use Rattle.assise_names.proofs.Common.{◌≡◌, ◌*◌, ◌++◌, take, drop, encode_lower}
 use Rattle.assise_names.proofs.reply.spell_bytes.Given as goal
 
 abbrev pub invariant-bytes : goal.invariant-bytes

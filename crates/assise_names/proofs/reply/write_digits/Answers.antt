@@ -1,7 +1,4 @@
-use Rattle.std.proofs.Common.{◌∙◌, sym, arith}
-use Rattle.std.proofs.Output.{has_written_of_eq}
-use Rattle.std.proofs.lemmas.Str.{IsUtf8-from_ascii}
-use Rattle.hex.specs.Hex.{encode_lower}
+use Rattle.assise_names.proofs.Common.{◌∙◌, sym, arith, has_written_of_eq, IsUtf8-from_ascii, encode_lower}
 use Rattle.assise_names.proofs.HexDigits.{IsAscii-encoded, printed}
 use Rattle.assise_names.proofs.reply.write_digits.Goals as goal
 
@@ -13,4 +10,5 @@ unreachable-requires g c =
 pub returns : goal.returns
 returns g c = λ plain ok.
     let bytes = c.args.bytes.now in
-    has_written_of_eq _ _ _ _ _ (c.in-Ok.ensures.cases.0 ∙ c.spell_bytes.ensures ∙ sym (printed bytes (λ i. omega (arith, c.type_inv.bytes i)))) (c.write_str.ensures.writes plain ok)
+    has_written_of_eq _ _ _ _ _ (c.in-Ok.ensures.cases.0 ∙ c.spell_bytes.ensures ∙ sym (printed bytes (λ i. omega (arith, c.type_inv.bytes i))))
+    (c.write_str.ensures.writes plain ok)

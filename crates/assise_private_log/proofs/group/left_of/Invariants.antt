@@ -1,6 +1,4 @@
-use Rattle.std.proofs.Common.{◌≡◌, ◌+◌, ◌≤◌, ◌++◌, length}
-use Rattle.assise_record.specs.Groups.{left_of}
-use Rattle.assise_record.specs.Records.{all_effects}
+use Rattle.assise_private_log.proofs.Common.{◌≡◌, ◌+◌, ◌≤◌, ◌++◌, length, left_of, all_effects}
 use Rattle.assise_private_log.proofs.group.left_of.Given as goal
 
 -- what was left so far, and of the rest

@@ -1,4 +1,4 @@
-use Rattle.std.proofs.Common.{true, refl}
+use Rattle.assise_private_log.proofs.Common.{true, refl}
 use Rattle.assise_private_log.proofs.Borders.{border_prefix, border_grouped, border_tail}
 use Rattle.assise_private_log.proofs.laws.borders_stay.Goals as goal
 

@@ -1,4 +1,4 @@
-use Rattle.std.proofs.Common.{◌≡◌, ◌++◌}
+use Rattle.assise_private_log.proofs.Common.{◌≡◌, ◌++◌}
 use Rattle.assise_private_log.proofs.log.copies.Given as goal
 
 -- what was copied is the prefix of the ring

@@ -1,4 +1,4 @@
-use Rattle.std.proofs.Common.{ap, arith, length}
+use Rattle.assise_record.proofs.Common.{ap, arith, length}
 use Rattle.assise_record.proofs.decode.owned_frame_at.Goals as goal
 
 pub advance-requires : goal.advance-requires

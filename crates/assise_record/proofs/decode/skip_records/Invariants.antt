@@ -1,5 +1,4 @@
-use Rattle.std.proofs.Common.{◌≡◌, ◌-◌}
-use Rattle.assise_record.specs.Reading.{records_at, rest_of}
+use Rattle.assise_record.proofs.Common.{◌≡◌, ◌-◌, records_at, rest_of}
 use Rattle.assise_record.proofs.decode.skip_records.Given as goal
 
 abbrev pub invariant-loop-read : goal.invariant-loop-read

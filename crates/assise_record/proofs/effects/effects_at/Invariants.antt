@@ -1,5 +1,4 @@
-use Rattle.std.proofs.Common.{◌≡◌, ◌-◌, ◌++◌}
-use Rattle.assise_record.specs.Reading.{many_at, effect_at}
+use Rattle.assise_record.proofs.Common.{◌≡◌, ◌-◌, ◌++◌, many_at, effect_at}
 use Rattle.assise_record.proofs.Loop.{through}
 use Rattle.assise_record.proofs.effects.effects_at.Given as goal
 

@@ -1,8 +1,5 @@
-use Rattle.std.proofs.Common.{◌≡◌, ◌∙◌, ap, ap₂, sym, subst, arith, ℕ, ◌-◌, List, length, drop, Result, Ok}
-use Rattle.assise_record.specs.Reading.{IsRest, effect_at}
-use Rattle.assise_record.specs.Views.{EndsAt}
-use Rattle.assise_record.specs.declared.effect.Effect.{Effect}
-use Rattle.assise_record.specs.declared.fault.FrameFault.{FrameFault}
+use Rattle.assise_record.proofs.Common.{◌≡◌, ◌∙◌, ap, ap₂, sym, subst, arith, ℕ, ◌-◌, List, length, drop, Result, Ok, IsRest, effect_at, EndsAt, Effect}
+use Rattle.assise_record.proofs.Common.{FrameFault}
 use Rattle.assise_record.proofs.effects.own_effect_at.Goals as goal
 
 abbrev read_so : Effect → List ℕ → Result (Effect × List ℕ) FrameFault

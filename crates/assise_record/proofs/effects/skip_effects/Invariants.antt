@@ -1,5 +1,4 @@
-use Rattle.std.proofs.Common.{◌≡◌, ◌-◌}
-use Rattle.assise_record.specs.Reading.{many_at, effect_at, rest_of}
+use Rattle.assise_record.proofs.Common.{◌≡◌, ◌-◌, many_at, effect_at, rest_of}
 use Rattle.assise_record.proofs.effects.skip_effects.Given as goal
 
 abbrev pub invariant-loop : goal.invariant-loop

@@ -1,5 +1,4 @@
-use Rattle.std.proofs.Common.{arith}
-use Rattle.assise_record.specs.Spelling.{effect_spelling}
+use Rattle.assise_record.proofs.Common.{arith, effect_spelling}
 use Rattle.assise_record.proofs.RoomLaws.{item_fits}
 use Rattle.assise_record.proofs.encode.put_effects.Goals as goal
 

@@ -1,7 +1,4 @@
-use Rattle.std.proofs.Common.{take}
-use Rattle.std.specs.List.{flat_map, AllByRecursion}
-use Rattle.assise_record.specs.Room.{Appends}
-use Rattle.assise_record.specs.Spelling.{IsEffect, effect_spelling}
+use Rattle.assise_record.proofs.Common.{take, flat_map, AllByRecursion, Appends, IsEffect, effect_spelling}
 use Rattle.assise_record.proofs.encode.put_effects.Given as goal
 
 abbrev pub invariant-loop-effect : goal.invariant-loop-effect

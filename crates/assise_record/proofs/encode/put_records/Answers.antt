@@ -1,7 +1,5 @@
-use Rattle.std.proofs.Common.{◌≡◌, ◌+◌, ◌∙◌, List, Option, Bool, ℕ, suc, subst, sym, take, arith}
-use Rattle.std.specs.List.{AllByRecursion}
-use Rattle.assise_record.specs.Room.{Appends, BytesFit}
-use Rattle.assise_record.specs.Spelling.{IsLogRecord, body_of, record_spelling}
+use Rattle.assise_record.proofs.Common.{◌≡◌, ◌+◌, ◌∙◌, List, Option, Bool, ℕ, suc, subst, sym, take, arith, AllByRecursion, Appends, BytesFit, IsLogRecord}
+use Rattle.assise_record.proofs.Common.{body_of, record_spelling}
 use Rattle.assise_record.proofs.RoomLaws.{Appends-then, body_all, body_then, lawful_then, mark_is, record_fits}
 use Rattle.assise_record.proofs.encode.put_records.Goals as goal
 
@@ -22,8 +20,10 @@ loop-place-preserved c =
     let one = subst (λ (m : Option Bool). Appends c.loop-place.out c.put_record.new.out (record_spelling m item)) mark c.put_record.ensures.appended in
     let more = Appends-then _ _ _ _ _ c.loop-place.invariant.appended one in
     let next : suc place ≡ place + 1 = omega arith in
-    let whole = subst (λ (t : List ℕ). Appends c.args.out.now c.put_record.new.out t) (sym (body_then c.args.records.now c.args.last.now place item c.loop-place-test.true c.index-records-place.is)) more in
-    let lawful = lawful_then c.args.records.now place item c.loop-place-test.true c.index-records-place.is c.loop-place.invariant.lawful c.put_record.ensures.lawful in
+    let whole = subst (λ (t : List ℕ). Appends c.args.out.now c.put_record.new.out t)
+    (sym (body_then c.args.records.now c.args.last.now place item c.loop-place-test.true c.index-records-place.is)) more in
+    let lawful = lawful_then c.args.records.now place item c.loop-place-test.true c.index-records-place.is c.loop-place.invariant.lawful
+    c.put_record.ensures.lawful in
     record {
       appended = subst (λ (n : ℕ). Appends c.args.out.now c.put_record.new.out (body_of (take n c.args.records.now) (take n c.args.last.now))) next whole;
       lawful = subst (λ (n : ℕ). AllByRecursion IsLogRecord (take n c.args.records.now)) next lawful;
@@ -31,4 +31,5 @@ loop-place-preserved c =
 
 pub returns-clause-appended : goal.returns-clause-appended
 returns-clause-appended c =
-    subst (λ (t : List ℕ). Appends c.args.out.now c.loop-place.out t) (body_all c.args.records.now c.args.last.now c.loop-place.place c.loop-place-test.false) c.loop-place.invariant.appended
+    subst (λ (t : List ℕ). Appends c.args.out.now c.loop-place.out t) (body_all c.args.records.now c.args.last.now c.loop-place.place c.loop-place-test.false)
+    c.loop-place.invariant.appended

@@ -1,7 +1,4 @@
-use Rattle.std.proofs.Common.{take}
-use Rattle.std.specs.List.{AllByRecursion}
-use Rattle.assise_record.specs.Room.{Appends}
-use Rattle.assise_record.specs.Spelling.{IsLogRecord, body_of}
+use Rattle.assise_record.proofs.Common.{take, AllByRecursion, Appends, IsLogRecord, body_of}
 use Rattle.assise_record.proofs.encode.put_records.Given as goal
 
 abbrev pub invariant-loop-place : goal.invariant-loop-place

@@ -1,6 +1,4 @@
-use Rattle.std.proofs.Common.{ℕ, subst}
-use Rattle.byteorder.specs.Endian.{big_bytes}
-use Rattle.assise_record.specs.Room.{Appends}
+use Rattle.assise_record.proofs.Common.{ℕ, subst, big_bytes, Appends}
 use Rattle.assise_record.proofs.RoomLaws.{Appends-then}
 use Rattle.assise_record.proofs.encode.put_set_len.Goals as goal
 

@@ -1,4 +1,4 @@
-use Rattle.std.proofs.Common.{◌≡◌, take}
+use Rattle.assise_record.proofs.Common.{◌≡◌, take}
 use Rattle.assise_record.proofs.frame.copies.Given as goal
 
 abbrev pub invariant-loop-record : goal.invariant-loop-record

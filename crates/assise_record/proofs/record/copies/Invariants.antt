@@ -1,4 +1,4 @@
-use Rattle.std.proofs.Common.{◌≡◌, take}
+use Rattle.assise_record.proofs.Common.{◌≡◌, take}
 use Rattle.assise_record.proofs.record.copies.Given as goal
 
 abbrev pub invariant-loop-effect : goal.invariant-loop-effect

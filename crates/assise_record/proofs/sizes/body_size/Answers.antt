@@ -1,8 +1,4 @@
-use Rattle.std.proofs.Common.{List, None, length, ap, arith}
-use Rattle.std.specs.List.{flat_map}
-use Rattle.assise_record.specs.LogFrame.{is_marked}
-use Rattle.assise_record.specs.LogRecord.{LogRecord}
-use Rattle.assise_record.specs.Spelling.{record_spelling}
+use Rattle.assise_record.proofs.Common.{List, None, length, ap, arith, flat_map, is_marked, LogRecord, record_spelling}
 use Rattle.assise_record.proofs.SizeBounds.{body_length, marks_few}
 use Rattle.assise_record.proofs.sizes.body_size.Goals as goal
 

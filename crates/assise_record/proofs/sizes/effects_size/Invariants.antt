@@ -1,6 +1,4 @@
-use Rattle.std.proofs.Common.{◌≡◌, ◌*◌, ◌≤◌, length, take}
-use Rattle.std.specs.List.{flat_map}
-use Rattle.assise_record.specs.Spelling.{effect_spelling}
+use Rattle.assise_record.proofs.Common.{◌≡◌, ◌*◌, ◌≤◌, length, take, flat_map, effect_spelling}
 use Rattle.assise_record.proofs.sizes.effects_size.Given as goal
 
 abbrev pub invariant-loop-effect : goal.invariant-loop-effect

@@ -1,6 +1,4 @@
-use Rattle.std.proofs.Common.{◌≡◌, ◌*◌, ◌≤◌, length, take, None}
-use Rattle.std.specs.List.{flat_map}
-use Rattle.assise_record.specs.Spelling.{record_spelling}
+use Rattle.assise_record.proofs.Common.{◌≡◌, ◌*◌, ◌≤◌, length, take, None, flat_map, record_spelling}
 use Rattle.assise_record.proofs.sizes.records_size.Given as goal
 
 abbrev pub invariant-loop-record : goal.invariant-loop-record

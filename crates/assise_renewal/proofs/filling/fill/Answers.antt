@@ -1,6 +1,4 @@
-use Rattle.std.proofs.Common.{subst}
-use Rattle.assise_machine.specs.Clusters.{machine}
-use Rattle.assise_renewal.specs.Led.{IsLedBy, IsOfFirst}
+use Rattle.assise_renewal.proofs.Common.{subst, machine, IsLedBy, IsOfFirst}
 use Rattle.assise_renewal.proofs.Led.{led_on}
 use Rattle.assise_renewal.proofs.filling.fill.Goals as goal
 use Rattle.assise_renewal.proofs.filling.fill.Goals.{in-Ok+in_ok-fill_directory, in_default}

@@ -1,6 +1,4 @@
-use Rattle.std.proofs.Common.{length}
-use Rattle.assise_machine.specs.Clusters.{machine}
-use Rattle.assise_renewal.specs.Led.{IsLedBy, IsOfFirst}
+use Rattle.assise_renewal.proofs.Common.{length, machine, IsLedBy, IsOfFirst}
 use Rattle.assise_renewal.proofs.filling.fill_directory.Given as goal
 
 abbrev pub decreases-loop-name : goal.decreases-loop-name

@@ -1,5 +1,4 @@
-use Rattle.assise_machine.specs.Clusters.{machine}
-use Rattle.assise_renewal.specs.Led.{IsOfFirst}
+use Rattle.assise_renewal.proofs.Common.{machine, IsOfFirst}
 use Rattle.assise_renewal.proofs.Led.{led_on}
 use Rattle.assise_renewal.proofs.filling.make_one.Goals as goal
 

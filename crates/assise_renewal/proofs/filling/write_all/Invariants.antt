@@ -1,5 +1,4 @@
-use Rattle.assise_machine.specs.Clusters.{machine}
-use Rattle.assise_renewal.specs.Led.{IsLedBy, IsOfFirst}
+use Rattle.assise_renewal.proofs.Common.{machine, IsLedBy, IsOfFirst}
 use Rattle.assise_renewal.proofs.filling.write_all.Given as goal
 
 abbrev pub invariant-loop-piece : goal.invariant-loop-piece

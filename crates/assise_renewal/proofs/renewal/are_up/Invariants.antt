@@ -1,4 +1,4 @@
-use Rattle.assise_renewal.specs.Renewal.{AreUp}
+use Rattle.assise_renewal.proofs.Common.{AreUp}
 use Rattle.assise_renewal.proofs.renewal.are_up.Given as goal
 
 abbrev pub invariant-loop-node : goal.invariant-loop-node

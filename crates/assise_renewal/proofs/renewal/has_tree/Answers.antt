@@ -1,4 +1,4 @@
-use Rattle.std.proofs.Common.{rules, Bool, Result, Ok, Err, IfOk, IsTrue}
+use Rattle.assise_renewal.proofs.Common.{rules, Bool, Result, Ok, Err, IfOk, IsTrue}
 use Rattle.assise_renewal.proofs.renewal.has_tree.Goals as goal
 
 -- what holds anyway holds of what is answered

@@ -1,10 +1,6 @@
-use Rattle.std.proofs.Common.{ap, sym, subst, ◌∙◌}
-use Rattle.assise_seq_tree.specs.Tree.{opening}
-use Rattle.assise_history.specs.Kept.{tree_after}
+use Rattle.assise_renewal.proofs.Common.{ap, sym, subst, ◌∙◌, opening, tree_after, region_of, all_acked}
 use Rattle.assise_inode_table.specs.Spelled.{Spells}
 use Rattle.assise_digest.specs.Region.{alone}
-use Rattle.assise_machine.specs.Clusters.{region_of}
-use Rattle.assise_machine.specs.Headline.{all_acked}
 use Rattle.assise_renewal.proofs.renewal.with_tree.Goals as goal
 
 pub returns-then-branch : goal.returns-then-branch

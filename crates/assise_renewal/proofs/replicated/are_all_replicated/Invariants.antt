@@ -1,5 +1,4 @@
-use Rattle.std.proofs.Common.{ℕ, ◌≤◌}
-use Rattle.assise_renewal.specs.ReplicatedClients.{HasReplicatedAll}
+use Rattle.assise_renewal.proofs.Common.{ℕ, ◌≤◌, HasReplicatedAll}
 use Rattle.assise_renewal.proofs.replicated.are_all_replicated.Given as goal
 
 -- so far no client has a call that some full node may lack

@@ -1,5 +1,4 @@
-use Rattle.assise_machine.specs.Clusters.{machine}
-use Rattle.assise_renewal.specs.Led.{IsDsync}
+use Rattle.assise_renewal.proofs.Common.{machine, IsDsync}
 use Rattle.assise_renewal.proofs.Led.{led_nowhere, led_on, led_round}
 use Rattle.assise_renewal.proofs.settling.rest.Goals as goal
 

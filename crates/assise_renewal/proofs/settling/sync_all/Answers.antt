@@ -1,7 +1,4 @@
-use Rattle.std.proofs.Common.{◌+◌, refl}
-use Rattle.assise_names.specs.declared.call.Op.TheVariants.{Dsync}
-use Rattle.assise_machine.specs.Clusters.{machine}
-use Rattle.assise_renewal.specs.Led.{IsDsync}
+use Rattle.assise_renewal.proofs.Common.{◌+◌, refl, Dsync, machine, IsDsync}
 use Rattle.assise_renewal.proofs.Led.{led_call, led_nowhere, led_on}
 use Rattle.assise_renewal.proofs.settling.sync_all.Goals as goal
 

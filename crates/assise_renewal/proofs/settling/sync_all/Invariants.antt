@@ -1,5 +1,4 @@
-use Rattle.assise_machine.specs.Clusters.{machine}
-use Rattle.assise_renewal.specs.Led.{IsDsync, IsLedBy}
+use Rattle.assise_renewal.proofs.Common.{machine, IsDsync, IsLedBy}
 use Rattle.assise_renewal.proofs.settling.sync_all.Given as goal
 
 abbrev pub invariant-loop-client : goal.invariant-loop-client

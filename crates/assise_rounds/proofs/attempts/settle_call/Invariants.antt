@@ -1,8 +1,4 @@
-use Rattle.std.proofs.Common.{◌≡◌, ◌≤◌, map}
-use Rattle.assise_machine.specs.Clusters.{machine}
-use Rattle.assise_rounds.specs.NodeLinks.{FaithfulAt}
-use Rattle.assise_rounds.specs.Traces.{Told}
-use Rattle.assise_rounds.specs.CallTries.{InVain}
+use Rattle.assise_rounds.proofs.Common.{◌≡◌, ◌≤◌, map, machine, FaithfulAt, Told, InVain}
 use Rattle.assise_rounds.proofs.attempts.settle_call.Given as goal
 
 -- `counter` tries were in vain

@@ -1,6 +1,4 @@
-use Rattle.std.proofs.Common.{◌∙◌, refl, ◌≡◌, true, rules, length, ap, arith}
-use Rattle.assise_link.specs.Kinds.{perfect}
-use Rattle.assise_machine.specs.Clusters.{machine}
+use Rattle.assise_rounds.proofs.Common.{◌∙◌, refl, ◌≡◌, true, rules, length, ap, arith, perfect, machine}
 use Rattle.assise_rounds.proofs.CarriedFrames.{none_carried, one_lost, one_taken}
 use Rattle.assise_rounds.proofs.rounds.deliver_all.Goals as goal
 

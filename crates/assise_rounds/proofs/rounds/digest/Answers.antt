@@ -1,5 +1,4 @@
-use Rattle.assise_model_events.specs.Events.{digested, refused}
-use Rattle.assise_machine.specs.Clusters.{machine}
+use Rattle.assise_rounds.proofs.Common.{digested, refused, machine}
 use Rattle.assise_rounds.proofs.RoundSteps.{digests_once}
 use Rattle.assise_rounds.proofs.rounds.digest.Goals as goal
 

@@ -1,7 +1,4 @@
-use Rattle.std.proofs.Common.{◌-◌}
-use Rattle.assise_machine.specs.Clusters.{machine}
-use Rattle.assise_rounds.specs.Traces.{Told}
-use Rattle.assise_rounds.specs.Rounds.{EachFull, DigestsOnce, WithWork}
+use Rattle.assise_rounds.proofs.Common.{◌-◌, machine, Told, EachFull, DigestsOnce, WithWork}
 use Rattle.assise_rounds.proofs.rounds.digest_all.Given as goal
 
 -- what the nodes before did

@@ -1,10 +1,5 @@
-use Rattle.std.proofs.Common.{map, ◌≡◌, ◌-◌, [], refl, sym, subst, ◌∙◌, arith, ◌≤◌, ℕ, false, is_none}
-use Rattle.assise_names.specs.declared.limits.TheConstants.{MOST_NODES}
-use Rattle.assise_model_events.specs.Faults.{node_fault}
-use Rattle.assise_machine.specs.Clusters.{machine}
-use Rattle.assise_rounds.specs.Traces.{Told}
-use Rattle.assise_rounds.specs.NodeLinks.{FaithfulAt}
-use Rattle.assise_rounds.specs.Rounds.{EachFull, TakesTurn, WithWork}
+use Rattle.assise_rounds.proofs.Common.{map, ◌≡◌, ◌-◌, [], refl, sym, subst, ◌∙◌, arith, ◌≤◌, ℕ, false, is_none, MOST_NODES, node_fault, machine, Told}
+use Rattle.assise_rounds.proofs.Common.{FaithfulAt, EachFull, TakesTurn, WithWork}
 use Rattle.assise_rounds.proofs.Faithful.{turn_over}
 use Rattle.assise_rounds.proofs.NodeLinks.{at_node, set_same, still}
 use Rattle.assise_rounds.proofs.LastNode.{none_there}
@@ -28,9 +23,11 @@ loop-node-preserved g c =
           let u = machine w.take_turn-busy.new.cluster in
           let full = sym c.in-Some.ensures.full ∙ w.if-full.true in
           let link = w.index-links-node.result in
-          let turn = turn_over (FaithfulAt (map F c.args.links.now) k) _ (λ faithful. at_node F links k link (still _ _ k before.stay faithful)) k w.take_turn-busy.result v u w.take_turn-busy.ensures.turn in
+          let turn = turn_over (FaithfulAt (map F c.args.links.now) k) _ (λ faithful. at_node F links k link (still _ _ k before.stay faithful)) k
+          w.take_turn-busy.result v u w.take_turn-busy.ensures.turn in
           rw w.cluster-is (rw w.busy-is (rw w.links-is (record {
-            each = full_next (λ n. TakesTurn (FaithfulAt (map F c.args.links.now) n) n) k m v u c.loop-node.busy w.take_turn-busy.result c.loop-node.auto.node full before.each turn;
+            each = full_next (λ n. TakesTurn (FaithfulAt (map F c.args.links.now) n) n) k m v u c.loop-node.busy w.take_turn-busy.result c.loop-node.auto.node
+                full before.each turn;
             stay = set_same F links (k - 1) link w.take_turn-busy.new.link w.take_turn-busy.ensures.stays ∙ before.stay;
           })))
       | else-full w ↦
@@ -47,9 +44,11 @@ returns-in_default-clause-each g c =
     let k = c.loop-node.node in
     let some = c.loop-node.auto.node in
     let none : (j : ℕ) → k ≤ j → is_none (node_fault v j) ≡ false = λ j far. none_there v k j some c.in_default.ensures.none far in
-    none_behind (λ n. TakesTurn (FaithfulAt (map g.L.Link.kind c.args.links.now) n) n) k MOST_NODES (machine c.args.cluster.now) v c.loop-node.busy some (omega (arith, c.loop-node.auto.node-end)) none c.loop-node.invariant.each
+    none_behind (λ n. TakesTurn (FaithfulAt (map g.L.Link.kind c.args.links.now) n) n) k MOST_NODES (machine c.args.cluster.now) v c.loop-node.busy some
+    (omega (arith, c.loop-node.auto.node-end)) none c.loop-node.invariant.each
 
 pub returns-clause-each : goal.returns-clause-each
 returns-clause-each g c =
     let last : c.loop-node.node - 1 ≡ MOST_NODES = omega (arith, c.loop-node-test.false, c.loop-node.auto.node-end) in
-    subst (λ n. (es : Told) × WithWork (EachFull (λ k. TakesTurn (FaithfulAt (map g.L.Link.kind c.args.links.now) k) k) n) c.loop-node.busy (machine c.args.cluster.now) es (machine c.loop-node.cluster)) last c.loop-node.invariant.each
+    subst (λ n. (es : Told) × WithWork (EachFull (λ k. TakesTurn (FaithfulAt (map g.L.Link.kind c.args.links.now) k) k) n) c.loop-node.busy
+    (machine c.args.cluster.now) es (machine c.loop-node.cluster)) last c.loop-node.invariant.each

@@ -1,5 +1,4 @@
-use Rattle.std.proofs.Common.{◌+◌, refl, sym, subst, arith}
-use Rattle.assise_machine.specs.Clusters.{machine}
+use Rattle.assise_rounds.proofs.Common.{◌+◌, refl, sym, subst, arith, machine}
 use Rattle.assise_machine.proofs.Few.{few_clients}
 use Rattle.assise_rounds.proofs.Acked.{AreAckedTo, all_acked, no_more_acked, none_acked, not_both, one_acked}
 use Rattle.assise_rounds.proofs.trees.all_acked.Goals as goal
@@ -16,8 +15,10 @@ loop-client-preserved g c =
     let i = c.loop-client.client in
     elim c.match-acked.branch [
       | in-Ok+in_ok-push w ↦ rw w.acked-is
-          (subst (AreAckedTo world (i + 1)) (sym w.in_ok-push.ensures.items) (one_acked world i w.in-Ok.place c.loop-client.acked.items c.loop-client.invariant (w.in-Ok.ensures.ok.0 refl).1 w.in-Ok.ensures.acked))
-      | in_default w ↦ rw w.acked-is (no_more_acked world i c.loop-client.acked.items c.loop-client.invariant (λ there. not_both (w.in_default.ensures.ok.1 (omega arith, there))))
+          (subst (AreAckedTo world (i + 1)) (sym w.in_ok-push.ensures.items)
+          (one_acked world i w.in-Ok.place c.loop-client.acked.items c.loop-client.invariant (w.in-Ok.ensures.ok.0 refl).1 w.in-Ok.ensures.acked))
+      | in_default w ↦ rw w.acked-is
+          (no_more_acked world i c.loop-client.acked.items c.loop-client.invariant (λ there. not_both (w.in_default.ensures.ok.1 (omega arith, there))))
     ]
 
 pub returns-clause-acked : goal.returns-clause-acked

@@ -1,4 +1,4 @@
-use Rattle.assise_machine.specs.Clusters.{machine}
+use Rattle.assise_rounds.proofs.Common.{machine}
 use Rattle.assise_rounds.proofs.Acked.{AreAckedTo}
 use Rattle.assise_rounds.proofs.trees.all_acked.Given as goal
 

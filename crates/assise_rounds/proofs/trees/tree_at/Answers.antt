@@ -1,12 +1,5 @@
-use Rattle.std.proofs.Common.{◌∙◌, sym, subst}
-use Rattle.assise_seq_tree.specs.Runs.{tree_after_calls}
-use Rattle.assise_seq_tree.specs.Tree.{opening}
+use Rattle.assise_rounds.proofs.Common.{◌∙◌, sym, subst, tree_after_calls, opening, ops, alone_at, numbered_replicated, state_of, machine}
 use Rattle.assise_inode_table.specs.Spelled.{Spells}
-use Rattle.assise_inode_table.specs.Traces.{ops}
-use Rattle.assise_model_world.specs.World.{alone_at}
-use Rattle.assise_model_history.specs.Traces.{numbered_replicated}
-use Rattle.assise_model_events.specs.Machine.{state_of}
-use Rattle.assise_machine.specs.Clusters.{machine}
 use Rattle.assise_machine.proofs.Replicated.{replicated_tree}
 use Rattle.assise_machine.proofs.Results.{if_ok_as}
 use Rattle.assise_rounds.proofs.Acked.{some_acked}

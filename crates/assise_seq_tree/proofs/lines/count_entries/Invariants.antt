@@ -1,6 +1,4 @@
-use Rattle.std.proofs.Common.{◌≡◌, ◌<◌, ◌^◌, [], length}
-use Rattle.assise_seq_tree.specs.Lines.{counted, places_of}
-use Rattle.assise_seq_tree.specs.View.{map_entries}
+use Rattle.assise_seq_tree.proofs.Common.{◌≡◌, ◌<◌, ◌^◌, [], length, counted, places_of, map_entries}
 use Rattle.assise_seq_tree.proofs.TreePrinted.{counted_with}
 use Rattle.assise_seq_tree.proofs.lines.count_entries.Given as goal
 

@@ -1,7 +1,4 @@
-use Rattle.std.proofs.Common.{rules, ◌≡◌, [], ◌∷◌, ◌++◌, ap, ◌∙◌, subst}
-use Rattle.std.specs.Fmt.{HasWritten}
-use Rattle.std.proofs.Output.{has_written_append}
-use Rattle.assise_seq_tree.specs.Lines.{place_line, places_below}
+use Rattle.assise_seq_tree.proofs.Common.{rules, ◌≡◌, [], ◌∷◌, ◌++◌, ap, ◌∙◌, subst, HasWritten, has_written_append, place_line, places_below}
 use Rattle.assise_seq_tree.proofs.TreePrinted.{lines_more, lines_of}
 use Rattle.assise_seq_tree.proofs.lines.write_lines.Goals as goal
 
@@ -16,8 +13,10 @@ loop-name-preserved g c =
     let entered : c.enter.new.self.left ≡ places_below path c.in-Some.tree.now ++ c.next.new.self.left = search rules in
     let same = ap (λ p. done ++ place_line (p ++ c.in-Some.name.now ∷ [], c.in-Some.tree.now)) c.path.ensures in (
       done ++ line,
-      ap (λ ps. (done ++ line) ++ lines_of ps) entered ∙ lines_more done _ _ (places_below path c.in-Some.tree.now) c.next.new.self.left _ c.in-Some.ensures rest,
+      ap (λ ps. (done ++ line) ++ lines_of ps) entered ∙ lines_more done _ _ (places_below path c.in-Some.tree.now) c.next.new.self.left _ c.in-Some.ensures
+          rest,
       λ plain.
           let before = written plain in
-          subst (λ s. HasWritten g.W.Write.write_str_gives c.args.f.now s c.write_line.new.f) same (has_written_append _ _ _ _ _ _ before (c.in_ok-write_line.ensures before.plain (search rules))),
+          subst (λ s. HasWritten g.W.Write.write_str_gives c.args.f.now s c.write_line.new.f) same
+          (has_written_append _ _ _ _ _ _ before (c.in_ok-write_line.ensures before.plain (search rules))),
     )

@@ -1,4 +1,4 @@
-use Rattle.std.proofs.Common.{sym, ◌∙◌}
+use Rattle.assise_seq_tree.proofs.Common.{sym, ◌∙◌}
 use Rattle.assise_seq_tree.proofs.Checks.{passed, not_true}
 use Rattle.assise_seq_tree.proofs.renaming.rename.Goals as goal
 

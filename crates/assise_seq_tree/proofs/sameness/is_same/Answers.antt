@@ -1,6 +1,4 @@
-use Rattle.std.proofs.Common.{rules, ap, arith, ◌≤◌, ◌+◌, IsTrue, false}
-use Rattle.assise_seq_tree.specs.Sameness.{size_of_pairs}
-use Rattle.assise_seq_tree.specs.Tree.{size_of}
+use Rattle.assise_seq_tree.proofs.Common.{rules, ap, arith, ◌≤◌, ◌+◌, IsTrue, false, size_of_pairs, size_of}
 use Rattle.assise_seq_tree.proofs.SameTrees.{same_last, size_more}
 use Rattle.assise_seq_tree.proofs.sameness.is_same.Goals as goal
 

@@ -1,5 +1,4 @@
-use Rattle.std.proofs.Common.{◌≡◌, ◌↔◌}
-use Rattle.assise_seq_tree.specs.Sameness.{ArePairsSame, size_of_pairs}
+use Rattle.assise_seq_tree.proofs.Common.{◌≡◌, ◌↔◌, ArePairsSame, size_of_pairs}
 use Rattle.assise_seq_tree.proofs.sameness.is_same.Given as goal
 
 abbrev pub decreases-loop-first : goal.decreases-loop-first

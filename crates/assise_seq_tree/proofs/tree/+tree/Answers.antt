@@ -1,5 +1,4 @@
-use Rattle.std.proofs.Common.{rules, ◌≡◌, []}
-use Rattle.std.proofs.lemmas.List.{nil_from_length}
+use Rattle.assise_seq_tree.proofs.Common.{rules, ◌≡◌, [], nil_from_length}
 use Rattle.assise_seq_tree.proofs.tree.+tree.Goals as goal
 
 pub Tree::drop-drop-requires : goal.Tree::drop-drop-requires

@@ -1,5 +1,4 @@
-use Rattle.std.proofs.Common.{◌≡◌, ◌+◌, ◌≤◌}
-use Rattle.assise_seq_tree.specs.Tree.{Tree, size_of}
+use Rattle.assise_seq_tree.proofs.Common.{◌≡◌, ◌+◌, ◌≤◌, Tree, size_of}
 use Rattle.assise_seq_tree.proofs.tree.+tree.Given as goal
 
 abbrev pub decreases-Tree::drop : goal.decreases-Tree::drop

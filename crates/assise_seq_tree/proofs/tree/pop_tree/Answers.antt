@@ -1,6 +1,4 @@
-use Rattle.std.proofs.Common.{ap, ◌∙◌, subst}
-use Rattle.assise_seq_tree.specs.Tree.{AreOrdered, sizes_of}
-use Rattle.assise_seq_tree.specs.View.{map_entries}
+use Rattle.assise_seq_tree.proofs.Common.{ap, ◌∙◌, subst, AreOrdered, sizes_of, map_entries}
 use Rattle.assise_seq_tree.proofs.LastEntry.{ordered-front, sizes-front}
 use Rattle.assise_seq_tree.proofs.tree.pop_tree.Goals as goal
 

@@ -1,5 +1,4 @@
-use Rattle.std.proofs.Common.{◌≡◌, ◌+◌, drop}
-use Rattle.assise_threads.specs.CallsAhead.{calls_ahead}
+use Rattle.assise_threads.proofs.Common.{◌≡◌, ◌+◌, drop, calls_ahead}
 use Rattle.assise_threads.proofs.crew.calls_ahead.Given as goal
 
 -- the calls so far, and those that are left in front

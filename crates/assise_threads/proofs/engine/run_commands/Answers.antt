@@ -1,4 +1,4 @@
-use Rattle.std.proofs.Common.{sym}
+use Rattle.assise_threads.proofs.Common.{sym}
 use Rattle.assise_threads.proofs.RunOn.{nothing_run}
 use Rattle.assise_threads.proofs.engine.run_commands.Goals as goal
 

@@ -1,5 +1,4 @@
-use Rattle.std.proofs.Common.{◌≡◌, drop}
-use Rattle.assise_threads.specs.Runs.{serial_line}
+use Rattle.assise_threads.proofs.Common.{◌≡◌, drop, serial_line}
 use Rattle.assise_threads.proofs.engine.serial_line.Given as goal
 
 -- none so far

@@ -1,5 +1,4 @@
-use Rattle.std.proofs.Common.{◌≡◌, map, take}
-use Rattle.assise_threads.specs.Said.{calls_in}
+use Rattle.assise_threads.proofs.Common.{◌≡◌, map, take, calls_in}
 use Rattle.assise_threads.proofs.lists.calls_of.Given as goal
 
 -- the calls so far

@@ -1,7 +1,4 @@
-use Rattle.std.proofs.Common.{◌≡◌, ◌+◌, ◌≤◌, ◌++◌, length, vec_len}
-use Rattle.std.specs.Prelude.{vec_capacity}
-use Rattle.std.specs.List.{AllZip}
-use Rattle.assise_threads.specs.Stretches.{HasCalls}
+use Rattle.assise_threads.proofs.Common.{◌≡◌, ◌+◌, ◌≤◌, ◌++◌, length, vec_len, vec_capacity, AllZip, HasCalls}
 use Rattle.assise_threads.proofs.lists.lists_of.Given as goal
 
 -- the clients so far have their calls, and there is room for the rest

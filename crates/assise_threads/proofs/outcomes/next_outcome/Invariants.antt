@@ -1,5 +1,4 @@
-use Rattle.std.proofs.Common.{◌≡◌, None, take}
-use Rattle.assise_threads.specs.Stretches.{outcomes_of, untold}
+use Rattle.assise_threads.proofs.Common.{◌≡◌, None, take, outcomes_of, untold}
 use Rattle.assise_threads.proofs.outcomes.next_outcome.Given as goal
 
 -- none so far is the client's

@@ -1,7 +1,4 @@
-use Rattle.std.proofs.Common.{◌≡◌, ◌+◌, ◌≤◌, ◌++◌, length, map, vec_len}
-use Rattle.std.specs.Prelude.{vec_capacity}
-use Rattle.assise_threads.specs.Hearing.{sights}
-use Rattle.assise_threads.specs.Stretches.{libfs_at, outcomes_at, sight_at, untold}
+use Rattle.assise_threads.proofs.Common.{◌≡◌, ◌+◌, ◌≤◌, ◌++◌, length, map, vec_len, vec_capacity, sights, libfs_at, outcomes_at, sight_at, untold}
 use Rattle.assise_threads.proofs.outcomes.parted.Given as goal
 
 -- the ends so far are parted, and there is room for the rest

@@ -1,9 +1,4 @@
-use Rattle.std.proofs.Common.{◌∙◌, sym, ap, subst}
-use Rattle.assise_threads.specs.Hearing.{sights}
-use Rattle.assise_threads.specs.Spoken.{IsStretchSaid}
-use Rattle.assise_threads.specs.Stretches.{AreCallsSaid, HasAllOf, untold}
-use Rattle.assise_threads.specs.Threads.{main_keeper, main_seen}
-use Rattle.assise_threads.specs.AtKeeper.{AreAt, HaveTurns}
+use Rattle.assise_threads.proofs.Common.{◌∙◌, sym, ap, subst, sights, IsStretchSaid, AreCallsSaid, HasAllOf, untold, main_keeper, main_seen, AreAt, HaveTurns}
 use Rattle.assise_threads.proofs.Ends.{all_make, has_all, is_said, still_at, still_turns}
 use Rattle.assise_threads.proofs.stretch.serve.Goals as goal
 
@@ -19,7 +14,8 @@ returns-clause-at g c =
     let stretch = c.args.stretch.now in
     let ends = c.in-Ok-run_cluster.ends.items in
     let made = all_make stretch c.args.clients.items c.in-Ok-lists_of.lists.items ends c.in-Ok-lists_of.ensures.lists c.in-Ok-run_cluster.ensures.served in
-    subst (AreAt (main_keeper c.args.main.now)) (sym c.in-Ok-parted.ensures.same) (still_at stretch (main_keeper c.args.main.now) c.args.clients.items ends made c.requires.at)
+    subst (AreAt (main_keeper c.args.main.now)) (sym c.in-Ok-parted.ensures.same)
+    (still_at stretch (main_keeper c.args.main.now) c.args.clients.items ends made c.requires.at)
 
 pub returns-clause-turns : goal.returns-clause-turns
 returns-clause-turns g c =
@@ -39,4 +35,5 @@ returns-clause-said g c =
     λ turns limits.
     subst (λ z. IsStretchSaid turns stretch seen (sights c.args.clients.items) z old new) (sym c.in-Ok-parted.ensures.clients)
     (is_said turns stretch c.args.clients.items ends made limits seen old new c.requires.calls
-    (subst (λ z. AreCallsSaid turns stretch seen z old new) (ap untold c.as_mut_slice.ensures.value ∙ c.in-Ok-parted.ensures.outcomes) (c.in_ok-write_calls.ensures.said turns seen)))
+    (subst (λ z. AreCallsSaid turns stretch seen z old new) (ap untold c.as_mut_slice.ensures.value ∙ c.in-Ok-parted.ensures.outcomes)
+    (c.in_ok-write_calls.ensures.said turns seen)))

@@ -1,5 +1,4 @@
-use Rattle.std.proofs.Common.{◌<◌, ◌≤◌, length}
-use Rattle.assise_threads.specs.Stretches.{untold}
+use Rattle.assise_threads.proofs.Common.{◌<◌, ◌≤◌, length, untold}
 use Rattle.assise_threads.proofs.CallLines.{calls_left, line_said, none_said, stretch_said}
 use Rattle.assise_threads.proofs.stretch.write_calls.Goals as goal
 
@@ -23,7 +22,8 @@ loop-line-preserved g c =
     let calls = calls_left stretch c.loop-line.line-index line within c.line-item.is before.calls in
     record {
       calls = calls.1;
-      said = λ turns seen. line_said stretch c.loop-line.line-index line within c.line-item.is turns seen _ _ _ _ _ _ (before.said turns seen) calls.0 c.in_ok-write_call.ensures.said;
+      said = λ turns seen. line_said stretch c.loop-line.line-index line within c.line-item.is turns seen _ _ _ _ _ _ (before.said turns seen) calls.0
+          c.in_ok-write_call.ensures.said;
     }
 
 pub returns-clause-said : goal.returns-clause-said

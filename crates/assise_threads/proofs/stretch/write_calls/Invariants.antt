@@ -1,6 +1,4 @@
-use Rattle.std.proofs.Common.{ℕ, take, drop}
-use Rattle.assise_model_events.specs.Machine.{Machine}
-use Rattle.assise_threads.specs.Stretches.{AreCalls, untold}
+use Rattle.assise_threads.proofs.Common.{ℕ, take, drop, Machine, AreCalls, untold}
 use Rattle.assise_threads.proofs.CallLines.{AreSaidSoFar}
 use Rattle.assise_threads.proofs.stretch.write_calls.Given as goal
 
@@ -8,5 +6,6 @@ use Rattle.assise_threads.proofs.stretch.write_calls.Given as goal
 abbrev pub invariant-loop-line : goal.invariant-loop-line
 invariant-loop-line g l = record {
   calls : AreCalls (drop l.line-index l.stretch);
-  said : (turns : ℕ) (seen : Machine) → AreSaidSoFar turns (take l.line-index l.stretch) (drop l.line-index l.stretch) seen (untold l.fn.outcomes) (untold l.outcomes) (g.W.Write.contents l.fn.writer) (g.W.Write.contents l.writer);
+  said : (turns : ℕ) (seen : Machine) → AreSaidSoFar turns (take l.line-index l.stretch) (drop l.line-index l.stretch) seen (untold l.fn.outcomes)
+      (untold l.outcomes) (g.W.Write.contents l.fn.writer) (g.W.Write.contents l.writer);
 }

@@ -1,5 +1,4 @@
-use Rattle.std.proofs.Common.{[], refl}
-use Rattle.assise_machine.specs.Clusters.{machine}
+use Rattle.assise_threads.proofs.Common.{[], refl, machine}
 use Rattle.assise_threads.proofs.ShownTrees.{shown_is_replicated}
 use Rattle.assise_threads.proofs.takes.apply.Goals as goal
 
@@ -31,7 +30,16 @@ pub returns-in-Raise-clause-does : goal.returns-in-Raise-clause-does
 returns-in-Raise-clause-does g c = rw c.in-Raise.is c.raise.ensures
 
 pub returns-in-Tree-clause-does : goal.returns-in-Tree-clause-does
-returns-in-Tree-clause-does g c = rw c.in-Tree.is ([], record { shows = c.tree.ensures; replicated = shown_is_replicated (machine c.args.cluster.now) _ c.tree.result c.args.cluster.now.sound.invariant.holds c.tree.ensures; stays = refl })
+returns-in-Tree-clause-does g c =
+    rw c.in-Tree.is (
+      [],
+      record {
+        shows = c.tree.ensures;
+        replicated = shown_is_replicated (machine c.args.cluster.now) _ c.tree.result c.args.cluster.now.sound.invariant.holds
+            c.tree.ensures;
+        stays = refl;
+      },
+    )
 
 pub returns-in-Check-clause-does : goal.returns-in-Check-clause-does
 returns-in-Check-clause-does g c = rw c.in-Check.is ([], record { verdict = c.check.ensures; stays = refl })

@@ -1,6 +1,4 @@
-use Rattle.std.proofs.Common.{◌≡◌, ◌≤◌, ◌+◌, ◌-◌, map}
-use Rattle.assise_keeper.specs.Passes.{IsPassOf, client, last, opens, seen}
-use Rattle.assise_workers.specs.Working.{node_at, nodes_up_to}
+use Rattle.assise_workers.proofs.Common.{◌≡◌, ◌≤◌, ◌+◌, ◌-◌, map, IsPassOf, client, last, opens, seen, node_at, nodes_up_to}
 use Rattle.assise_workers.proofs.nodes.workers_up_to.Given as goal
 
 -- the pass is as it was, and the nodes before have their workers

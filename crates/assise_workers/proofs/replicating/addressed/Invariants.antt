@@ -1,5 +1,4 @@
-use Rattle.std.proofs.Common.{◌≡◌, ◌++◌}
-use Rattle.assise_workers.specs.Letters.{AreReadBy, letters_seen}
+use Rattle.assise_workers.proofs.Common.{◌≡◌, ◌++◌, AreReadBy, letters_seen}
 use Rattle.assise_workers.proofs.replicating.addressed.Given as goal
 
 -- the frames so far have the versions that their nodes read

@@ -1,4 +1,4 @@
-use Rattle.std.proofs.Common.{arith, ap, length}
+use Rattle.assise_workers.proofs.Common.{arith, ap, length}
 use Rattle.assise_workers.proofs.Pairs.{one_taken, zip_pushed}
 use Rattle.assise_workers.proofs.running.join_clients.Goals as goal
 

@@ -1,7 +1,4 @@
-use Rattle.std.proofs.Common.{◌≡◌, ◌+◌, ◌≤◌, ◌++◌, length, vec_len}
-use Rattle.std.specs.Prelude.{vec_capacity}
-use Rattle.std.specs.List.{AllZip}
-use Rattle.assise_workers.specs.Serving.{HasServed}
+use Rattle.assise_workers.proofs.Common.{◌≡◌, ◌+◌, ◌≤◌, ◌++◌, length, vec_len, vec_capacity, AllZip, HasServed}
 use Rattle.assise_workers.proofs.running.join_clients.Given as goal
 
 -- what came so far is what these threads promised, and there is room for the rest

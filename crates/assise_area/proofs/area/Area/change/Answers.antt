@@ -1,13 +1,7 @@
-use Rattle.std.proofs.Common.{◌≡◌, None, Some, option_map, sym, ap, subst, ◌∙◌}
+use Rattle.assise_area.proofs.Common.{◌≡◌, None, Some, option_map, sym, ap, subst, ◌∙◌, set_value_same, nat_eq, lru_cache, on_err, is_there, AsksForMemory}
+use Rattle.assise_area.proofs.Common.{changed, with_value, with_inodes, AreaInvariant, cold_at, hot_at, area_seen}
 use Rattle.std.specs.FinMap as map
-use Rattle.std.proofs.lemmas.Map.Steps.{set_value_same}
-use Rattle.std.proofs.Common.{nat_eq}
-use Rattle.lru.specs.LruCache.{lru_cache}
-use Rattle.assise_inode_table.proofs.TableView.{on_err, is_there}
-use Rattle.assise_inode_table.specs.Effects.{AsksForMemory, changed, with_value}
 use Rattle.assise_record.specs.Touched.{touched_by}
-use Rattle.assise_area.specs.Hot.{with_inodes}
-use Rattle.assise_area.specs.Parts.{AreaInvariant, cold_at, hot_at, area_seen}
 use Rattle.assise_area.proofs.Seen.{either, err_map, ok_map, value_of_cold, value_of_hot}
 use Rattle.assise_area.proofs.WrittenValues.{seen_cold, seen_set, sound_cold, sound_set}
 use Rattle.assise_area.proofs.area.Area.change.Goals as goal
@@ -58,7 +52,8 @@ returns-in_err-change-clause-asked c =
 
 pub invariant_of-self-2 : goal.invariant_of-self-2
 invariant_of-self-2 c =
-    sound_set c.self.inside.hot c.self.inside.cold.entries c.touches.result c.change.new.self (is_there c.in-Some.held.now _ c.in-Some.ensures.value) c.self.invariant
+    sound_set c.self.inside.hot c.self.inside.cold.entries c.touches.result c.change.new.self (is_there c.in-Some.held.now _ c.in-Some.ensures.value)
+    c.self.invariant
 
 pub returns-clause-ok : goal.returns-clause-ok
 returns-clause-ok c =

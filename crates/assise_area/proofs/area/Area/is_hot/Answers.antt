@@ -1,4 +1,4 @@
-use Rattle.std.proofs.Common.{◌∙◌, sym}
+use Rattle.assise_area.proofs.Common.{◌∙◌, sym}
 use Rattle.assise_area.proofs.Seen.{hot_now}
 use Rattle.assise_area.proofs.area.Area.is_hot.Goals as goal
 

@@ -1,17 +1,17 @@
-use Rattle.std.proofs.Common.{ap, ◌∙◌, take}
-use Rattle.lru.specs.LruCache.{lru_cache}
-use Rattle.assise_inode_table.proofs.TableView.{on_err}
+use Rattle.assise_area.proofs.Common.{ap, ◌∙◌, take, lru_cache, on_err}
 use Rattle.assise_area.proofs.Cooled.{seen_resized}
 use Rattle.assise_area.proofs.HotUse.{seen_same, sound_same}
 use Rattle.assise_area.proofs.area.Area.set_hot_capacity.Goals as goal
 
 pub invariant_of-self : goal.invariant_of-self
-invariant_of-self c = sound_same c.self.inside.hot c.cool.new.hot c.self.inside.cold.entries c.cool.new.cold.entries c.in_err-cool.ensures.err c.in_err-cool.ensures.err_cold c.self.invariant
+invariant_of-self c = sound_same c.self.inside.hot c.cool.new.hot c.self.inside.cold.entries c.cool.new.cold.entries c.in_err-cool.ensures.err
+    c.in_err-cool.ensures.err_cold c.self.invariant
 
 pub returns-in_err-cool-clause-err : goal.returns-in_err-cool-clause-err
 returns-in_err-cool-clause-err c =
     on_err c.from_residual.result _
-    (seen_same c.args.self.now c.self.inside.hot c.cool.new.hot c.self.inside.cold.entries c.cool.new.cold.entries c.self.view_is c.in_err-cool.ensures.err c.in_err-cool.ensures.err_cold)
+    (seen_same c.args.self.now c.self.inside.hot c.cool.new.hot c.self.inside.cold.entries c.cool.new.cold.entries c.self.view_is c.in_err-cool.ensures.err
+    c.in_err-cool.ensures.err_cold)
 
 pub returns-clause-ok : goal.returns-clause-ok
 returns-clause-ok c =

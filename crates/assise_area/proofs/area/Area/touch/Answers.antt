@@ -1,7 +1,7 @@
-use Rattle.std.proofs.Common.{◌≡◌, sym, ap, ◌∙◌}
-use Rattle.assise_area.specs.Parts.{AreaInvariant, hot_at, area_seen}
+use Rattle.assise_area.proofs.Common.{◌≡◌, sym, ap, ◌∙◌, AreaInvariant, hot_at, area_seen}
 use Rattle.assise_area.proofs.Seen.{either_two, nothing}
-use Rattle.assise_area.proofs.HotUse.{seen_promoted, seen_same, seen_warmed, sound_promoted, sound_same, sound_warmed, touched_hot, touched_kept, touched_warm, unmoved}
+use Rattle.assise_area.proofs.HotUse.{seen_promoted, seen_same, seen_warmed, sound_promoted, sound_same, sound_warmed, touched_hot, touched_kept, touched_warm}
+use Rattle.assise_area.proofs.HotUse.{unmoved}
 use Rattle.assise_area.proofs.area.Area.touch.Goals as goal
 
 pub invariant_of-self : goal.invariant_of-self
@@ -17,7 +17,8 @@ returns-then-promote c =
     (seen_promoted a hot c.promote.new.self cold c.args.inode c.self.view_is c.promote.ensures.entries there c.see_order.ensures.1)
 
 pub invariant_of-self-then-not-contains_key : goal.invariant_of-self-then-not-contains_key
-invariant_of-self-then-not-contains_key c = sound_promoted c.self.inside.hot c.promote.new.self c.self.inside.cold.entries c.args.inode c.promote.ensures.entries c.self.invariant
+invariant_of-self-then-not-contains_key c =
+    sound_promoted c.self.inside.hot c.promote.new.self c.self.inside.cold.entries c.args.inode c.promote.ensures.entries c.self.invariant
 
 pub returns-then-not-contains_key : goal.returns-then-not-contains_key
 returns-then-not-contains_key c =
@@ -29,7 +30,8 @@ returns-then-not-contains_key c =
 
 pub warm-requires-clause-disjoint : goal.warm-requires-clause-disjoint
 warm-requires-clause-disjoint c =
-    let sound : AreaInvariant c.promote.new.self c.self.inside.cold.entries = sound_promoted c.self.inside.hot c.promote.new.self c.self.inside.cold.entries c.args.inode c.promote.ensures.entries c.self.invariant in
+    let sound : AreaInvariant c.promote.new.self c.self.inside.cold.entries = sound_promoted c.self.inside.hot c.promote.new.self c.self.inside.cold.entries
+    c.args.inode c.promote.ensures.entries c.self.invariant in
     sound.disjoint
 
 pub warm-requires-clause-absent : goal.warm-requires-clause-absent
@@ -58,5 +60,7 @@ returns c =
     let view : area_seen c.promote.new.self cold ≡ a = ap (λ h. area_seen h cold) kept ∙ c.self.view_is in
     let absent = ap (λ h. hot_at h.entries i) kept ∙ none in
     either_two c.warm.result c.warm.ensures.ok c.warm.ensures.err c.warm.ensures.err_cold
-    (λ w. touched_warm a now hot cold i c.self.view_is none (sym c.if-not-contains_key.ensures) (seen_warmed a c.promote.new.self c.warm.new.hot cold c.warm.new.cold.entries i view absent w))
-    (λ same values. touched_kept a now hot cold i c.self.view_is none (seen_same a c.promote.new.self c.warm.new.hot cold c.warm.new.cold.entries view same values))
+    (λ w. touched_warm a now hot cold i c.self.view_is none (sym c.if-not-contains_key.ensures)
+    (seen_warmed a c.promote.new.self c.warm.new.hot cold c.warm.new.cold.entries i view absent w))
+    (λ same values. touched_kept a now hot cold i c.self.view_is none
+    (seen_same a c.promote.new.self c.warm.new.hot cold c.warm.new.cold.entries view same values))

@@ -1,11 +1,5 @@
-use Rattle.std.proofs.Common.{rules, ◌≡◌, ◌-◌, ◌<◌, Some, length, subst, sym}
-use Rattle.assise_names.specs.declared.refusal.Refusal.TheVariants.{BadNode}
-use Rattle.assise_names.specs.declared.limits.TheConstants.{MOST_NODES}
-use Rattle.assise_link.specs.TestLinks.{kind_of_link}
-use Rattle.assise_model_events.specs.Faults.{node_fault}
-use Rattle.assise_machine.specs.Clusters.{machine}
+use Rattle.assise_console.proofs.Common.{rules, ◌≡◌, ◌-◌, ◌<◌, Some, length, subst, sym, BadNode, MOST_NODES, kind_of_link, node_fault, machine, console_seen}
 use Rattle.assise_rounds.proofs.NodeLinks.{at_node, set_same}
-use Rattle.assise_console.specs.Consoles.{console_seen}
 use Rattle.assise_console.proofs.SmallNumbers.{no_node_so_large}
 use Rattle.assise_console.proofs.Links.{below_most}
 use Rattle.assise_console.proofs.OneCommand.{carries_none, carries_nowhere, carries_refused, carries_some}
@@ -18,7 +12,8 @@ returns-in_default g c =
 pub returns-then-not-has_node : goal.returns-then-not-has_node
 returns-then-not-has_node g c =
     let nowhere = c.has_node.ensures.no c.if-not-has_node.true in
-    carries_nowhere (console_seen c.args.self.now) c.args.node (subst (λ n. node_fault (machine c.args.self.now.cluster) n ≡ Some BadNode) c.in-Some.ensures.some nowhere)
+    carries_nowhere (console_seen c.args.self.now) c.args.node
+    (subst (λ n. node_fault (machine c.args.self.now.cluster) n ≡ Some BadNode) c.in-Some.ensures.some nowhere)
 
 pub listed : goal.listed
 listed g c =
@@ -33,7 +28,8 @@ returns-in-Ok g c =
     let links = c.args.self.now.links in
     let k = c.in-Some.node in
     let link = c.index-self-node.result in
-    carries_some (console_seen c.args.self.now) c.args.node k c.in-Ok.taken (machine c.replicate.new.cluster) _ _ c.in-Some.ensures.some (λ faithful. at_node kind_of_link links k link faithful)
+    carries_some (console_seen c.args.self.now) c.args.node k c.in-Ok.taken (machine c.replicate.new.cluster) _ _ c.in-Some.ensures.some
+    (λ faithful. at_node kind_of_link links k link faithful)
     (set_same kind_of_link links (k - 1) link c.replicate.new.link c.in-Ok.ensures.stays) c.in-Ok.ensures.ok
 
 pub returns-in-Err : goal.returns-in-Err

@@ -1,7 +1,4 @@
-use Rattle.assise_model_events.specs.Events.{digest}
-use Rattle.assise_machine.specs.Clusters.{machine}
-use Rattle.assise_console.specs.Consoles.{console_seen}
-use Rattle.assise_console.specs.OneEvent.{IsOne}
+use Rattle.assise_console.proofs.Common.{digest, machine, console_seen, IsOne}
 use Rattle.assise_console.proofs.OneCommand.{changes}
 use Rattle.assise_console.proofs.console.ConsoleOf.digest.Goals as goal
 

@@ -1,7 +1,4 @@
-use Rattle.assise_model_events.specs.Events.{join}
-use Rattle.assise_machine.specs.Clusters.{machine}
-use Rattle.assise_console.specs.Consoles.{console_seen}
-use Rattle.assise_console.specs.OneEvent.{IsOneAt}
+use Rattle.assise_console.proofs.Common.{join, machine, console_seen, IsOneAt}
 use Rattle.assise_console.proofs.OneCommand.{changes}
 use Rattle.assise_console.proofs.console.ConsoleOf.join.Goals as goal
 

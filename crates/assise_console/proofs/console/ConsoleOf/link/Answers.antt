@@ -1,6 +1,4 @@
-use Rattle.std.proofs.Common.{rules, ◌≡◌, ◌-◌, ◌<◌, length, refl, subst, sym}
-use Rattle.assise_names.specs.declared.limits.TheConstants.{MOST_NODES}
-use Rattle.assise_console.specs.Consoles.{console_seen}
+use Rattle.assise_console.proofs.Common.{rules, ◌≡◌, ◌-◌, ◌<◌, length, refl, subst, sym, MOST_NODES, console_seen}
 use Rattle.assise_console.proofs.SmallNumbers.{no_node_so_large}
 use Rattle.assise_console.proofs.Links.{below_most, links_nowhere, sets_link}
 use Rattle.assise_console.proofs.console.ConsoleOf.link.Goals as goal
@@ -19,4 +17,5 @@ way_replace-drop g c = below_most c.args.self.now.cluster c.in-Some.node (c.has_
 
 pub returns : goal.returns
 returns g c =
-    sets_link (console_seen c.args.self.now) c.args.node c.in-Some.node c.args.kind c.args.self.now.links c.link_of.result c.in-Some.ensures.some (c.has_node.ensures.yes c.if-not-has_node.false) refl c.link_of.ensures.kind
+    sets_link (console_seen c.args.self.now) c.args.node c.in-Some.node c.args.kind c.args.self.now.links c.link_of.result c.in-Some.ensures.some
+    (c.has_node.ensures.yes c.if-not-has_node.false) refl c.link_of.ensures.kind

@@ -1,6 +1,4 @@
-use Rattle.assise_machine.specs.Clusters.{machine}
-use Rattle.assise_console.specs.Consoles.{console_seen}
-use Rattle.assise_console.specs.Steps.{SetsHot}
+use Rattle.assise_console.proofs.Common.{machine, console_seen, SetsHot}
 use Rattle.assise_console.proofs.OneCommand.{changes}
 use Rattle.assise_console.proofs.console.ConsoleOf.set_hot.Goals as goal
 

@@ -1,8 +1,4 @@
-use Rattle.std.proofs.Common.{[], refl}
-use Rattle.assise_model_events.specs.Events.{release_ready}
-use Rattle.assise_machine.specs.Clusters.{machine}
-use Rattle.assise_console.specs.Consoles.{console_seen}
-use Rattle.assise_console.specs.OneEvent.{IsOne}
+use Rattle.assise_console.proofs.Common.{[], refl, release_ready, machine, console_seen, IsOne}
 use Rattle.assise_console.proofs.OneCommand.{changes}
 use Rattle.assise_console.proofs.console.ConsoleOf.step.Goals as goal
 

@@ -1,6 +1,5 @@
-use Rattle.std.proofs.Common.{◌∙◌, ap, sym}
+use Rattle.assise_digest.proofs.Common.{◌∙◌, ap, sym, get-numbers}
 use Rattle.std.specs.FinMap as map
-use Rattle.assise_inode_table.proofs.MapView.{get-numbers}
 use Rattle.assise_digest.proofs.numbers.Numbers.get.Goals as goal
 
 pub returns : goal.returns

@@ -1,7 +1,5 @@
-use Rattle.std.proofs.Common.{◌∙◌, ap, sym}
+use Rattle.assise_digest.proofs.Common.{◌∙◌, ap, sym, get-numbers, insert-numbers, on_err}
 use Rattle.std.specs.FinMap as map
-use Rattle.assise_inode_table.proofs.MapView.{get-numbers, insert-numbers}
-use Rattle.assise_inode_table.proofs.TableView.{on_err}
 use Rattle.assise_digest.proofs.numbers.Numbers.insert.Goals as goal
 
 pub returns-clause-ok : goal.returns-clause-ok

@@ -1,6 +1,5 @@
-use Rattle.std.proofs.Common.{◌∙◌, ap}
+use Rattle.assise_digest.proofs.Common.{◌∙◌, ap, remove-numbers}
 use Rattle.std.specs.FinMap as map
-use Rattle.assise_inode_table.proofs.MapView.{remove-numbers}
 use Rattle.assise_digest.proofs.numbers.Numbers.remove.Goals as goal
 
 pub returns : goal.returns

@@ -1,7 +1,5 @@
-use Rattle.std.proofs.Common.{◌≡◌, ◌∙◌, IsSome, None, ap, sym}
+use Rattle.assise_digest.proofs.Common.{◌≡◌, ◌∙◌, IsSome, None, ap, sym, get-numbers, insert-numbers, is_there}
 use Rattle.std.specs.FinMap as map
-use Rattle.assise_inode_table.proofs.MapView.{get-numbers, insert-numbers}
-use Rattle.assise_inode_table.proofs.TableView.{is_there}
 use Rattle.assise_digest.proofs.numbers.Numbers.set.Goals as goal
 
 pub returns : goal.returns

@@ -1,5 +1,4 @@
-use Rattle.std.proofs.Common.{◌≡◌, drop}
-use Rattle.assise_digest.specs.Pending.{forgotten}
+use Rattle.assise_digest.proofs.Common.{◌≡◌, drop, forgotten}
 use Rattle.assise_digest.proofs.pending.Pending.forget.Given as goal
 
 abbrev pub invariant-loop-effect : goal.invariant-loop-effect

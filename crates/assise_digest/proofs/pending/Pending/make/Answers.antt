@@ -1,6 +1,4 @@
-use Rattle.std.proofs.Common.{◌≡◌, ◌+◌, ◌∙◌, ap, sym, subst, drop, refl}
-use Rattle.assise_record.specs.Touched.{touched_by}
-use Rattle.assise_digest.specs.Pending.{KeepsNoMore, all_held, forgotten, held}
+use Rattle.assise_digest.proofs.Common.{◌≡◌, ◌+◌, ◌∙◌, ap, sym, subst, drop, refl, touched_by, KeepsNoMore, all_held, forgotten, held}
 use Rattle.assise_digest.proofs.KeptInodes.{forgotten_again, held_no_more, left_after, nothing_forgotten, touched_item}
 use Rattle.assise_digest.proofs.pending.Pending.make.Goals as goal
 
@@ -12,7 +10,8 @@ loop-effect-preserved c =
     let m = c.args.area.now.inodes in
     let n = c.args.number in
     let es = c.args.effects.now in
-    let step : c.hold.new.self ≡ held c.loop-effect.self m n (touched_by c.effect-item.result) = c.in_ok-hold.ensures.ok ∙ ap (held c.loop-effect.self m n) c.touches.ensures in
+    let step : c.hold.new.self ≡ held c.loop-effect.self m n (touched_by c.effect-item.result) = c.in_ok-hold.ensures.ok
+    ∙ ap (held c.loop-effect.self m n) c.touches.ensures in
     record {
       no_more = subst KeepsNoMore (sym step) (held_no_more c.loop-effect.self m n (touched_by c.effect-item.result) c.loop-effect.invariant.no_more);
       held = ap (λ p. all_held p m n (drop (c.loop-effect.effect-index + 1) es)) step

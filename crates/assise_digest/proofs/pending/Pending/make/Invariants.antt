@@ -1,5 +1,4 @@
-use Rattle.std.proofs.Common.{◌≡◌, drop}
-use Rattle.assise_digest.specs.Pending.{IsNew, KeepsNoMore, all_held, forgotten}
+use Rattle.assise_digest.proofs.Common.{◌≡◌, drop, IsNew, KeepsNoMore, all_held, forgotten}
 use Rattle.assise_digest.proofs.pending.Pending.make.Given as goal
 
 abbrev pub invariant-loop-effect : goal.invariant-loop-effect

@@ -1,6 +1,4 @@
-use Rattle.std.proofs.Common.{◌≡◌, ◌+◌, ◌≤◌, length}
-use Rattle.assise_record.specs.Records.{all_effects}
-use Rattle.assise_digest.specs.Pending.{HasAllNumbers, all_noted}
+use Rattle.assise_digest.proofs.Common.{◌≡◌, ◌+◌, ◌≤◌, length, all_effects, HasAllNumbers, all_noted}
 use Rattle.assise_digest.proofs.pending.Pending.note_all.Given as goal
 
 -- the first of them are noted

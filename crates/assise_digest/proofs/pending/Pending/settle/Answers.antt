@@ -1,6 +1,5 @@
-use Rattle.std.proofs.Common.{◌∙◌, None, ap, cond, nat_eq}
+use Rattle.assise_digest.proofs.Common.{◌∙◌, None, ap, cond, nat_eq, list_any}
 use Rattle.std.specs.FinMap as map
-use Rattle.std.specs.List.{list_any}
 use Rattle.assise_digest.proofs.MovedInodes.{moved_all}
 use Rattle.assise_digest.proofs.pending.Pending.settle.Goals as goal
 

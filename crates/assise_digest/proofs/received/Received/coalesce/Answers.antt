@@ -1,12 +1,14 @@
-use Rattle.std.proofs.Common.{◌∙◌, ap, sym, subst}
-use Rattle.assise_digest.specs.Invariant.{LogInvariant}
+use Rattle.assise_digest.proofs.Common.{◌∙◌, ap, sym, subst, LogInvariant}
 use Rattle.assise_digest.proofs.RegroupedLogs.{all_there, sound_regrouped}
 use Rattle.assise_digest.proofs.received.Received.coalesce.Goals as goal
 
 pub note_from-requires : goal.note_from-requires
 note_from-requires c =
     let s = c.requires.sound.1 in
-    record { there = all_there c.args.self.now c.args.from s.begun c.requires.digested c.requires.to_end c.requires.sound.0 c.regroup.new.self c.args.self.now.pending c.in_ok-regroup.ensures.ok s.stands }
+    record {
+      there = all_there c.args.self.now c.args.from s.begun c.requires.digested c.requires.to_end c.requires.sound.0 c.regroup.new.self
+          c.args.self.now.pending c.in_ok-regroup.ensures.ok s.stands;
+    }
 
 pub returns-clause-sound : goal.returns-clause-sound
 returns-clause-sound c = λ m s.

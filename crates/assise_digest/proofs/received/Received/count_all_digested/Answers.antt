@@ -1,8 +1,4 @@
-use Rattle.std.proofs.Common.{◌≡◌, take, ap, subst, ◌∙◌, arith}
-use Rattle.assise_inode_table.specs.Effects.{all_applied}
-use Rattle.assise_record.specs.Records.{all_effects}
-use Rattle.assise_digest.specs.Region.{ahead, digested_further}
-use Rattle.assise_digest.specs.Invariant.{LogInvariant, seen_log}
+use Rattle.assise_digest.proofs.Common.{◌≡◌, take, ap, subst, ◌∙◌, arith, all_applied, all_effects, ahead, digested_further, LogInvariant, seen_log}
 use Rattle.assise_digest.proofs.Grouped.{applied_next, further_next, further_none, has_next}
 use Rattle.assise_digest.proofs.received.Received.count_all_digested.Goals as goal
 
@@ -11,19 +7,24 @@ loop-done-init c = record { within = omega arith; seen = further_none (seen_log 
 
 pub count_digested-requires-clause-begun : goal.count_digested-requires-clause-begun
 count_digested-requires-clause-begun c =
-    (has_next (seen_log c.args.self.now) (seen_log c.loop-done.self) c.loop-done.done c.requires.begun c.loop-done.invariant.seen (omega (arith, c.requires.there))).begun
+    (has_next (seen_log c.args.self.now) (seen_log c.loop-done.self) c.loop-done.done c.requires.begun c.loop-done.invariant.seen
+    (omega (arith, c.requires.there))).begun
 
 pub count_digested-requires-clause-more : goal.count_digested-requires-clause-more
 count_digested-requires-clause-more c =
-    (has_next (seen_log c.args.self.now) (seen_log c.loop-done.self) c.loop-done.done c.requires.begun c.loop-done.invariant.seen (omega (arith, c.requires.there))).more
+    (has_next (seen_log c.args.self.now) (seen_log c.loop-done.self) c.loop-done.done c.requires.begun c.loop-done.invariant.seen
+    (omega (arith, c.requires.there))).more
 
 pub loop-done-preserved : goal.loop-done-preserved
 loop-done-preserved c = record {
   within = omega arith;
-  seen = further_next (seen_log c.args.self.now) (seen_log c.loop-done.self) (seen_log c.count_digested.new.self) c.loop-done.done c.loop-done.invariant.seen c.count_digested.ensures.seen;
+  seen = further_next (seen_log c.args.self.now) (seen_log c.loop-done.self) (seen_log c.count_digested.new.self) c.loop-done.done c.loop-done.invariant.seen
+      c.count_digested.ensures.seen;
   sound = λ m s.
-      subst (λ w. LogInvariant w c.count_digested.new.self) (applied_next m (seen_log c.args.self.now) (seen_log c.loop-done.self) c.loop-done.done c.requires.begun c.loop-done.invariant.seen)
-      (c.count_digested.ensures.sound (all_applied m (all_effects (take c.loop-done.done (ahead (seen_log c.args.self.now))))) (c.loop-done.invariant.sound m s));
+      subst (λ w. LogInvariant w c.count_digested.new.self)
+      (applied_next m (seen_log c.args.self.now) (seen_log c.loop-done.self) c.loop-done.done c.requires.begun c.loop-done.invariant.seen)
+      (c.count_digested.ensures.sound (all_applied m (all_effects (take c.loop-done.done (ahead (seen_log c.args.self.now)))))
+      (c.loop-done.invariant.sound m s));
 }
 
 pub returns-clause-seen : goal.returns-clause-seen

@@ -1,9 +1,4 @@
-use Rattle.std.proofs.Common.{◌≡◌, ◌-◌, ◌≤◌, take}
-use Rattle.assise_inode_table.specs.Contents.{InodeMap}
-use Rattle.assise_inode_table.specs.Effects.{all_applied}
-use Rattle.assise_record.specs.Records.{all_effects}
-use Rattle.assise_digest.specs.Region.{ahead, digested_further}
-use Rattle.assise_digest.specs.Invariant.{LogInvariant, seen_log}
+use Rattle.assise_digest.proofs.Common.{◌≡◌, ◌-◌, ◌≤◌, take, InodeMap, all_applied, all_effects, ahead, digested_further, LogInvariant, seen_log}
 use Rattle.assise_digest.proofs.received.Received.count_all_digested.Given as goal
 
 -- `done` were counted

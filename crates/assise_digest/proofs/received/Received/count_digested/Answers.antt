@@ -1,7 +1,4 @@
-use Rattle.std.proofs.Common.{◌+◌, ◌∙◌, ap, sym, subst}
-use Rattle.assise_inode_table.specs.Effects.{all_applied}
-use Rattle.assise_digest.specs.Region.{next_effects}
-use Rattle.assise_digest.specs.Invariant.{LogInvariant, seen_log}
+use Rattle.assise_digest.proofs.Common.{◌+◌, ◌∙◌, ap, sym, subst, all_applied, next_effects, LogInvariant, seen_log}
 use Rattle.assise_digest.proofs.ReceivedLogs.{sound_counted_next}
 use Rattle.assise_digest.proofs.received.Received.count_digested.Goals as goal
 

@@ -1,15 +1,12 @@
-use Rattle.std.proofs.Common.{◌≡◌, ◌-◌, Some, length, option_map, ◌∙◌, ap, subst, sym, arith}
-use Rattle.std.proofs.lemmas.List.{length-drop}
-use Rattle.std.specs.Option.{IfSome}
-use Rattle.assise_private_log.specs.NumberedLog.{records_from}
-use Rattle.assise_record.specs.Records.{all_effects}
-use Rattle.assise_digest.specs.Pending.{HasAllNumbers, noted_from}
+use Rattle.assise_digest.proofs.Common.{◌≡◌, ◌-◌, Some, length, option_map, ◌∙◌, ap, subst, sym, arith, length-drop, IfSome, records_from, all_effects}
+use Rattle.assise_digest.proofs.Common.{HasAllNumbers, noted_from}
 use Rattle.assise_digest.proofs.received.Received.note_from.Goals as goal
 
 pub note_all-requires-clause-numbers_fit : goal.note_all-requires-clause-numbers_fit
 note_all-requires-clause-numbers_fit c =
     let l = c.args.self.now.log in
-    let long : length c.since.result ≡ length l.records - (c.args.from - l.first) = ap length c.since.ensures.rest ∙ length-drop (c.args.from - l.first) l.records in
+    let long : length c.since.result ≡ length l.records - (c.args.from - l.first) = ap length c.since.ensures.rest
+    ∙ length-drop (c.args.from - l.first) l.records in
     omega (arith, long, c.since.ensures.lawful.numbers)
 
 pub note_all-requires-clause-there : goal.note_all-requires-clause-there

@@ -1,6 +1,4 @@
-use Rattle.std.proofs.Common.{◌∙◌, subst}
-use Rattle.assise_digest.specs.Region.{ahead}
-use Rattle.assise_digest.specs.Invariant.{StandsHere, seen_log}
+use Rattle.assise_digest.proofs.Common.{◌∙◌, subst, ahead, StandsHere, seen_log}
 use Rattle.assise_digest.proofs.MovedInodes.{sound_settled}
 use Rattle.assise_digest.proofs.RebuiltInodes.{stood_over}
 use Rattle.assise_digest.proofs.received.Received.settle.Goals as goal

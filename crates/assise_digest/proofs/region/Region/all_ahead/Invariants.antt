@@ -1,7 +1,4 @@
-use Rattle.std.proofs.Common.{take}
-use Rattle.assise_digest.specs.Pending.{KeepsNoMore, Lays}
-use Rattle.assise_digest.specs.Region.{all_ahead}
-use Rattle.assise_digest.specs.Invariant.{seen_logs}
+use Rattle.assise_digest.proofs.Common.{take, KeepsNoMore, Lays, all_ahead, seen_logs}
 use Rattle.assise_digest.proofs.region.Region.all_ahead.Given as goal
 
 abbrev pub invariant-loop-place : goal.invariant-loop-place

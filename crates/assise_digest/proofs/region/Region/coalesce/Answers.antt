@@ -1,9 +1,5 @@
-use Rattle.std.proofs.Common.{◌≡◌, ap, subst, sym, ◌∙◌}
-use Rattle.assise_area.proofs.Seen.{ok_map}
-use Rattle.assise_record.specs.Groups.{AllHaveEffects}
-use Rattle.assise_private_log.specs.NumberedLog.{IsNumberedLog, records_from}
-use Rattle.assise_digest.specs.Region.{IsBegun, log_of, read_by, regrouped_from}
-use Rattle.assise_digest.specs.Invariant.{seen_log}
+use Rattle.assise_digest.proofs.Common.{◌≡◌, ap, subst, sym, ◌∙◌, ok_map, AllHaveEffects, IsNumberedLog, records_from, IsBegun, log_of, read_by, regrouped_from}
+use Rattle.assise_digest.proofs.Common.{seen_log}
 use Rattle.assise_digest.proofs.RegionLogs.{changed_sound, changed_there, here_sound, log_there}
 use Rattle.assise_digest.proofs.RegroupedLogs.{coalesced_read}
 use Rattle.assise_digest.proofs.region.Region.coalesce.Goals as goal
@@ -23,7 +19,8 @@ invariant_of-self c =
 pub returns-clause-ok : goal.returns-clause-ok
 returns-clause-ok c =
     ok_map c.coalesce.result c.coalesce.ensures.seen (λ step.
-    changed_there (λ l. regrouped_from l c.args.from) c.self.inside.area.inodes c.self.inside.logs.items c.args.self.now c.args.client c.index_mut.result.now c.coalesce.new.self c.self.view_is
+    changed_there (λ l. regrouped_from l c.args.from) c.self.inside.area.inodes c.self.inside.logs.items c.args.self.now c.args.client c.index_mut.result.now
+    c.coalesce.new.self c.self.view_is
     c.requires.client c.index_mut.ensures.value step)
 
 there : (c : After-coalesce) → log_of c.args.self.now c.args.client ≡ seen_log c.index_mut.result.now
@@ -40,7 +37,8 @@ returns-clause-read c =
     let begun : IsBegun (log_of r c.args.client) = subst IsBegun (sym (there (goal.at.returns-clause-read c).After-coalesce)) here.begun in
     ok_map c.coalesce.result c.coalesce.ensures.seen (λ step i.
     ap (λ s. read_by s c.args.client i)
-    (changed_there (λ l. regrouped_from l c.args.from) m xs r c.args.client x c.coalesce.new.self c.self.view_is c.requires.client c.index_mut.ensures.value step)
+    (changed_there (λ l. regrouped_from l c.args.from) m xs r c.args.client x c.coalesce.new.self c.self.view_is c.requires.client c.index_mut.ensures.value
+    step)
     ∙ coalesced_read r c.args.client c.args.from c.requires.client begun c.requires.digested c.requires.to_end i)
 
 pub returns-clause-effects : goal.returns-clause-effects

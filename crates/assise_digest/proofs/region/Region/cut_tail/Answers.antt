@@ -1,4 +1,4 @@
-use Rattle.assise_digest.specs.Region.{up_to_number}
+use Rattle.assise_digest.proofs.Common.{up_to_number}
 use Rattle.assise_digest.proofs.RegionLogs.{changed_sound, changed_there}
 use Rattle.assise_digest.proofs.region.Region.cut_tail.Goals as goal
 
@@ -10,5 +10,6 @@ invariant_of-self c =
 
 pub returns : goal.returns
 returns c =
-    changed_there (λ l. up_to_number l c.args.from) c.self.inside.area.inodes c.self.inside.logs.items c.args.self.now c.args.client c.index_mut.result.now c.cut_tail.new.self c.self.view_is
+    changed_there (λ l. up_to_number l c.args.from) c.self.inside.area.inodes c.self.inside.logs.items c.args.self.now c.args.client c.index_mut.result.now
+    c.cut_tail.new.self c.self.view_is
     c.requires.client c.index_mut.ensures.value c.cut_tail.ensures.seen

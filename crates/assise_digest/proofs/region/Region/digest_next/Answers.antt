@@ -1,9 +1,5 @@
-use Rattle.std.proofs.Common.{◌≡◌, Some, ◌∙◌, ap, sym, subst}
-use Rattle.assise_inode_table.specs.Effects.{all_applied}
-use Rattle.assise_inode_table.specs.Whole.{CanBeMadeWhole}
-use Rattle.assise_private_log.specs.NumberedLog.{record_at}
-use Rattle.assise_digest.specs.Region.{ahead, first_effects, next_effects}
-use Rattle.assise_digest.specs.Invariant.{LogInvariant, seen_log}
+use Rattle.assise_digest.proofs.Common.{◌≡◌, Some, ◌∙◌, ap, sym, subst, all_applied, CanBeMadeWhole, record_at, ahead, first_effects, next_effects}
+use Rattle.assise_digest.proofs.Common.{LogInvariant, seen_log}
 use Rattle.assise_digest.proofs.ReceivedLogs.{ahead_next}
 use Rattle.assise_digest.proofs.RegionLogs.{here_sound, in_place, next_whole, same_item}
 use Rattle.assise_digest.proofs.Grouped.{digested_sound_all, digested_view_all, first_alone}

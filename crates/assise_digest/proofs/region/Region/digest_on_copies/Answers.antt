@@ -1,8 +1,4 @@
-use Rattle.std.proofs.Common.{◌≡◌, take, ◌∙◌, ap, sym, subst}
-use Rattle.assise_inode_table.specs.Effects.{all_applied}
-use Rattle.assise_record.specs.Records.{all_effects}
-use Rattle.assise_digest.specs.Region.{ahead}
-use Rattle.assise_digest.specs.Invariant.{LogInvariant, seen_log}
+use Rattle.assise_digest.proofs.Common.{◌≡◌, take, ◌∙◌, ap, sym, subst, all_applied, all_effects, ahead, LogInvariant, seen_log}
 use Rattle.assise_digest.proofs.Grouped.{digested_sound_all, digested_view_all}
 use Rattle.assise_digest.proofs.RegionLogs.{here_sound, in_place, same_item}
 use Rattle.assise_digest.proofs.region.Region.digest_on_copies.Goals as goal

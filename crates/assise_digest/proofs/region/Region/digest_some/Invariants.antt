@@ -1,6 +1,4 @@
-use Rattle.std.proofs.Common.{◌≡◌, ◌+◌, ◌-◌, ◌<◌, ◌≤◌, true}
-use Rattle.assise_private_log.specs.NumberedLog.{is_border}
-use Rattle.assise_digest.specs.Region.{digested_by, log_of}
+use Rattle.assise_digest.proofs.Common.{◌≡◌, ◌+◌, ◌-◌, ◌<◌, ◌≤◌, true, is_border, digested_by, log_of}
 use Rattle.assise_digest.proofs.region.Region.digest_some.Given as goal
 
 -- whole groups were digested

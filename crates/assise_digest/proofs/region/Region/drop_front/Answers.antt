@@ -1,4 +1,4 @@
-use Rattle.assise_digest.specs.Region.{from_number}
+use Rattle.assise_digest.proofs.Common.{from_number}
 use Rattle.assise_digest.proofs.RegionLogs.{changed_sound, changed_there}
 use Rattle.assise_digest.proofs.region.Region.drop_front.Goals as goal
 
@@ -10,5 +10,6 @@ invariant_of-self c =
 
 pub returns : goal.returns
 returns c =
-    changed_there (λ l. from_number l c.args.to) c.self.inside.area.inodes c.self.inside.logs.items c.args.self.now c.args.client c.index_mut.result.now c.drop_front.new.self c.self.view_is
+    changed_there (λ l. from_number l c.args.to) c.self.inside.area.inodes c.self.inside.logs.items c.args.self.now c.args.client c.index_mut.result.now
+    c.drop_front.new.self c.self.view_is
     c.requires.client c.index_mut.ensures.value c.drop_front.ensures.seen

@@ -1,8 +1,4 @@
-use Rattle.std.proofs.Common.{◌∙◌, ap, subst, sym}
-use Rattle.assise_record.specs.Records.{all_effects}
-use Rattle.assise_inode_table.specs.Effects.{all_applied}
-use Rattle.assise_digest.specs.Region.{ahead, log_of}
-use Rattle.assise_digest.specs.Invariant.{StandsHere, seen_log}
+use Rattle.assise_digest.proofs.Common.{◌∙◌, ap, subst, sym, all_effects, all_applied, ahead, log_of, StandsHere, seen_log}
 use Rattle.assise_digest.proofs.RegionLogs.{here_sound, log_there}
 use Rattle.assise_digest.proofs.RebuiltInodes.{stood_over}
 use Rattle.assise_digest.proofs.region.Region.inodes_of.Goals as goal

@@ -1,7 +1,4 @@
-use Rattle.std.proofs.Common.{◌∙◌, ap, subst, sym}
-use Rattle.assise_inode_table.specs.Contents.{values}
-use Rattle.assise_inode_table.specs.Spelled.{SpellsFrom}
-use Rattle.assise_digest.specs.Pending.{overlaid}
+use Rattle.assise_digest.proofs.Common.{◌∙◌, ap, subst, sym, values, SpellsFrom, overlaid}
 use Rattle.assise_digest.proofs.RebuiltInodes.{alone_over}
 use Rattle.assise_digest.proofs.region.Region.rebuild.Goals as goal
 

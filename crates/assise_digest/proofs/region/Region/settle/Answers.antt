@@ -1,8 +1,5 @@
-use Rattle.std.proofs.Common.{◌-◌, slice_set, OnErr, OnOk, Result, Ok, Err, length, take_all, arith, ap, subst, sym, ◌∙◌}
-use Rattle.assise_inode_table.specs.Effects.{all_applied}
-use Rattle.assise_record.specs.Records.{all_effects}
-use Rattle.assise_digest.specs.Region.{ahead, digested_by}
-use Rattle.assise_digest.specs.Invariant.{LogInvariant, LogsInvariant, seen_log}
+use Rattle.assise_digest.proofs.Common.{◌-◌, slice_set, OnErr, OnOk, Result, Ok, Err, length, take_all, arith, ap, subst, sym, ◌∙◌, all_applied, all_effects}
+use Rattle.assise_digest.proofs.Common.{ahead, digested_by, LogInvariant, LogsInvariant, seen_log}
 use Rattle.assise_digest.proofs.Grouped.{digested_sound_all, digested_view_all}
 use Rattle.assise_digest.proofs.RegionLogs.{here_sound, log_there, sound_set}
 use Rattle.assise_digest.proofs.region.Region.settle.Goals as goal
@@ -47,5 +44,6 @@ returns-clause-ok c =
     let there = log_there m xs r c.args.client x c.self.view_is c.requires.client c.index_mut.ensures.value in
     ok_map_two c.settle.result c.settle.ensures.moved c.settle.ensures.seen (λ moved seen.
     digested_view_all m w c.settle.new.area.capacity xs r c.args.client (length (ahead (seen_log x))) x c.settle.new.self c.self.view_is c.requires.client
-    c.index_mut.ensures.value (moved ∙ ap (λ rs. all_applied m (all_effects rs)) (sym (take_all _ (ahead (seen_log x)) (omega arith)))) c.settle.ensures.capacity seen
+    c.index_mut.ensures.value (moved ∙ ap (λ rs. all_applied m (all_effects rs)) (sym (take_all _ (ahead (seen_log x)) (omega arith))))
+    c.settle.ensures.capacity seen
     ∙ ap (λ l. digested_by r c.args.client (length (ahead l))) (sym there))

@@ -1,4 +1,4 @@
-use Rattle.std.proofs.Common.{◌-◌, length}
+use Rattle.assise_fault_script.proofs.Common.{◌-◌, length}
 use Rattle.assise_fault_script.proofs.recent_paths.RecentPaths.new.Given as goal
 
 abbrev pub decreases-loop-places : goal.decreases-loop-places

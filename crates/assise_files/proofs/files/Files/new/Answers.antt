@@ -1,7 +1,5 @@
-use Rattle.std.proofs.Common.{rules, ◌≡◌, ◌<◌, ◌∙◌, ap, length, replicate, subst}
-use Rattle.assise_names.specs.declared.limits.TheConstants.{MOST_NODES}
+use Rattle.assise_files.proofs.Common.{rules, ◌≡◌, ◌<◌, ◌∙◌, ap, length, replicate, subst, MOST_NODES, kind_of_link}
 use Rattle.assise_link.specs.Kinds.{perfect}
-use Rattle.assise_link.specs.TestLinks.{kind_of_link}
 use Rattle.assise_files.proofs.Links.{all_alike}
 use Rattle.assise_files.proofs.files.Files.new.Goals as goal
 

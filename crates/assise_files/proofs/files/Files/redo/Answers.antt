@@ -1,10 +1,5 @@
-use Rattle.std.proofs.Common.{rules, ◌≡◌, ◌∙◌, ◌++◌, ◌∷◌, [], ap, sym, subst, true, false}
-use Rattle.assise_rounds.specs.NodeLinks.{FaithfulAt}
-use Rattle.assise_rounds.specs.Traces.{Told}
-use Rattle.assise_rounds.specs.CallTries.{IsTriedOut}
-use Rattle.assise_files.specs.FilesSeen.{cluster_seen, links_seen, most_tries}
-use Rattle.assise_files.specs.LostChanges.{lost_changes, tree_with}
-use Rattle.assise_files.specs.LostSearch.{IsNumbered}
+use Rattle.assise_files.proofs.Common.{rules, ◌≡◌, ◌∙◌, ◌++◌, ◌∷◌, [], ap, sym, subst, true, false, FaithfulAt, Told, IsTriedOut, cluster_seen, links_seen}
+use Rattle.assise_files.proofs.Common.{most_tries, lost_changes, tree_with, IsNumbered}
 use Rattle.assise_files.proofs.MadeAgain.{all_made, all_tree, made_next, numbered, stopped}
 use Rattle.assise_files.proofs.QuietRounds.{tree_is}
 use Rattle.assise_files.proofs.files.Files.redo.Goals as goal
@@ -16,10 +11,14 @@ pub returns-then-not-is_done-clause-made : goal.returns-then-not-is_done-clause-
 returns-then-not-is_done-clause-made c =
     let last : c.loop-change.left.items ≡ c.pop.new.self.items ++ c.in-Some.change ∷ [] = search rules in
     let undone : c.is_done.result ≡ false = search rules in
-    stopped (FaithfulAt (links_seen c.args.self.now)) (most_tries c.args.self.now) c.args.first c.args.client (lost_changes c.args.lost c.args.first (cluster_seen c.args.self.now).history)
-    c.loop-change.left.items c.pop.new.self.items c.in-Some.change c.call-came.result (cluster_seen c.args.self.now) (cluster_seen c.loop-change.self) (cluster_seen c.call-came.new.self) c.loop-change.invariant.made last
-    (subst (λ turns. (es : Told) × IsTriedOut (FaithfulAt (links_seen c.args.self.now)) turns c.args.client c.in-Some.change.op c.call-came.result (cluster_seen c.loop-change.self) es (cluster_seen c.call-came.new.self)) c.loop-change.invariant.turns
-    (subst (λ links. (es : Told) × IsTriedOut (FaithfulAt links) (most_tries c.loop-change.self) c.args.client c.in-Some.change.op c.call-came.result (cluster_seen c.loop-change.self) es (cluster_seen c.call-came.new.self)) c.loop-change.invariant.links
+    stopped (FaithfulAt (links_seen c.args.self.now)) (most_tries c.args.self.now) c.args.first c.args.client
+    (lost_changes c.args.lost c.args.first (cluster_seen c.args.self.now).history)
+    c.loop-change.left.items c.pop.new.self.items c.in-Some.change c.call-came.result (cluster_seen c.args.self.now) (cluster_seen c.loop-change.self)
+    (cluster_seen c.call-came.new.self) c.loop-change.invariant.made last
+    (subst (λ turns. (es : Told) × IsTriedOut (FaithfulAt (links_seen c.args.self.now)) turns c.args.client c.in-Some.change.op c.call-came.result
+    (cluster_seen c.loop-change.self) es (cluster_seen c.call-came.new.self)) c.loop-change.invariant.turns
+    (subst (λ links. (es : Told) × IsTriedOut (FaithfulAt links) (most_tries c.loop-change.self) c.args.client c.in-Some.change.op c.call-came.result
+    (cluster_seen c.loop-change.self) es (cluster_seen c.call-came.new.self)) c.loop-change.invariant.links
     c.call-came.ensures.tried))
     (λ done. cc (undone, c.is_done.ensures.1 done))
 
@@ -29,10 +28,14 @@ loop-change-preserved c =
     let is : c.is_done.result ≡ true = search rules in
     record {
       made =
-          made_next (FaithfulAt (links_seen c.args.self.now)) (most_tries c.args.self.now) c.args.client (lost_changes c.args.lost c.args.first (cluster_seen c.args.self.now).history)
-          c.loop-change.left.items c.pop.new.self.items c.in-Some.change c.call-came.result (cluster_seen c.args.self.now) (cluster_seen c.loop-change.self) (cluster_seen c.call-came.new.self) c.loop-change.invariant.made last
-          (subst (λ turns. (es : Told) × IsTriedOut (FaithfulAt (links_seen c.args.self.now)) turns c.args.client c.in-Some.change.op c.call-came.result (cluster_seen c.loop-change.self) es (cluster_seen c.call-came.new.self)) c.loop-change.invariant.turns
-          (subst (λ links. (es : Told) × IsTriedOut (FaithfulAt links) (most_tries c.loop-change.self) c.args.client c.in-Some.change.op c.call-came.result (cluster_seen c.loop-change.self) es (cluster_seen c.call-came.new.self)) c.loop-change.invariant.links
+          made_next (FaithfulAt (links_seen c.args.self.now)) (most_tries c.args.self.now) c.args.client
+          (lost_changes c.args.lost c.args.first (cluster_seen c.args.self.now).history)
+          c.loop-change.left.items c.pop.new.self.items c.in-Some.change c.call-came.result (cluster_seen c.args.self.now) (cluster_seen c.loop-change.self)
+          (cluster_seen c.call-came.new.self) c.loop-change.invariant.made last
+          (subst (λ turns. (es : Told) × IsTriedOut (FaithfulAt (links_seen c.args.self.now)) turns c.args.client c.in-Some.change.op c.call-came.result
+          (cluster_seen c.loop-change.self) es (cluster_seen c.call-came.new.self)) c.loop-change.invariant.turns
+          (subst (λ links. (es : Told) × IsTriedOut (FaithfulAt links) (most_tries c.loop-change.self) c.args.client c.in-Some.change.op c.call-came.result
+          (cluster_seen c.loop-change.self) es (cluster_seen c.call-came.new.self)) c.loop-change.invariant.links
           c.call-came.ensures.tried))
           (c.is_done.ensures.0 is);
       turns = search rules;
@@ -42,7 +45,8 @@ loop-change-preserved c =
 pub returns-clause-made : goal.returns-clause-made
 returns-clause-made c =
     let none : c.loop-change.left.items ≡ [] = search rules in
-    all_made (FaithfulAt (links_seen c.args.self.now)) (most_tries c.args.self.now) c.args.first c.args.client (lost_changes c.args.lost c.args.first (cluster_seen c.args.self.now).history)
+    all_made (FaithfulAt (links_seen c.args.self.now)) (most_tries c.args.self.now) c.args.first c.args.client
+    (lost_changes c.args.lost c.args.first (cluster_seen c.args.self.now).history)
     c.loop-change.left.items (cluster_seen c.args.self.now) (cluster_seen c.loop-change.self) tt c.loop-change.invariant.made none
 
 pub returns-clause-tree : goal.returns-clause-tree
@@ -50,6 +54,7 @@ returns-clause-tree c =
     let none : c.loop-change.left.items ≡ [] = search rules in
     let changes = lost_changes c.args.lost c.args.first (cluster_seen c.args.self.now).history in
     tree_is c.loop-change.self
-    ∙ all_tree (FaithfulAt (links_seen c.args.self.now)) (most_tries c.args.self.now) c.args.client (lost_changes c.args.lost c.args.first (cluster_seen c.args.self.now).history)
+    ∙ all_tree (FaithfulAt (links_seen c.args.self.now)) (most_tries c.args.self.now) c.args.client
+    (lost_changes c.args.lost c.args.first (cluster_seen c.args.self.now).history)
     c.loop-change.left.items (cluster_seen c.args.self.now) (cluster_seen c.loop-change.self) c.loop-change.invariant.made none
     ∙ ap (λ t. tree_with t changes) (sym (tree_is c.args.self.now))

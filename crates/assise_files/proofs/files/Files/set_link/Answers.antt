@@ -1,6 +1,4 @@
-use Rattle.std.proofs.Common.{rules, ◌≡◌, ◌-◌, ◌<◌, length, subst, sym}
-use Rattle.assise_names.specs.declared.limits.TheConstants.{MOST_NODES}
-use Rattle.assise_link.specs.TestLinks.{kind_of_link}
+use Rattle.assise_files.proofs.Common.{rules, ◌≡◌, ◌-◌, ◌<◌, length, subst, sym, MOST_NODES, kind_of_link}
 use Rattle.assise_files.proofs.Links.{below_most, map_set}
 use Rattle.assise_files.proofs.files.Files.set_link.Goals as goal
 

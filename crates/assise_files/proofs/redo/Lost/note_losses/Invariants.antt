@@ -1,5 +1,4 @@
-use Rattle.std.proofs.Common.{◌≡◌, ◌||◌, ℕ, take}
-use Rattle.assise_files.specs.LostSearch.{are_taken, is_taken_from}
+use Rattle.assise_files.proofs.Common.{◌≡◌, ◌||◌, ℕ, take, are_taken, is_taken_from}
 use Rattle.assise_files.proofs.redo.Lost.note_losses.Given as goal
 
 abbrev pub invariant-loop-loss : goal.invariant-loop-loss

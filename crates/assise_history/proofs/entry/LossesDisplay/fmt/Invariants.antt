@@ -1,7 +1,4 @@
-use Rattle.std.proofs.Common.{take}
-use Rattle.std.specs.List.{flat_map}
-use Rattle.std.specs.Fmt.{HasWritten, IsPlainFormatter}
-use Rattle.assise_history.specs.Text.{loss_text}
+use Rattle.assise_history.proofs.Common.{take, flat_map, HasWritten, IsPlainFormatter, loss_text}
 use Rattle.assise_history.proofs.entry.LossesDisplay.fmt.Given as goal
 
 abbrev pub invariant-loop-loss : goal.invariant-loop-loss

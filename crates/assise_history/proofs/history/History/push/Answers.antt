@@ -1,5 +1,4 @@
-use Rattle.std.proofs.Common.{ap, arith}
-use Rattle.assise_history.specs.Payload.{payloads}
+use Rattle.assise_history.proofs.Common.{ap, arith, payloads}
 use Rattle.assise_history.proofs.Payloads.{payloads_more}
 use Rattle.assise_history.proofs.history.History.push.Goals as goal
 

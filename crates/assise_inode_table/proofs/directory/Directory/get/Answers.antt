@@ -1,6 +1,5 @@
-use Rattle.std.proofs.Common.{◌∙◌, sym, ap, subst}
+use Rattle.assise_inode_table.proofs.Common.{◌∙◌, sym, ap, subst, StandsAt, slot_link}
 use Rattle.std.specs.FinMap as map
-use Rattle.assise_inode_table.specs.Pieces.{StandsAt, slot_link}
 use Rattle.assise_inode_table.proofs.PieceSlots.{got_slot, read_piece}
 use Rattle.assise_inode_table.proofs.directory.Directory.get.Goals as goal
 

@@ -1,4 +1,4 @@
-use Rattle.std.proofs.Common.{◌∙◌, ap, sym, length}
+use Rattle.assise_inode_table.proofs.Common.{◌∙◌, ap, sym, length}
 use Rattle.std.specs.FinMap as map
 use Rattle.assise_inode_table.proofs.PieceSlots.{counted_all}
 use Rattle.assise_inode_table.proofs.directory.Directory.len.Goals as goal

@@ -1,11 +1,5 @@
-use Rattle.std.proofs.Common.{◌++◌, ◌∙◌, sym, ap, subst, nat_cmp}
-use Rattle.std.specs.Map.{keys_of}
+use Rattle.assise_inode_table.proofs.Common.{◌++◌, ◌∙◌, sym, ap, subst, nat_cmp, keys_of, slice_cmp, IsStrictlySortedBy, take_all, IfOk-weaker, live, slots_in}
 use Rattle.std.specs.FinMap as map
-use Rattle.std.specs.Cmp.Lexicographic.{slice_cmp}
-use Rattle.std.specs.List.Sorted.{IsStrictlySortedBy}
-use Rattle.std.proofs.lemmas.List.{take_all}
-use Rattle.std.proofs.lemmas.Result.{IfOk-weaker}
-use Rattle.assise_inode_table.specs.Pieces.{live, slots_in}
 use Rattle.assise_inode_table.proofs.PieceSlots.{listed_pieces, listed_all, listed_sorted}
 use Rattle.assise_inode_table.proofs.directory.Directory.names.Goals as goal
 
@@ -16,10 +10,15 @@ loop-piece-preserved c =
 
 pub from_vec-requires : goal.from_vec-requires
 from_vec-requires c =
-    let all = c.loop-piece.invariant ∙ ap (λ ps. keys_of (live (slots_in ps))) (take_all c.loop-piece.piece-index c.deref-piece-items.result.now c.loop-piece-test.false ∙ c.deref-piece-items.ensures.value) in
+    let all = c.loop-piece.invariant
+    ∙ ap (λ ps. keys_of (live (slots_in ps))) (take_all c.loop-piece.piece-index c.deref-piece-items.result.now c.loop-piece-test.false
+    ∙ c.deref-piece-items.ensures.value) in
     record { ascending = subst (IsStrictlySortedBy (slice_cmp nat_cmp)) (sym all) (listed_sorted c.self.inside.pieces.items c.self.invariant.ascend) }
 
 pub returns-clause-names : goal.returns-clause-names
 returns-clause-names c =
-    let all = c.loop-piece.invariant ∙ ap (λ ps. keys_of (live (slots_in ps))) (take_all c.loop-piece.piece-index c.deref-piece-items.result.now c.loop-piece-test.false ∙ c.deref-piece-items.ensures.value) in
-    IfOk-weaker c.from_vec.result _ _ (λ names e. e ∙ all ∙ sym (listed_all c.self.inside.pieces.items c.self.invariant.ascend) ∙ ap map.keys c.self.view_is) c.from_vec.ensures.names
+    let all = c.loop-piece.invariant
+    ∙ ap (λ ps. keys_of (live (slots_in ps))) (take_all c.loop-piece.piece-index c.deref-piece-items.result.now c.loop-piece-test.false
+    ∙ c.deref-piece-items.ensures.value) in
+    IfOk-weaker c.from_vec.result _ _ (λ names e. e ∙ all ∙ sym (listed_all c.self.inside.pieces.items c.self.invariant.ascend) ∙ ap map.keys c.self.view_is)
+    c.from_vec.ensures.names

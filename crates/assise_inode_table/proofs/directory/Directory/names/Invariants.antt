@@ -1,6 +1,4 @@
-use Rattle.std.proofs.Common.{◌≡◌, take}
-use Rattle.std.specs.Map.{keys_of}
-use Rattle.assise_inode_table.specs.Pieces.{live, slots_in}
+use Rattle.assise_inode_table.proofs.Common.{◌≡◌, take, keys_of, live, slots_in}
 use Rattle.assise_inode_table.proofs.directory.Directory.names.Given as goal
 
 abbrev pub invariant-loop-piece : goal.invariant-loop-piece

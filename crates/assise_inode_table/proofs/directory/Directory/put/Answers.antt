@@ -1,10 +1,10 @@
-use Rattle.std.proofs.Common.{◌≡◌, ◌+◌, ◌∙◌, ◌∷◌, ◌++◌, [], None, Some, cond, is_none, sym, ap, subst, length, arith, rules, tests, nat_cmp}
+use Rattle.assise_inode_table.proofs.Common.{◌≡◌, ◌+◌, ◌∙◌, ◌∷◌, ◌++◌, [], None, Some, cond, is_none, sym, ap, subst, length, arith, rules, tests, nat_cmp}
+use Rattle.assise_inode_table.proofs.Common.{slice_cmp, nil_from_length, AddsSlot, Ascend, IsDirectory, IsGapFor, IsPieceFor, IsSlotOf, StandsAt, live}
+use Rattle.assise_inode_table.proofs.Common.{piece_at}
 use Rattle.std.specs.FinMap as map
-use Rattle.std.specs.Cmp.Lexicographic.{slice_cmp}
-use Rattle.std.proofs.lemmas.List.{nil_from_length}
 use Rattle.assise_inode_table.proofs.TableView.{on_err}
-use Rattle.assise_inode_table.specs.Pieces.{AddsSlot, Ascend, IsDirectory, IsGapFor, IsPieceFor, IsSlotOf, StandsAt, live, piece_at}
-use Rattle.assise_inode_table.proofs.PieceSlots.{nothing_at, one_entry, piece_ascend, read_piece, link_read, link_set, got_none, got_slot, added_links, added_ascend, added_count, count_any, full_gone, gone_count, not_below, put_slot, set_ascend, set_filled}
+use Rattle.assise_inode_table.proofs.PieceSlots.{nothing_at, one_entry, piece_ascend, read_piece, link_read, link_set, got_none, got_slot, added_links}
+use Rattle.assise_inode_table.proofs.PieceSlots.{added_ascend, added_count, count_any, full_gone, gone_count, not_below, put_slot, set_ascend, set_filled}
 use Rattle.assise_inode_table.proofs.directory.Directory.put.Goals as goal
 use Rattle.assise_inode_table.proofs.directory.Directory.put.Goals.{Then-is_empty, After-piece_of-piece, In-Ok, In-Err}
 
@@ -28,7 +28,8 @@ pub invariant_of-self-then-is_empty : goal.invariant_of-self-then-is_empty
 invariant_of-self-then-is_empty c =
     let none = nil_from_length c.self.inside.pieces.items (empty (goal.at.invariant_of-self-then-is_empty c).Then-is_empty) in
     subst (λ qs. IsDirectory qs 1)
-    (sym (c.in_ok-push.ensures.items ∙ ap (λ qs. qs ++ c.in_ok-of_one.field-0 ∷ []) (c.reserve_exact.ensures.items ∙ none) ∙ ap (λ p. p ∷ []) c.in_ok-of_one.ensures))
+    (sym (c.in_ok-push.ensures.items ∙ ap (λ qs. qs ++ c.in_ok-of_one.field-0 ∷ []) (c.reserve_exact.ensures.items ∙ none)
+    ∙ ap (λ p. p ∷ []) c.in_ok-of_one.ensures))
     (one_entry c.args.name c.args.inode)
 
 -- ---- the piece that it belongs in
@@ -53,7 +54,8 @@ returns-in_default-clause-asked c =
     let old = link_read name _ _ _ there _ c.index-in-Ok.ensures _ c.link.ensures in
     let more = gone_count c.link.result c.is_none-gone.result c.from.result c.is_none-gone.ensures c.from.ensures in
     let full = not_below (c.self.inside.len + c.from.result) c.in_default.ensures in
-    ap (λ m. map.get m name) (sym c.self.view_is) ∙ got_slot name _ _ _ c.self.invariant.ascend there ∙ sym old ∙ full_gone c.link.result c.self.inside.len c.from.result more (search rules) full
+    ap (λ m. map.get m name) (sym c.self.view_is) ∙ got_slot name _ _ _ c.self.invariant.ascend there ∙ sym old
+    ∙ full_gone c.link.result c.self.inside.len c.from.result more (search rules) full
 
 pub invariant_of-self-in-Ok-1 : goal.invariant_of-self-in-Ok-1
 invariant_of-self-in-Ok-1 c =
@@ -96,8 +98,10 @@ pub invariant_of-self-in-None : goal.invariant_of-self-in-None
 invariant_of-self-in-None c =
     let now = (goal.at.invariant_of-self-in-None c).In-Err in
     let is = belongs (goal.at.In-Err now).After-piece_of-piece in
-    let new = subst (λ l. AddsSlot c.self.inside.pieces.items c.piece_of-piece.result c.in-Err.at (c.args.name, Some c.args.inode) l c.add.new.pieces.items) c.in-None.is c.in_ok-add-in-Err.ensures.ok in
-    let count = added_count c.args.name c.args.inode _ c.add.new.pieces.items _ _ c.self.invariant.ascend c.self.invariant.filled is (gap now) new _ c.self.invariant.counted in
+    let new = subst (λ l. AddsSlot c.self.inside.pieces.items c.piece_of-piece.result c.in-Err.at (c.args.name, Some c.args.inode) l c.add.new.pieces.items)
+    c.in-None.is c.in_ok-add-in-Err.ensures.ok in
+    let count = added_count c.args.name c.args.inode _ c.add.new.pieces.items _ _ c.self.invariant.ascend c.self.invariant.filled is (gap now) new _
+    c.self.invariant.counted in
     record {
       ascend = added_ascend c.args.name c.args.inode _ c.add.new.pieces.items _ _ c.self.invariant.ascend c.self.invariant.filled is (gap now) new;
       filled = c.in_ok-add-in-Err.ensures.filled;
@@ -108,13 +112,15 @@ pub returns-in-None-clause-ok : goal.returns-in-None-clause-ok
 returns-in-None-clause-ok c =
     let now = (goal.at.returns-in-None-clause-ok c).In-Err in
     let is = belongs (goal.at.In-Err now).After-piece_of-piece in
-    let new = subst (λ l. AddsSlot c.self.inside.pieces.items c.piece_of-piece.result c.in-Err.at (c.args.name, Some c.args.inode) l c.add.new.pieces.items) c.in-None.is c.in_ok-add-in-Err.ensures.ok in
+    let new = subst (λ l. AddsSlot c.self.inside.pieces.items c.piece_of-piece.result c.in-Err.at (c.args.name, Some c.args.inode) l c.add.new.pieces.items)
+    c.in-None.is c.in_ok-add-in-Err.ensures.ok in
     added_links c.args.name c.args.inode _ c.add.new.pieces.items _ _ c.self.invariant.ascend c.self.invariant.filled is (gap now) new
     ∙ ap (λ m. map.insert m c.args.name c.args.inode) c.self.view_is
 
 pub returns-in-Some-2-clause-ok : goal.returns-in-Some-2-clause-ok
 returns-in-Some-2-clause-ok c =
-    let left = subst (λ l. AddsSlot c.self.inside.pieces.items c.piece_of-piece.result c.in-Err.at (c.args.name, Some c.args.inode) l c.add.new.pieces.items) c.in-Some-2.is c.in_ok-add-in-Err.ensures.ok in (
+    let left = subst (λ l. AddsSlot c.self.inside.pieces.items c.piece_of-piece.result c.in-Err.at (c.args.name, Some c.args.inode) l c.add.new.pieces.items)
+    c.in-Some-2.is c.in_ok-add-in-Err.ensures.ok in (
       left.0,
       ap (λ slots. map.from_entries {R = slice_cmp nat_cmp} (live slots)) left.1 ∙ c.self.view_is,
       absent (goal.at.returns-in-Some-2-clause-ok c).In-Err,

@@ -1,6 +1,5 @@
-use Rattle.std.proofs.Common.{◌∙◌, Some, sym, ap, subst, rules}
+use Rattle.assise_inode_table.proofs.Common.{◌∙◌, Some, sym, ap, subst, rules, StandsAt}
 use Rattle.std.specs.FinMap as map
-use Rattle.assise_inode_table.specs.Pieces.{StandsAt}
 use Rattle.assise_inode_table.proofs.PieceSlots.{got_slot, link_read, link_set, is_gone, is_linked, set_ascend, set_filled, count_kept, put_slot}
 use Rattle.assise_inode_table.proofs.directory.Directory.relink.Goals as goal
 use Rattle.assise_inode_table.proofs.directory.Directory.relink.Goals.{In-Some}
@@ -25,7 +24,8 @@ invariant_of-self c =
     record {
       ascend = set_ascend name _ _ _ _ there _ c.self.invariant.ascend new;
       filled = set_filled name _ _ _ _ there _ c.self.invariant.filled new;
-      counted = count_kept name _ _ _ _ there _ old.0 _ new (sym (link_read name _ _ _ there _ c.index.ensures _ c.link.ensures) ∙ old.1) c.self.invariant.counted;
+      counted = count_kept name _ _ _ _ there _ old.0 _ new (sym (link_read name _ _ _ there _ c.index.ensures _ c.link.ensures) ∙ old.1)
+          c.self.invariant.counted;
     }
 
 pub returns-clause-ok : goal.returns-clause-ok

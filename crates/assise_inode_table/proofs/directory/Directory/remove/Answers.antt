@@ -1,8 +1,6 @@
-use Rattle.std.proofs.Common.{◌≡◌, ◌∙◌, None, sym, ap, subst, length, set, suc, arith, rules}
+use Rattle.assise_inode_table.proofs.Common.{◌≡◌, ◌∙◌, None, sym, ap, subst, length, set, suc, arith, rules, slice_cmp, StandsAt, links_in, live, slots_in}
 use Rattle.std.specs.FinMap as map
-use Rattle.std.specs.Cmp.Lexicographic.{slice_cmp}
 use Rattle.std.specs.Ordering.{nat_cmp}
-use Rattle.assise_inode_table.specs.Pieces.{StandsAt, links_in, live, slots_in}
 use Rattle.assise_inode_table.proofs.PieceSlots.{got_slot, link_read, link_set, is_gone, is_linked, set_ascend, set_filled, count_cut, cut_slot, remove_none}
 use Rattle.assise_inode_table.proofs.directory.Directory.remove.Goals as goal
 use Rattle.assise_inode_table.proofs.directory.Directory.remove.Goals.{In-Some, After-set}
@@ -10,7 +8,8 @@ use Rattle.assise_inode_table.proofs.directory.Directory.remove.Goals.{In-Some, 
 pub returns-in_default : goal.returns-in_default
 returns-in_default c =
     let name = c.args.name.now in
-    remove_none c.args.self.now name (ap (λ m. map.get m name) (sym c.self.view_is) ∙ subst (λ ps. map.get (links_in ps) name ≡ None) c.deref.ensures.value c.in_default.ensures.absent)
+    remove_none c.args.self.now name
+    (ap (λ m. map.get m name) (sym c.self.view_is) ∙ subst (λ ps. map.get (links_in ps) name ≡ None) c.deref.ensures.value c.in_default.ensures.absent)
 
 -- where the name stands
 stands : (c : In-Some) → StandsAt c.args.name.now c.self.inside.pieces.items c.in-Some.place.piece c.in-Some.place.at
@@ -53,4 +52,5 @@ returns c =
     let name = c.args.name.now in
     let there = stands (goal.at.returns c).In-Some in
     ap (λ es. map.from_entries {R = slice_cmp nat_cmp} es) c.let_go.ensures.live
-    ∙ cut_slot name _ _ _ _ there c.self.invariant.ascend (link_set name _ _ _ there _ c.index_mut.ensures.value _ _ c.set.ensures) ∙ ap (λ m. map.remove m name) c.self.view_is
+    ∙ cut_slot name _ _ _ _ there c.self.invariant.ascend (link_set name _ _ _ there _ c.index_mut.ensures.value _ _ c.set.ensures)
+    ∙ ap (λ m. map.remove m name) c.self.view_is

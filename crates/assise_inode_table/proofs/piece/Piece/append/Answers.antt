@@ -1,7 +1,4 @@
-use Rattle.std.proofs.Common.{◌≡◌, ◌≤◌, ◌+◌, ◌-◌, ◌∙◌, ◌++◌, sym, ap, ap₂, length, arith, rules, zip, take}
-use Rattle.std.specs.Arc.{arc_value}
-use borrow.Rule.Slice.PartMut.{put_mid}
-use Rattle.assise_inode_table.specs.Pieces.{links_or_none}
+use Rattle.assise_inode_table.proofs.Common.{◌≡◌, ◌≤◌, ◌+◌, ◌-◌, ◌∙◌, ◌++◌, sym, ap, ap₂, length, arith, rules, zip, take, arc_value, put_mid, links_or_none}
 use Rattle.assise_inode_table.proofs.PieceLinks.{slots_count, append_links}
 use Rattle.assise_inode_table.proofs.piece.Piece.append.Goals as goal
 

@@ -1,9 +1,5 @@
-use Rattle.std.proofs.Common.{◌≡◌, IfOk, IfErr, ◌∙◌, sym, ap, subst, length, rules, nat_cmp}
-use Rattle.std.specs.Arc.{arc_value}
-use Rattle.std.specs.Map.{keys_of}
-use Rattle.std.specs.Cmp.Lexicographic.{slice_cmp}
-use Rattle.std.specs.List.Sorted.{IsStrictlySortedBy, IsSearchInRange, IsBinarySearchResult}
-use Rattle.assise_inode_table.specs.Pieces.{IsSlotOf, IsGapFor}
+use Rattle.assise_inode_table.proofs.Common.{◌≡◌, IfOk, IfErr, ◌∙◌, sym, ap, subst, length, rules, nat_cmp, arc_value, keys_of, slice_cmp, IsStrictlySortedBy}
+use Rattle.assise_inode_table.proofs.Common.{IsSearchInRange, IsBinarySearchResult, IsSlotOf, IsGapFor}
 use Rattle.assise_inode_table.proofs.PieceChanges.{keys-side}
 use Rattle.assise_inode_table.proofs.PieceLinks.{names_few}
 use Rattle.assise_inode_table.proofs.PieceSearch.{search_found, search_missed}

@@ -1,5 +1,5 @@
-use Rattle.std.proofs.Common.{◌≡◌, length, arith, rules, ltb-true, ltb-false}
-use Rattle.std.specs.Arc.{arc_value}
+use Rattle.assise_inode_table.proofs.Common.{◌≡◌, length, arith, rules, arc_value}
+use Rattle.std.proofs.Common.{ltb-true, ltb-false}
 use Rattle.assise_inode_table.proofs.PieceLinks.{slots_count}
 use Rattle.assise_inode_table.proofs.piece.Piece.has_room.Goals as goal
 

@@ -1,8 +1,5 @@
-use Rattle.std.proofs.Common.{◌≡◌, ◌+◌, ◌-◌, ◌≤◌, ◌<◌, ◌∙◌, sym, ap, Some, length, arith, rules, zip, drop, insert}
-use Rattle.std.specs.Arc.{arc_value}
-use borrow.Rule.Slice.PartMut.{put_mid}
-use Rattle.std.proofs.lemmas.List.{length-take, length-drop}
-use Rattle.assise_inode_table.specs.Pieces.{links_or_none}
+use Rattle.assise_inode_table.proofs.Common.{◌≡◌, ◌+◌, ◌-◌, ◌≤◌, ◌<◌, ◌∙◌, sym, ap, Some, length, arith, rules, zip, drop, insert, arc_value, put_mid}
+use Rattle.assise_inode_table.proofs.Common.{length-take, length-drop, links_or_none}
 use Rattle.assise_inode_table.proofs.PieceLinks.{slots_count, insert_shifted}
 use Rattle.assise_inode_table.proofs.piece.Piece.insert.Goals as goal
 use Rattle.assise_inode_table.proofs.piece.Piece.insert.Goals.{After-way_told-1}

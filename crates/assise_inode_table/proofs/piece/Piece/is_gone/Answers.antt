@@ -1,9 +1,5 @@
-use Rattle.std.proofs.Common.{◌≡◌, ◌∙◌, sym, ap, length, arith, rules, tests, take}
-use Rattle.std.specs.Arc.{arc_value}
-use Rattle.std.specs.List.{list_all}
-use Rattle.std.proofs.lemmas.Iterator.{YieldsList-from_slice}
+use Rattle.assise_inode_table.proofs.Common.{◌≡◌, ◌∙◌, sym, ap, length, arith, rules, tests, take, arc_value, list_all, YieldsList-from_slice, live}
 use Rattle.std.proofs.lemmas.Iterator.Search.{all_from_yields_List}
-use Rattle.assise_inode_table.specs.Pieces.{live}
 use Rattle.assise_inode_table.proofs.PieceLinks.{all_gone}
 use Rattle.assise_inode_table.proofs.piece.Piece.is_gone.Goals as goal
 

@@ -1,5 +1,4 @@
-use Rattle.std.proofs.Common.{◌∙◌, arith, ap, sym, get_or}
-use Rattle.assise_inode_table.specs.Pieces.{link_or_none}
+use Rattle.assise_inode_table.proofs.Common.{◌∙◌, arith, ap, sym, get_or, link_or_none}
 use Rattle.assise_inode_table.proofs.PieceLinks.{slots_count, link_is}
 use Rattle.assise_inode_table.proofs.piece.Piece.link.Goals as goal
 

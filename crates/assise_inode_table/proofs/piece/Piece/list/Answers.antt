@@ -1,8 +1,5 @@
-use Rattle.std.proofs.Common.{◌≡◌, ◌<◌, ◌∙◌, ◌++◌, ◌∷◌, [], sym, ap, length, arith, rules, get_or, take, zip, append_assoc}
-use Rattle.std.specs.Arc.{arc_value}
-use Rattle.std.specs.Map.{keys_of}
-use Rattle.std.proofs.lemmas.List.{get_or_read}
-use Rattle.assise_inode_table.specs.Pieces.{links_or_none, link_or_none, live}
+use Rattle.assise_inode_table.proofs.Common.{◌≡◌, ◌<◌, ◌∙◌, ◌++◌, ◌∷◌, [], sym, ap, length, arith, rules, get_or, take, zip, append_assoc, arc_value, keys_of}
+use Rattle.assise_inode_table.proofs.Common.{get_or_read, links_or_none, link_or_none, live}
 use Rattle.assise_inode_table.proofs.PieceSearch.{listed_none, listed_some, take_side_all}
 use Rattle.assise_inode_table.proofs.PieceLinks.{names_few, link_beside}
 use Rattle.assise_inode_table.proofs.piece.Piece.list.Goals as goal

@@ -1,7 +1,4 @@
-use Rattle.std.proofs.Common.{◌≡◌, ◌++◌, take, zip}
-use Rattle.std.specs.Arc.{arc_value}
-use Rattle.std.specs.Map.{keys_of}
-use Rattle.assise_inode_table.specs.Pieces.{links_or_none, live}
+use Rattle.assise_inode_table.proofs.Common.{◌≡◌, ◌++◌, take, zip, arc_value, keys_of, links_or_none, live}
 use Rattle.assise_inode_table.proofs.piece.Piece.list.Given as goal
 
 abbrev pub invariant-loop-at : goal.invariant-loop-at

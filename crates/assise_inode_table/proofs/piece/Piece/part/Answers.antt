@@ -1,6 +1,4 @@
-use Rattle.std.proofs.Common.{◌≡◌, ◌≤◌, ◌-◌, ◌∙◌, sym, ap, ap₂, length, arith, rules, zip, take, drop}
-use Rattle.std.specs.Arc.{arc_value}
-use Rattle.assise_inode_table.specs.Pieces.{links_or_none}
+use Rattle.assise_inode_table.proofs.Common.{◌≡◌, ◌≤◌, ◌-◌, ◌∙◌, sym, ap, ap₂, length, arith, rules, zip, take, drop, arc_value, links_or_none}
 use Rattle.assise_inode_table.proofs.PieceLinks.{slots_count, part_links}
 use Rattle.assise_inode_table.proofs.piece.Piece.part.Goals as goal
 

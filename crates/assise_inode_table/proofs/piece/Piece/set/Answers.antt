@@ -1,6 +1,4 @@
-use Rattle.std.proofs.Common.{◌∙◌, ap, None, [], set, arith, zip}
-use Rattle.std.specs.Arc.{arc_value}
-use Rattle.assise_inode_table.specs.Pieces.{slot_name, links_or_none}
+use Rattle.assise_inode_table.proofs.Common.{◌∙◌, ap, None, [], set, arith, zip, arc_value, slot_name, links_or_none}
 use Rattle.assise_inode_table.proofs.PieceChanges.{set-side}
 use Rattle.assise_inode_table.proofs.PieceLinks.{slots_count}
 use Rattle.assise_inode_table.proofs.piece.Piece.set.Goals as goal

@@ -1,9 +1,7 @@
-use Rattle.std.proofs.Common.{◌∙◌, ap, sym, subst, Some, nat_eq}
+use Rattle.assise_inode_table.proofs.Common.{◌∙◌, ap, sym, subst, Some, nat_eq, touched_by, AsksForMemory}
 use Rattle.std.specs.FinMap as map
 use Rattle.std.proofs.lemmas.Map.Steps.{set_value_same}
 use Rattle.assise_inode_table.proofs.TableView.{change_none, change_some, value_at, is_there, on_err}
-use Rattle.assise_record.specs.Touched.{touched_by}
-use Rattle.assise_inode_table.specs.Effects.{AsksForMemory}
 use Rattle.assise_inode_table.proofs.table.InodeTable.change.Goals as goal
 
 pub returns-in_default-clause-ok : goal.returns-in_default-clause-ok
@@ -25,5 +23,6 @@ returns-clause-ok c =
 
 pub returns-in_err-change-clause-asked : goal.returns-in_err-change-clause-asked
 returns-in_err-change-clause-asked c =
-    let there = value_at c.args.self.now c.self.inside.inodes.entries (touched_by c.args.effect.now) c.touches.result (Some c.in-Some.inode.now) c.self.view_is c.touches.ensures c.in-Some.ensures.value in
+    let there = value_at c.args.self.now c.self.inside.inodes.entries (touched_by c.args.effect.now) c.touches.result (Some c.in-Some.inode.now) c.self.view_is
+    c.touches.ensures c.in-Some.ensures.value in
     on_err c.from_residual.result _ (subst (AsksForMemory c.args.effect.now) (sym there) c.in_err-change.ensures.asked)

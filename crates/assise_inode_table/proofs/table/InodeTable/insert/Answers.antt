@@ -1,4 +1,4 @@
-use Rattle.std.proofs.Common.{◌∙◌, ap, sym}
+use Rattle.assise_inode_table.proofs.Common.{◌∙◌, ap, sym}
 use Rattle.std.specs.FinMap as map
 use Rattle.assise_inode_table.proofs.MapView.{get-numbers, insert-numbers}
 use Rattle.assise_inode_table.proofs.TableView.{on_err}
@@ -15,4 +15,5 @@ returns-in_err-insert-clause-asked c =
     (ap (λ m. map.get m c.args.inode) (sym c.self.view_is) ∙ get-numbers c.self.inside.inodes.entries c.args.inode ∙ c.in_err-insert.ensures.absent)
 
 pub returns-clause-replaced : goal.returns-clause-replaced
-returns-clause-replaced c = c.in_ok-insert.ensures.old ∙ sym (get-numbers c.self.inside.inodes.entries c.args.inode) ∙ ap (λ m. map.get m c.args.inode) c.self.view_is
+returns-clause-replaced c = c.in_ok-insert.ensures.old ∙ sym (get-numbers c.self.inside.inodes.entries c.args.inode)
+    ∙ ap (λ m. map.get m c.args.inode) c.self.view_is

@@ -1,8 +1,5 @@
-use Rattle.std.proofs.Common.{◌≡◌, ◌++◌, ◌∙◌, IfSome, None, Option, Some, ap, cond, nat_eq, refl, sym}
-use Rattle.std.specs.Cmp.{nat_eq_equiv}
+use Rattle.assise_inode_table.proofs.Common.{◌≡◌, ◌++◌, ◌∙◌, IfSome, None, Option, Some, ap, cond, nat_eq, refl, sym, nat_eq_equiv, lookup, option_to_list}
 use Rattle.std.specs.FinMap as map
-use Rattle.std.specs.Map.{lookup}
-use Rattle.std.specs.Option.{option_to_list}
 use Rattle.assise_inode_table.proofs.MapView.{get-numbers, last_of, remove-numbers}
 use Rattle.assise_inode_table.proofs.table.InodeTable.pop.Goals as goal
 

@@ -1,5 +1,4 @@
-use Rattle.std.proofs.Common.{◌≡◌}
-use Rattle.assise_keeper.specs.Passes.{IsPassOf, view}
+use Rattle.assise_keeper.proofs.Common.{◌≡◌, IsPassOf, view}
 use Rattle.assise_keeper.proofs.keeper.Keeper.get.Given as goal
 
 abbrev pub invariant-loop : goal.invariant-loop

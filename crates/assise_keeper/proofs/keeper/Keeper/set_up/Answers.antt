@@ -1,13 +1,15 @@
-use Rattle.std.proofs.Common.{rules, ◌≡◌, None, Some, ◌∷◌, ap, ◌∙◌, refl, sym, subst}
-use Rattle.assise_keeper.specs.declared.view.Opens.TheVariants.{Never, Alone}
-use Rattle.assise_keeper.specs.Passes.{state_at}
-use Rattle.assise_keeper.specs.Rule.{IsLed}
+use Rattle.assise_keeper.proofs.Common.{rules, ◌≡◌, None, Some, ◌∷◌, ap, ◌∙◌, refl, sym, subst, Never, Alone, state_at, IsLed}
 use Rattle.assise_keeper.proofs.StepsKeepRule.{sets_for}
 use Rattle.assise_keeper.proofs.Stages.{self_taken}
 use Rattle.assise_keeper.proofs.keeper.Keeper.set_up.Goals as goal
 
 pub compare_exchange_with-requires : goal.compare_exchange_with-requires
-compare_exchange_with-requires g c = (search rules, search rules, sets_for g.S.Growing.history g.S.Growing.leads g.S.Growing.works g.S.Growing.stays g.S.Growing.goes_on g.S.Growing.rests g.S.Growing.works_on _ _ _ c.args.state c.requires.2)
+compare_exchange_with-requires g c = (
+  search rules,
+  search rules,
+  sets_for g.S.Growing.history g.S.Growing.leads g.S.Growing.works g.S.Growing.stays g.S.Growing.goes_on g.S.Growing.rests
+      g.S.Growing.works_on _ _ _ c.args.state c.requires.2,
+)
 
 pub put-requires-clause-holding : goal.put-requires-clause-holding
 put-requires-clause-holding g c = let up = (c.compare_exchange_with.ensures.2 c.args.state refl c.requires.2).1 in
@@ -15,7 +17,8 @@ put-requires-clause-holding g c = let up = (c.compare_exchange_with.ensures.2 c.
 
 pub put-requires-clause-leads : goal.put-requires-clause-leads
 put-requires-clause-leads g c = let up = (c.compare_exchange_with.ensures.2 c.args.state refl c.requires.2).1 in
-    subst (λ z. IsLed g.S.Growing.leads (state_at z) (Some c.in-Some.state.value)) (sym (ap (λ m. m.0.stage) up)) (subst (λ z. g.S.Growing.leads z c.in-Some.state.value) (search rules) (g.S.Growing.stays c.in-Some.state.value))
+    subst (λ z. IsLed g.S.Growing.leads (state_at z) (Some c.in-Some.state.value)) (sym (ap (λ m. m.0.stage) up))
+    (subst (λ z. g.S.Growing.leads z c.in-Some.state.value) (search rules) (g.S.Growing.stays c.in-Some.state.value))
 
 pub put-requires-clause-works : goal.put-requires-clause-works
 put-requires-clause-works g c = let up = (c.compare_exchange_with.ensures.2 c.args.state refl c.requires.2).1 in

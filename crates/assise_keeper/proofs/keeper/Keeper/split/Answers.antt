@@ -1,8 +1,12 @@
-use Rattle.std.proofs.Common.{rules}
-use Rattle.assise_keeper.specs.declared.view.Opens.TheVariants.{Never}
+use Rattle.assise_keeper.proofs.Common.{rules, Never}
 use Rattle.assise_keeper.proofs.Rights.{keeps_right}
 use Rattle.assise_keeper.proofs.StepsKeepRule.{cuts_for}
 use Rattle.assise_keeper.proofs.keeper.Keeper.split.Goals as goal
 
 pub split_seat-requires : goal.split_seat-requires
-split_seat-requires g c = let o = c.args.pass.now.seat.me.0.own.opens in (search rules, search rules, cuts_for g.S.Growing.history g.S.Growing.leads g.S.Growing.works g.S.Growing.stays g.S.Growing.goes_on g.S.Growing.rests g.S.Growing.works_on o Never _ _ (keeps_right o) (λ is. is) (λ is. absurd (cc)) c.requires.2)
+split_seat-requires g c = let o = c.args.pass.now.seat.me.0.own.opens in (
+  search rules,
+  search rules,
+  cuts_for g.S.Growing.history g.S.Growing.leads g.S.Growing.works g.S.Growing.stays g.S.Growing.goes_on g.S.Growing.rests
+      g.S.Growing.works_on o Never _ _ (keeps_right o) (λ is. is) (λ is. absurd (cc)) c.requires.2,
+)

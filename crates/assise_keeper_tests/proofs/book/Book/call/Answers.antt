@@ -1,8 +1,4 @@
-use Rattle.std.proofs.Common.{rules, ◌≡◌, List, [], ◌∷◌, ◌++◌, sym, subst}
-use Rattle.assise_history.specs.Entries.{EntryValue}
-use Rattle.assise_history.specs.Opened.{OpensOnce}
-use Rattle.assise_keeper.specs.Clients.{openings}
-use Rattle.assise_keeper_tests.specs.Made.{made}
+use Rattle.assise_keeper_tests.proofs.Common.{rules, ◌≡◌, List, [], ◌∷◌, ◌++◌, sym, subst, EntryValue, OpensOnce, openings, made}
 use Rattle.assise_keeper_tests.proofs.Books.{once_called, unused_called}
 use Rattle.assise_keeper_tests.proofs.book.Book.call.Goals as goal
 

@@ -1,6 +1,4 @@
-use Rattle.std.proofs.Common.{ℕ, nat_eq, is_some}
-use Rattle.indexmap.specs.IndexMap.{get}
-use Rattle.assise_lease_table.specs.LeaseMaps.{leases_at}
+use Rattle.assise_lease_table.proofs.Common.{ℕ, nat_eq, is_some, get, leases_at}
 use Rattle.assise_lease_table.proofs.LeaseChanges.{Fits, Known, becomes_each, revoke_fits, revoke_known}
 use Rattle.assise_lease_table.proofs.client_table.ClientTableOf.revoke_chosen.Goals as goal
 
@@ -8,6 +6,10 @@ pub invariant_of-self : goal.invariant_of-self
 invariant_of-self g c =
     let known = λ (h : ℕ). is_some (get nat_eq c.args.self.now.revokers h) in
     record {
-      compatible_leases = becomes_each Fits c.revoke.ensures (revoke_fits (g.T.Chooses.choice c.args.test.now) (leases_at c.args.self.now.leases c.args.inode) (c.args.self.now.compatible_leases c.args.inode)) c.args.self.now.compatible_leases;
-      enrolled = becomes_each (Known known) c.revoke.ensures (revoke_known known (g.T.Chooses.choice c.args.test.now) (leases_at c.args.self.now.leases c.args.inode) (c.args.self.now.enrolled c.args.inode)) c.args.self.now.enrolled;
+      compatible_leases = becomes_each Fits c.revoke.ensures
+          (revoke_fits (g.T.Chooses.choice c.args.test.now) (leases_at c.args.self.now.leases c.args.inode) (c.args.self.now.compatible_leases c.args.inode))
+          c.args.self.now.compatible_leases;
+      enrolled = becomes_each (Known known) c.revoke.ensures
+          (revoke_known known (g.T.Chooses.choice c.args.test.now) (leases_at c.args.self.now.leases c.args.inode) (c.args.self.now.enrolled c.args.inode))
+          c.args.self.now.enrolled;
     }

@@ -1,13 +1,14 @@
-use Rattle.std.proofs.Common.{refl, rules}
-use Rattle.smallvec.specs.SmallVec.{SmallVec}
-use Rattle.assise_lease_table.specs.declared.lease.Lease.{Lease}
-use Rattle.assise_lease_table.specs.Leases.{without_holder}
-use Rattle.assise_lease_table.specs.Lists.{is_any}
+use Rattle.assise_lease_table.proofs.Common.{refl, rules, SmallVec, Lease, without_holder, is_any}
 use Rattle.assise_lease_table.proofs.Retained.{kept_after, all_held, nothing_left}
 use Rattle.assise_lease_table.proofs.lease_map.LeaseMap.take_all.Goals as goal
 
 pub invariant_of-self : goal.invariant_of-self
-invariant_of-self c = record { held = all_held (λ (v : SmallVec Lease). v.items) (λ v. is_any v.items) (λ v. nothing_left v.items) _ (without_holder c.args.holder) refl _ (λ k v b w f' t. search rules) _ _ c.retain.ensures.filtered; unique = c.retain.ensures.unique }
+invariant_of-self c = record {
+  held = all_held (λ (v : SmallVec Lease). v.items) (λ v. is_any v.items) (λ v. nothing_left v.items) _ (without_holder c.args.holder) refl _
+      (λ k v b w f' t. search rules) _ _ c.retain.ensures.filtered;
+  unique = c.retain.ensures.unique;
+}
 
 pub returns : goal.returns
-returns c = kept_after (λ (v : SmallVec Lease). v.items) (λ v. is_any v.items) (λ v. nothing_left v.items) _ (without_holder c.args.holder) refl _ (λ k v b w f' t. search rules) _ _ c.args.self.now.unique c.retain.ensures.filtered
+returns c = kept_after (λ (v : SmallVec Lease). v.items) (λ v. is_any v.items) (λ v. nothing_left v.items) _ (without_holder c.args.holder) refl _
+    (λ k v b w f' t. search rules) _ _ c.args.self.now.unique c.retain.ensures.filtered

@@ -1,7 +1,4 @@
-use Rattle.std.proofs.Common.{◌≡◌, ap, ◌∙◌}
-use Rattle.smallvec.specs.SmallVec.{SmallVec}
-use Rattle.assise_lease_table.specs.declared.lease.Lease.{Lease}
-use Rattle.assise_lease_table.specs.Cuts.{is_asked, are_once, are_uncut}
+use Rattle.assise_lease_table.proofs.Common.{◌≡◌, ap, ◌∙◌, SmallVec, Lease, is_asked, are_once, are_uncut}
 use Rattle.assise_lease_table.proofs.Unasked.{all_listed, once_in, unasked_in, uncut_in, which_in}
 use Rattle.assise_lease_table.proofs.lease_map.LeaseMap.unasked.Given.{Over}
 use Rattle.assise_lease_table.proofs.lease_map.LeaseMap.unasked.Goals as goal

@@ -1,6 +1,10 @@
-use Rattle.assise_lease_table.specs.LeaseMaps.{leases_at}
+use Rattle.assise_lease_table.proofs.Common.{leases_at}
 use Rattle.assise_lease_table.proofs.LeaseChanges.{Fits, becomes_each, with_lease_fits}
 use Rattle.assise_lease_table.proofs.node_table.NodeTable.hold_reserved.Goals as goal
 
 pub invariant_of-self : goal.invariant_of-self
-invariant_of-self c = record { compatible_leases = becomes_each Fits c.put.ensures (with_lease_fits c.args.node c.args.mode (leases_at c.args.self.now.leases c.args.inode) (c.args.self.now.compatible_leases c.args.inode) c.requires.free) c.args.self.now.compatible_leases }
+invariant_of-self c = record {
+  compatible_leases = becomes_each Fits c.put.ensures
+      (with_lease_fits c.args.node c.args.mode (leases_at c.args.self.now.leases c.args.inode) (c.args.self.now.compatible_leases c.args.inode) c.requires.free)
+      c.args.self.now.compatible_leases;
+}

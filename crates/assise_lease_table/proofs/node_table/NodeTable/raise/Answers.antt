@@ -1,7 +1,4 @@
-use Rattle.std.proofs.Common.{ap, sym, ◌∙◌}
-use Rattle.std.specs.List.{list_any}
-use Rattle.assise_lease_table.specs.LeaseMaps.{leases_at}
-use Rattle.assise_lease_table.specs.Leases.{is_rival}
+use Rattle.assise_lease_table.proofs.Common.{ap, sym, ◌∙◌, list_any, leases_at, is_rival}
 use Rattle.assise_lease_table.proofs.LeaseChanges.{Fits, becomes_each}
 use Rattle.assise_lease_table.proofs.Compatibles.{no_rivals, raise_compatible}
 use Rattle.assise_lease_table.proofs.node_table.NodeTable.raise.Goals as goal
@@ -11,4 +8,7 @@ invariant_of-self c =
     let ls = leases_at c.args.self.now.leases c.args.inode in
     let fits = c.args.self.now.compatible_leases in
     let none = sym (c.is_any_chosen.ensures ∙ ap (list_any (is_rival c.args.node c.args.mode)) c.leases.ensures) ∙ c.if-not-is_any_chosen.true in
-    record { compatible_leases = becomes_each Fits c.raise.ensures (raise_compatible c.args.node c.args.mode ls (fits c.args.inode) (no_rivals ls c.args.node c.args.mode none)) fits }
+    record {
+      compatible_leases =
+          becomes_each Fits c.raise.ensures (raise_compatible c.args.node c.args.mode ls (fits c.args.inode) (no_rivals ls c.args.node c.args.mode none)) fits;
+    }

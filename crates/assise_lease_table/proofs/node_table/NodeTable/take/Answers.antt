@@ -1,6 +1,10 @@
-use Rattle.assise_lease_table.specs.LeaseMaps.{leases_at}
+use Rattle.assise_lease_table.proofs.Common.{leases_at}
 use Rattle.assise_lease_table.proofs.LeaseChanges.{Fits, becomes_each, leave_out_fits}
 use Rattle.assise_lease_table.proofs.node_table.NodeTable.take.Goals as goal
 
 pub invariant_of-self : goal.invariant_of-self
-invariant_of-self g c = record { compatible_leases = becomes_each Fits c.take.ensures (leave_out_fits (g.T.Chooses.choice c.args.test.now) (leases_at c.args.self.now.leases c.args.inode) (c.args.self.now.compatible_leases c.args.inode)) c.args.self.now.compatible_leases }
+invariant_of-self g c = record {
+  compatible_leases = becomes_each Fits c.take.ensures
+      (leave_out_fits (g.T.Chooses.choice c.args.test.now) (leases_at c.args.self.now.leases c.args.inode) (c.args.self.now.compatible_leases c.args.inode))
+      c.args.self.now.compatible_leases;
+}

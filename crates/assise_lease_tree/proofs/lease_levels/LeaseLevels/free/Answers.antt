@@ -1,10 +1,4 @@
-use Rattle.std.proofs.Common.{refl, rules}
-use Rattle.std.proofs.lemmas.Bool.{or_parts}
-use Rattle.assise_lease_table.specs.Leases.{without_holder}
-use Rattle.assise_lease_table.specs.Lists.{is_any}
-use Rattle.assise_lease_table.proofs.Retained.{kept_after, all_held, nothing_left}
-use Rattle.assise_lease_tree.specs.BothLevels.{is_in_use}
-use Rattle.assise_lease_tree.specs.declared.both_levels.BothLevels.{BothLevels}
+use Rattle.assise_lease_tree.proofs.Common.{refl, rules, or_parts, without_holder, is_any, kept_after, all_held, nothing_left, is_in_use, BothLevels}
 use Rattle.assise_lease_tree.proofs.lease_levels.LeaseLevels.free.Goals as goal
 
 pub invariant_of-self : goal.invariant_of-self

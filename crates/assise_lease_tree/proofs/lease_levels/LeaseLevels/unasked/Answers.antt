@@ -1,7 +1,4 @@
-use Rattle.std.proofs.Common.{◌≡◌, ap, ◌∙◌}
-use Rattle.assise_lease_table.specs.Cuts.{is_asked, are_once, are_uncut}
-use Rattle.assise_lease_table.proofs.Unasked.{all_listed, once_in, unasked_in, uncut_in, which_in}
-use Rattle.assise_lease_tree.specs.declared.both_levels.BothLevels.{BothLevels}
+use Rattle.assise_lease_tree.proofs.Common.{◌≡◌, ap, ◌∙◌, is_asked, are_once, are_uncut, all_listed, once_in, unasked_in, uncut_in, which_in, BothLevels}
 use Rattle.assise_lease_tree.proofs.lease_levels.LeaseLevels.unasked.Given.{Over}
 use Rattle.assise_lease_tree.proofs.lease_levels.LeaseLevels.unasked.Goals as goal
 use Rattle.assise_lease_tree.proofs.lease_levels.LeaseLevels.unasked.Goals.{In-None}

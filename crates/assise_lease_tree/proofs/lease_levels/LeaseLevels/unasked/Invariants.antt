@@ -1,6 +1,4 @@
-use Rattle.std.proofs.Common.{◌≡◌, ◌++◌}
-use Rattle.assise_lease_table.proofs.Unasked.{unasked_in}
-use Rattle.assise_lease_tree.specs.declared.both_levels.BothLevels.{BothLevels}
+use Rattle.assise_lease_tree.proofs.Common.{◌≡◌, ◌++◌, unasked_in, BothLevels}
 use Rattle.assise_lease_tree.proofs.lease_levels.LeaseLevels.unasked.Given as goal
 
 -- with what is left to list they are all

@@ -1,7 +1,4 @@
-use Rattle.std.proofs.Common.{◌∙◌, ap, subst, Ok, of_calls}
-use Rattle.assise_libfs.specs.Calling.{MayRefuse}
-use Rattle.assise_libfs.specs.Clients.{client_of, node_of, seen_by}
-use Rattle.assise_history.specs.Legal.{IsOpenedOn}
+use Rattle.assise_libfs.proofs.Common.{◌∙◌, ap, subst, Ok, of_calls, MayRefuse, client_of, node_of, seen_by, IsOpenedOn}
 use Rattle.assise_libfs.proofs.Refused.{refused-opened}
 use Rattle.assise_libfs.proofs.Same.{same-then}
 use Rattle.assise_libfs.proofs.Tries.{others_then_try}
@@ -39,13 +36,19 @@ loop-turn-preserved g c = let inv = c.loop-turn.invariant in
       callable = search of_calls;
       same = same-then _ _ _ inv.same c.turn.ensures.same;
       others = rw (c.in-Ok-None.is, c.in-Ok-None.field-0-is) at t;
-      waited = waits_on _ _ (client_of c.args.self.now) c.args.op.now (client_of c.loop-turn.self) c.loop-turn.turn (seen_by c.args.self.now) (seen_by c.loop-turn.self) (seen_by c.turn.new.self) c.turn.result inv.same.client (c.in-Ok-None.is ∙ ap Ok c.in-Ok-None.field-0-is) inv.waited c.turn.ensures.turn;
+      waited = waits_on _ _ (client_of c.args.self.now) c.args.op.now (client_of c.loop-turn.self) c.loop-turn.turn (seen_by c.args.self.now)
+          (seen_by c.loop-turn.self) (seen_by c.turn.new.self) c.turn.result inv.same.client (c.in-Ok-None.is ∙ ap Ok c.in-Ok-None.field-0-is) inv.waited
+          c.turn.ensures.turn;
     }
 
 pub returns-in-Ok-Some-clause-turns : goal.returns-in-Ok-Some-clause-turns
 returns-in-Ok-Some-clause-turns g c = let inv = c.loop-turn.invariant in
-    answered_by _ _ (client_of c.args.self.now) c.args.op.now (client_of c.loop-turn.self) c.loop-turn.turn _ (seen_by c.args.self.now) (seen_by c.loop-turn.self) (seen_by c.turn.new.self) c.turn.result _ inv.same.client (c.in-Ok-Some.is ∙ ap Ok c.in-Ok-Some.field-0-is) c.loop-turn-test.true inv.waited c.turn.ensures.turn
+    answered_by _ _ (client_of c.args.self.now) c.args.op.now (client_of c.loop-turn.self) c.loop-turn.turn _ (seen_by c.args.self.now)
+    (seen_by c.loop-turn.self) (seen_by c.turn.new.self) c.turn.result _ inv.same.client (c.in-Ok-Some.is ∙ ap Ok c.in-Ok-Some.field-0-is)
+    c.loop-turn-test.true inv.waited c.turn.ensures.turn
 
 pub returns-in-Err-clause-turns : goal.returns-in-Err-clause-turns
 returns-in-Err-clause-turns g c = let inv = c.loop-turn.invariant in
-    refused_by _ _ (client_of c.args.self.now) c.args.op.now (client_of c.loop-turn.self) c.loop-turn.turn _ (seen_by c.args.self.now) (seen_by c.loop-turn.self) (seen_by c.turn.new.self) c.turn.result c.in-Err.refusal inv.same.client c.in-Err.is c.loop-turn-test.true inv.waited c.turn.ensures.turn c.in-Err.ensures.refused
+    refused_by _ _ (client_of c.args.self.now) c.args.op.now (client_of c.loop-turn.self) c.loop-turn.turn _ (seen_by c.args.self.now)
+    (seen_by c.loop-turn.self) (seen_by c.turn.new.self) c.turn.result c.in-Err.refusal inv.same.client c.in-Err.is c.loop-turn-test.true inv.waited
+    c.turn.ensures.turn c.in-Err.ensures.refused

@@ -1,6 +1,4 @@
-use Rattle.assise_libfs.specs.Calling.{ExtendsByOthers}
-use Rattle.assise_libfs.specs.Clients.{IsSameClient, client_of, seen_by}
-use Rattle.assise_libfs.specs.InTurns.{HasWaited}
+use Rattle.assise_libfs.proofs.Common.{ExtendsByOthers, IsSameClient, client_of, seen_by, HasWaited}
 use Rattle.assise_libfs.proofs.libfs.LibFs.call_meanwhile.Given as goal
 
 abbrev pub invariant-loop-turn : goal.invariant-loop-turn

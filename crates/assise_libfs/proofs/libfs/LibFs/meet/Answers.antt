@@ -1,6 +1,4 @@
-use Rattle.std.proofs.Common.{subst, sym}
-use Rattle.std.proofs.Math.Logic.{∥∥₁_map}
-use Rattle.assise_history.specs.Legal.{IsLegal}
+use Rattle.assise_libfs.proofs.Common.{subst, sym, ∥∥₁_map, IsLegal}
 use Rattle.assise_libfs.proofs.Tries.{opened-extends}
 use Rattle.assise_libfs.proofs.libfs.LibFs.meet.Goals as goal
 

@@ -1,4 +1,4 @@
-use Rattle.std.proofs.Common.{◌≤◌, arith}
+use Rattle.assise_libfs_tests.proofs.Common.{◌≤◌, arith}
 use Rattle.assise_names.specs.declared.limits.TheConstants.{MOST_CLIENTS}
 use Rattle.assise_libfs_tests.proofs.Grown.{begun, unchanged}
 use Rattle.assise_libfs_tests.proofs.ledger.Ledger.new.Goals as goal

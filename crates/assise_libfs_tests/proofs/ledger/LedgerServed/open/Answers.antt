@@ -1,5 +1,4 @@
-use Rattle.std.proofs.Common.{rules, ◌≡◌, ◌+◌, [], ◌∷◌, ◌++◌, ◌∙◌, arith}
-use Rattle.assise_history.specs.Entries.{opens}
+use Rattle.assise_libfs_tests.proofs.Common.{rules, ◌≡◌, ◌+◌, [], ◌∷◌, ◌++◌, ◌∙◌, arith, opens}
 use Rattle.assise_libfs_tests.proofs.Grown.{none_down, opened, opened_so_many}
 use Rattle.assise_libfs_tests.proofs.ledger.LedgerServed.open.Goals as goal
 

@@ -1,17 +1,16 @@
-use Rattle.std.proofs.Common.{rules, arith, ◌≡◌, [], ◌∷◌, ◌++◌}
-use Rattle.assise_names.specs.declared.call.Op.TheVariants.{Fsync}
-use Rattle.assise_names.specs.declared.reply.Reply.TheVariants.{Done}
-use Rattle.assise_libfs.specs.Calling.{told_call}
+use Rattle.assise_libfs_tests.proofs.Common.{rules, arith, ◌≡◌, [], ◌∷◌, ◌++◌, Fsync, Done, told_call}
 use Rattle.assise_libfs_tests.proofs.Grown.{called, may_call, no_other}
 use Rattle.assise_libfs_tests.proofs.ledger.LedgerServed.try_call.Goals as goal
-use Rattle.assise_libfs_tests.proofs.ledger.LedgerServed.try_call.Goals.{then-client-eq0-via-then-client-eq0, then-client-eq0-via-else-client-eq0+then-client-self}
+use Rattle.assise_libfs_tests.proofs.ledger.LedgerServed.try_call.Goals.{then-client-eq0-via-then-client-eq0}
+use Rattle.assise_libfs_tests.proofs.ledger.LedgerServed.try_call.Goals.{then-client-eq0-via-else-client-eq0+then-client-self}
 
 pub returns-then-client-eq0-clause-refused : goal.returns-then-client-eq0-clause-refused
 returns-then-client-eq0-clause-refused c =
     let l = c.args.self.now in
     elim c.then-client-eq0.branch [
       | then-client-eq0-via-then-client-eq0 w ↦ no_other l.clients l.history.events c.args.client l.kept (λ lo hi. let zero = w.if-client-eq0 in omega arith)
-      | then-client-eq0-via-else-client-eq0+then-client-self w ↦ no_other l.clients l.history.events c.args.client l.kept (λ lo hi. let over = w.if-client-self in omega arith)
+      | then-client-eq0-via-else-client-eq0+then-client-self w ↦
+          no_other l.clients l.history.events c.args.client l.kept (λ lo hi. let over = w.if-client-self in omega arith)
     ]
 
 pub returns-then-self-clause-refused : goal.returns-then-self-clause-refused

@@ -1,4 +1,4 @@
-use Rattle.std.proofs.Common.{◌∙◌, sym}
+use Rattle.assise_machine.proofs.Common.{◌∙◌, sym}
 use Rattle.assise_machine.proofs.Alone.{if_ok_from}
 use Rattle.assise_machine.proofs.Replicated.{acked_seen}
 use Rattle.assise_machine.proofs.cluster.ClusterOf.acked.Goals as goal

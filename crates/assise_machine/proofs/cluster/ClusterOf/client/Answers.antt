@@ -1,6 +1,4 @@
-use Rattle.std.proofs.Common.{refl}
-use Rattle.std.proofs.Math.Logic.{∥∥₁_map}
-use Rattle.assise_machine_state.specs.Whole.{value_of}
+use Rattle.assise_machine.proofs.Common.{refl, ∥∥₁_map, value_of}
 use Rattle.assise_machine.proofs.Alone.{if_ok_from}
 use Rattle.assise_machine.proofs.KnownClients.{known_client}
 use Rattle.assise_machine.proofs.cluster.ClusterOf.client.Goals as goal

@@ -1,7 +1,4 @@
-use Rattle.std.proofs.Common.{sym, subst}
-use Rattle.std.proofs.Math.Logic.{∥∥₁_map}
-use Rattle.assise_history.specs.Legal.{IsLegal}
-use Rattle.assise_machine_state.specs.Observed.{observed}
+use Rattle.assise_machine.proofs.Common.{sym, subst, ∥∥₁_map, IsLegal, observed}
 use Rattle.assise_machine.proofs.cluster.ClusterOf.history.Goals as goal
 
 pub returns-clause-legal : goal.returns-clause-legal

@@ -1,6 +1,4 @@
-use Rattle.std.proofs.Common.{◌∙◌, ap, sym}
-use Rattle.assise_manager.specs.NodeLevels.{level_of, newest}
-use Rattle.assise_machine_state.specs.Whole.{value_of}
+use Rattle.assise_machine.proofs.Common.{◌∙◌, ap, sym, level_of, newest, value_of}
 use Rattle.assise_machine.proofs.RaisedNode.{members_as, node_there, node_none}
 use Rattle.assise_machine.proofs.cluster.ClusterOf.level.Goals as goal
 

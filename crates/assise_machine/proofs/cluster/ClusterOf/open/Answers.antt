@@ -1,4 +1,4 @@
-use Rattle.assise_machine_state.specs.Observed.{observed, world_of}
+use Rattle.assise_machine.proofs.Common.{observed, world_of}
 use Rattle.assise_machine.proofs.cluster.ClusterOf.open.Goals as goal
 
 pub returns-clause-stored : goal.returns-clause-stored

@@ -1,6 +1,4 @@
-use Rattle.std.proofs.Common.{◌∙◌, ap, sym}
-use Rattle.assise_manager.specs.Standings.{phase_of, standing_of}
-use Rattle.assise_machine_state.specs.Whole.{value_of}
+use Rattle.assise_machine.proofs.Common.{◌∙◌, ap, sym, phase_of, standing_of, value_of}
 use Rattle.assise_machine.proofs.Phases.{full_has_no_fault, no_fault_is_full}
 use Rattle.assise_machine.proofs.RaisedNode.{members_as}
 use Rattle.assise_machine.proofs.Replicated.{fine_is_up, up_is_fine}

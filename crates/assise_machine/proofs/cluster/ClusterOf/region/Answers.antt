@@ -1,5 +1,4 @@
-use Rattle.std.proofs.Common.{refl}
-use Rattle.assise_machine_state.specs.Whole.{value_of}
+use Rattle.assise_machine.proofs.Common.{refl, value_of}
 use Rattle.assise_machine.proofs.Alone.{gives_alone, if_ok_from, same_alone}
 use Rattle.assise_machine.proofs.Replicated.{fine_is_up, up_is_fine}
 use Rattle.assise_machine.proofs.cluster.ClusterOf.region.Goals as goal

@@ -1,4 +1,4 @@
-use Rattle.std.proofs.Common.{◌∙◌, sym}
+use Rattle.assise_machine.proofs.Common.{◌∙◌, sym}
 use Rattle.assise_machine.proofs.Alone.{if_ok_from}
 use Rattle.assise_machine.proofs.Replicated.{replicated_seen}
 use Rattle.assise_machine.proofs.cluster.ClusterOf.replicated_to.Goals as goal

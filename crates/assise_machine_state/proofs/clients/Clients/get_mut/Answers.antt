@@ -1,4 +1,4 @@
-use Rattle.std.proofs.Common.{arith}
+use Rattle.assise_machine_state.proofs.Common.{arith}
 use Rattle.assise_machine_state.proofs.ItemSeen.{client_found, is_set}
 use Rattle.assise_machine_state.proofs.clients.Clients.get_mut.Goals as goal
 

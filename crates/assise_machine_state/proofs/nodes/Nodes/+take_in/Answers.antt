@@ -1,8 +1,5 @@
-use Rattle.std.proofs.Common.{◌≡◌, ℕ, Bool, List, ◌∷◌, ◌∙◌, drop, ap, sym, arith, []}
-use Rattle.std.proofs.lemmas.List.{drop_all, nil_from_length}
-use Rattle.assise_record.specs.LogRecord.{LogRecord}
-use Rattle.assise_private_log.specs.NumberedLog.{is_border}
-use Rattle.assise_machine_state.specs.NodeValues.{log_in, with_log_in, with_records}
+use Rattle.assise_machine_state.proofs.Common.{◌≡◌, ℕ, Bool, List, ◌∷◌, ◌∙◌, drop, ap, sym, arith, [], drop_all, nil_from_length, LogRecord, is_border, log_in}
+use Rattle.assise_machine_state.proofs.Common.{with_log_in, with_records}
 use Rattle.assise_machine_state.proofs.RecordsTaken.{none_taken, one_taken}
 use Rattle.assise_machine_state.proofs.nodes.Nodes.+take_in.Goals as goal
 
@@ -25,7 +22,8 @@ returns t c =
     let border : ℕ → Bool = is_border (log_in rs c.args.own client).log in
     let rest : List LogRecord = c.next.new.self.rest.items in
     let none : c.args.skipped ≡ 0 = omega (arith, c.if-skipped-gt0.false) in
-    let left : drop c.args.skipped c.args.records.rest.items ≡ c.in-Some.added ∷ rest = ap (λ k. drop k c.args.records.rest.items) none ∙ c.in-Some.ensures.items in
+    let left : drop c.args.skipped c.args.records.rest.items ≡ c.in-Some.added ∷ rest = ap (λ k. drop k c.args.records.rest.items) none
+    ∙ c.in-Some.ensures.items in
     c.take_in-2.ensures
     ∙ ap (λ l. with_log_in c.take_one.new.self n client (with_records (is_border l.log) (log_in c.take_one.new.self n client) rest)) c.take_one.ensures.own_log
     ∙ ap (λ q. with_log_in q n client (with_records border (log_in q n client) rest)) c.take_one.ensures.next

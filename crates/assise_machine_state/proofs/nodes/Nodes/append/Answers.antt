@@ -1,4 +1,4 @@
-use Rattle.std.proofs.Common.{arith}
+use Rattle.assise_machine_state.proofs.Common.{arith}
 use Rattle.assise_machine_state.proofs.LogChanges.{changed_log, log_found, refused_back}
 use Rattle.assise_machine_state.proofs.nodes.Nodes.append.Goals as goal
 

@@ -1,5 +1,4 @@
-use Rattle.std.proofs.Common.{arith}
-use Rattle.std.proofs.lemmas.Result.{on_err_weaker}
+use Rattle.assise_machine_state.proofs.Common.{arith, on_err_weaker}
 use Rattle.assise_machine_state.proofs.LogChanges.{refused_back}
 use Rattle.assise_machine_state.proofs.nodes.Nodes.copy_logs.Goals as goal
 

@@ -1,4 +1,4 @@
-use Rattle.std.proofs.Common.{arith}
+use Rattle.assise_machine_state.proofs.Common.{arith}
 use Rattle.assise_machine_state.proofs.LogChanges.{digested_put, log_found, refused_back}
 use Rattle.assise_machine_state.proofs.nodes.Nodes.digest_some.Goals as goal
 

@@ -1,4 +1,4 @@
-use Rattle.std.proofs.Common.{◌∙◌, ap}
+use Rattle.assise_machine_state.proofs.Common.{◌∙◌, ap}
 use Rattle.assise_machine_state.proofs.LogChanges.{log_found}
 use Rattle.assise_machine_state.proofs.nodes.Nodes.digested.Goals as goal
 

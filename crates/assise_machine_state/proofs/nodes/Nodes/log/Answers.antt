@@ -1,4 +1,4 @@
-use Rattle.std.proofs.Common.{arith}
+use Rattle.assise_machine_state.proofs.Common.{arith}
 use Rattle.assise_machine_state.proofs.LogChanges.{log_found}
 use Rattle.assise_machine_state.proofs.nodes.Nodes.log.Goals as goal
 

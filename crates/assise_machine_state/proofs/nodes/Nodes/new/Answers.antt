@@ -1,4 +1,4 @@
-use Rattle.std.proofs.Common.{arith}
+use Rattle.assise_machine_state.proofs.Common.{arith}
 use Rattle.assise_machine_state.proofs.Regions.{one_region_more}
 use Rattle.assise_machine_state.proofs.nodes.Nodes.new.Goals as goal
 

@@ -1,5 +1,4 @@
-use Rattle.std.proofs.Common.{◌≡◌}
-use Rattle.assise_machine_state.specs.NodeValues.{new_regions}
+use Rattle.assise_machine_state.proofs.Common.{◌≡◌, new_regions}
 use Rattle.assise_machine_state.proofs.nodes.Nodes.new.Given as goal
 
 abbrev pub invariant-loop : goal.invariant-loop

@@ -1,5 +1,4 @@
-use Rattle.std.proofs.Common.{arith}
-use Rattle.std.proofs.lemmas.Result.{on_ok_weaker}
+use Rattle.assise_machine_state.proofs.Common.{arith, on_ok_weaker}
 use Rattle.assise_machine_state.proofs.HotCapacities.{hot_as}
 use Rattle.assise_machine_state.proofs.LogChanges.{refused_back}
 use Rattle.assise_machine_state.proofs.nodes.Nodes.set_hot_capacity.Goals as goal

@@ -1,8 +1,5 @@
-use Rattle.std.proofs.Common.{◌≡◌, ◌∙◌, ap, subst, sym, arith}
-use Rattle.assise_private_log.specs.NumberedLog.{end, is_border}
-use Rattle.assise_private_log.proofs.Borders.{open_group}
-use Rattle.assise_digest.specs.Region.{with_one}
-use Rattle.assise_machine_state.specs.NodeValues.{log_in, with_log_in, with_next, with_region}
+use Rattle.assise_machine_state.proofs.Common.{◌≡◌, ◌∙◌, ap, subst, sym, arith, end, is_border, open_group, with_one, log_in, with_log_in, with_next}
+use Rattle.assise_machine_state.proofs.Common.{with_region}
 use Rattle.assise_machine_state.proofs.RecordsTaken.{TakesOne, takes_one}
 use Rattle.assise_machine_state.proofs.nodes.Nodes.take_one.Goals as goal
 use Rattle.assise_machine_state.proofs.LogChanges.{log_found, log_put}

@@ -1,5 +1,4 @@
-use Rattle.std.proofs.Common.{◌∙◌, ap}
-use Rattle.assise_machine_state.specs.NodeValues.{with_region}
+use Rattle.assise_machine_state.proofs.Common.{◌∙◌, ap, with_region}
 use Rattle.assise_machine_state.proofs.LogChanges.{region_back}
 use Rattle.assise_machine_state.proofs.nodes.Nodes.touch.Goals as goal
 

@@ -1,4 +1,4 @@
-use Rattle.assise_machine_state.specs.Observed.{observed}
+use Rattle.assise_machine_state.proofs.Common.{observed}
 use Rattle.assise_machine_state.proofs.sound.SoundOf.acked.Goals as goal
 
 pub returns-clause-acked : goal.returns-clause-acked

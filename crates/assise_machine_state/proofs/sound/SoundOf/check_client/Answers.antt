@@ -1,8 +1,8 @@
-use Rattle.std.proofs.Common.{◌<◌, refl, arith}
-use Rattle.assise_machine_state.specs.Whole.{value_of}
+use Rattle.assise_machine_state.proofs.Common.{◌<◌, refl, arith, value_of}
 use Rattle.assise_machine_state.proofs.Fullness.{client_number, number_client}
 use Rattle.assise_machine_state.proofs.sound.SoundOf.check_client.Goals as goal
-use Rattle.assise_machine_state.proofs.sound.SoundOf.check_client.Goals.{then-client-eq0-via-then-client-eq0, then-client-eq0-via-else-client-eq0+then-client-len}
+use Rattle.assise_machine_state.proofs.sound.SoundOf.check_client.Goals.{then-client-eq0-via-then-client-eq0}
+use Rattle.assise_machine_state.proofs.sound.SoundOf.check_client.Goals.{then-client-eq0-via-else-client-eq0+then-client-len}
 
 pub returns-then-client-eq0-clause-ok : goal.returns-then-client-eq0-clause-ok
 returns-then-client-eq0-clause-ok g c = (
@@ -17,6 +17,7 @@ returns-then-client-eq0-clause-ok g c = (
 
 pub returns-clause-ok : goal.returns-clause-ok
 returns-clause-ok g c = (
-  (λ yes. number_client (value_of c.args.self.now.state) c.args.client (let some : 0 < c.args.client = omega (arith, c.if-client-eq0.false) in record { some = some; there = rw (← c.len.ensures) c.if-client-len.false })),
+  (λ yes. number_client (value_of c.args.self.now.state) c.args.client (let some : 0 < c.args.client = omega (arith, c.if-client-eq0.false) in
+      record { some = some; there = rw (← c.len.ensures) c.if-client-len.false })),
   (λ is. refl),
 )

@@ -1,5 +1,4 @@
-use Rattle.std.proofs.Common.{refl}
-use Rattle.assise_machine_state.specs.Observed.{observed}
+use Rattle.assise_machine_state.proofs.Common.{refl, observed}
 use Rattle.assise_machine_state.proofs.sound.SoundOf.history.Goals as goal
 
 pub returns : goal.returns

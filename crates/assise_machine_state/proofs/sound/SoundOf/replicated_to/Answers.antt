@@ -1,4 +1,4 @@
-use Rattle.assise_machine_state.specs.Observed.{observed}
+use Rattle.assise_machine_state.proofs.Common.{observed}
 use Rattle.assise_machine_state.proofs.sound.SoundOf.replicated_to.Goals as goal
 
 pub returns-clause-replicated : goal.returns-clause-replicated

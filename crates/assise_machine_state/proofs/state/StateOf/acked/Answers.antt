@@ -1,6 +1,4 @@
-use Rattle.std.proofs.Common.{arith}
-use Rattle.assise_model_world.specs.World.{end_of_log, received_by_all}
-use Rattle.assise_machine_state.specs.Observed.{own_seen, world_of}
+use Rattle.assise_machine_state.proofs.Common.{arith, end_of_log, received_by_all, own_seen, world_of}
 use Rattle.assise_machine_state.proofs.OwnLogs.{next_least, next_log, whole_least}
 use Rattle.assise_machine_state.proofs.state.StateOf.acked.Goals as goal
 

@@ -1,6 +1,4 @@
-use Rattle.std.proofs.Common.{arith}
-use Rattle.assise_model_world.specs.World.{digested_by_all, end_of_log}
-use Rattle.assise_machine_state.specs.Observed.{own_seen, world_of}
+use Rattle.assise_machine_state.proofs.Common.{arith, digested_by_all, end_of_log, own_seen, world_of}
 use Rattle.assise_machine_state.proofs.OwnLogs.{next_least, next_log, whole_least}
 use Rattle.assise_machine_state.proofs.state.StateOf.digested.Goals as goal
 

@@ -1,4 +1,4 @@
-use Rattle.std.proofs.Common.{arith}
+use Rattle.assise_machine_state.proofs.Common.{arith}
 use Rattle.assise_machine_state.proofs.Noted.{none_noted}
 use Rattle.assise_machine_state.proofs.StartObserved.{starts, starts_shaped}
 use Rattle.assise_machine_state.proofs.state.StateOf.new.Goals as goal

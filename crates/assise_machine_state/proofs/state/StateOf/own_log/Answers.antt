@@ -1,5 +1,4 @@
-use Rattle.std.proofs.Common.{◌∙◌, ap}
-use Rattle.assise_machine_state.specs.NodeValues.{log_in}
+use Rattle.assise_machine_state.proofs.Common.{◌∙◌, ap, log_in}
 use Rattle.assise_machine_state.proofs.state.StateOf.own_log.Goals as goal
 
 pub returns-clause-log : goal.returns-clause-log

@@ -1,7 +1,4 @@
-use Rattle.std.proofs.Common.{◌≡◌, ◌∙◌, get_or, ap, sym}
-use Rattle.assise_manager.specs.Whole.{membership}
-use Rattle.assise_machine_state.specs.ClientValues.{client_in}
-use Rattle.assise_machine_state.specs.Observed.{own_node}
+use Rattle.assise_machine_state.proofs.Common.{◌≡◌, ◌∙◌, get_or, ap, sym, membership, client_in, own_node}
 use Rattle.assise_machine_state.proofs.OwnLogs.{own_log, own_of_failed, own_of_unfailed}
 use Rattle.assise_machine_state.proofs.state.StateOf.own_node.Goals as goal
 

@@ -1,5 +1,5 @@
-use Rattle.std.proofs.Common.{arith}
-use Rattle.std.proofs.lemmas.Bool.{eq-eqb, ne_eqb}
+use Rattle.assise_machine_state.proofs.Common.{arith, ne_eqb}
+use Rattle.std.proofs.lemmas.Bool.{eq-eqb}
 use Rattle.assise_machine_state.proofs.Besides.{next_most, next_same}
 use Rattle.assise_machine_state.proofs.OwnLogs.{next_log, whole_taken}
 use Rattle.assise_machine_state.proofs.state.StateOf.received_besides.Goals as goal

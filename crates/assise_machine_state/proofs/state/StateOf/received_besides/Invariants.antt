@@ -1,9 +1,4 @@
-use Rattle.std.proofs.Common.{◌≡◌, take}
-use Rattle.assise_private_log.specs.NumberedLog.{end}
-use Rattle.assise_manager.specs.Standings.{full_nodes}
-use Rattle.assise_manager.specs.Whole.{membership}
-use Rattle.assise_model_events.specs.Dsyncs.{besides, most_of}
-use Rattle.assise_machine_state.specs.NodeValues.{log_in}
+use Rattle.assise_machine_state.proofs.Common.{◌≡◌, take, end, full_nodes, membership, besides, most_of, log_in}
 use Rattle.assise_machine_state.proofs.state.StateOf.received_besides.Given as goal
 
 -- the greatest place of the first full nodes besides that one

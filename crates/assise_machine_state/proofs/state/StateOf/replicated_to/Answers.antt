@@ -1,8 +1,4 @@
-use Rattle.std.proofs.Common.{◌≡◌, [], ◌∷◌, ap, sym, ◌∙◌}
-use Rattle.assise_record.specs.Records.{call_of}
-use Rattle.assise_private_log.specs.NumberedLog.{records_from}
-use Rattle.assise_machine_state.specs.ClientValues.{client_in}
-use Rattle.assise_machine_state.specs.Whole.{value_of}
+use Rattle.assise_machine_state.proofs.Common.{◌≡◌, [], ◌∷◌, ap, sym, ◌∙◌, call_of, records_from, client_in, value_of}
 use Rattle.assise_machine_state.proofs.Unreplicated.{first_behind}
 use Rattle.assise_machine_state.proofs.state.StateOf.replicated_to.Goals as goal
 

@@ -1,10 +1,4 @@
-use Rattle.std.proofs.Common.{◌≡◌, ◌∙◌}
-use Rattle.assise_record.specs.Records.{all_effects}
-use Rattle.assise_inode_table.specs.Effects.{all_applied}
-use Rattle.assise_digest.specs.Region.{ahead, log_of}
-use Rattle.assise_machine_state.specs.ClientValues.{client_in}
-use Rattle.assise_machine_state.specs.NodeValues.{log_in}
-use Rattle.assise_machine_state.specs.Whole.{value_of}
+use Rattle.assise_machine_state.proofs.Common.{◌≡◌, ◌∙◌, all_effects, all_applied, ahead, log_of, client_in, log_in, value_of}
 use Rattle.assise_machine_state.proofs.LogChanges.{log_found}
 use Rattle.assise_machine_state.proofs.OwnLogs.{home_known, home_log}
 use Rattle.assise_machine_state.proofs.state.StateOf.view.Given as given

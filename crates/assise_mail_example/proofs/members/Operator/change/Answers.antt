@@ -1,4 +1,4 @@
-use Rattle.std.proofs.Common.{rules, ◌≡◌, ◌∙◌, sym}
+use Rattle.assise_mail_example.proofs.Common.{rules, ◌≡◌, ◌∙◌, sym}
 use Rattle.assise_keeper.proofs.LedStates.{led_from}
 use Rattle.assise_keeper.specs.declared.view.Opens.TheVariants.{AmongOthers, Never}
 use Rattle.assise_keeper.specs.Passes.{taken}

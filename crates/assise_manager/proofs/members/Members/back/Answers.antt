@@ -1,16 +1,15 @@
-use Rattle.std.proofs.Common.{is_some, ◌∙◌, Some, sym, ap, map}
+use Rattle.assise_manager.proofs.Common.{is_some, ◌∙◌, Some, sym, ap, map, option_map, with_node, stale_of, back_as, returning, standing_of, full_nodes}
+use Rattle.assise_manager.proofs.Common.{standing, membership}
 use Rattle.std.specs.FinSet as set
-use Rattle.std.specs.Option.{option_map}
-use Rattle.assise_manager.specs.Changes.{with_node, stale_of, back_as}
-use Rattle.assise_manager.specs.Standings.{returning, standing_of, full_nodes}
-use Rattle.assise_manager.specs.Seen.{standing}
-use Rattle.assise_manager.specs.Whole.{membership}
 use Rattle.assise_manager.proofs.Places.{stands_now, known_as, donor_is, down_listed, since_is}
 use Rattle.assise_manager.proofs.Lawful.{back_known}
 use Rattle.assise_manager.proofs.members.Members.back.Goals as goal
 
 pub first_listed-requires : goal.first_listed-requires
-first_listed-requires c = record { some = down_listed (membership c.args.self.now) c.args.node c.in-Down.since c.args.self.now.lawful (c.in_ok-since.ensures.ok ∙ ap (λ n. Some (standing n)) c.in-Down.is) }
+first_listed-requires c = record {
+  some = down_listed (membership c.args.self.now) c.args.node c.in-Down.since c.args.self.now.lawful
+      (c.in_ok-since.ensures.ok ∙ ap (λ n. Some (standing n)) c.in-Down.is);
+}
 
 pub put-requires-clause-known : goal.put-requires-clause-known
 put-requires-clause-known c =
@@ -23,8 +22,10 @@ put-requires-clause-known c =
 pub returns-clause-ok : goal.returns-clause-ok
 returns-clause-ok c =
     let old = c.args.self.now in
-    let donor = donor_is old.full.items (full_nodes (map standing old.nodes.items)) c.index-donor.result.now old.listed old.lawful.some_full c.index-donor.ensures in
-    let stale = c.in_ok-stale.ensures.inodes ∙ since_is old.written.items _ _ _ _ _ c.written_since-lists.ensures c.first_listed.ensures c.deref.ensures.value in
+    let donor = donor_is old.full.items (full_nodes (map standing old.nodes.items)) c.index-donor.result.now old.listed old.lawful.some_full
+    c.index-donor.ensures in
+    let stale = c.in_ok-stale.ensures.inodes ∙ since_is old.written.items _ _ _ _ _ c.written_since-lists.ensures c.first_listed.ensures c.deref.ensures.value
+    in
     c.put.ensures
     ∙ (λ i. with_node (membership old) c.args.node (returning c.in-Down.since (donor i) (stale i)))
     ∙ sym (ap (back_as (membership old) c.args.node) (c.in_ok-since.ensures.ok ∙ ap (λ n. Some (standing n)) c.in-Down.is))

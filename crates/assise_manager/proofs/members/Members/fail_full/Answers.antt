@@ -1,12 +1,8 @@
-use Rattle.std.proofs.Common.{[], ◌∷◌, ◌+◌, ◌≡◌, ◌∙◌, ◌++◌, ◌-◌, sym, ap, map, take, drop, subst, length, arith}
+use Rattle.assise_manager.proofs.Common.{[], ◌∷◌, ◌+◌, ◌≡◌, ◌∙◌, ◌++◌, ◌-◌, sym, ap, map, take, drop, subst, length, arith, nat_cmp, map-append, length-map}
+use Rattle.assise_manager.proofs.Common.{refilled_from, failed, IsMembership, with_standing, full_nodes, lowest_besides, listed_since, standing, listed_inodes}
+use Rattle.assise_manager.proofs.Common.{membership}
 use Rattle.std.specs.FinSet as set
-use Rattle.std.specs.Ordering.{nat_cmp}
-use Rattle.std.proofs.lemmas.List.{map-append, length-map}
-use Rattle.assise_manager.specs.Changes.{refilled_from, failed}
-use Rattle.assise_manager.specs.Membership.{IsMembership}
-use Rattle.assise_manager.specs.Standings.{down, with_standing, full_nodes}
-use Rattle.assise_manager.specs.Seen.{lowest_besides, listed_since, standing, listed_inodes}
-use Rattle.assise_manager.specs.Whole.{membership}
+use Rattle.assise_manager.specs.Standings.{down}
 use Rattle.assise_manager.proofs.Places.{whole, listed_is, first_is, failed_is, may_fail, new_donor_is}
 use Rattle.assise_manager.proofs.Lawful.{failed_lawful}
 use Rattle.assise_manager.proofs.members.Members.fail_full.Goals as goal
@@ -29,8 +25,13 @@ failed_now c =
     let refilled = whole old.nodes.items c.refill_all.new.nodes old.nodes.len old.nodes.ok.0 as_many in
     let put = whole (take old.nodes.len (c.refill_all.new.nodes ++ drop (length c.refill_all.new.nodes) old.nodes.items)) c.put.new.nodes old.nodes.len
     (old.nodes.ok.0 ∙ sym (ap length refilled ∙ as_many)) (c.put.ensures.len ∙ ap length c.deref_mut-2.ensures.value) in
-    let lists : map listed_inodes c.push.new.self.items ≡ m.written ++ inodes ∷ [] = ap (map listed_inodes) c.in_ok-push.ensures.items ∙ map-append listed_inodes old.written.items (c.in_ok-list.list ∷ []) ∙ ap (λ l. m.written ++ l ∷ []) c.in_ok-list.ensures.inodes in
-    let nodes = ap (map standing) put ∙ c.put.ensures.nodes ∙ ap (λ ns. with_standing (map standing ns) c.args.node (down (old.epoch + 1))) (c.deref_mut-2.ensures.value ∙ refilled) ∙ ap (λ ns. with_standing ns c.args.node (down (old.epoch + 1))) (c.in_default.ensures.ok ∙ ap (λ ns. map (refilled_from (listed_since c.deref-2.result.now (old.epoch + 1 - c.len.result)) c.lowest_besides-donor.result c.args.node) (map standing ns)) c.deref_mut.ensures.value) in
+    let lists : map listed_inodes c.push.new.self.items ≡ m.written ++ inodes ∷ [] = ap (map listed_inodes) c.in_ok-push.ensures.items
+    ∙ map-append listed_inodes old.written.items (c.in_ok-list.list ∷ []) ∙ ap (λ l. m.written ++ l ∷ []) c.in_ok-list.ensures.inodes in
+    let nodes = ap (map standing) put ∙ c.put.ensures.nodes ∙ ap (λ ns. with_standing (map standing ns) c.args.node (down (old.epoch + 1)))
+    (c.deref_mut-2.ensures.value ∙ refilled) ∙ ap (λ ns. with_standing ns c.args.node (down (old.epoch + 1)))
+    (c.in_default.ensures.ok
+    ∙ ap (λ ns. map (refilled_from (listed_since c.deref-2.result.now (old.epoch + 1 - c.len.result)) c.lowest_besides-donor.result c.args.node)
+    (map standing ns)) c.deref_mut.ensures.value) in
     failed_is m c.args.node inodes _ c.lowest_besides-donor.result (map listed_inodes c.push.new.self.items) _ c.requires.full
     (listed_is m c.args.node inodes c.deref-2.result.now _ (ap (map listed_inodes) c.deref-2.ensures.value ∙ lists)
     (first_is m c.args.node inodes c.len.result old.lawful (c.len.ensures ∙ old.written.ok.0 ∙ sym (length-map old.written.items listed_inodes))))

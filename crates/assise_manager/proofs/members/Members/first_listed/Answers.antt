@@ -1,6 +1,4 @@
-use Rattle.std.proofs.Common.{◌≡◌, ◌≤◌, ◌<◌, ◌∙◌, sym, map, length}
-use Rattle.std.proofs.lemmas.List.{length-map}
-use Rattle.assise_manager.specs.Seen.{listed_inodes}
+use Rattle.assise_manager.proofs.Common.{◌≡◌, ◌≤◌, ◌<◌, ◌∙◌, sym, map, length, length-map, listed_inodes}
 use Rattle.assise_manager.proofs.Places.{one_less}
 use Rattle.assise_manager.proofs.members.Members.first_listed.Goals as goal
 

@@ -1,13 +1,8 @@
-use Rattle.std.proofs.Common.{◌≡◌, ◌+◌, true, false, Some, refl, [], List, ◌∷◌, ◌∙◌, ◌++◌, sym, ap, map, take, drop, subst, length, arith}
+use Rattle.assise_manager.proofs.Common.{◌≡◌, ◌+◌, true, false, Some, refl, [], List, ◌∷◌, ◌∙◌, ◌++◌, sym, ap, map, take, drop, subst, length, arith, nat_cmp}
+use Rattle.assise_manager.proofs.Common.{map-append, length-map, donor_of, joined, Membership, IsMembership, standing_of, with_standing, full_nodes, standing}
+use Rattle.assise_manager.proofs.Common.{listed_inodes, joined_levels, membership}
 use Rattle.std.specs.FinSet as set
-use Rattle.std.specs.Ordering.{nat_cmp}
-use Rattle.std.proofs.lemmas.List.{map-append, length-map}
-use Rattle.assise_manager.specs.Changes.{donor_of, joined}
-use Rattle.assise_manager.specs.Membership.{Membership, IsMembership}
-use Rattle.assise_manager.specs.Standings.{full, standing_of, with_standing, full_nodes}
-use Rattle.assise_manager.specs.Seen.{standing, listed_inodes}
-use Rattle.assise_manager.specs.NodeLevels.{joined_levels}
-use Rattle.assise_manager.specs.Whole.{membership}
+use Rattle.assise_manager.specs.Standings.{full}
 use Rattle.assise_manager.proofs.Places.{whole, joined_is, all_counted, some_away}
 use Rattle.assise_manager.proofs.Lawful.{joined_lawful}
 use Rattle.assise_manager.proofs.members.Members.join.Goals as goal

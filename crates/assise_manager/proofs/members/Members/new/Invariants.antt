@@ -1,7 +1,4 @@
-use Rattle.std.proofs.Common.{◌≡◌, map, vec_len}
-use Rattle.assise_manager.specs.Changes.{fulls}
-use Rattle.assise_manager.specs.NodeLevels.{plains}
-use Rattle.assise_manager.specs.Seen.{standing}
+use Rattle.assise_manager.proofs.Common.{◌≡◌, map, vec_len, fulls, plains, standing}
 use Rattle.assise_manager.proofs.members.Members.new.Given as goal
 
 abbrev pub invariant-loop : goal.invariant-loop

@@ -1,8 +1,4 @@
-use Rattle.std.proofs.Common.{◌∙◌, sym, ap, map, subst, length}
-use Rattle.assise_manager.specs.Membership.{IsMembership}
-use Rattle.assise_manager.specs.Standings.{with_standing, full_nodes}
-use Rattle.assise_manager.specs.Seen.{standing, listed_inodes}
-use Rattle.assise_manager.specs.Whole.{membership}
+use Rattle.assise_manager.proofs.Common.{◌∙◌, sym, ap, map, subst, length, IsMembership, with_standing, full_nodes, standing, listed_inodes, membership}
 use Rattle.assise_manager.proofs.Places.{whole, full_away}
 use Rattle.assise_manager.proofs.Lawful.{with_node_lawful}
 use Rattle.assise_manager.proofs.members.Members.put.Goals as goal
@@ -14,7 +10,8 @@ invariant_of-self c =
     let same = whole old.nodes.items c.put.new.nodes old.nodes.len old.nodes.ok.0 (c.put.ensures.len ∙ ap length c.deref_mut.ensures.value) in
     let nodes = ap (map standing) same ∙ c.put.ensures.nodes ∙ ap (λ ns. with_standing (map standing ns) c.args.node now) c.deref_mut.ensures.value in
     record {
-      lawful = subst (λ ns. IsMembership (record { epoch = old.epoch; nodes = ns; written = map listed_inodes old.written.items; levels = old.levels.items })) (sym nodes) (with_node_lawful (membership old) c.args.node now old.lawful c.requires.there c.requires.away c.requires.known);
+      lawful = subst (λ ns. IsMembership (record { epoch = old.epoch; nodes = ns; written = map listed_inodes old.written.items; levels = old.levels.items }))
+          (sym nodes) (with_node_lawful (membership old) c.args.node now old.lawful c.requires.there c.requires.away c.requires.known);
       listed = old.listed ∙ sym (ap full_nodes nodes ∙ full_away (map standing old.nodes.items) c.args.node now c.requires.there c.requires.away);
       room = old.room;
       few = old.few;

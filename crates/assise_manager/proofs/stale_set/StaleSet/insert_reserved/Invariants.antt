@@ -1,7 +1,6 @@
-use Rattle.std.proofs.Common.{◌≡◌, ◌≤◌, ◌+◌, length, take}
+use Rattle.assise_manager.proofs.Common.{◌≡◌, ◌≤◌, ◌+◌, length, take, stale_inodes}
 use Rattle.std.specs.FinSet as set
 use Rattle.std.specs.VecDeque.{deque_len, deque_capacity}
-use Rattle.assise_manager.specs.Seen.{stale_inodes}
 use Rattle.assise_manager.proofs.stale_set.StaleSet.insert_reserved.Given as goal
 
 abbrev pub invariant-loop-inode : goal.invariant-loop-inode

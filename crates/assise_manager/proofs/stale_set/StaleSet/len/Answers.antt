@@ -1,4 +1,4 @@
-use Rattle.std.proofs.Common.{◌∙◌, sym}
+use Rattle.assise_manager.proofs.Common.{◌∙◌, sym}
 use Rattle.assise_manager.proofs.AscendingSets.{len_ascending}
 use Rattle.assise_manager.proofs.stale_set.StaleSet.len.Goals as goal
 

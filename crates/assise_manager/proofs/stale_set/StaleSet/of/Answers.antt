@@ -1,13 +1,8 @@
-use Rattle.std.proofs.Common.{◌∙◌, sym, ap, subst, take, map}
+use Rattle.assise_manager.proofs.Common.{◌∙◌, sym, ap, subst, take, map, nat_cmp, IsStrictlySortedBy, IsStrictlyIncreasing-dedup}
+use Rattle.assise_manager.proofs.Common.{sorted_from_strictly_increasing, take_all, all_inodes, listed_inodes}
 use Rattle.std.specs.FinSet as set
-use Rattle.std.specs.Ordering.{nat_cmp}
-use Rattle.std.specs.List.Sorted.{IsStrictlySortedBy}
-use Rattle.std.proofs.lemmas.Map.Keys.{IsStrictlyIncreasing-dedup, sorted_from_strictly_increasing}
 use Rattle.std.proofs.lemmas.List.Filters.{dedup_is}
 use Rattle.assise_manager.proofs.Sets.{from_append, from_permutation, all_take}
-use Rattle.std.proofs.lemmas.List.{take_all}
-use Rattle.assise_manager.specs.Membership.{all_inodes}
-use Rattle.assise_manager.specs.Seen.{listed_inodes}
 use Rattle.assise_manager.proofs.AscendingSets.{dedup_set}
 use Rattle.assise_manager.proofs.stale_set.StaleSet.of.Goals as goal
 
@@ -20,7 +15,10 @@ loop-list-preserved c =
     ∙ all_take listed_inodes c.args.lists.now c.loop-list.list-index _ c.loop-list-test.true
 
 pub invariant_of-result : goal.invariant_of-result
-invariant_of-result c = record { ascending = subst (IsStrictlySortedBy nat_cmp) (sym (c.from_vec-inodes.ensures.items ∙ dedup_is _ _ _ c.dedup.ensures.filtered)) (sorted_from_strictly_increasing _ (IsStrictlyIncreasing-dedup _ c.sort_unstable.ensures.sorted)) }
+invariant_of-result c = record {
+  ascending = subst (IsStrictlySortedBy nat_cmp) (sym (c.from_vec-inodes.ensures.items ∙ dedup_is _ _ _ c.dedup.ensures.filtered))
+      (sorted_from_strictly_increasing _ (IsStrictlyIncreasing-dedup _ c.sort_unstable.ensures.sorted));
+}
 
 pub returns-clause-inodes : goal.returns-clause-inodes
 returns-clause-inodes c =

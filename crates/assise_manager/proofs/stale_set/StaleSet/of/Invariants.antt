@@ -1,7 +1,5 @@
-use Rattle.std.proofs.Common.{◌≡◌, map, take}
+use Rattle.assise_manager.proofs.Common.{◌≡◌, map, take, all_inodes, listed_inodes}
 use Rattle.std.specs.FinSet as set
-use Rattle.assise_manager.specs.Membership.{all_inodes}
-use Rattle.assise_manager.specs.Seen.{listed_inodes}
 use Rattle.assise_manager.proofs.stale_set.StaleSet.of.Given as goal
 
 abbrev pub invariant-loop-list : goal.invariant-loop-list

@@ -1,6 +1,5 @@
-use Rattle.std.proofs.Common.{get_or, ◌∙◌, sym, ap, arith}
+use Rattle.assise_manager.proofs.Common.{get_or, ◌∙◌, sym, ap, arith, leb-true}
 use Rattle.std.specs.FinSet as set
-use Rattle.std.proofs.lemmas.Bool.{leb-true}
 use Rattle.assise_manager.proofs.Sets.{union-empty, union_take, listed_insert}
 use Rattle.assise_manager.proofs.written_list.WrittenList.insert_reserved.Goals as goal
 
@@ -8,4 +7,9 @@ pub loop-inode-init : goal.loop-inode-init
 loop-inode-init c = (sym (union-empty _), (let room = leb-true _ _ c.requires.room in omega arith))
 
 pub loop-inode-preserved : goal.loop-inode-preserved
-loop-inode-preserved c = (ap set.from_list c.in-Ok.ensures.keys ∙ listed_insert _ _ ∙ ap (λ s. set.insert s (get_or c.args.inodes.now c.loop-inode.inode-index 0)) c.loop-inode.invariant.0 ∙ sym (union_take _ c.args.inodes.now c.loop-inode.inode-index 0 c.loop-inode-test.true), (let more = c.in-Ok.ensures.spare in let left = c.loop-inode.invariant.1 in omega arith))
+loop-inode-preserved c = (
+  ap set.from_list c.in-Ok.ensures.keys ∙ listed_insert _ _
+      ∙ ap (λ s. set.insert s (get_or c.args.inodes.now c.loop-inode.inode-index 0)) c.loop-inode.invariant.0
+      ∙ sym (union_take _ c.args.inodes.now c.loop-inode.inode-index 0 c.loop-inode-test.true),
+  (let more = c.in-Ok.ensures.spare in let left = c.loop-inode.invariant.1 in omega arith),
+)

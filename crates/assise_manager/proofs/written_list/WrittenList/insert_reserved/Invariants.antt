@@ -1,7 +1,5 @@
-use Rattle.std.proofs.Common.{◌≡◌, ◌≤◌, ◌+◌, length, take}
+use Rattle.assise_manager.proofs.Common.{◌≡◌, ◌≤◌, ◌+◌, length, take, spare, listed_inodes}
 use Rattle.std.specs.FinSet as set
-use Rattle.indexmap.specs.IndexSet.{spare}
-use Rattle.assise_manager.specs.Seen.{listed_inodes}
 use Rattle.assise_manager.proofs.written_list.WrittenList.insert_reserved.Given as goal
 
 abbrev pub invariant-loop-inode : goal.invariant-loop-inode

@@ -1,4 +1,4 @@
-use Rattle.std.proofs.lemmas.Str.{is_utf8-from_IsUtf8}
+use Rattle.assise_names.proofs.Common.{is_utf8-from_IsUtf8}
 use Rattle.assise_names.proofs.Spellings.{lawful_name}
 use Rattle.assise_names.proofs.name.Name.parse.Goals as goal
 

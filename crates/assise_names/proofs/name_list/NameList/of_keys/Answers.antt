@@ -1,7 +1,5 @@
-use Rattle.std.proofs.Common.{◌≡◌, ◌∷◌, ◌++◌, [], ℕ, List, Result, Ok, Err, IfOk, nat_cmp, ◌∙◌, ap, ap₂, sym, subst, append-nil}
-use Rattle.std.specs.Cmp.Lexicographic.{slice_cmp}
-use Rattle.std.specs.List.Sorted.{IsStrictlySortedBy}
-use Rattle.std.specs.Map.{keys_of}
+use Rattle.assise_names.proofs.Common.{◌≡◌, ◌∷◌, ◌++◌, [], ℕ, List, Result, Ok, Err, IfOk, nat_cmp, ◌∙◌, ap, ap₂, sym, subst, append-nil, slice_cmp}
+use Rattle.assise_names.proofs.Common.{IsStrictlySortedBy, keys_of}
 use Rattle.std.proofs.lemmas.List.{append_assoc}
 use Rattle.assise_names.specs.declared.refusal.Refusal.{Refusal}
 use Rattle.assise_names.proofs.name_list.NameList.of_keys.Goals as goal
@@ -20,7 +18,8 @@ made : (r : Result (List (List ℕ)) Refusal) (names keys : List (List ℕ)) →
 made (Ok list) names keys is same = is ∙ same
 made (Err refusal) names keys is same = tt
 
-sorted : (r : Result (List (List ℕ)) Refusal) (keys : List (List ℕ)) → IfOk r (λ list. list ≡ keys) → IsStrictlySortedBy (slice_cmp nat_cmp) keys → IfOk r (IsStrictlySortedBy (slice_cmp nat_cmp))
+sorted : (r : Result (List (List ℕ)) Refusal) (keys : List (List ℕ)) → IfOk r (λ list. list ≡ keys) → IsStrictlySortedBy (slice_cmp nat_cmp) keys →
+    IfOk r (IsStrictlySortedBy (slice_cmp nat_cmp))
 sorted (Ok list) keys is ascend = subst (IsStrictlySortedBy (slice_cmp nat_cmp)) (sym is) ascend
 sorted (Err refusal) keys is ascend = tt
 

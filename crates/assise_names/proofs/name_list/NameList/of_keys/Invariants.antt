@@ -1,5 +1,4 @@
-use Rattle.std.proofs.Common.{◌≡◌, ◌++◌}
-use Rattle.std.specs.Map.{keys_of}
+use Rattle.assise_names.proofs.Common.{◌≡◌, ◌++◌, keys_of}
 use Rattle.assise_names.proofs.name_list.NameList.of_keys.Given as goal
 
 -- with the keys that are left the names are all keys

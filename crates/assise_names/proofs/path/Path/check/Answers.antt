@@ -1,5 +1,4 @@
-use Rattle.std.proofs.Common.{◌≡◌, false, true, IsOk, lit<, subst}
-use Rattle.std.proofs.lemmas.Str.Pattern.{strip_prefix_char}
+use Rattle.assise_names.proofs.Common.{◌≡◌, false, true, IsOk, lit<, subst, strip_prefix_char}
 use Rattle.assise_names.proofs.PathLemmas.{no_slash}
 use Rattle.assise_names.proofs.path.Path.check.Goals as goal
 

@@ -1,5 +1,4 @@
-use Rattle.std.proofs.Common.{◌≡◌, ◌<◌, true, nat_lt, length, arith}
-use Rattle.std.proofs.lemmas.Bool.Decides.{nat_tests}
+use Rattle.assise_names.proofs.Common.{◌≡◌, ◌<◌, true, nat_lt, length, arith, nat_tests}
 use Rattle.assise_names.proofs.Prefixes.{Begins, from_tests, to_tests}
 use Rattle.assise_names.proofs.path.Path.is_front_of.Goals as goal
 

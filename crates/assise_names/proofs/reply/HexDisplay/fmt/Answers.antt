@@ -1,7 +1,4 @@
-use Rattle.std.proofs.Common.{List, ℕ, ◌++◌, ◌∙◌, sym, ap, rules, append_assoc}
-use Rattle.std.proofs.Output.{has_written_append}
-use Rattle.std.specs.Slice.Iter.{chunks_rest}
-use Rattle.assise_names.specs.Text.{hex, hex_byte}
+use Rattle.assise_names.proofs.Common.{List, ℕ, ◌++◌, ◌∙◌, sym, ap, rules, append_assoc, has_written_append, chunks_rest, hex, hex_byte}
 use Rattle.std.proofs.lemmas.Grind.{flat_map-append}
 use Rattle.assise_names.proofs.reply.HexDisplay.fmt.Goals as goal
 
@@ -18,6 +15,7 @@ loop-piece-preserved g c =
           let so_far = c.loop-piece.invariant.written plain in (
             so_far.0 ++ hex piece,
             has_written_append _ _ _ _ _ _ so_far.1 (search rules),
-            append_assoc so_far.0 (hex piece) (hex rest) ∙ ap (λ (t : List ℕ). so_far.0 ++ t) (sym (flat_map-append hex_byte piece rest) ∙ sym (ap hex steps.1.0)) ∙ so_far.2,
+            append_assoc so_far.0 (hex piece) (hex rest)
+                ∙ ap (λ (t : List ℕ). so_far.0 ++ t) (sym (flat_map-append hex_byte piece rest) ∙ sym (ap hex steps.1.0)) ∙ so_far.2,
           );
     }

@@ -1,6 +1,4 @@
-use Rattle.std.proofs.Common.{◌∷◌, take}
-use Rattle.std.specs.List.{flat_map}
-use Rattle.std.specs.Fmt.{HasWritten, IsPlainFormatter}
+use Rattle.assise_names.proofs.Common.{◌∷◌, take, flat_map, HasWritten, IsPlainFormatter}
 use Rattle.assise_names.proofs.reply.SpacedDisplay.fmt.Given as goal
 
 abbrev pub invariant-loop-name : goal.invariant-loop-name

@@ -1,5 +1,4 @@
-use Rattle.std.proofs.Common.{arith}
-use Rattle.assise_record.proofs.GroupRest.{group-shorter}
+use Rattle.assise_private_log.proofs.Common.{arith, group-shorter}
 use Rattle.assise_private_log.proofs.LogGroups.{left_all}
 use Rattle.assise_private_log.proofs.group.Group.coalesced.Goals as goal
 

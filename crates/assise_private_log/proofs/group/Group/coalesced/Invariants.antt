@@ -1,5 +1,4 @@
-use Rattle.std.proofs.Common.{◌≡◌, ◌++◌, length}
-use Rattle.assise_record.specs.Groups.{AllHaveEffects, begun_by, coalesced_group, left_in}
+use Rattle.assise_private_log.proofs.Common.{◌≡◌, ◌++◌, length, AllHaveEffects, begun_by, coalesced_group, left_in}
 use Rattle.assise_private_log.proofs.group.Group.coalesced.Given as goal
 
 -- what was left so far, and of the rest

@@ -1,5 +1,4 @@
-use Rattle.std.proofs.Common.{◌≡◌, ◌++◌}
-use Rattle.assise_private_log.specs.Groups.{with_group}
+use Rattle.assise_private_log.proofs.Common.{◌≡◌, ◌++◌, with_group}
 use Rattle.assise_private_log.proofs.log.Log.append_group.Given as goal
 
 -- the log has the first of the group

@@ -1,5 +1,4 @@
-use Rattle.std.proofs.Common.{◌≡◌, rules, subst, sym}
-use Rattle.assise_private_log.specs.NumberedLog.{HasOpenGroup}
+use Rattle.assise_private_log.proofs.Common.{◌≡◌, rules, subst, sym, HasOpenGroup}
 use Rattle.assise_private_log.specs.contracts.log_view.LogView.{the_view}
 use Rattle.assise_private_log.proofs.Borders.{rings_grouped}
 use Rattle.assise_private_log.proofs.log.Log.append_grouped.Goals as goal

@@ -1,5 +1,4 @@
-use Rattle.std.proofs.Common.{◌≡◌, ◌++◌}
-use Rattle.assise_private_log.specs.NumberedLog.{records_from}
+use Rattle.assise_private_log.proofs.Common.{◌≡◌, ◌++◌, records_from}
 use Rattle.assise_private_log.proofs.log.Log.copies_from.Given as goal
 
 -- what was copied is the prefix of the records

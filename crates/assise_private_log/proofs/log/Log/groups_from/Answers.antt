@@ -1,4 +1,4 @@
-use Rattle.std.proofs.Common.{arith}
+use Rattle.assise_private_log.proofs.Common.{arith}
 use Rattle.assise_private_log.proofs.LogGroups.{effects_more, groups_more}
 use Rattle.assise_private_log.proofs.log.Log.groups_from.Goals as goal
 

@@ -1,7 +1,4 @@
-use Rattle.std.proofs.Common.{◌≡◌, ◌++◌, length, map}
-use Rattle.assise_record.specs.Groups.{AllHaveEffects, coalesced_group, groups_of}
-use Rattle.assise_private_log.specs.Groups.{groups_from}
-use Rattle.assise_private_log.specs.NumberedLog.{records_from}
+use Rattle.assise_private_log.proofs.Common.{◌≡◌, ◌++◌, length, map, AllHaveEffects, coalesced_group, groups_of, groups_from, records_from}
 use Rattle.assise_private_log.proofs.log.Log.groups_from.Given as goal
 
 -- the groups so far, and those of the rest

@@ -1,4 +1,4 @@
-use Rattle.std.proofs.Common.{arith}
+use Rattle.assise_private_log.proofs.Common.{arith}
 use Rattle.assise_private_log.proofs.LogGroups.{all_passed, groups_one_more, one_passed, room_for_group}
 use Rattle.assise_private_log.proofs.log.Log.regroup.Goals as goal
 

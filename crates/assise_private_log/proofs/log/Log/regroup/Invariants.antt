@@ -1,6 +1,4 @@
-use Rattle.std.proofs.Common.{◌≡◌, ◌++◌}
-use Rattle.assise_private_log.specs.Groups.{groups_from, with_groups}
-use Rattle.assise_private_log.specs.NumberedLog.{without_tail}
+use Rattle.assise_private_log.proofs.Common.{◌≡◌, ◌++◌, groups_from, with_groups, without_tail}
 use Rattle.assise_private_log.proofs.log.Log.regroup.Given as goal
 
 -- the log has the first of the groups

@@ -1,5 +1,4 @@
-use Rattle.std.proofs.Common.{◌≤◌, rules, arith}
-use Rattle.assise_private_log.specs.NumberedLog.{end}
+use Rattle.assise_private_log.proofs.Common.{◌≤◌, rules, arith, end}
 use Rattle.assise_private_log.proofs.Borders.{border_end, covers_group, next_is_group_end}
 use Rattle.assise_private_log.proofs.log_view.LogView.group_end.Goals as goal
 
@@ -12,7 +11,8 @@ returns-then-is_border-clause-covers c inode = covers_group c.args.self.now inod
 pub returns-clause-end : goal.returns-clause-end
 returns-clause-end c =
     let past : end c.args.self.now ≤ c.max.result = omega (arith, c.end-end.ensures.end) in
-    next_is_group_end c.args.self.now c.args.number _ (search rules) (border_end c.args.self.now _ c.end-end.ensures.lawful.marks past) (λ k from below. c.loop-border.invariant k from (omega arith))
+    next_is_group_end c.args.self.now c.args.number _ (search rules) (border_end c.args.self.now _ c.end-end.ensures.lawful.marks past)
+    (λ k from below. c.loop-border.invariant k from (omega arith))
 
 pub returns-clause-covers : goal.returns-clause-covers
 returns-clause-covers c inode = covers_group c.args.self.now inode c.args.number c.end-end.ensures.lawful

@@ -1,5 +1,4 @@
-use Rattle.std.proofs.Common.{◌≡◌, ℕ, ◌≤◌, ◌<◌, false}
-use Rattle.assise_private_log.specs.NumberedLog.{is_border}
+use Rattle.assise_private_log.proofs.Common.{◌≡◌, ℕ, ◌≤◌, ◌<◌, false, is_border}
 use Rattle.assise_private_log.proofs.log_view.LogView.group_end.Given as goal
 
 -- no border was passed

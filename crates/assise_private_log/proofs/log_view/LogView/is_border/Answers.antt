@@ -1,4 +1,4 @@
-use Rattle.std.proofs.Common.{arith}
+use Rattle.assise_private_log.proofs.Common.{arith}
 use Rattle.assise_private_log.proofs.Borders.{border_unmarked}
 use Rattle.assise_private_log.proofs.log_view.LogView.is_border.Goals as goal
 

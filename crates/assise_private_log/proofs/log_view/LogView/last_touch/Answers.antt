@@ -1,4 +1,4 @@
-use Rattle.std.proofs.Common.{rules}
+use Rattle.assise_private_log.proofs.Common.{rules}
 use Rattle.assise_private_log.proofs.TouchedNumbers.{last_of_place, no_last}
 use Rattle.assise_private_log.proofs.log_view.LogView.last_touch.Goals as goal
 

@@ -1,6 +1,4 @@
-use Rattle.std.proofs.Common.{◌≡◌, ℕ, ◌<◌, ◌≤◌, inl, rules, arith, ap, sym, ◌∙◌}
-use Rattle.assise_private_log.specs.Borders.{whole_count}
-use Rattle.assise_private_log.specs.NumberedLog.{IsNumberedLog, NumberedLog}
+use Rattle.assise_private_log.proofs.Common.{◌≡◌, ℕ, ◌<◌, ◌≤◌, inl, rules, arith, ap, sym, ◌∙◌, whole_count, IsNumberedLog, NumberedLog}
 use Rattle.assise_private_log.proofs.Borders.{some_whole, whole_here, whole_none, whole_passed}
 use Rattle.assise_private_log.proofs.log_view.LogView.whole_count.Goals as goal
 

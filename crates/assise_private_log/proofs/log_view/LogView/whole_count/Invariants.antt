@@ -1,6 +1,4 @@
-use Rattle.std.proofs.Common.{◌≡◌, ◌≤◌, ◌<◌}
-use Rattle.assise_private_log.specs.Borders.{whole_count}
-use Rattle.assise_private_log.specs.NumberedLog.{IsNumberedLog}
+use Rattle.assise_private_log.proofs.Common.{◌≡◌, ◌≤◌, ◌<◌, whole_count, IsNumberedLog}
 use Rattle.assise_private_log.proofs.log_view.LogView.whole_count.Given as goal
 
 abbrev pub invariant-loop-count : goal.invariant-loop-count

@@ -1,4 +1,4 @@
-use Rattle.std.proofs.Common.{rules}
+use Rattle.assise_private_log.proofs.Common.{rules}
 use Rattle.assise_private_log.proofs.Prefixes.{drop_of_two}
 use Rattle.assise_private_log.proofs.records.Records.behind.Goals as goal
 

@@ -1,6 +1,4 @@
-use Rattle.std.proofs.Common.{[], ◌∷◌, ◌++◌, map, ap, sym, ◌∙◌}
-use Rattle.std.proofs.lemmas.List.{length-map}
-use Rattle.assise_seq_tree.specs.Traversals.{places_left}
+use Rattle.assise_seq_tree.proofs.Common.{[], ◌∷◌, ◌++◌, map, ap, sym, ◌∙◌, length-map, places_left}
 use Rattle.assise_seq_tree.proofs.Traversed.{along-behind, left-behind, left-next}
 use Rattle.assise_seq_tree.proofs.traversal.Traversal.next.Goals as goal
 
@@ -19,5 +17,6 @@ loop-entry-preserved c =
     let front = c.in_ok-self-inside.ensures.items in
     record {
       along = along-behind inside.names.items _ _ inside.above.items _ _ way front c.loop-entry.invariant.along;
-      left = left-behind (λ n. n.now) inside.names.items _ _ inside.above.items _ _ _ _ way front c.in_default.ensures.steps.0 c.loop-entry.invariant.along c.loop-entry.invariant.left;
+      left = left-behind (λ n. n.now) inside.names.items _ _ inside.above.items _ _ _ _ way front c.in_default.ensures.steps.0 c.loop-entry.invariant.along
+          c.loop-entry.invariant.left;
     }

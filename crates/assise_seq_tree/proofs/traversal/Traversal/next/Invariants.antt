@@ -1,5 +1,4 @@
-use Rattle.std.proofs.Common.{◌≡◌, [], ◌∷◌, ◌++◌, length, map}
-use Rattle.assise_seq_tree.specs.Traversals.{places_left}
+use Rattle.assise_seq_tree.proofs.Common.{◌≡◌, [], ◌∷◌, ◌++◌, length, map, places_left}
 use Rattle.assise_seq_tree.proofs.traversal.Traversal.next.Given as goal
 
 abbrev pub decreases-loop-entry : goal.decreases-loop-entry

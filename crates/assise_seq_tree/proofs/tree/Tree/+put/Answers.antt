@@ -1,13 +1,10 @@
-use Rattle.std.proofs.Common.{subst, IsErr}
-use Rattle.assise_seq_tree.specs.Tree.{IsOrdered, at}
+use Rattle.assise_seq_tree.proofs.Common.{subst, IsErr, IsOrdered, at, ◌≡◌, ◌∙◌, Err, ap, sym, tree_of, NoEnt, on_ok_weaker, on_err_weaker}
 use Rattle.assise_seq_tree.proofs.Order.{ordered-after}
-use Rattle.std.proofs.Common.{◌≡◌, ◌∙◌, Err, ap, sym}
-use Rattle.assise_seq_tree.specs.View.{tree_of}
-use Rattle.assise_names.specs.declared.reply.TreeError.TheVariants.{NoEnt}
-use Rattle.assise_seq_tree.proofs.Walk.{no_items, first_and_rest, found_mut, missing_mut, at_missing, at_below, fails_at_none, put_root, put_file, put_found, put_missing, kept_found}
-use Rattle.std.proofs.lemmas.Result.{on_ok_weaker, on_err_weaker}
+use Rattle.assise_seq_tree.proofs.Walk.{no_items, first_and_rest, found_mut, missing_mut, at_missing, at_below, fails_at_none, put_root, put_file, put_found}
+use Rattle.assise_seq_tree.proofs.Walk.{put_missing, kept_found}
 use Rattle.assise_seq_tree.proofs.tree.Tree.+put.Goals as goal
-use Rattle.assise_seq_tree.proofs.tree.Tree.+put.Goals.{In-None, in-File, in-Directory+in-Some, in-Directory+in-None+in_ok-put-in-None+in_ok-key-in-None+in_ok-insert-in-None}
+use Rattle.assise_seq_tree.proofs.tree.Tree.+put.Goals.{In-None, in-File, in-Directory+in-Some}
+use Rattle.assise_seq_tree.proofs.tree.Tree.+put.Goals.{in-Directory+in-None+in_ok-put-in-None+in_ok-key-in-None+in_ok-insert-in-None}
 
 pub returns-in_default-clause-ok : goal.returns-in_default-clause-ok
 returns-in_default-clause-ok t c = c.tree.view_is ∙ put_root _ _ _ (no_items c.args.names.now c.in_default.len_below)
@@ -21,14 +18,19 @@ returns-clause-ok t c =
           let is = sym c.self.view_is ∙ ap tree_of w.in-Directory.is in
           let value = w.get_mut.ensures.value in
           let written = w.get_mut.follows.holds w.put.new.self in
-          rw (w.result-is, w.self-inside-is) (on_ok_weaker w.put.result (put_found _ _ _ _ _ w.in-Directory.entries (w.get_mut.follows.lender w.put.new.self) w.get_mut.result _ _ step is w.in-Some.is value written.0) w.put.ensures.ok)
+          rw (w.result-is, w.self-inside-is)
+          (on_ok_weaker w.put.result
+          (put_found _ _ _ _ _ w.in-Directory.entries (w.get_mut.follows.lender w.put.new.self) w.get_mut.result _ _ step is w.in-Some.is value written.0)
+          w.put.ensures.ok)
       | in-Directory+in-None+in_ok-put-in-None+in_ok-key-in-None+in_ok-insert-in-None w ↦
           let is = sym c.self.view_is ∙ ap tree_of w.in-Directory.is in
           let value = w.get_mut.ensures.value in
           let m = w.get_mut.follows.holds-at-none in
           let spelled = w.in_ok-key-in-None.ensures.equal in
           let made = rw w.new-child.ensures at w.in_ok-put-in-None.ensures.ok in
-          rw (w.result-is, w.self-inside-is) (put_missing _ _ _ _ _ w.in-Directory.entries w.insert.new.self w.get_mut.result w.in_ok-key-in-None.key w.put-in-None.new.self step is w.in-None.is value spelled (rw m at w.in_ok-insert-in-None.ensures.entries) made)
+          rw (w.result-is, w.self-inside-is)
+          (put_missing _ _ _ _ _ w.in-Directory.entries w.insert.new.self w.get_mut.result w.in_ok-key-in-None.key w.put-in-None.new.self step is
+          w.in-None.is value spelled (rw m at w.in_ok-insert-in-None.ensures.entries) made)
     ]
 
 pub returns-clause-err : goal.returns-clause-err
@@ -39,7 +41,10 @@ returns-clause-err t c =
           let is = sym c.self.view_is ∙ ap tree_of w.in-Directory.is in
           let value = w.get_mut.ensures.value in
           let written = w.get_mut.follows.holds w.put.new.self in
-          rw (w.result-is, w.self-inside-is) (on_err_weaker w.put.result (kept_found _ _ w.in-Directory.entries (w.get_mut.follows.lender w.put.new.self) w.get_mut.result _ _ is w.in-Some.is value written.0) w.put.ensures.err)
+          rw (w.result-is, w.self-inside-is)
+          (on_err_weaker w.put.result
+          (kept_found _ _ w.in-Directory.entries (w.get_mut.follows.lender w.put.new.self) w.get_mut.result _ _ is w.in-Some.is value written.0)
+          w.put.ensures.err)
       | in-Directory+in-None+in_ok-put-in-None+in_ok-key-in-None+in_ok-insert-in-None w ↦ rw w.result-is tt
     ]
 
@@ -66,10 +71,12 @@ returns-clause-asked t c =
       | in-File w ↦ rw w.result-is tt
       | in-Directory+in-Some w ↦
           let is = sym c.self.view_is ∙ ap tree_of w.in-Directory.is in
-          let below = at_below _ _ _ _ _ _ (first_and_rest _ _ c.in-len1-up.len_at_least c.name-item.is) is (found_mut _ w.in-Directory.entries w.get_mut.result _ w.in-Some.is w.get_mut.ensures.value) in
+          let below = at_below _ _ _ _ _ _ (first_and_rest _ _ c.in-len1-up.len_at_least c.name-item.is) is
+          (found_mut _ w.in-Directory.entries w.get_mut.result _ w.in-Some.is w.get_mut.ensures.value) in
           rw w.result-is (on_err_weaker w.put.result (λ h. subst IsErr (sym below) h) w.put.ensures.asked)
       | in-Directory+in-None+in_ok-put-in-None+in_ok-key-in-None+in_ok-insert-in-None w ↦ rw w.result-is tt
     ]
 
 pub invariant_of-self-2 : goal.invariant_of-self-2
-invariant_of-self-2 t c = ordered-after c.match-self.result c.args.names.now _ c.args.self.now c.args.tree (returns-clause-ok t c) (returns-clause-err t c) (subst IsOrdered c.self.view_is c.self.invariant) (subst IsOrdered c.tree.view_is c.tree.invariant)
+invariant_of-self-2 t c = ordered-after c.match-self.result c.args.names.now _ c.args.self.now c.args.tree (returns-clause-ok t c) (returns-clause-err t c)
+    (subst IsOrdered c.self.view_is c.self.invariant) (subst IsOrdered c.tree.view_is c.tree.invariant)

@@ -1,6 +1,4 @@
-use Rattle.std.proofs.Common.{◌∙◌, ap}
-use Rattle.std.proofs.lemmas.Result.{on_ok_weaker, on_err_weaker}
-use Rattle.assise_seq_tree.specs.Tree.{file, put}
+use Rattle.assise_seq_tree.proofs.Common.{◌∙◌, ap, on_ok_weaker, on_err_weaker, file, put}
 use Rattle.assise_seq_tree.proofs.TreePut.{put-at, swapped_back}
 use Rattle.assise_seq_tree.proofs.tree.Tree.resize_at.Goals as goal
 

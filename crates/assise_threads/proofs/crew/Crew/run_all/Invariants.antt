@@ -1,8 +1,4 @@
-use Rattle.std.proofs.Common.{◌≡◌, ◌≤◌, ◌-◌, length, take}
-use Rattle.assise_threads.specs.Hearing.{sights}
-use Rattle.assise_threads.specs.Spoken.{AreAllSaid}
-use Rattle.assise_threads.specs.AtKeeper.{AreClients}
-use Rattle.assise_threads.specs.Threads.{main_keeper, main_seen}
+use Rattle.assise_threads.proofs.Common.{◌≡◌, ◌≤◌, ◌-◌, length, take, sights, AreAllSaid, AreClients, main_keeper, main_seen}
 use Rattle.assise_threads.proofs.crew.Crew.run_all.Given as goal
 
 -- `done` commands were answered
@@ -11,7 +7,8 @@ invariant-loop-done g l = record {
   few : l.done ≤ length l.commands;
   turns : l.self.turns ≡ l.fn.self.turns;
   at : AreClients (main_keeper l.self.main) l.self.turns l.clients.items;
-  said : AreAllSaid l.fn.self.turns (main_seen l.fn.self.main) (take l.done l.commands) (main_seen l.self.main) (sights l.clients.items) (g.W.Write.contents l.fn.writer) (g.W.Write.contents l.writer);
+  said : AreAllSaid l.fn.self.turns (main_seen l.fn.self.main) (take l.done l.commands) (main_seen l.self.main) (sights l.clients.items)
+      (g.W.Write.contents l.fn.writer) (g.W.Write.contents l.writer);
 }
 
 abbrev pub decreases-loop-done : goal.decreases-loop-done

@@ -1,5 +1,4 @@
-use Rattle.std.proofs.Common.{subst, sym}
-use Rattle.assise_threads.specs.AtKeeper.{AreAt, HaveTurns}
+use Rattle.assise_threads.proofs.Common.{subst, sym, AreAt, HaveTurns}
 use Rattle.assise_threads.proofs.crew.Crew.run_calls.Goals as goal
 
 pub returns-clause-at : goal.returns-clause-at

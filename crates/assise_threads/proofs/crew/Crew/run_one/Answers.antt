@@ -1,8 +1,5 @@
-use Rattle.std.proofs.Common.{[], refl, subst}
-use Rattle.std.specs.Io.KnownBytes.{Appends}
+use Rattle.assise_threads.proofs.Common.{[], refl, subst, Appends, Whole, main_seen}
 use Rattle.std.proofs.lemmas.Result.{on_ok_weaker}
-use Rattle.assise_console.specs.declared.response.Response.TheVariants.{History as Whole}
-use Rattle.assise_threads.specs.Threads.{main_seen}
 use Rattle.assise_threads.proofs.RunOn.{line_shows_none}
 use Rattle.assise_threads.proofs.crew.Crew.run_one.Goals as goal
 
@@ -25,6 +22,8 @@ returns-clause-said g c =
       answer = answer;
       answered = c.in_ok-answer.ensures.answered;
       opened = c.in_ok-answer.ensures.opened;
-      appends = subst (Appends (g.W.Write.contents c.args.writer.now) (g.W.Write.contents c.write_answer.new.writer)) (line_shows_none c.args.self.now.turns line.line line.command answer [] (main_seen c.args.self.now.main) (main_seen c.answer.new.self.main) c.in_default.not-History c.in_ok-answer.ensures.answered) text;
+      appends = subst (Appends (g.W.Write.contents c.args.writer.now) (g.W.Write.contents c.write_answer.new.writer))
+          (line_shows_none c.args.self.now.turns line.line line.command answer [] (main_seen c.args.self.now.main) (main_seen c.answer.new.self.main)
+          c.in_default.not-History c.in_ok-answer.ensures.answered) text;
       clients = c.in_ok-answer.ensures.clients;
     }) c.write_answer.ensures.written

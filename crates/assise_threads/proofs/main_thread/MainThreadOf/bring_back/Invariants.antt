@@ -1,7 +1,4 @@
-use Rattle.std.proofs.Common.{◌≡◌, ◌≤◌}
-use Rattle.assise_threads.specs.Answered.{HasTried}
-use Rattle.assise_threads.specs.Openings.{OpensNone}
-use Rattle.assise_threads.specs.Threads.{main_keeper, main_seen}
+use Rattle.assise_threads.proofs.Common.{◌≡◌, ◌≤◌, HasTried, OpensNone, main_keeper, main_seen}
 use Rattle.assise_threads.proofs.main_thread.MainThreadOf.bring_back.Given as goal
 
 -- the node began to come back, was filled and tried to join `counter` times; and no client was opened

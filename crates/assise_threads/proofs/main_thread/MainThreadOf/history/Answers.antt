@@ -1,9 +1,4 @@
-use Rattle.std.proofs.Common.{rules, ◌≡◌, ◌∙◌, ap, is_some, sym}
-use Rattle.assise_keeper.specs.Clients.{Extends, openings_of}
-use Rattle.assise_keeper.specs.Passes.{last, seen, taken}
-use Rattle.assise_machine.specs.Clusters.{machine}
-use Rattle.assise_threads.specs.LastSeen.{machine_seen}
-use Rattle.assise_threads.specs.Openings.{OpensNone}
+use Rattle.assise_threads.proofs.Common.{rules, ◌≡◌, ◌∙◌, ap, is_some, sym, Extends, openings_of, last, seen, taken, machine, machine_seen, OpensNone}
 use Rattle.assise_threads.proofs.LedTakes.{between, leads_itself, not_never, works_seen}
 use Rattle.assise_threads.proofs.Nobodys.{may_give_same, same_opens_none, stays_nobody_same}
 use Rattle.assise_threads.proofs.main_thread.MainThreadOf.history.Goals as goal
@@ -28,22 +23,26 @@ invariant_of-self g c =
     }
 
 pub returns-clause-worked : goal.returns-clause-worked
-returns-clause-worked g c = works_seen (last c.args.self.now.pass) (last c.give.new.pass) c.take-held.result c.args.self.now.met (c.give.ensures.last ∙ search rules) (c.take-held.ensures.worked c.args.self.now.alone)
+returns-clause-worked g c = works_seen (last c.args.self.now.pass) (last c.give.new.pass) c.take-held.result c.args.self.now.met
+    (c.give.ensures.last ∙ search rules) (c.take-held.ensures.worked c.args.self.now.alone)
 
 pub returns-clause-extends : goal.returns-clause-extends
 returns-clause-extends g c =
     let old = c.args.self.now.pass in
     let new = c.give.new.pass in
     let extends : Extends (seen new) (seen old) = search rules in
-    between (λ a b. Extends b a) (seen old) (seen new) c.args.self.now.known (c.give.ensures.seen ∙ sym (ap (λ z. (machine_seen z).history) c.give.ensures.last)) extends
+    between (λ a b. Extends b a) (seen old) (seen new) c.args.self.now.known
+    (c.give.ensures.seen ∙ sym (ap (λ z. (machine_seen z).history) c.give.ensures.last)) extends
 
 pub returns-clause-none_opened : goal.returns-clause-none_opened
 returns-clause-none_opened g c =
     let old = c.args.self.now.pass in
     let new = c.give.new.pass in
     let is : taken c.take-held.new.pass ≡ (machine c.state.result.now).history = search rules in
-    let opened : openings_of (machine c.state.result.now).history ≡ openings_of (seen old) = ap openings_of (sym is ∙ c.take-held.ensures.taken) ∙ c.take-held.ensures.alone c.args.self.now.alone in
-    between OpensNone (seen old) (seen new) c.args.self.now.known (c.give.ensures.seen ∙ sym (ap (λ z. (machine_seen z).history) c.give.ensures.last)) (same_opens_none (seen old) (machine c.state.result.now).history (seen new) opened c.give.ensures.seen)
+    let opened : openings_of (machine c.state.result.now).history ≡ openings_of (seen old) = ap openings_of (sym is ∙ c.take-held.ensures.taken)
+    ∙ c.take-held.ensures.alone c.args.self.now.alone in
+    between OpensNone (seen old) (seen new) c.args.self.now.known (c.give.ensures.seen ∙ sym (ap (λ z. (machine_seen z).history) c.give.ensures.last))
+    (same_opens_none (seen old) (machine c.state.result.now).history (seen new) opened c.give.ensures.seen)
 
 pub give-requires-clause-works : goal.give-requires-clause-works
 give-requires-clause-works g c = λ never. absurd (not_never _ (c.take-held.ensures.right ∙ c.args.self.now.alone) never)

@@ -1,14 +1,23 @@
-use Rattle.std.proofs.Common.{rules}
-use Rattle.assise_keeper.specs.Clients.{Extends}
-use Rattle.assise_keeper.proofs.LedStates.{led_from}
-use Rattle.assise_workers.specs.Working.{seen_at}
+use Rattle.assise_workers.proofs.Common.{rules, Extends, led_from, seen_at}
 use Rattle.assise_workers.proofs.Deliveries.{one_if_ok}
 use Rattle.assise_workers.proofs.worker.Worker.bring_in.Goals as goal
 
 pub returns-clause-turn : goal.returns-clause-turn
 returns-clause-turn g c =
-    let extends : Extends (g.S.Growing.history c.state.result.now) (seen_at c.args.self.now) = search rules in
-    (_, (record { before = c.state.result.now; after = c.deliver-delivered.new.self; extends = extends; does = c.deliver-delivered.ensures.acts; seen = c.give.ensures.seen }, one_if_ok c.deliver-delivered.result c.is_ok.result c.from.result c.is_ok.ensures.value c.from.ensures))
+    let extends : Extends (g.S.Growing.history c.state.result.now) (seen_at c.args.self.now) = search rules in (
+      _,
+      (
+        record {
+          before = c.state.result.now;
+          after = c.deliver-delivered.new.self;
+          extends = extends;
+          does = c.deliver-delivered.ensures.acts;
+          seen =
+              c.give.ensures.seen;
+        },
+        one_if_ok c.deliver-delivered.result c.is_ok.result c.from.result c.is_ok.ensures.value c.from.ensures,
+      ),
+    )
 
 pub give-requires-clause-leads : goal.give-requires-clause-leads
 give-requires-clause-leads g c =

@@ -1,7 +1,4 @@
-use Rattle.std.proofs.Common.{List}
-use Rattle.assise_workers.specs.Acting.{DigestsSome, TurnAfterTurn}
-use Rattle.assise_workers.specs.Working.{GoesOn, seen_at}
-use Rattle.assise_workers.specs.declared.worker.TurnEnd.{TurnEnd}
+use Rattle.assise_workers.proofs.Common.{List, DigestsSome, TurnAfterTurn, GoesOn, seen_at, TurnEnd}
 use Rattle.assise_workers.proofs.worker.Worker.digest_loop.Given as goal
 
 -- the worker goes on, turn after turn

@@ -1,4 +1,4 @@
-use Rattle.assise_keeper.proofs.LedStates.{led_from}
+use Rattle.assise_workers.proofs.Common.{led_from}
 use Rattle.assise_workers.proofs.worker.Worker.digest_turn.Goals as goal
 
 pub give-requires-clause-leads : goal.give-requires-clause-leads

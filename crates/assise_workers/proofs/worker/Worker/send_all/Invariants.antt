@@ -1,8 +1,4 @@
-use Rattle.std.proofs.Common.{◌≡◌, ◌++◌, ℕ}
-use Rattle.assise_link.specs.Kinds.{perfect}
-use Rattle.assise_workers.specs.Acting.{HasCarried}
-use Rattle.assise_workers.specs.Letters.{AreReadBy, letters_seen}
-use Rattle.assise_workers.specs.Working.{GoesOn, seen_at}
+use Rattle.assise_workers.proofs.Common.{◌≡◌, ◌++◌, ℕ, perfect, HasCarried, AreReadBy, letters_seen, GoesOn, seen_at}
 use Rattle.assise_workers.proofs.worker.Worker.send_all.Given as goal
 
 -- the worker goes on, and the letters so far went to their nodes
@@ -11,5 +7,6 @@ invariant-loop-letter g l = record {
   goes : GoesOn l.fn.self l.self;
   stays : g.L.Link.kind l.link ≡ g.L.Link.kind l.fn.link;
   all : l.yielded ++ l.letter-iterator.rest.items ≡ l.fn.letters.items;
-  carried : (reads : ℕ → ℕ) → AreReadBy reads l.yielded → HasCarried g.S.Growing.history g.S.Replicated.acts (g.L.Link.kind l.fn.link ≡ perfect) reads (letters_seen l.yielded) l.taken (seen_at l.fn.self) (seen_at l.self);
+  carried : (reads : ℕ → ℕ) → AreReadBy reads l.yielded → HasCarried g.S.Growing.history g.S.Replicated.acts (g.L.Link.kind l.fn.link ≡ perfect) reads
+      (letters_seen l.yielded) l.taken (seen_at l.fn.self) (seen_at l.self);
 }
