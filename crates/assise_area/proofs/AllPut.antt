@@ -1,16 +1,12 @@
 -- Inodes that are put in place of what their numbers had, one after the other.
-use Rattle.assise_area.proofs.Common.{◌≡◌, ◌≤◌, ◌<◌, ◌+◌, ◌-◌, ℕ, inl, inr, Bool, true, false, cond, Some, None, refl, sym, ap, ◌∙◌, eqb, nat_eq, is_some}
-use Rattle.assise_area.proofs.Common.{arith, cases_lt, eqb-true, nat_cmp_total, option_or, nat_cmp, Content, InodeMap, alike, Entries, value_in}
+use Rattle.assise_area.proofs.Common.{◌≡◌, ◌≤◌, ◌<◌, ◌+◌, ◌-◌, ℕ, Bool, true, false, cond, Some, None, refl, sym, ap, ◌∙◌, eqb, nat_eq, is_some, arith}
+use Rattle.assise_area.proofs.Common.{eqb-true, nat_cmp_total, option_or, Content, InodeMap, alike, Entries, value_in}
 use Rattle.std.specs.FinMap as map
-use Rattle.assise_area.proofs.Seen.{some≢none, turned}
+use Rattle.assise_area.proofs.Seen.{turned}
 
 -- where one is there, there are some
 pub some_there : (m : InodeMap) (k : ℕ) (v : Content) → map.get m k ≡ Some v → 0 < map.len m
-some_there m k v there =
-    elim (cases_lt 0 (map.len m)) [
-      | inl some ↦ some
-      | inr none ↦ absurd (some≢none v (sym there ∙ ap (λ n. map.get n k) (map.empty_of_len m (omega (arith, none))) ∙ map.get-empty nat_cmp k))
-    ]
+some_there m k v there = grind (arith, map.empty_of_len, map.get-empty)
 
 -- one of those that are still to come
 module _ (all rest : InodeMap) (k : ℕ) (v : Content) (there : map.get all k ≡ Some v) (others : rest ≡ map.remove all k) where

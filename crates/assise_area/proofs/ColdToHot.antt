@@ -1,9 +1,8 @@
 -- A cold inode that becomes the first of the hot ones, and the last of them that becomes cold.
 use Rattle.assise_area.proofs.Common.{◌≡◌, ◌≤◌, ◌<◌, ◌-◌, ℕ, zero, suc, Bool, true, false, cond, [], ◌∷◌, ◌++◌, length, take, Option, Some, None, IsSome, refl}
-use Rattle.assise_area.proofs.Common.{sym, ap, subst, ◌∙◌, eqb, nat_eq, is_some, arith, option_to_list, option_map, cond_both, eqb-true, eq-eqb}
-use Rattle.assise_area.proofs.Common.{false_from_ne_true, option_or, option_map_or, AllByRecursion, IsDistinct, slice_get, lookup_entry, keys_of, remove_entry}
-use Rattle.assise_area.proofs.Common.{LruCache, IsValid, Content, lookup-append, or_none, Entries, AreDisjoint, HoldSame, IsPushed, IsWarmed, value_in, hot_at}
-use Rattle.assise_area.proofs.Common.{cold_at}
+use Rattle.assise_area.proofs.Common.{sym, ap, subst, ◌∙◌, eqb, nat_eq, arith, option_to_list, option_map, cond_both, eqb-true, eq-eqb, false_from_ne_true}
+use Rattle.assise_area.proofs.Common.{option_or, option_map_or, AllByRecursion, IsDistinct, slice_get, lookup_entry, keys_of, remove_entry, LruCache, IsValid}
+use Rattle.assise_area.proofs.Common.{Content, lookup-append, Entries, AreDisjoint, HoldSame, IsPushed, IsWarmed, hot_at, cold_at}
 use Rattle.assise_area.proofs.Seen.{turned, some≢none}
 use Rattle.assise_area.proofs.HotUse.{found}
 use Rattle.assise_area.proofs.WrittenValues.{disjoint_at}
@@ -33,16 +32,14 @@ prefix_lacks : (n : ℕ) (es : Entries) (e : ℕ × Content) → IsDistinct nat_
 unfolding IsDistinct
 prefix_lacks zero es e d is = refl
 prefix_lacks (suc n) [] e d is = refl
-prefix_lacks (suc n) (x ∷ es) e d is =
-    ap (λ b. cond b (Some x.1) (hot_at (take n es) e.0)) (turned e.0 x.0 ∙ other_key x.0 n es e d.0 is) ∙ prefix_lacks n es e d.1 is
+prefix_lacks (suc n) (x ∷ es) e d is = grind (arith, prefix_lacks n es e d.1 is, turned, other_key)
 
 -- ---- what a look-up finds
 
 -- with the last one, of as many as may be
 hot_split : (hot : Entries) (cap : ℕ) (q : ℕ) → length hot ≤ cap → 0 < cap → hot_at hot q ≡ option_or (hot_at (take (cap - 1) hot) q)
     (hot_at (option_to_list (slice_get hot (cap - 1))) q)
-hot_split hot cap q within some = let room : length hot ≤ suc (cap - 1) = omega (arith, within, some) in
-    ap (λ es. hot_at es q) (sym (split (cap - 1) hot room)) ∙ hot-append (take (cap - 1) hot) (option_to_list (slice_get hot (cap - 1))) q
+hot_split hot cap q within some = grind (arith, split, hot-append (take (cap - 1) hot) (option_to_list (slice_get hot (cap - 1))) q)
 
 twice : {X : Type 0} (b : Bool) (x y c : X) → cond b x (cond b y c) ≡ cond b x c
 twice true x y c = refl
@@ -69,9 +66,7 @@ module _ (i : ℕ) (hot hot' : LruCache ℕ Content) (cold cold' : Entries) (val
     (room : slice_get hot.entries (hot.cap - 1) ≡ None) (pushed : IsPushed i hot hot' cold)
     (taken : (q : ℕ) → cold_at cold' q ≡ cond (nat_eq i q) None (cold_at cold q)) where
   room_prefix : (q : ℕ) → hot_at hot.entries q ≡ hot_at (take (hot.cap - 1) hot.entries) q
-  room_prefix q =
-      hot_split hot.entries hot.cap q valid.1 valid.2 ∙ ap (λ o. option_or (hot_at (take (hot.cap - 1) hot.entries) q) (hot_at (option_to_list o) q)) room
-      ∙ or_none (hot_at (take (hot.cap - 1) hot.entries) q)
+  room_prefix q = grind (arith, hot_split hot.entries hot.cap q valid.1 valid.2)
 
   room_hot : (q : ℕ) → hot_at hot'.entries q ≡ cond (eqb q i) (Some pushed.content) (hot_at hot.entries q)
   room_hot q = ap (λ es. hot_at es q) pushed.entries ∙ ap (cond (eqb q i) (Some pushed.content)) (sym (room_prefix q))
@@ -80,21 +75,11 @@ module _ (i : ℕ) (hot hot' : LruCache ℕ Content) (cold cold' : Entries) (val
   room_cold q = taken q ∙ ap (λ b. cond b None (cold_at cold q)) (turned i q)
 
   room_same : HoldSame hot.entries cold hot'.entries cold'
-  room_same q = ap (λ o. option_or o (cold_at cold' q)) (room_hot q) ∙ ap (option_or (cond (eqb q i) (Some pushed.content) (hot_at hot.entries q)))
-      (room_cold q) ∙ go (eqb q i) refl
-    where
-      go : (b : Bool) → eqb q i ≡ b → option_or (cond b (Some pushed.content) (hot_at hot.entries q)) (cond b None (cold_at cold q)) ≡ value_in hot.entries cold
-          q
-      go true e = sym (ap (value_in hot.entries cold) (eqb-true q i e) ∙ ap (λ o. option_or o (cold_at cold i)) absent ∙ pushed.there)
-      go false e = refl
+  room_same q = grind (arith, room_hot)
 
   room_disjoint : AreDisjoint hot'.entries cold'
   unfolding AreDisjoint
-  room_disjoint q v is = room_cold q ∙ go (eqb q i) (sym (room_hot q) ∙ is)
-    where
-      go : (b : Bool) → cond b (Some pushed.content) (hot_at hot.entries q) ≡ Some v → cond b None (cold_at cold q) ≡ None
-      go true h = refl
-      go false h = disjoint_at hot.entries cold disjoint q v h
+  room_disjoint q v is = grind (arith, room_hot)
 
   pub warmed_in_room : IsWarmed i hot hot' cold cold'
   warmed_in_room = record { keys = keys_pushed hot hot' cold i pushed; cap = pushed.cap; same = room_same; disjoint = room_disjoint }
@@ -103,8 +88,7 @@ module _ (i : ℕ) (hot hot' : LruCache ℕ Content) (cold cold' : Entries) (val
 
 module _ (hot : LruCache ℕ Content) (e : ℕ × Content) (valid : IsValid nat_eq hot) (is_last : slice_get hot.entries (hot.cap - 1) ≡ Some e) where
   at_prefix : (q : ℕ) → hot_at hot.entries q ≡ option_or (hot_at (take (hot.cap - 1) hot.entries) q) (cond (eqb q e.0) (Some e.1) None)
-  at_prefix q = hot_split hot.entries hot.cap q valid.1 valid.2 ∙ ap (λ o. option_or (hot_at (take (hot.cap - 1) hot.entries) q) (hot_at (option_to_list o) q))
-      is_last
+  at_prefix q = grind (arith, hot_split hot.entries hot.cap q valid.1 valid.2)
 
   lacks : hot_at (take (hot.cap - 1) hot.entries) e.0 ≡ None
   lacks = prefix_lacks (hot.cap - 1) hot.entries e valid.0 is_last
@@ -121,9 +105,7 @@ pub place_there : (hot : LruCache ℕ Content) (cold c1 c2 : Entries) (i last : 
     → slice_get hot.entries (hot.cap - 1) ≡ Some e → last ≡ e.0
     → ((q : ℕ) → cold_at c1 q ≡ cond (nat_eq last q) (Some w) (cold_at cold q)) → ((q : ℕ) → cold_at c2 q ≡ cond (nat_eq i q) None (cold_at c1 q))
     → IsSome (cold_at c2 e.0)
-place_there hot cold c1 c2 i last e w valid absent is_last key first second =
-    ap is_some (second e.0 ∙ ap (λ b. cond b None (cold_at c1 e.0)) (turned i e.0 ∙ not_last hot e valid is_last i absent)
-    ∙ first e.0 ∙ ap (λ b. cond b (Some w) (cold_at cold e.0)) (eq-eqb last e.0 key))
+place_there hot cold c1 c2 i last e w valid absent is_last key first second = grind (arith, not_last)
 
 -- the last one, of which the number is known
 pub with_last : {P : Type 0} (o : Option (ℕ × Content)) (last : ℕ) → Some last ≡ option_map (λ e. e.0) o → ((e : ℕ × Content) → o ≡ Some e → last ≡ e.0 → P) → P
@@ -170,28 +152,16 @@ module _ (i last : ℕ) (e : ℕ × Content) (w : Content) (hot hot' : LruCache 
   was_there = sym (place i ∙ ap (λ b. cond b (Some w) (cold_at cold i)) (not_last hot e valid is_last i absent)) ∙ pushed.there
 
   not_used : (q : ℕ) → eqb q i ≡ false → cold_at c3 q ≡ cond (eqb q e.0) (Some e.1) (cold_at cold q)
-  not_used q h =
-      after q ∙ ap (λ b. cond (eqb e.0 q) (Some e.1) (cond b None (cond (eqb e.0 q) (Some w) (cold_at cold q)))) (turned i q ∙ h)
-      ∙ twice (eqb e.0 q) (Some e.1) (Some w) (cold_at cold q) ∙ ap (λ b. cond b (Some e.1) (cold_at cold q)) (turned e.0 q)
+  not_used q h = grind arith
 
   gone : cold_at c3 i ≡ None
-  gone =
-      after i ∙ ap (λ b. cond b (Some e.1) (cond (eqb i i) None (cond (eqb e.0 i) (Some w) (cold_at cold i)))) (not_last hot e valid is_last i absent)
-      ∙ ap (λ b. cond b None (cond (eqb e.0 i) (Some w) (cold_at cold i))) (eq-eqb i i refl)
+  gone = grind (arith, not_last)
 
   new_hot : (q : ℕ) → hot_at hot'.entries q ≡ cond (eqb q i) (Some pushed.content) (hot_at (take (hot.cap - 1) hot.entries) q)
   new_hot q = ap (λ es. hot_at es q) pushed.entries
 
   trade_same : HoldSame hot.entries cold hot'.entries c3
-  trade_same q = ap (λ o. option_or o (cold_at c3 q)) (new_hot q) ∙ go (eqb q i) refl
-    where
-      go : (b : Bool) → eqb q i ≡ b → option_or (cond b (Some pushed.content) (hot_at (take (hot.cap - 1) hot.entries) q)) (cold_at c3 q)
-          ≡ value_in hot.entries cold q
-      go true h = sym (ap (value_in hot.entries cold) (eqb-true q i h) ∙ ap (λ o. option_or o (cold_at cold i)) absent ∙ was_there)
-      go false h =
-          ap (option_or (hot_at (take (hot.cap - 1) hot.entries) q)) (not_used q h) ∙ moved (hot_at (take (hot.cap - 1) hot.entries) q) (cold_at cold q)
-          (eqb q e.0) e.1
-          ∙ ap (λ o. option_or o (cold_at cold q)) (sym (at_prefix hot e valid is_last q))
+  trade_same q = grind (arith, was_there, not_used, moved, at_prefix)
 
   trade_disjoint : AreDisjoint hot'.entries c3
   unfolding AreDisjoint
@@ -209,9 +179,4 @@ module _ (i last : ℕ) (e : ℕ × Content) (w : Content) (hot hot' : LruCache 
 -- a new first entry, of a number that isn't hot
 pub put_new : (hot : Entries) (i cap : ℕ) (v : Content) → hot_at hot i ≡ None → option_map_or (λ d. (d.0, v) ∷ remove_entry (nat_eq i) hot)
     (lookup_entry (nat_eq i) hot) ((i, v) ∷ take (cap - 1) hot) ≡ (i, v) ∷ take (cap - 1) hot
-put_new hot i cap v none = go (lookup_entry (nat_eq i) hot) refl
-  where
-    go : (o : Option (ℕ × Content)) → lookup_entry (nat_eq i) hot ≡ o → option_map_or (λ d. (d.0, v) ∷ remove_entry (nat_eq i) hot) o
-        ((i, v) ∷ take (cap - 1) hot) ≡ (i, v) ∷ take (cap - 1) hot
-    go None h = refl
-    go (Some f) h = absurd (some≢none f.1 (sym (found i hot f h).1 ∙ none))
+put_new hot i cap v none = grind (arith, found)

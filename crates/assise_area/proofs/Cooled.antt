@@ -2,10 +2,10 @@
 use Rattle.assise_area.proofs.Common.{◌≡◌, ◌≤◌, ◌<◌, ◌+◌, ◌-◌, ℕ, zero, suc, Bool, true, false, cond, List, [], ◌∷◌, ◌||◌, length, take, drop, Option, Some}
 use Rattle.assise_area.proofs.Common.{None, IsSome, refl, sym, ap, ◌∙◌, eqb, nat_eq, is_some, arith, get_or, cond_both, eqb-true, eq-eqb, or_parts, or_from}
 use Rattle.assise_area.proofs.Common.{length-take-le, take-append-drop, take_more, option_or, AllByRecursion, IsDistinct, list_any, slice_get, keys_of}
-use Rattle.assise_area.proofs.Common.{LruCache, lru_cache, Content, or_cond, AreaValue, with_capacity, Entries, AreDisjoint, AreWritten, HoldSame, IsCooled}
-use Rattle.assise_area.proofs.Common.{both_parts, value_in, hot_at, cold_at, area_seen}
+use Rattle.assise_area.proofs.Common.{LruCache, lru_cache, Content, AreaValue, with_capacity, Entries, AreDisjoint, AreWritten, HoldSame, IsCooled, hot_at}
+use Rattle.assise_area.proofs.Common.{cold_at, area_seen}
 use Rattle.std.proofs.lemmas.List.Folds.{list_any-append}
-use Rattle.assise_area.proofs.Seen.{some_or, turned, some≢none, from_some, same_joined, is_some-lookup}
+use Rattle.assise_area.proofs.Seen.{some_or, some≢none, from_some, same_joined, is_some-lookup}
 use Rattle.assise_area.proofs.WrittenValues.{disjoint_at}
 use Rattle.assise_area.proofs.ColdToHot.{hot-append, keys_take}
 
@@ -20,11 +20,7 @@ one_more false false v x = refl
 -- another number is written
 pub written_next : (numbers : List ℕ) (k d : ℕ) (value : Option Content) (cold c1 c2 : Entries) → k < length numbers → AreWritten (take k numbers) value cold c1
     → ((q : ℕ) → cold_at c2 q ≡ cond (nat_eq (get_or numbers k d) q) value (cold_at c1 q)) → AreWritten (take (k + 1) numbers) value cold c2
-written_next numbers k d value cold c1 c2 within so_far step q =
-    let n = get_or numbers k d in
-    let among = ap (list_any (nat_eq q)) (take_more numbers k d within) ∙ list_any-append (nat_eq q) (take k numbers) (n ∷ []) in
-    step q ∙ ap (cond (eqb n q) value) (so_far q) ∙ ap (λ b. cond b value (cond (list_any (nat_eq q) (take k numbers)) value (cold_at cold q))) (turned n q)
-    ∙ one_more (list_any (nat_eq q) (take k numbers)) (eqb q n) value (cold_at cold q) ∙ ap (λ b. cond b value (cold_at cold q)) (sym among)
+written_next numbers k d value cold c1 c2 within so_far step q = grind (arith, take_more numbers k d within, list_any-append)
 
 none_in_prefix : (p : ℕ → Bool) (k : ℕ) (ns : List ℕ) → list_any p ns ≡ false → list_any p (take k ns) ≡ false
 none_in_prefix p zero ns h = refl
@@ -56,9 +52,7 @@ module _ (k : ℕ) (es : Entries) (q : ℕ) where
   -- it has a place
   pub beyond_placed : (cold c1 : Entries) (numbers : List ℕ) (w : Content) → numbers ≡ keys_of (drop k es) → AreWritten numbers (Some w) cold c1 →
       IsSome (hot_at (drop k es) q) → IsSome (cold_at c1 q)
-  beyond_placed cold c1 numbers w are written there =
-      let among : list_any (nat_eq q) numbers ≡ true = ap (list_any (nat_eq q)) are ∙ sym (is_some-lookup q (drop k es)) ∙ there in
-      ap is_some (written q ∙ ap (λ b. cond b (Some w) (cold_at cold q)) among)
+  beyond_placed cold c1 numbers w are written there = grind (arith, is_some-lookup)
 
 -- ---- the longest unused one moves
 
@@ -99,8 +93,7 @@ length_shorter n hot is = length-take-le (n - 1) hot (omega (arith, is))
 
 module _ (n : ℕ) (old hot : Entries) (e : ℕ × Content) (some : 0 < n) (prefix : hot ≡ take n old) (is_last : slice_get hot (n - 1) ≡ Some e) where
   last_of_all : slice_get old (n - 1) ≡ Some e
-  last_of_all = let next : n ≡ suc (n - 1) = omega (arith, some) in
-      sym (at_prefix (n - 1) old) ∙ ap (λ k. slice_get (take k old) (n - 1)) (sym next) ∙ ap (λ l. slice_get l (n - 1)) (sym prefix) ∙ is_last
+  last_of_all = grind (arith, at_prefix)
 
   behind_last : drop (n - 1) old ≡ e ∷ drop n old
   behind_last = let next : n ≡ suc (n - 1) = omega (arith, some) in next_last (n - 1) old e last_of_all ∙ ap (λ k. e ∷ drop k old) (sym next)
@@ -108,17 +101,13 @@ module _ (n : ℕ) (old hot : Entries) (e : ℕ × Content) (some : 0 < n) (pref
   -- its place is there
   pub last_placed : (first : ℕ) (cold c1 : Entries) → first < n → ((q : ℕ) → IsSome (hot_at (drop first old) q) → IsSome (cold_at cold q))
       → ((q : ℕ) → cold_at c1 q ≡ option_or (hot_at (drop n old) q) (cold_at cold q)) → IsSome (cold_at c1 e.0)
-  last_placed first cold c1 more places moved =
-      ap is_some (moved e.0)
-      ∙ some_or (hot_at (drop n old) e.0) (cold_at cold e.0) (places e.0 (there_beyond first (n - 1) old e (omega (arith, more)) last_of_all))
+  last_placed first cold c1 more places moved = grind (arith, there_beyond, last_of_all)
 
   -- it is written there
   pub last_moved : (cold c1 c2 : Entries) → ((q : ℕ) → cold_at c1 q ≡ option_or (hot_at (drop n old) q) (cold_at cold q))
       → ((q : ℕ) → cold_at c2 q ≡ cond (nat_eq e.0 q) (Some e.1) (cold_at c1 q)) → (q : ℕ) → cold_at c2 q ≡ option_or (hot_at (drop (n - 1) old) q)
       (cold_at cold q)
-  last_moved cold c1 c2 moved step q =
-      step q ∙ ap (cond (eqb e.0 q) (Some e.1)) (moved q) ∙ ap (λ b. cond b (Some e.1) (option_or (hot_at (drop n old) q) (cold_at cold q))) (turned e.0 q)
-      ∙ sym (or_cond (eqb q e.0) e.1 (hot_at (drop n old) q) (cold_at cold q)) ∙ ap (λ l. option_or (hot_at l q) (cold_at cold q)) (sym behind_last)
+  last_moved cold c1 c2 moved step q = grind (arith, behind_last)
 
 -- ---- what both parts hold then
 
@@ -158,17 +147,11 @@ module _ (k : ℕ) (hot hot' : LruCache ℕ Content) (cold c1 c2 : Entries) (num
       go (Some v) = refl
 
   cooled_same : HoldSame hot.entries cold hot'.entries c2
-  cooled_same q =
-      ap (λ h. value_in h.entries c2 q) left ∙ ap (option_or (hot_at (take k hot.entries) q)) (moved_over q)
-      ∙ or_or (hot_at (take k hot.entries) q) (hot_at (drop k hot.entries) q) (cold_at cold q)
-      ∙ ap (λ o. option_or o (cold_at cold q)) (sym (hot_parts k hot.entries q))
+  cooled_same q = grind (arith, moved_over, or_or, hot_parts)
 
   cooled_disjoint : AreDisjoint hot'.entries c2
   unfolding AreDisjoint
-  cooled_disjoint q v is =
-      let stays : hot_at (take k hot.entries) q ≡ Some v = sym (ap (λ h. hot_at h.entries q) left) ∙ is in
-      let was = disjoint_at hot.entries cold disjoint q v (hot_parts k hot.entries q ∙ ap (λ o. option_or o (hot_at (drop k hot.entries) q)) stays) in
-      moved_over q ∙ ap (λ o. option_or o (cold_at cold q)) (not_beyond k hot.entries q v distinct stays) ∙ was
+  cooled_disjoint q v is = grind (arith, hot_parts k hot.entries q, moved_over q, not_beyond)
 
   pub cooled : IsCooled k hot hot' cold c2
   cooled = record { left = left; same = cooled_same; disjoint = cooled_disjoint }
@@ -183,9 +166,4 @@ module _ (k : ℕ) (hot h1 h2 : LruCache ℕ Content) (cold c1 : Entries) (w : I
   as_cooled = ap (λ h. h.entries) again ∙ sym (ap (λ h. h.entries) w.left)
 
   pub seen_resized : (a : AreaValue) → area_seen hot cold ≡ a → area_seen h2 c1 ≡ with_capacity a k
-  seen_resized a view =
-      let inodes = ap (λ es. both_parts es c1) as_cooled ∙ same_joined hot.entries cold h1.entries c1 w.same in
-      let keys = ap (λ h. keys_of h.entries) again ∙ sym (keys_take k hot.entries) in
-      let cap = ap (λ h. h.cap) again in
-      let now : area_seen h2 c1 ≡ with_capacity (area_seen hot cold) k = λ j. record { inodes = inodes j; hot = keys j; capacity = cap j } in
-      now ∙ ap (λ b. with_capacity b k) view
+  seen_resized a view = grind (arith, as_cooled, same_joined, keys_take)

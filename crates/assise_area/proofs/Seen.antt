@@ -1,8 +1,7 @@
 -- What two parts are as one map.
-use Rattle.assise_area.proofs.Common.{◌≡◌, ℕ, Bool, true, false, cond, [], ◌∷◌, ◌++◌, Option, Some, None, IsSome, Result, Ok, Err, OnOk, OnErr, refl, sym, ap}
-use Rattle.assise_area.proofs.Common.{◌∙◌, eqb, ◌||◌, is_some, true≢false, option_or, nat_cmp, nat_cmp_total, nat_eq_equiv, list_any, keys_of, LruCache}
-use Rattle.assise_area.proofs.Common.{Content, with_value, alike, or_cond, AreaValue, is_hot, Entries, HoldSame, both_parts, value_in, hot_at, cold_at}
-use Rattle.assise_area.proofs.Common.{area_seen}
+use Rattle.assise_area.proofs.Common.{◌≡◌, ℕ, true, false, cond, [], ◌∷◌, ◌++◌, Option, Some, None, IsSome, Result, Ok, Err, OnOk, OnErr, refl, sym, ap, ◌∙◌}
+use Rattle.assise_area.proofs.Common.{eqb, is_some, true≢false, option_or, nat_cmp, nat_cmp_total, nat_eq_equiv, list_any, keys_of, LruCache, Content}
+use Rattle.assise_area.proofs.Common.{with_value, alike, or_cond, AreaValue, is_hot, Entries, HoldSame, both_parts, value_in, hot_at, cold_at, area_seen, arith}
 use Rattle.std.proofs.lemmas.Map.Lookups.{exact_unsigned}
 use Rattle.std.specs.FinMap as map
 use Rattle.assise_inode_table.proofs.EffectValues.{get-with_value}
@@ -46,8 +45,7 @@ same_joined hot cold hot' cold' same = map.same_map nat_cmp_total exact_unsigned
 -- parts that hold another value of one inode
 pub with_value-joined : (hot cold hot' cold' : Entries) (k : ℕ) (w : Option Content)
     → ((q : ℕ) → value_in hot' cold' q ≡ cond (eqb k q) w (value_in hot cold q)) → both_parts hot' cold' ≡ with_value (both_parts hot cold) k w
-with_value-joined hot cold hot' cold' k w values = map.same_map nat_cmp_total exact_unsigned _ _ (λ q.
-    get-joined hot' cold' q ∙ values q ∙ ap (cond (eqb k q) w) (sym (get-joined hot cold q)) ∙ sym (get-with_value (both_parts hot cold) k w q))
+with_value-joined hot cold hot' cold' k w values = map.same_map nat_cmp_total exact_unsigned _ _ (grind (arith, get-joined, get-with_value))
 
 -- what an area has of a number
 pub value_of : (a : AreaValue) (hot : LruCache ℕ Content) (cold : Entries) (q : ℕ) → area_seen hot cold ≡ a → map.get a.inodes q ≡ value_in hot.entries cold q
@@ -65,12 +63,7 @@ value_of_hot a hot cold q v view is = value_of a hot cold q view ∙ ap (λ o. o
 -- the number of what is hot is among the keys
 pub is_some-lookup : (i : ℕ) (es : Entries) → is_some (hot_at es i) ≡ list_any (λ j. eqb i j) (keys_of es)
 is_some-lookup i [] = refl
-is_some-lookup i (e ∷ es) = go (eqb i e.0) (is_some-lookup i es)
-  where
-    go : (b : Bool) → is_some (hot_at es i) ≡ list_any (λ j. eqb i j) (keys_of es) → is_some (cond b (Some e.1) (hot_at es i))
-        ≡ (b || list_any (λ j. eqb i j) (keys_of es))
-    go true ih = refl
-    go false ih = ih
+is_some-lookup i (e ∷ es) = grind (arith, is_some-lookup i es)
 
 pub hot_now : (a : AreaValue) (hot : LruCache ℕ Content) (cold : Entries) (i : ℕ) → area_seen hot cold ≡ a → is_hot a i ≡ is_some (hot_at hot.entries i)
 hot_now a hot cold i view = ap (λ b. is_hot b i) (sym view) ∙ sym (is_some-lookup i hot.entries)

@@ -1,6 +1,6 @@
 -- Who stands behind whom in a chain whose nodes differ.
-use Rattle.assise_chain.proofs.Common.{◌≡◌, ℕ, ◌<◌, ◌==◌, Bool, true, false, if◌then◌else◌, List, [], ◌∷◌, ◌++◌, Some, None, ap, sym, refl, subst, arith, inl}
-use Rattle.assise_chain.proofs.Common.{inr, filter, nat_lt, nat_le, ne_eqb, IsAscending, behind, chain, first_of_all, AllDiffer, IsOneOf}
+use Rattle.assise_chain.proofs.Common.{◌≡◌, ℕ, ◌==◌, Bool, true, false, if◌then◌else◌, List, [], ◌∷◌, ◌++◌, Some, None, ap, sym, refl, subst, arith, inl, inr}
+use Rattle.assise_chain.proofs.Common.{filter, nat_le, ne_eqb, IsAscending, behind, chain, first_of_all, AllDiffer, IsOneOf}
 use Rattle.assise_chain.proofs.Rows.{above_all, in_right}
 
 -- whoever isn't there has nobody behind
@@ -11,9 +11,7 @@ nobody_behind (m ∷ ns) n out = let isnt : (m == n) ≡ false = ne_eqb m n (λ 
 -- behind a place stands the first of what is behind it
 pub behind_place : (prefix rest : List ℕ) (n : ℕ) → AllDiffer (prefix ++ n ∷ rest) → behind n (prefix ++ n ∷ rest) ≡ first_of_all rest
 behind_place [] rest n d = let is : (n == n) ≡ true = search arith in rw is refl
-behind_place (m ∷ prefix) rest n d =
-    let isnt : (m == n) ≡ false = ne_eqb m n (λ e. d.0 (in_right prefix (n ∷ rest) m (inl (sym e)))) in
-    rw isnt (behind_place prefix rest n d.1)
+behind_place (m ∷ prefix) rest n d = grind (arith, behind_place prefix rest n d.1, in_right)
 
 first_is_one : (ns : List ℕ) (n : ℕ) → first_of_all ns ≡ Some n → IsOneOf ns n
 first_is_one [] n e = cc
@@ -35,12 +33,7 @@ begins [] head r a = absurd a
 begins (n ∷ ns) head r (inl e) =
     let is : nat_le head n ≡ true = search (arith, e) in
     (filter (nat_le head) ns, rw is (ap (λ m. m ∷ filter (nat_le head) ns) e))
-begins (n ∷ ns) head r (inr a) =
-    let below : n < head = above_all ns n head r.0 a in
-    let isnt : nat_le head n ≡ false = search arith in
-    rw isnt (begins ns head r.1 a)
+begins (n ∷ ns) head r (inr a) = grind (arith, begins ns head r.1 a, above_all ns n head r.0 a)
 
 pub head_first : (full : List ℕ) (head : ℕ) → IsAscending full → IsOneOf full head → first_of_all (chain full head) ≡ Some head
-head_first full head r a =
-    let first = begins full head r a in
-    ap (λ ns. first_of_all (ns ++ filter (λ m. nat_lt m head) full)) first.1
+head_first full head r a = grind (arith, begins)

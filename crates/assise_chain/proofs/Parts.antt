@@ -1,17 +1,14 @@
 -- Records that agree, number by number, with a log: each of them that the log hasn't let go is the log's record of its number.
-use Rattle.assise_chain.proofs.Common.{◌≡◌, ℕ, zero, suc, ◌+◌, ◌-◌, ◌<◌, ◌≤◌, Some, None, List, [], ◌∷◌, length, take, drop, ap, sym, ◌∙◌, refl, arith, inl}
-use Rattle.assise_chain.proofs.Common.{inr, slice_get, length-take, cases_lt, LogRecord, LogFrame, NumberedLog, end, records_from, with_record, without_prefix}
-use Rattle.assise_chain.proofs.Common.{accepted, records_past, count_sent, first_sent, sent, IsPrefixOf}
+use Rattle.assise_chain.proofs.Common.{◌≡◌, ℕ, zero, suc, ◌+◌, ◌-◌, ◌≤◌, Some, None, List, [], ◌∷◌, length, take, drop, ap, sym, ◌∙◌, refl, arith, inl, inr}
+use Rattle.assise_chain.proofs.Common.{slice_get, length-take, cases_lt, LogRecord, LogFrame, NumberedLog, end, records_from, with_record, without_prefix}
+use Rattle.assise_chain.proofs.Common.{accepted, records_past, first_sent, sent, IsPrefixOf}
 use Rattle.std.proofs.lemmas.Option.{slice_get_within}
 use Rattle.circular_buffer.proofs.Places.{slice_get-append_left, slice_get-append_right, slice_get-drop, slice_get-take}
 
 -- ---- places
 
 of_take : {X : Type 0} (n : ℕ) (xs : List X) (k : ℕ) (x : X) → slice_get (take n xs) k ≡ Some x → slice_get xs k ≡ Some x
-of_take n xs k x is =
-    let within = slice_get_within (take n xs) k x is in
-    let prefix : k < n = omega (arith, length-take n xs) in
-    sym (slice_get-take n xs k prefix) ∙ is
+of_take n xs k x is = grind (arith, slice_get_within, length-take, slice_get-take)
 
 of_drop : {X : Type 0} (n : ℕ) (xs : List X) (k : ℕ) (x : X) → slice_get (drop n xs) k ≡ Some x → slice_get xs (n + k) ≡ Some x
 of_drop n xs k x is = sym (slice_get-drop n xs k (n + k) refl) ∙ is
@@ -37,58 +34,29 @@ whole_part l = record { agrees = λ k r is from. let place : l.first + k - l.fir
 
 -- a prefix agrees
 pub prefix_part : (l whole : NumberedLog) → IsPrefixOf l whole → IsPart l.first l.records whole
-prefix_part l whole prefix = record {
-  agrees = λ k r is from.
-      let place : k ≡ l.first + k - whole.first = omega (arith, prefix.first) in
-      ap (slice_get whole.records) (sym place) ∙ of_take (length l.records) whole.records k r (ap (λ rs. slice_get rs k) (sym prefix.records) ∙ is);
-}
+prefix_part l whole prefix = grind (arith, of_take)
 
 -- and what agrees and begins with the log is a prefix
 pub part_prefix : (l whole : NumberedLog) → l.first ≡ whole.first → IsPart l.first l.records whole → IsPrefixOf l whole
-part_prefix l whole first part = record {
-  first = first;
-  records = prefix_of l.records whole.records (λ k r is.
-      let place : l.first + k - whole.first ≡ k = omega arith in
-      ap (slice_get whole.records) (sym place) ∙ part.agrees k r is (omega arith));
-}
+part_prefix l whole first part = grind (arith, prefix_of)
 
 -- with one record more in the log
 pub part_longer : (first : ℕ) (rs : List LogRecord) (whole : NumberedLog) (added : LogRecord) → IsPart first rs whole →
     IsPart first rs (with_record whole added)
-part_longer first rs whole added part = record {
-  agrees = λ k r is from.
-      let there = part.agrees k r is from in
-      slice_get-append_left whole.records (added ∷ []) (first + k - whole.first) (slice_get_within whole.records (first + k - whole.first) r there) ∙ there;
-}
+part_longer first rs whole added part = grind (arith, slice_get-append_left, slice_get_within)
 
 -- without the log's first records
 pub part_shorter : (first to : ℕ) (rs : List LogRecord) (whole : NumberedLog) → whole.first ≤ to → IsPart first rs whole →
     IsPart first rs (without_prefix whole to)
-part_shorter first to rs whole reached part = record {
-  agrees = λ k r is from.
-      let place : first + k - whole.first ≡ (to - whole.first) + (first + k - to) = omega arith in
-      slice_get-drop (to - whole.first) whole.records (first + k - to) (first + k - whole.first) place ∙ part.agrees k r is (omega arith);
-}
+part_shorter first to rs whole reached part = grind (arith, slice_get-drop)
 
 -- without the first of the records themselves
 pub part_behind : (l : NumberedLog) (to : ℕ) (whole : NumberedLog) → l.first ≤ to → IsPart l.first l.records whole → IsPart to (records_from l to) whole
-part_behind l to whole reached part = record {
-  agrees = λ k r is from.
-      let number : l.first + ((to - l.first) + k) ≡ to + k = omega arith in
-      let there = part.agrees ((to - l.first) + k) r (of_drop (to - l.first) l.records k r is) (omega arith) in
-      ap (λ n. slice_get whole.records (n - whole.first)) (sym number) ∙ there;
-}
+part_behind l to whole reached part = grind (arith, of_drop)
 
 -- what is sent agrees
 pub part_sent : (l : NumberedLog) (from to : ℕ) (whole : NumberedLog) → IsPart l.first l.records whole → IsPart (first_sent l from) (sent l from to) whole
-part_sent l from to whole part = record {
-  agrees = λ k r is here.
-      let rs = records_from l from in
-      let one = of_take (to - first_sent l from) rs k r (of_take (count_sent l from to) (take (to - first_sent l from) rs) k r is) in
-      let number : l.first + ((from - l.first) + k) ≡ first_sent l from + k = omega arith in
-      let there = part.agrees ((from - l.first) + k) r (of_drop (from - l.first) l.records k r one) (omega arith) in
-      ap (λ n. slice_get whole.records (n - whole.first)) (sym number) ∙ there;
-}
+part_sent l from to whole part = grind (arith, of_take, of_drop)
 
 -- what is taken in agrees
 pub part_accepted : (l : NumberedLog) (f : LogFrame) (whole : NumberedLog) → f.first ≤ end l → IsPart l.first l.records whole → IsPart f.first f.records whole

@@ -1,16 +1,13 @@
 -- Prefixes of records: what is sent, and what was read of an iterator.
-use Rattle.assise_chain.proofs.Common.{◌≡◌, ℕ, zero, suc, ◌+◌, ◌-◌, ◌<◌, ◌≤◌, min, max, Bool, false, cond, List, [], ◌∷◌, ◌++◌, get_or, length, take, None}
-use Rattle.assise_chain.proofs.Common.{Some, ap, sym, ◌∙◌, refl, arith, true, inl, inr, both_ways, cases_lt, length-drop, length-take, length-take-le}
-use Rattle.assise_chain.proofs.Common.{LogRecord, LogFrame, IsNumberedLog, NumberedLog, end, is_border, records_from, count_sent, first_sent, frame_of}
-use Rattle.assise_chain.proofs.Common.{last_marks, log_records_between, sent}
-use Rattle.assise_private_log.specs.Borders.{IsWholeCount, whole_count}
+use Rattle.assise_chain.proofs.Common.{◌≡◌, ℕ, zero, suc, ◌+◌, ◌-◌, ◌<◌, ◌≤◌, min, max, Bool, false, List, [], ◌∷◌, ◌++◌, get_or, length, take, None, Some, ap}
+use Rattle.assise_chain.proofs.Common.{◌∙◌, refl, arith, true, length-drop, length-take, length-take-le, LogRecord, LogFrame, IsNumberedLog, NumberedLog, end}
+use Rattle.assise_chain.proofs.Common.{is_border, records_from, count_sent, first_sent, frame_of, last_marks, log_records_between, sent}
+use Rattle.assise_private_log.specs.Borders.{whole_count}
 use Rattle.assise_private_log.proofs.Borders.{is_whole, some_whole}
 
 -- the first item of a prefix
 pub taken_first : {X : Type 0} (n m : ℕ) (xs ys : List X) (x : X) → m + 1 ≡ n → xs ≡ x ∷ ys → take n xs ≡ x ∷ take m ys
-taken_first n m xs ys x next is =
-    let same : n ≡ suc m = omega arith in
-    ap (λ k. take k xs) same ∙ ap (take (suc m)) is
+taken_first n m xs ys x next is = grind arith
 
 -- a prefix of a prefix
 take-take : {X : Type 0} (m n : ℕ) (xs : List X) → take m (take n xs) ≡ take (min m n) xs
@@ -21,9 +18,7 @@ take-take (suc m) (suc n) (x ∷ xs) = let some : min (suc m) (suc n) ≡ suc (m
 
 -- how many records lie between two numbers
 pub length_between : (l : NumberedLog) (from to : ℕ) → length (log_records_between l from to) ≡ min to (end l) - max from l.first
-length_between l from to =
-    let there : length (records_from l from) ≡ length l.records - (from - l.first) = length-drop (from - l.first) l.records in
-    omega (arith, length-take (to - first_sent l from) (records_from l from))
+length_between l from to = grind (arith, length-drop, length-take)
 
 -- `count` records are counted of those from a number on and below another
 pub record IsCounted (l : NumberedLog) (from to first most count : ℕ) : Type 0 where
@@ -32,60 +27,30 @@ pub record IsCounted (l : NumberedLog) (from to first most count : ℕ) : Type 0
   pub count_is : count ≡ whole_count l first most
 
 counted : (l : NumberedLog) (from to first most count : ℕ) → IsCounted l from to first most count → count_sent l from to ≡ count
-counted l from to first most count is =
-    let same : min 64 (length (log_records_between l from to)) ≡ most = omega (arith, length_between l from to, is.first_is, is.most_is) in
-    ap (λ n. whole_count l n (min 64 (length (log_records_between l from to)))) (sym is.first_is) ∙ ap (whole_count l first) same ∙ sym is.count_is
+counted l from to first most count is = grind (arith, length_between)
 
 counted_within : (l : NumberedLog) (from to first most count : ℕ) → IsCounted l from to first most count → count ≤ min to (end l) - first_sent l from
 counted_within l from to first most count is = omega (arith, is.first_is, is.most_is, is.count_is, (is_whole l first most).within)
 
 -- what is sent is the first `count` of the records from a number on
 pub sent_first : (l : NumberedLog) (from to first most count : ℕ) → IsCounted l from to first most count → sent l from to ≡ take count (records_from l from)
-sent_first l from to first most count is =
-    let within : min count (to - first_sent l from) ≡ count = omega (arith, counted_within l from to first most count is) in
-    ap (λ n. take n (log_records_between l from to)) (counted l from to first most count is)
-    ∙ take-take count (to - first_sent l from) (records_from l from)
-    ∙ ap (λ n. take n (records_from l from)) within
+sent_first l from to first most count is = grind (arith, counted_within, counted, take-take)
 
 -- and there are `count`
 pub sent_length : (l : NumberedLog) (from to first most count : ℕ) → IsCounted l from to first most count → length (sent l from to) ≡ count
-sent_length l from to first most count is =
-    let within : count ≤ length (log_records_between l from to) = omega (arith, length_between l from to, counted_within l from to first most count is) in
-    ap (λ n. length (take n (log_records_between l from to))) (counted l from to first most count is) ∙ length-take-le count (log_records_between l from to)
-    within
+sent_length l from to first most count is = grind (arith, length_between, counted_within, length-take-le)
 
 -- as many are sent as are counted
 length_sent : (l : NumberedLog) (from to : ℕ) → length (sent l from to) ≡ count_sent l from to
-length_sent l from to =
-    let between = log_records_between l from to in
-    let within : count_sent l from to ≤ length between = omega (arith, (is_whole l (first_sent l from) (min 64 (length between))).within) in
-    length-take-le (count_sent l from to) between within
+length_sent l from to = grind (arith, is_whole, length-take-le)
 
 -- whole groups of them
 pub sent_border : (l : NumberedLog) (from to : ℕ) → 0 < length (sent l from to) → is_border l (first_sent l from + length (sent l from to)) ≡ true
-sent_border l from to some =
-    let long = length_sent l from to in
-    let whole = is_whole l (first_sent l from) (min 64 (length (log_records_between l from to))) in
-    ap (λ n. is_border l (first_sent l from + n)) long ∙ whole.border (omega arith)
+sent_border l from to some = grind (arith, length_sent, is_whole)
 
 -- and some, up to a border
 pub some_sent : (l : NumberedLog) (from to : ℕ) → IsNumberedLog l → first_sent l from < to → to ≤ end l → is_border l to ≡ true → 0 < length (sent l from to)
-some_sent l from to law low high is =
-    let most : ℕ = min 64 (length (log_records_between l from to)) in
-    let between = length_between l from to in
-    let long = length_sent l from to in
-    let whole : IsWholeCount l (first_sent l from) most (count_sent l from to) = is_whole l (first_sent l from) most in
-    let counted : 0 < count_sent l from to =
-    elim (cases_lt most 64) [
-      | inl short ↦ elim (cases_lt 0 (count_sent l from to)) [
-        | inl more ↦ more
-        | inr none ↦
-            let place : first_sent l from + most ≡ to = omega arith in
-            absurd (both_ways (is_border l (first_sent l from + most)) (whole.greatest most (omega arith) (omega arith)) (ap (is_border l) place ∙ is))
-      ]
-      | inr all ↦ some_whole l (first_sent l from) most law (omega arith) (inl all)
-    ] in
-    omega arith
+some_sent l from to law low high is = grind (arith, length_between, length_sent, is_whole, some_whole)
 
 -- there is a frame of some records
 pub plain_some : (epoch client first : ℕ) (rs : List LogRecord) (last : List Bool) → 0 < length rs →
@@ -108,30 +73,19 @@ frame_of_none marked epoch client first (r ∷ rs) last none = absurd (omega ari
 pub parts_of_frame : (marked : Bool) (epoch client first : ℕ) (rs : List LogRecord) (last : List Bool) (f : LogFrame) →
     frame_of marked epoch client first rs last ≡ Some f → (f.epoch ≡ epoch) × (f.first ≡ first) × (f.records ≡ rs)
 parts_of_frame marked epoch client first [] last f is = cc
-parts_of_frame marked epoch client first (r ∷ rs) last f is =
-    let same : record { version = cond marked 2 1; epoch = epoch; client = client; first = first; records = r ∷ rs; last = cond marked last [] } ≡ f = cc in (
-      ap (λ (g : LogFrame). g.epoch) (sym same),
-      ap (λ (g : LogFrame). g.first) (sym same),
-      ap (λ (g : LogFrame). g.records) (sym same),
-    )
+parts_of_frame marked epoch client first (r ∷ rs) last f is = grind arith
 
 -- ---- marks
 
 -- one more
 pub marks_more : (l : NumberedLog) (first count : ℕ) → last_marks l first (suc count) ≡ last_marks l first count ++ is_border l (first + suc count) ∷ []
 marks_more l first zero = ap (λ k. is_border l k ∷ []) (omega arith)
-marks_more l first (suc count) =
-    ap (λ ms. is_border l (suc first) ∷ ms) (marks_more l (suc first) count ∙ ap (λ k. last_marks l (suc first) count ++ is_border l k ∷ []) (omega arith))
+marks_more l first (suc count) = grind (arith, marks_more l (suc first) count)
 
 -- what was read of them, and the next
 pub marks_next : (l : NumberedLog) (first count : ℕ) (read : List Bool) (next : Bool) → read ≡ last_marks l first count →
     next ≡ is_border l (first + count + 1) → read ++ next ∷ [] ≡ last_marks l first (count + 1)
-marks_next l first count read next is last =
-    let one : count + 1 ≡ suc count = omega arith in
-    ap (λ ms. ms ++ next ∷ []) is
-    ∙ ap (λ b. last_marks l first count ++ b ∷ []) (last ∙ ap (is_border l) (omega arith))
-    ∙ sym (marks_more l first count)
-    ∙ ap (last_marks l first) (sym one)
+marks_next l first count read next is last = grind (arith, marks_more)
 
 pub marks_length : (l : NumberedLog) (first count : ℕ) → length (last_marks l first count) ≡ count
 marks_length l first zero = refl

@@ -1,6 +1,6 @@
 -- What comes next of an iterator over a chain, once a node was found in it.
 use Rattle.assise_chain.proofs.Common.{◌≡◌, ℕ, ◌==◌, Bool, true, false, cond, if◌then◌else◌, List, [], ◌∷◌, Option, Some, None, Bor, ap, sym, ◌∙◌, refl, subst}
-use Rattle.assise_chain.proofs.Common.{YieldsList, FoldsTo, find, behind, first_of_all}
+use Rattle.assise_chain.proofs.Common.{YieldsList, FoldsTo, find, behind, first_of_all, arith}
 use denote.Param.Members.{Mut}
 use Rattle.std.specs.Fn.{CalledAt}
 use Rattle.std.specs.Iterator.{AlwaysYields, Yields, YieldsThen}
@@ -68,6 +68,5 @@ pub found_then_next : {S F : Type 0} {steps : S → Option ℕ → S → Type 0}
 found_then_next {S} {F} {steps} {g} {s} {all} node u w f r next x ran road tells some after =
     let at : (xs : List ℕ) × (j : F) × YieldsThen steps s xs (Some x) u × FoldsTo (λ p x q. CalledAt g p x false q) f xs j × MatchOption (Some x) ⊤
     (λ x. (h : F) × CalledAt g j x true h)
-    = subst (λ o. (xs : List ℕ) × (j : F) × YieldsThen steps s xs o u × FoldsTo (λ p x q. CalledAt g p x false q) f xs j
-    × MatchOption o ⊤ (λ x. (h : F) × CalledAt g j x true h)) some ran in
+    = grind arith in
     next_behind steps g node f tells all at.0 s at.2.0 u w x at.1 at.4.0 next road.runs at.2.1 at.2.2 at.3 at.4.1 after

@@ -1,10 +1,10 @@
 -- Records of one client are digested, and what is read stays.
-use Rattle.assise_digest.proofs.Common.{◌≡◌, ◌≢◌, ◌≤◌, ◌<◌, ◌+◌, ◌-◌, ◌||◌, ◌⊎◌, Option, ℕ, zero, suc, Bool, true, false, List, [], ◌∷◌, ◌++◌, length, take}
-use Rattle.assise_digest.proofs.Common.{drop, slice_index_or, slice_set, refl, sym, ap, subst, ◌∙◌, inl, inr, drop-drop, take-add, arith, cases_eq, or_parts}
-use Rattle.assise_digest.proofs.Common.{or_true_right, get_or-set_same, get_or-set_other, length-set, set-get_or, LogRecord, all_effects, all_effects-append}
-use Rattle.assise_digest.proofs.Common.{Content, all_applied, contains, touched, value_after, append_applied, get-all_applied, untouched, value_after-append}
-use Rattle.assise_digest.proofs.Common.{contains-both, AreNotBelow, HasClient, IsBegun, ReceivedLog, RegionValue, TouchDisjoint, ahead, ahead_below, all_ahead}
-use Rattle.assise_digest.proofs.Common.{alone, digested_by, digested_further, log_at, log_of, no_log, read_by}
+use Rattle.assise_digest.proofs.Common.{◌≡◌, ◌≤◌, ◌<◌, ◌+◌, ◌-◌, ◌||◌, Option, ℕ, zero, suc, Bool, true, false, List, [], ◌∷◌, ◌++◌, length, take, drop}
+use Rattle.assise_digest.proofs.Common.{slice_index_or, slice_set, refl, sym, ap, subst, ◌∙◌, drop-drop, take-add, arith, or_parts, get_or-set_same}
+use Rattle.assise_digest.proofs.Common.{get_or-set_other, length-set, set-get_or, LogRecord, all_effects, all_effects-append, Content, all_applied, contains}
+use Rattle.assise_digest.proofs.Common.{touched, value_after, append_applied, get-all_applied, untouched, value_after-append, contains-both, AreNotBelow}
+use Rattle.assise_digest.proofs.Common.{HasClient, IsBegun, ReceivedLog, RegionValue, TouchDisjoint, ahead, ahead_below, all_ahead, alone, digested_by}
+use Rattle.assise_digest.proofs.Common.{digested_further, log_of, no_log, read_by}
 use Rattle.std.proofs.lemmas.List.{take-append-drop}
 use Rattle.std.specs.FinMap as map
 use Rattle.assise_digest.proofs.ReceivedLogs.{count_ahead}
@@ -12,28 +12,18 @@ use Rattle.assise_digest.proofs.ReceivedLogs.{count_ahead}
 -- ---- records of one log
 
 pub ahead_further : (l : ReceivedLog) (n : ℕ) → IsBegun l → ahead (digested_further l n) ≡ drop n (ahead l)
-ahead_further l n b = ap (λ k. drop k l.log.records) further ∙ sym (drop-drop n (l.digested - l.log.first) l.log.records)
-  where
-    further : (l.digested + n) - l.log.first ≡ (l.digested - l.log.first) + n
-    further = omega (arith, b.from_first)
+ahead_further l n b = grind (arith, drop-drop)
 
 -- what is replicated, in two parts
 pub ahead_below_parts : (l : ReceivedLog) (n a : ℕ) → IsBegun l → l.digested + n ≤ a → ahead_below l a ≡ take n (ahead l) ++ ahead_below (digested_further l n)
     a
-ahead_below_parts l n a b h =
-    ap (λ k. take k (ahead l)) two ∙ take-add n (a - (l.digested + n)) (ahead l)
-    ∙ ap (λ rs. take n (ahead l) ++ take (a - (l.digested + n)) rs) (sym (ahead_further l n b))
-  where
-    two : a - l.digested ≡ n + (a - (l.digested + n))
-    two = omega (arith, h)
+ahead_below_parts l n a b h = grind (arith, take-add n (a - (l.digested + n)) (ahead l), ahead_further l n b)
 
 -- which inodes records touch, in two parts
 touched_parts : (n : ℕ) (rs : List LogRecord) (i : ℕ) → contains (touched (all_effects rs)) i
     ≡ (contains (touched (all_effects (take n rs))) i || contains (touched (all_effects (drop n rs))) i)
-touched_parts n rs i =
-    ap (λ xs. contains (touched (all_effects xs)) i) (sym (take-append-drop n rs))
-    ∙ ap (λ es. contains (touched es) i) (all_effects-append (take n rs) (drop n rs))
-    ∙ contains-both (all_effects (take n rs)) (all_effects (drop n rs)) i
+touched_parts n rs i = grind
+    (arith, take-append-drop n rs, all_effects-append (take n rs) (drop n rs), contains-both (all_effects (take n rs)) (all_effects (drop n rs)) i)
 
 pub quiet_prefix : (n : ℕ) (rs : List LogRecord) (i : ℕ) → contains (touched (all_effects rs)) i ≡ false → contains (touched (all_effects (take n rs))) i
     ≡ false
@@ -46,9 +36,7 @@ some_of_prefix : (n : ℕ) (rs : List LogRecord) (i : ℕ) → contains (touched
 some_of_prefix n rs i h = touched_parts n rs i ∙ ap (λ b. b || contains (touched (all_effects (drop n rs))) i) h
 
 some_of_rest : (n : ℕ) (rs : List LogRecord) (i : ℕ) → contains (touched (all_effects (drop n rs))) i ≡ true → contains (touched (all_effects rs)) i ≡ true
-some_of_rest n rs i h =
-    touched_parts n rs i ∙ ap (λ b. contains (touched (all_effects (take n rs))) i || b) h
-    ∙ or_true_right (contains (touched (all_effects (take n rs))) i) true refl
+some_of_rest n rs i h = grind (arith, touched_parts n rs i)
 
 -- ---- the region
 
@@ -59,12 +47,7 @@ pub has_digested : (r : RegionValue) (c n : ℕ) → HasClient r c → HasClient
 has_digested r c n has = record { some = has.some; there = subst (λ k. c ≤ k) (sym (length-set r.logs (c - 1) (digested_further (log_of r c) n))) has.there }
 
 pub digested_none : (r : RegionValue) (c : ℕ) → digested_by r c 0 ≡ r
-digested_none r c =
-    ap (λ d. record r { logs = slice_set r.logs (c - 1) (record { log = (log_of r c).log; digested = d; at_home = (log_of r c).at_home }) }) nothing
-    ∙ ap (λ ls. record r { logs = ls }) (set-get_or r.logs (c - 1) no_log)
-  where
-    nothing : (log_of r c).digested + 0 ≡ (log_of r c).digested
-    nothing = omega arith
+digested_none r c = grind (arith, set-get_or r.logs (c - 1) no_log)
 
 set_again : (ls : List ReceivedLog) (k : ℕ) (x y : ReceivedLog) → slice_set (slice_set ls k x) k y ≡ slice_set ls k y
 set_again [] k x y = refl
@@ -72,53 +55,11 @@ set_again (l ∷ ls) zero x y = refl
 set_again (l ∷ ls) (suc k) x y = ap (λ xs. l ∷ xs) (set_again ls k x y)
 
 pub digested_more : (r : RegionValue) (c n k : ℕ) → HasClient r c → IsBegun (log_of r c) → digested_by (digested_by r c n) c k ≡ digested_by r c (n + k)
-digested_more r c n k has b =
-    ap (λ l. record r {
-      inodes = all_applied (all_applied r.inodes (all_effects (take n rs))) (all_effects (take k (ahead l)));
-      logs = slice_set (slice_set r.logs (c - 1) (digested_further (log_of r c) n)) (c - 1) (digested_further l k);
-    }) (log_digested r c n has)
-    ∙ ap (λ ls. record r {
-      inodes = all_applied (all_applied r.inodes (all_effects (take n rs))) (all_effects (take k (ahead (digested_further (log_of r c) n))));
-      logs = ls;
-    }) (set_again r.logs (c - 1) (digested_further (log_of r c) n) (digested_further (digested_further (log_of r c) n) k)
-    ∙ ap (λ d. slice_set r.logs (c - 1) (record { log = (log_of r c).log; digested = d; at_home = (log_of r c).at_home })) both)
-    ∙ ap (λ m. record r { inodes = m; logs = slice_set r.logs (c - 1) (digested_further (log_of r c) (n + k)) })
-    (ap (λ xs. all_applied (all_applied r.inodes (all_effects (take n rs))) (all_effects (take k xs))) (ahead_further (log_of r c) n b)
-    ∙ sym (append_applied r.inodes (all_effects (take n rs)) (all_effects (take k (drop n rs))))
-    ∙ ap (all_applied r.inodes) (sym (all_effects-append (take n rs) (take k (drop n rs))) ∙ ap all_effects (sym (take-add n k rs))))
-  where
-    rs : List LogRecord
-    rs = ahead (log_of r c)
-
-    both : ((log_of r c).digested + n) + k ≡ (log_of r c).digested + (n + k)
-    both = omega arith
+digested_more r c n k has b = grind (arith, log_digested, set_again, ahead_further, append_applied, all_effects-append, take-add)
 
 -- two clients' records still touch no common inode
 pub disjoint_digested : (r : RegionValue) (c n : ℕ) → HasClient r c → IsBegun (log_of r c) → TouchDisjoint r → TouchDisjoint (digested_by r c n)
-disjoint_digested r c n has b disjoint j k other i among = quiet (cases_eq k (c - 1)) (disjoint j k other i (some (cases_eq j (c - 1)) among))
-  where
-    at_it : (q : ℕ) → q ≡ c - 1 → log_at (digested_by r c n) q ≡ digested_further (log_of r c) n
-    at_it q same = ap (λ p. log_at (digested_by r c n) p) same ∙ log_digested r c n has
-
-    beside : (q : ℕ) → q ≢ c - 1 → log_at (digested_by r c n) q ≡ log_at r q
-    beside q differs = get_or-set_other r.logs (c - 1) q (digested_further (log_of r c) n) no_log differs
-
-    some : (j ≡ c - 1) ⊎ (j ≢ c - 1) → contains (touched (all_effects (ahead (log_at (digested_by r c n) j)))) i ≡ true →
-        contains (touched (all_effects (ahead (log_at r j)))) i ≡ true
-    some (inl same) h =
-        ap (λ q. contains (touched (all_effects (ahead (log_at r q)))) i) same
-        ∙ some_of_rest n (ahead (log_of r c)) i
-        (sym (ap (λ l. contains (touched (all_effects (ahead l))) i) (at_it j same) ∙ ap (λ rs. contains (touched (all_effects rs)) i)
-        (ahead_further (log_of r c) n b)) ∙ h)
-    some (inr else) h = sym (ap (λ l. contains (touched (all_effects (ahead l))) i) (beside j else)) ∙ h
-
-    quiet : (k ≡ c - 1) ⊎ (k ≢ c - 1) → contains (touched (all_effects (ahead (log_at r k)))) i ≡ false →
-        contains (touched (all_effects (ahead (log_at (digested_by r c n) k)))) i ≡ false
-    quiet (inl same) h =
-        ap (λ l. contains (touched (all_effects (ahead l))) i) (at_it k same) ∙ ap (λ rs. contains (touched (all_effects rs)) i)
-        (ahead_further (log_of r c) n b)
-        ∙ quiet_rest n (ahead (log_of r c)) i (sym (ap (λ q. contains (touched (all_effects (ahead (log_at r q)))) i) same) ∙ h)
-    quiet (inr else) h = ap (λ l. contains (touched (all_effects (ahead l))) i) (beside k else) ∙ h
+disjoint_digested r c n has b disjoint j k other i among = grind (arith, log_digested, get_or-set_other, some_of_rest, ahead_further)
 
 -- ---- what the region alone gives stays
 
@@ -141,10 +82,8 @@ same_without l n i b quiet (x ∷ ls) zero (a ∷ numbers) v h is low =
         ∙ ap all_effects (sym (ahead_below_parts l n a b low)))
         ∙ ap (λ y. value_after i v (all_effects (ahead_below y a))) (sym is)
 same_without l n i b quiet (x ∷ ls) (suc k) [] v h is low = refl
-same_without l n i b quiet (x ∷ ls) (suc k) (a ∷ numbers) v h is low =
-    value_after-append i v (all_effects (ahead_below x a)) (all_ahead (slice_set ls k (digested_further l n)) numbers)
-    ∙ same_without l n i b quiet ls k numbers (value_after i v (all_effects (ahead_below x a))) (omega (arith, h)) is low
-    ∙ sym (value_after-append i v (all_effects (ahead_below x a)) (all_ahead ls numbers))
+same_without l n i b quiet (x ∷ ls) (suc k) (a ∷ numbers) v h is low = grind
+    (arith, same_without l n i b quiet ls k numbers (value_after i v (all_effects (ahead_below x a))) (omega (arith, h)) is low, value_after-append)
 
 -- the records of clients before don't touch it
 same_moved : (l : ReceivedLog) (n i : ℕ) → IsBegun l → (ls : List ReceivedLog) (k : ℕ) (numbers : List ℕ) (v : Option Content)
@@ -153,10 +92,7 @@ same_moved : (l : ReceivedLog) (n i : ℕ) → IsBegun l → (ls : List Received
     → value_after i (value_after i v (all_effects (take n (ahead l)))) (all_ahead (slice_set ls k (digested_further l n)) numbers)
     ≡ value_after i v (all_ahead ls numbers)
 same_moved l n i b [] k numbers v h is low before = absurd (omega (arith, h))
-same_moved l n i b (x ∷ ls) zero [] v h is low before = ap (λ q. value_after i v (all_effects (take q (ahead l)))) none
-  where
-    none : n ≡ 0
-    none = omega (arith, low)
+same_moved l n i b (x ∷ ls) zero [] v h is low before = grind arith
 same_moved l n i b (x ∷ ls) zero (a ∷ numbers) v h is low before =
     value_after-append i (value_after i v (all_effects (take n (ahead l)))) (all_effects (ahead_below (digested_further l n) a)) (all_ahead ls numbers)
     ∙ ap (λ w. value_after i w (all_ahead ls numbers)) first ∙ sym (value_after-append i v (all_effects (ahead_below x a)) (all_ahead ls numbers))
@@ -168,10 +104,7 @@ same_moved l n i b (x ∷ ls) zero (a ∷ numbers) v h is low before =
         ∙ ap (value_after i v) (sym (all_effects-append (take n (ahead l)) (ahead_below (digested_further l n) a))
         ∙ ap all_effects (sym (ahead_below_parts l n a b low)))
         ∙ ap (λ y. value_after i v (all_effects (ahead_below y a))) (sym is)
-same_moved l n i b (x ∷ ls) (suc k) [] v h is low before = ap (λ q. value_after i v (all_effects (take q (ahead l)))) none
-  where
-    none : n ≡ 0
-    none = omega (arith, low)
+same_moved l n i b (x ∷ ls) (suc k) [] v h is low before = grind arith
 same_moved l n i b (x ∷ ls) (suc k) (a ∷ numbers) v h is low before =
     value_after-append i _ (all_effects (ahead_below x a)) (all_ahead (slice_set ls k (digested_further l n)) numbers)
     ∙ ap (λ w. value_after i w (all_ahead (slice_set ls k (digested_further l n)) numbers)) (untouched i _ (all_effects (ahead_below x a)) theirs)
@@ -210,15 +143,12 @@ alone_kept r c n has b disjoint numbers reached i =
 -- ---- counts
 
 pub begun_further : (l : ReceivedLog) (n : ℕ) → IsBegun l → n ≤ length (ahead l) → IsBegun (digested_further l n)
-begun_further l n b h =
-    let all = count_ahead l b in
-    record { from_first = omega (arith, b.from_first); to_end = omega (arith, h, all) }
+begun_further l n b h = grind (arith, count_ahead)
 
 -- a region of which some records were digested gives alone what it gave
 pub given_alone : (r s : RegionValue) (c n : ℕ) → s ≡ digested_by r c n → HasClient r c → IsBegun (log_of r c) → TouchDisjoint r → (numbers : List ℕ) →
     AreNotBelow s.logs numbers → (i : ℕ) → alone s numbers i ≡ alone r numbers i
-given_alone r s c n is has b disjoint numbers reached i =
-    ap (λ t. alone t numbers i) is ∙ alone_kept r c n has b disjoint numbers (subst (λ t. AreNotBelow t.logs numbers) is reached) i
+given_alone r s c n is has b disjoint numbers reached i = grind (arith, alone_kept)
 
 -- and its client reads what it read
 pub given_read : (r s : RegionValue) (c n : ℕ) → s ≡ digested_by r c n → HasClient r c → IsBegun (log_of r c) → (i : ℕ) → read_by s c i ≡ read_by r c i

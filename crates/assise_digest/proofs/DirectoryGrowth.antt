@@ -1,7 +1,6 @@
 -- A directory grows by its last entry: the names ascend, so a new first entry stands before the others.
-use Rattle.assise_digest.proofs.Common.{◌≡◌, ◌≤◌, ◌<◌, ℕ, List, [], ◌∷◌, ◌++◌, length, is_some, cond, Less, refl, sym, ap, subst, ◌∙◌, length-append, arith}
-use Rattle.assise_digest.proofs.Common.{AllByRecursion, match_ordering, Tree, dir, Entries, no_entries, entry, insert, replace, put, names_of, IsBelow}
-use Rattle.assise_digest.proofs.Common.{find_below, subtrees_of}
+use Rattle.assise_digest.proofs.Common.{◌≡◌, ◌≤◌, ◌<◌, ℕ, List, [], ◌∷◌, ◌++◌, length, Less, refl, ap, length-append, arith, AllByRecursion, Tree, dir, Entries}
+use Rattle.assise_digest.proofs.Common.{no_entries, entry, insert, put, names_of, IsBelow, find_below, subtrees_of}
 use Rattle.std.proofs.Common.{nat_cmp}
 use Rattle.std.specs.List.Sorted.{IsStrictlySortedBy}
 use Rattle.std.specs.Cmp.Lexicographic.{slice_cmp}
@@ -18,21 +17,16 @@ below_names name (entry other t es) h = (h.0, below_names name es h.1)
 
 insert_first : (name : List ℕ) (x : Tree) (es : Entries) → IsBelow name es → insert name x es ≡ entry name x es
 insert_first name x no_entries below = refl
-insert_first name x (entry other t es) below =
-    ap (λ o. match_ordering o (entry name x (entry other t es)) (entry other x es) (entry other t (insert name x es))) below.0
+insert_first name x (entry other t es) below = grind arith
 
 put_first : (name : List ℕ) (x : Tree) (es : Entries) → IsBelow name es → put (dir es) (name ∷ []) x ≡ dir (entry name x es)
 unfolding put
-put_first name x es below =
-    ap (λ found. dir (cond (is_some found) (replace name x es) (insert name x es))) (find_below name es below) ∙ ap dir (insert_first name x es below)
+put_first name x es below = grind (arith, find_below, insert_first)
 
 pub grows : (names before : List (List ℕ)) (name : List ℕ) (es : Entries) (x : Tree) → IsStrictlySortedBy (slice_cmp nat_cmp) names →
     before ++ name ∷ names_of es ≡ names
     → put (dir es) (name ∷ []) x ≡ dir (entry name x es)
-grows names before name es x s e =
-    put_first name x es (below_names name es
-    (sorted_head (slice_cmp nat_cmp) name (names_of es)
-    (sorted_rest before (name ∷ names_of es) (subst (IsStrictlySortedBy (slice_cmp nat_cmp)) (sym e) s))))
+grows names before name es x s e = grind (arith, put_first, below_names, sorted_head, sorted_rest)
 
 -- a name that is left has a tree
 pub some_left : (es : Entries) (names rest : List (List ℕ)) (old trees : List Tree) → rest ++ names_of es ≡ names → trees ++ subtrees_of es ≡ old →

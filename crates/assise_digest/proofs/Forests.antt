@@ -1,7 +1,7 @@
 -- Trees one after another, and their places in postorder: the list of the places tells the trees.
-use Rattle.assise_digest.proofs.Common.{◌≡◌, ◌≤◌, suc, List, [], ◌∷◌, ◌++◌, length, reverse, refl, sym, ap, ◌∙◌, ◌⊎◌, inl, inr, append_assoc, append-nil}
-use Rattle.assise_digest.proofs.Common.{length-append, arith, reverse-reverse, reverse-append, same_from_push, flat_map, Tree, file, dir, Entries, no_entries}
-use Rattle.assise_digest.proofs.Common.{entry, names_of, Shape, folder, shape_of_tree, postorder, postorder_of, subtrees, subtrees_of, degree}
+use Rattle.assise_digest.proofs.Common.{◌≡◌, ◌≤◌, suc, List, [], ◌∷◌, ◌++◌, length, reverse, refl, sym, ap, ◌∙◌, ◌⊎◌, inl, inr, append_assoc, length-append}
+use Rattle.assise_digest.proofs.Common.{arith, reverse-reverse, reverse-append, same_from_push, flat_map, Tree, file, dir, Entries, no_entries, entry, names_of}
+use Rattle.assise_digest.proofs.Common.{Shape, folder, shape_of_tree, postorder, postorder_of, subtrees, subtrees_of, degree}
 use Rattle.std.proofs.lemmas.Grind.{flat_map-append}
 
 -- ---- lists by their last element
@@ -27,10 +27,7 @@ pub same_parts : {X : Type 0} (prefix other xs ys : List X) → length xs ≡ le
 same_parts [] [] xs ys len e = (refl, e)
 same_parts [] (b ∷ other) xs ys len e = absurd (omega (arith, ap length e, length-append other ys))
 same_parts (a ∷ prefix) [] xs ys len e = absurd (omega (arith, ap length e, length-append prefix xs))
-same_parts (a ∷ prefix) (b ∷ other) xs ys len e =
-    let first : a ≡ b = cc in
-    let rest = same_parts prefix other xs ys len (cc) in
-    (cc (first, rest.0), rest.1)
+same_parts (a ∷ prefix) (b ∷ other) xs ys len e = grind (arith, same_parts prefix other xs ys len (cc))
 
 -- ---- a tree and its subtrees
 abbrev pub forest : List Tree → List Shape
@@ -46,10 +43,7 @@ postorder_ends (dir es) = ap (λ ss. ss ++ folder (names_of es) ∷ []) (sym (fo
 
 -- the last place of trees is that of the last tree
 pub forest_ends : (ts : List Tree) (t : Tree) → forest (ts ++ t ∷ []) ≡ forest (ts ++ subtrees t) ++ shape_of_tree t ∷ []
-forest_ends ts t =
-    flat_map-append postorder ts (t ∷ []) ∙ ap (λ ss. forest ts ++ ss) (append-nil (postorder t) ∙ postorder_ends t)
-    ∙ sym (append_assoc (forest ts) (forest (subtrees t)) (shape_of_tree t ∷ []))
-    ∙ ap (λ ss. ss ++ shape_of_tree t ∷ []) (sym (flat_map-append postorder ts (subtrees t)))
+forest_ends ts t = grind (arith, flat_map-append, postorder_ends, append_assoc)
 
 pub degree-subtrees_of : (es : Entries) → length (names_of es) ≡ length (subtrees_of es)
 degree-subtrees_of no_entries = refl
@@ -63,11 +57,7 @@ same_entries : (es fs : Entries) → names_of es ≡ names_of fs → subtrees_of
 same_entries no_entries no_entries a b = refl
 same_entries no_entries (entry m u fs) a b = cc
 same_entries (entry n t es) no_entries a b = cc
-same_entries (entry n t es) (entry m u fs) a b =
-    let rest : es ≡ fs = same_entries es fs (cc) (cc) in
-    let name : n ≡ m = cc in
-    let tree : t ≡ u = cc in
-    cc
+same_entries (entry n t es) (entry m u fs) a b = grind (arith, same_entries es fs (cc) (cc))
 
 pub same_tree : (t u : Tree) → shape_of_tree t ≡ shape_of_tree u → subtrees t ≡ subtrees u → t ≡ u
 same_tree (file bytes) (file others) a b = cc
@@ -87,9 +77,7 @@ pub cut : (ts : List Tree) (places : List Shape) (s : Shape) → forest ts ≡ p
 cut ts places s e = elim (last_or_none ts) [
   | inl none ↦ not_none places s (sym (ap forest none) ∙ e)
   | inr some ↦
-      let same = same_from_push (forest (some.prefix ++ subtrees some.last)) places (shape_of_tree some.last) s
-      (sym (forest_ends some.prefix some.last) ∙ sym (ap forest some.is) ∙ e) in
-      record { prefix = some.prefix; last = some.last; are = some.is; shape = same.1; rest = same.0 }
+      grind (arith, same_from_push, forest_ends)
 ]
 
 none_of : (ts : List Tree) → forest ts ≡ [] → ts ≡ []
@@ -114,9 +102,7 @@ same_by (s ∷ places) ts us a b =
     x.are ∙ ap (λ fs. fs ++ x.last ∷ []) parts.0 ∙ ap (λ t. y.prefix ++ t ∷ []) last ∙ sym y.are
 
 pub same_forest : (ts us : List Tree) → forest ts ≡ forest us → ts ≡ us
-same_forest ts us e =
-    let there = reverse-reverse (forest us) in
-    same_by (reverse (forest us)) ts us (e ∙ sym there) (sym there)
+same_forest ts us e = grind (arith, reverse-reverse (forest us), same_by)
 
 -- there are enough trees for the next place
 pub enough : (places : List Shape) (s : Shape) (ts us : List Tree) → forest ts ++ s ∷ reverse places ≡ forest us → degree s ≤ length ts

@@ -1,9 +1,9 @@
 -- What is kept of inodes beside the area, inode by inode.
-use Rattle.assise_digest.proofs.Common.{◌≡◌, ◌≢◌, ◌⊎◌, ◌||◌, ◌==◌, ◌+◌, ◌<◌, ℕ, zero, suc, length, drop, slice_index_or, arith, Bool, true, false, cond}
-use Rattle.assise_digest.proofs.Common.{if◌then◌else◌, List, [], ◌∷◌, Option, Some, None, IsSome, refl, sym, ap, subst, ◌∙◌, inl, inr, is_some, true≢false}
-use Rattle.assise_digest.proofs.Common.{cond_both, eq-eqb, ne_eqb, cases_eq, or_right, at_drop_more, nat_cmp_total, nat_cmp, option_map_or, Effect, touched_by}
-use Rattle.assise_digest.proofs.Common.{Content, InodeMap, contains, touched, with_value, get-with_value, same_number, remove-absent, HasAllNumbers, IsNew}
-use Rattle.assise_digest.proofs.Common.{KeepsNoMore, all_held, forgotten, held, loaded_in_turn, is_last, let_go, last_noted, Pending}
+use Rattle.assise_digest.proofs.Common.{◌≡◌, ◌≢◌, ◌⊎◌, ◌||◌, ◌==◌, ◌+◌, ◌<◌, ℕ, zero, suc, length, drop, slice_index_or, arith, true, false, cond}
+use Rattle.assise_digest.proofs.Common.{if◌then◌else◌, List, [], ◌∷◌, Option, Some, None, IsSome, refl, sym, ap, subst, ◌∙◌, inl, inr, is_some, cond_both}
+use Rattle.assise_digest.proofs.Common.{eq-eqb, ne_eqb, at_drop_more, nat_cmp_total, nat_cmp, option_map_or, Effect, touched_by, Content, InodeMap, contains}
+use Rattle.assise_digest.proofs.Common.{touched, with_value, get-with_value, same_number, remove-absent, HasAllNumbers, IsNew, KeepsNoMore, all_held, forgotten}
+use Rattle.assise_digest.proofs.Common.{held, loaded_in_turn, let_go, last_noted, Pending}
 use Rattle.std.specs.FinMap as map
 
 -- ---- finite maps of numbers
@@ -30,14 +30,7 @@ module _ (step : Pending → ℕ → Pending) (f : ℕ → Option ℕ × Option 
     (once : (q : ℕ) (x : Option ℕ × Option Content) → f q (f q x) ≡ f q x) where
   pub points : (p : Pending) (is : List ℕ) (q : ℕ) → point (loaded_in_turn step p is) q ≡ (if contains is q then f q (point p q) else point p q)
   points p [] q = refl
-  points p (i ∷ is) q = points (step p i) is q ∙ ap (λ x. if contains is q then f q x else x) (stepped p i q) ∙ go (i == q) (contains is q)
-    where
-      go : (a b : Bool) → (if b then f q (if a then f q (point p q) else point p q) else (if a then f q (point p q) else point p q))
-          ≡ (if (a || b) then f q (point p q) else point p q)
-      go true true = once q (point p q)
-      go true false = refl
-      go false true = refl
-      go false false = refl
+  points p (i ∷ is) q = grind (arith, points (step p i) is q, contains)
 
 -- ---- an inode is kept as it is
 
@@ -49,30 +42,7 @@ kept_once m n q (None, v) = refl
 kept_once m n q (Some k, v) = refl
 
 pub held_point : (m : InodeMap) (n : ℕ) (p : Pending) (i q : ℕ) → point (held p m n i) q ≡ (if i == q then kept_at m n q (point p q) else point p q)
-held_point m n p i q =
-    elim (cases_eq i q) [
-      | inl same ↦ at_same q same ∙ sym (ap (λ b. if b then kept_at m n q (point p q) else point p q) (eq-eqb i q same))
-      | inr other ↦ cond_both (is_some (map.get p.last i)) p put (λ r. point r q ≡ point p q) (λ _. refl) (λ _. at_put q false (ne_eqb i q other))
-          ∙ sym (ap (λ b. if b then kept_at m n q (point p q) else point p q) (ne_eqb i q other))
-    ]
-  where
-    put : Pending
-    put = record { inodes = with_value p.inodes i (map.get m i); last = map.insert p.last i n }
-
-    at_put : (q : ℕ) → (b : Bool) → (i == q) ≡ b → point put q ≡ (if b then (Some n, map.get m i) else point p q)
-    at_put q true e =
-        ap (λ o. (o, map.get put.inodes q)) (get-set p.last i n q ∙ ap (λ b. if b then Some n else map.get p.last q) e)
-        ∙ ap (λ v. (Some n, v)) (get-with_value p.inodes i (map.get m i) q ∙ ap (λ b. if b then map.get m i else map.get p.inodes q) e)
-    at_put q false e =
-        ap (λ o. (o, map.get put.inodes q)) (get-set p.last i n q ∙ ap (λ b. if b then Some n else map.get p.last q) e)
-        ∙ ap (λ v. (map.get p.last q, v)) (get-with_value p.inodes i (map.get m i) q ∙ ap (λ b. if b then map.get m i else map.get p.inodes q) e)
-
-    at_itself : (b : Bool) → point (if b then p else put) i ≡ (if b then point p i else (Some n, map.get m i))
-    at_itself true = refl
-    at_itself false = at_put i true (eq-eqb i i refl)
-
-    at_same : (q : ℕ) → i ≡ q → point (held p m n i) q ≡ kept_at m n q (point p q)
-    at_same q same = subst (λ r. point (held p m n i) r ≡ kept_at m n r (point p r)) same (at_itself (is_some (map.get p.last i)))
+held_point m n p i q = grind (arith, get-set, get-with_value)
 
 pub all_held_point : (m : InodeMap) (n : ℕ) (p : Pending) (es : List Effect) (q : ℕ) → point (all_held p m n es) q
     ≡ (if contains (touched es) q then kept_at m n q (point p q) else point p q)
@@ -85,37 +55,10 @@ left_at n x = if option_map_or (λ k. k == n) x.0 false then (None, None) else x
 
 left_once : (n q : ℕ) (x : Option ℕ × Option Content) → left_at n (left_at n x) ≡ left_at n x
 left_once n q (None, v) = refl
-left_once n q (Some k, v) = go (k == n) refl
-  where
-    go : (b : Bool) → (k == n) ≡ b → left_at n (if b then (None, None) else (Some k, v)) ≡ (if b then (None, None) else (Some k, v))
-    go true e = refl
-    go false e = ap (λ b. if b then (None, None) else (Some k, v)) e
+left_once n q (Some k, v) = grind arith
 
 pub let_go_point : (n : ℕ) (p : Pending) (i q : ℕ) → point (let_go p n i) q ≡ (if i == q then left_at n (point p q) else point p q)
-let_go_point n p i q =
-    elim (cases_eq i q) [
-      | inl same ↦ at_same q same ∙ sym (ap (λ b. if b then left_at n (point p q) else point p q) (eq-eqb i q same))
-      | inr other ↦ cond_both (is_last p n i) cut p (λ r. point r q ≡ point p q) (λ _. at_cut q false (ne_eqb i q other)) (λ _. refl)
-          ∙ sym (ap (λ b. if b then left_at n (point p q) else point p q) (ne_eqb i q other))
-    ]
-  where
-    cut : Pending
-    cut = record { inodes = map.remove p.inodes i; last = map.remove p.last i }
-
-    at_cut : (q : ℕ) → (b : Bool) → (i == q) ≡ b → point cut q ≡ (if b then (None, None) else point p q)
-    at_cut q true e =
-        ap (λ o. (o, map.get cut.inodes q)) (get-cut p.last i q ∙ ap (λ b. if b then None else map.get p.last q) e)
-        ∙ ap (λ v. (None, v)) (get-cut p.inodes i q ∙ ap (λ b. if b then None else map.get p.inodes q) e)
-    at_cut q false e =
-        ap (λ o. (o, map.get cut.inodes q)) (get-cut p.last i q ∙ ap (λ b. if b then None else map.get p.last q) e)
-        ∙ ap (λ v. (map.get p.last q, v)) (get-cut p.inodes i q ∙ ap (λ b. if b then None else map.get p.inodes q) e)
-
-    at_itself : (b : Bool) → point (if b then cut else p) i ≡ (if b then (None, None) else point p i)
-    at_itself true = at_cut i true (eq-eqb i i refl)
-    at_itself false = refl
-
-    at_same : (q : ℕ) → i ≡ q → point (let_go p n i) q ≡ left_at n (point p q)
-    at_same q same = subst (λ r. point (let_go p n i) r ≡ left_at n (point p r)) same (at_itself (is_last p n i))
+let_go_point n p i q = grind (arith, get-cut)
 
 pub forgotten_point : (n : ℕ) (p : Pending) (es : List Effect) (q : ℕ) → point (forgotten p n es) q
     ≡ (if contains (touched es) q then left_at n (point p q) else point p q)
@@ -125,68 +68,25 @@ forgotten_point n p es q = points (λ r i. let_go r n i) (λ q. left_at n) (let_
 
 -- nothing goes where no inode has the number
 pub nothing_forgotten : (p : Pending) (n : ℕ) (es : List Effect) → IsNew p n → forgotten p n es ≡ p
-nothing_forgotten p n es new = same_pending _ _ (λ q. forgotten_point n p es q
-    ∙ cond_both (contains (touched es) q) (left_at n (point p q)) (point p q) (λ x. x ≡ point p q)
-    (λ _. ap (λ b. if b then (None, None) else point p q) (new q)) (λ _. refl))
+nothing_forgotten p n es new = grind (arith, same_pending, forgotten_point)
 
 -- an inode that is kept for an effect goes with the others
 pub forgotten_again : (p : Pending) (m : InodeMap) (n i : ℕ) (es : List Effect) → KeepsNoMore p → contains (touched es) i ≡ true → forgotten (held p m n i) n es
     ≡ forgotten p n es
-forgotten_again p m n i es no_more among =
-    same_pending _ _ (λ q.
-    forgotten_point n (held p m n i) es q ∙ ap (λ x. if contains (touched es) q then left_at n x else x) (held_point m n p i q)
-    ∙ go q (i == q) (contains (touched es) q) refl refl ∙ sym (forgotten_point n p es q))
-  where
-    both : (q : ℕ) (o : Option ℕ) → map.get p.last q ≡ o → left_at n (kept_at m n q (o, map.get p.inodes q)) ≡ left_at n (o, map.get p.inodes q)
-    both q None e = ap (λ b. if b then (None, None) else (Some n, map.get m q)) (eq-eqb n n refl) ∙ sym (ap (λ v. (None, v)) (no_more q e))
-    both q (Some k) e = refl
-
-    go : (q : ℕ) (a b : Bool) → (i == q) ≡ a → contains (touched es) q ≡ b
-        → (if b then left_at n (if a then kept_at m n q (point p q) else point p q) else (if a then kept_at m n q (point p q) else point p q))
-        ≡ (if b then left_at n (point p q) else point p q)
-    go q true true e f = both q (map.get p.last q) refl
-    go q false true e f = refl
-    go q false false e f = refl
-    go q true false e f =
-        elim (cases_eq i q) [
-          | inl same ↦ absurd (true≢false (sym among ∙ ap (contains (touched es)) same ∙ f))
-          | inr other ↦ absurd (true≢false (sym e ∙ ne_eqb i q other))
-        ]
+forgotten_again p m n i es no_more among = grind (arith, same_pending, forgotten_point, held_point)
 
 pub held_no_more : (p : Pending) (m : InodeMap) (n i : ℕ) → KeepsNoMore p → KeepsNoMore (held p m n i)
-held_no_more p m n i no_more q none = go (i == q) (ap (λ x. x.0) (held_point m n p i q)) (ap (λ x. x.1) (held_point m n p i q))
-  where
-    some : (b : Bool) (o : Option ℕ) → None ≡ (kept_at m n q (o, map.get p.inodes q)).0 → ⊥
-    some b None e = absurd (true≢false (sym (ap is_some e)))
-    some b (Some k) e = absurd (true≢false (sym (ap is_some e)))
-
-    go : (b : Bool) → map.get (held p m n i).last q ≡ (if b then kept_at m n q (point p q) else point p q).0
-        → map.get (held p m n i).inodes q ≡ (if b then kept_at m n q (point p q) else point p q).1 → map.get (held p m n i).inodes q ≡ None
-    go true last value = absurd (some true (map.get p.last q) (sym none ∙ last))
-    go false last value = value ∙ no_more q (sym last ∙ none)
+held_no_more p m n i no_more q none = grind (arith, held_point)
 
 -- ---- numbers
 
 pub get-noted : (l : map.FinMap nat_cmp ℕ) (n : ℕ) (es : List Effect) (q : ℕ) → map.get (last_noted l n es) q
     ≡ (if contains (touched es) q then Some n else map.get l q)
 get-noted l n [] q = refl
-get-noted l n (e ∷ es) q = get-noted (map.insert l (touched_by e) n) n es q ∙ ap (λ o. if contains (touched es) q then Some n else o)
-    (get-set l (touched_by e) n q) ∙ go (touched_by e == q) (contains (touched es) q)
-  where
-    go : (a b : Bool) → (if b then Some n else (if a then Some n else map.get l q)) ≡ (if (a || b) then Some n else map.get l q)
-    go true true = refl
-    go true false = refl
-    go false true = refl
-    go false false = refl
+get-noted l n (e ∷ es) q = grind (arith, get-noted (map.insert l (touched_by e) n) n es q, get-set)
 
 pub all_held_has : (p : Pending) (m : InodeMap) (n : ℕ) (es : List Effect) → HasAllNumbers (all_held p m n es).last es
-all_held_has p m n es q among =
-    subst IsSome (sym (ap (λ x. x.0) (all_held_point m n p es q ∙ ap (λ b. if b then kept_at m n q (point p q) else point p q) among)))
-    (some (map.get p.last q))
-  where
-    some : (o : Option ℕ) → IsSome (kept_at m n q (o, map.get p.inodes q)).0
-    some None = refl
-    some (Some k) = refl
+all_held_has p m n es q among = grind (arith, all_held_point)
 
 pub set_has : (l : map.FinMap nat_cmp ℕ) (i n : ℕ) (es : List Effect) → HasAllNumbers l es → HasAllNumbers (map.insert l i n) es
 set_has l i n es has q among = subst IsSome (sym (get-set l i n q)) (cond_both (i == q) (Some n) (map.get l q) IsSome (λ _. refl) (λ _. has q among))
@@ -202,13 +102,11 @@ left_after F es k e h is = ap (λ x. F (x ∷ drop (k + 1) es)) is ∙ sym (at_d
 pub touched_item : (es : List Effect) (k : ℕ) (e : Effect) → k < length es → e ≡ slice_index_or es k e → contains (touched es) (touched_by e) ≡ true
 touched_item [] k e h is = absurd (omega (arith, h))
 touched_item (x ∷ es) zero e h is = ap (λ b. b || contains (touched es) (touched_by e)) (eq-eqb (touched_by x) (touched_by e) (ap touched_by (sym is)))
-touched_item (x ∷ es) (suc k) e h is =
-    ap (λ b. (touched_by x == touched_by e) || b) (touched_item es k e (omega (arith, h)) is) ∙ or_right (touched_by x == touched_by e) true refl
+touched_item (x ∷ es) (suc k) e h is = grind (arith, touched_item es k e (omega (arith, h)) is)
 
 -- an inode that was put in and is taken out again leaves what there was
 pub put_and_removed : (m : InodeMap) (i : ℕ) (v : Option Content) → map.get m i ≡ None → map.remove (with_value m i v) i ≡ m
-put_and_removed m i v none = map.same_map nat_cmp_total map.nat_cmp-IsAntisymmetric _ _ (λ q.
-    get-cut (with_value m i v) i q ∙ ap (λ x. if i == q then None else x) (get-with_value m i v q) ∙ go q (cases_eq i q))
+put_and_removed m i v none = map.same_map nat_cmp_total map.nat_cmp-IsAntisymmetric _ _ (grind (arith, get-cut, get-with_value))
   where
     go : (q : ℕ) → (i ≡ q) ⊎ (i ≢ q) → (if i == q then None else (if i == q then v else map.get m q)) ≡ map.get m q
     go q (inl same) = ap (λ b. if b then None else (if b then v else map.get m q)) (eq-eqb i q same) ∙ sym none ∙ ap (map.get m) same

@@ -1,9 +1,8 @@
 -- What is kept beside the area stands for the records that aren't digested.
-use Rattle.assise_digest.proofs.Common.{◌≡◌, ◌≤◌, ◌<◌, ◌+◌, ◌||◌, ◌==◌, ℕ, suc, Bool, true, false, if◌then◌else◌, List, [], ◌∷◌, ◌++◌, length, Option, Some}
-use Rattle.assise_digest.proofs.Common.{None, refl, sym, ap, ◌∙◌, is_some, true≢false, arith, eq-eqb, ne_eqb, same_Some, option_or, option_map_or, Effect}
-use Rattle.assise_digest.proofs.Common.{LogRecord, all_effects, all_effects-append, Content, InodeMap, all_applied, contains, touched, value_after}
-use Rattle.assise_digest.proofs.Common.{contains-both, untouched, value_after-append, get-all_applied, last_touch, IsNew, StandsFor, all_held, forgotten}
-use Rattle.assise_digest.proofs.Common.{pending_seen, taken_in, Pending}
+use Rattle.assise_digest.proofs.Common.{◌≡◌, ◌≤◌, ◌<◌, ◌+◌, ℕ, Bool, true, false, if◌then◌else◌, List, [], ◌∷◌, ◌++◌, length, Option, Some, None, refl, sym, ap}
+use Rattle.assise_digest.proofs.Common.{◌∙◌, is_some, true≢false, arith, eq-eqb, ne_eqb, option_or, Effect, LogRecord, all_effects, all_effects-append, Content}
+use Rattle.assise_digest.proofs.Common.{InodeMap, all_applied, contains, touched, value_after, contains-both, untouched, value_after-append, get-all_applied}
+use Rattle.assise_digest.proofs.Common.{last_touch, IsNew, StandsFor, all_held, forgotten, pending_seen, taken_in, Pending}
 use Rattle.std.specs.FinMap as map
 use Rattle.assise_digest.proofs.KeptInodes.{all_held_point, forgotten_point, get-noted, kept_at, left_at, point}
 
@@ -11,52 +10,24 @@ use Rattle.assise_digest.proofs.KeptInodes.{all_held_point, forgotten_point, get
 
 pub value_after_one_more : (i : ℕ) (old : Option Content) (rs : List LogRecord) (r : LogRecord) → value_after i old (all_effects (rs ++ r ∷ []))
     ≡ value_after i (value_after i old (all_effects rs)) r.effects
-value_after_one_more i old rs r =
-    ap (value_after i old) (all_effects-append rs (r ∷ [])) ∙ value_after-append i old (all_effects rs) (r.effects ++ [])
-    ∙ value_after-append i (value_after i old (all_effects rs)) r.effects []
+value_after_one_more i old rs r = grind (arith, all_effects-append, value_after-append)
 
 -- ---- the last record that touches an inode
 
 -- there is one exactly where an effect touches it
 pub is_touched : (n : ℕ) (rs : List LogRecord) (i : ℕ) → is_some (last_touch n rs i) ≡ contains (touched (all_effects rs)) i
 is_touched n [] i = refl
-is_touched n (r ∷ rs) i =
-    go (last_touch (n + 1) rs i) (contains (touched r.effects) i)
-    ∙ ap (λ b. contains (touched r.effects) i || b) (is_touched (n + 1) rs i) ∙ sym (contains-both r.effects (all_effects rs) i)
-  where
-    go : (o : Option ℕ) (b : Bool) → is_some (option_or o (if b then Some n else None)) ≡ (b || is_some o)
-    go None true = refl
-    go None false = refl
-    go (Some k) true = refl
-    go (Some k) false = refl
+is_touched n (r ∷ rs) i = grind (arith, is_touched (n + 1) rs i, contains-both)
 
 -- its number is one of theirs
 pub within : (n : ℕ) (rs : List LogRecord) (i k : ℕ) → last_touch n rs i ≡ Some k → (n ≤ k) × (k < n + length rs)
 within n [] i k e = absurd (true≢false (sym (ap is_some e)))
-within n (r ∷ rs) i k e = go (within (n + 1) rs i) (last_touch (n + 1) rs i) refl (contains (touched r.effects) i) e
-  where
-    go : ((j : ℕ) → last_touch (n + 1) rs i ≡ Some j → (n + 1 ≤ j) × (j < (n + 1) + length rs)) → (o : Option ℕ) → last_touch (n + 1) rs i ≡ o → (b : Bool)
-        → option_or o (if b then Some n else None) ≡ Some k → (n ≤ k) × (k < n + suc (length rs))
-    go ih (Some j) is b e =
-        let same = same_Some j k e in (omega (arith, (ih j is).0, same), omega (arith, (ih j is).1, same))
-    go ih None is true e =
-        let same = same_Some n k e in (omega (arith, same), omega (arith, same))
-    go ih None is false e = absurd (true≢false (sym (ap is_some e)))
+within n (r ∷ rs) i k e = grind (arith, within (n + 1) rs i)
 
 pub last_touch-append : (n : ℕ) (rs : List LogRecord) (r : LogRecord) (i : ℕ) → last_touch n (rs ++ r ∷ []) i
     ≡ (if contains (touched r.effects) i then Some (n + length rs) else last_touch n rs i)
-last_touch-append n [] r i = go (contains (touched r.effects) i)
-  where
-    go : (b : Bool) → option_or None (if b then Some n else None) ≡ (if b then Some (n + 0) else None)
-    go true = ap Some (omega arith)
-    go false = refl
-last_touch-append n (s ∷ rs) r i =
-    ap (λ o. option_or o (if contains (touched s.effects) i then Some n else None)) (last_touch-append (n + 1) rs r i) ∙ go (contains (touched r.effects) i)
-  where
-    go : (b : Bool) → option_or (if b then Some ((n + 1) + length rs) else last_touch (n + 1) rs i) (if contains (touched s.effects) i then Some n else None)
-        ≡ (if b then Some (n + suc (length rs)) else option_or (last_touch (n + 1) rs i) (if contains (touched s.effects) i then Some n else None))
-    go true = ap Some (omega arith)
-    go false = refl
+last_touch-append n [] r i = grind arith
+last_touch-append n (s ∷ rs) r i = grind (arith, last_touch-append (n + 1) rs r i)
 
 -- ---- what stands for records
 
@@ -71,10 +42,7 @@ from_points p m n rs h = record { last = λ i. ap (λ x. x.0) (h i); values = λ
 
 -- nothing stands for no records
 pub stands_for_none : (p : Pending) (m : InodeMap) (n : ℕ) → p.inodes ≡ map.empty → p.last ≡ map.empty → StandsFor p m n []
-stands_for_none p m n inodes last = record {
-  last = λ i. ap (λ l. map.get l i) last ∙ map.get-empty _ i;
-  values = λ i. ap (λ l. map.get l i) inodes ∙ map.get-empty _ i;
-}
+stands_for_none p m n inodes last = grind (arith, map.get-empty)
 
 -- an inode that no record touches
 quiet : (m : InodeMap) (n : ℕ) (rs : List LogRecord) (i : ℕ) → last_touch n rs i ≡ None → value_after i (map.get m i) (all_effects rs) ≡ map.get m i
@@ -82,24 +50,12 @@ quiet m n rs i none = untouched i (map.get m i) (all_effects rs) (sym (is_touche
 
 -- no record has the next number
 pub next_is_new : (p : Pending) (m : InodeMap) (n : ℕ) (rs : List LogRecord) → StandsFor p m n rs → IsNew p (n + length rs)
-next_is_new p m n rs s i = ap (λ o. option_map_or (λ k. k == (n + length rs)) o false) (s.last i) ∙ go (last_touch n rs i) refl
-  where
-    go : (o : Option ℕ) → last_touch n rs i ≡ o → option_map_or (λ k. k == (n + length rs)) o false ≡ false
-    go None is = refl
-    go (Some k) is = ne_eqb k (n + length rs) (λ e. absurd (omega (arith, e, (within n rs i k is).1)))
+next_is_new p m n rs s i = grind (arith, within)
 
 -- one reads what the records make
 pub seen_after : (p : Pending) (m : InodeMap) (n : ℕ) (rs : List LogRecord) → StandsFor p m n rs → (i : ℕ) → pending_seen p i (map.get m i)
     ≡ value_after i (map.get m i) (all_effects rs)
-seen_after p m n rs s i =
-    ap (λ o. if is_some o then map.get p.inodes i else map.get m i) (s.last i) ∙ ap (λ v. if is_some (last_touch n rs i) then v else map.get m i) (s.values i)
-    ∙ go (last_touch n rs i) refl
-  where
-    go : (o : Option ℕ) → last_touch n rs i ≡ o →
-        (if is_some o then (if is_some o then value_after i (map.get m i) (all_effects rs) else None) else map.get m i) ≡ value_after i (map.get m i)
-        (all_effects rs)
-    go None is = sym (quiet m n rs i is)
-    go (Some k) is = refl
+seen_after p m n rs s i = grind (arith, quiet)
 
 -- ---- one more record
 
@@ -172,9 +128,4 @@ stands_for_the_rest p m n r rs s =
 -- the map changes where the records touch nothing
 pub stands_beside : (p : Pending) (m w : InodeMap) (n : ℕ) (rs : List LogRecord) → StandsFor p m n rs
     → ((i : ℕ) → contains (touched (all_effects rs)) i ≡ true → map.get w i ≡ map.get m i) → StandsFor p w n rs
-stands_beside p m w n rs s same = record { last = s.last; values = λ i. s.values i ∙ go i (last_touch n rs i) refl }
-  where
-    go : (i : ℕ) (o : Option ℕ) → last_touch n rs i ≡ o → (if is_some o then value_after i (map.get m i) (all_effects rs) else None)
-        ≡ (if is_some o then value_after i (map.get w i) (all_effects rs) else None)
-    go i None is = refl
-    go i (Some k) is = ap (λ v. value_after i v (all_effects rs)) (sym (same i (sym (is_touched n rs i) ∙ ap is_some is)))
+stands_beside p m w n rs s same = grind (arith, is_touched)

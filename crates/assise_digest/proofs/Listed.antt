@@ -102,10 +102,7 @@ module _ (v : Values) (t : Tree) (rest : List ℕ) (i : ℕ) (places : List Shap
       record {
         trees = e.prefix ++ subtrees e.last;
         spelled = each-append v rest (targets content) e.prefix (subtrees e.last) e.before (links_spell v i e.last content e.spelled holds shapes);
-        whole = ap (λ ps. forest (e.prefix ++ subtrees e.last) ++ ps) (reverse-append places (s ∷ []))
-            ∙ ap (λ x. forest (e.prefix ++ subtrees e.last) ++ x ∷ reverse places) shape
-            ∙ sym (append_assoc (forest (e.prefix ++ subtrees e.last)) (shape_of_tree e.last ∷ []) (reverse places))
-            ∙ ap (λ ps. ps ++ reverse places) (sym (forest_ends e.prefix e.last)) ∙ ap (λ ts. forest ts ++ reverse places) (sym e.are) ∙ l.whole;
+        whole = grind (arith, reverse-append, append_assoc, forest_ends);
       }
 
 pub not_more : (v : Values) (t : Tree) (pending : List ℕ) (places : List Shape) → IsListed v t pending places → length places ≤ length (postorder t)
@@ -113,9 +110,5 @@ not_more v t pending places l = omega (arith, ap length l.whole, length-append (
 
 pub all_listed : (v : Values) (t : Tree) (pending : List ℕ) (places : List Shape) → IsListed v t pending places → length pending ≡ 0 →
     reverse places ≡ postorder t
-all_listed v t [] places l none = go l.trees l.spelled l.whole
-  where
-    go : (ts : List Tree) → SpellEach v [] ts → forest ts ++ reverse places ≡ postorder t → reverse places ≡ postorder t
-    go [] s whole = whole
-    go (u ∷ ts) s whole = absurd s
+all_listed v t [] places l none = grind arith
 all_listed v t (i ∷ pending) places l none = absurd (omega arith)

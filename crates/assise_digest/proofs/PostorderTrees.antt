@@ -19,9 +19,7 @@ opened items rest p ts all is whole =
 -- the tree that it makes stands in the place of the subtrees
 pub closed : (old mid new : List Tree) (t : Tree) (s : Shape) (rest all : List Shape) → old ≡ mid ++ subtrees t → shape_of_tree t ≡ s → new ≡ mid ++ t ∷ []
     → forest old ++ s ∷ rest ≡ all → forest new ++ rest ≡ all
-closed old mid new t s rest all taken is grown whole =
-    ap (λ ts. forest ts ++ rest) grown ∙ ap (λ ps. ps ++ rest) (forest_ends mid t) ∙ append_assoc (forest (mid ++ subtrees t)) (shape_of_tree t ∷ []) rest
-    ∙ ap (λ ts. forest ts ++ shape_of_tree t ∷ rest) (sym taken) ∙ ap (λ x. forest old ++ x ∷ rest) is ∙ whole
+closed old mid new t s rest all taken is grown whole = grind (arith, forest_ends, append_assoc)
 
 -- in the end there is the one tree
 pub whole_tree : (items : List Place) (ts : List Tree) (t : Tree) → length items ≡ 0 → forest ts ++ reverse (map shape items) ≡ postorder t → ts ≡ t ∷ []

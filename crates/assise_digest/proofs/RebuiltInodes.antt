@@ -23,8 +23,7 @@ one_more_client (l ∷ ls) (b ∷ acked) zero h g = append-nil (all_effects (ahe
 one_more_client (l ∷ ls) (b ∷ acked) (suc k) h g =
     ap (λ n. all_ahead (take n (l ∷ ls)) (b ∷ acked)) next
     ∙ ap (λ es. all_effects (ahead_below l b) ++ es) (one_more_client ls acked k (omega (arith, h)) (omega (arith, g)))
-    ∙ sym (append_assoc (all_effects (ahead_below l b)) (all_ahead (take k ls) acked)
-    (all_effects (ahead_below (slice_index_or ls k no_log) (slice_index_or acked k 0))))
+    ∙ sym (grind (arith, append_assoc))
   where
     next : suc k + 1 ≡ suc (k + 1)
     next = omega arith

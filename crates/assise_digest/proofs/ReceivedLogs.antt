@@ -3,8 +3,8 @@ use Rattle.assise_digest.proofs.Common.{◌≡◌, ◌≤◌, ◌<◌, ◌+◌, 
 use Rattle.assise_digest.proofs.Common.{Option, Some, None, option_map, refl, sym, ap, subst, ◌∙◌, is_some, true≢false, arith, same_Some, drop-append-le}
 use Rattle.assise_digest.proofs.Common.{length-drop, length-take, slice_get, le-ltb, LogRecord, InodeMap, all_applied, CanBeMadeWhole, end, record_at}
 use Rattle.assise_digest.proofs.Common.{with_grouped, without_prefix, without_tail, IsNew, StandsFor, forgotten, taken_in, AreWhole, IsBegun, ReceivedLog}
-use Rattle.assise_digest.proofs.Common.{ahead, digested_further, first_effects, from_number, next_effects, up_to_number, with_more, LogInvariant, StandsHere}
-use Rattle.assise_digest.proofs.Common.{seen_log, Pending, Received}
+use Rattle.assise_digest.proofs.Common.{ahead, digested_further, first_effects, from_number, next_effects, with_more, LogInvariant, StandsHere, seen_log}
+use Rattle.assise_digest.proofs.Common.{Pending, Received}
 use Rattle.std.proofs.lemmas.List.{length-append}
 use Rattle.assise_digest.proofs.KeptStands.{next_is_new, stands_for_one_more, stands_for_the_rest}
 
@@ -36,9 +36,7 @@ whole_take (suc k) (r ∷ rs) w = (w.0, whole_take k rs w.1)
 
 -- their count leads to the end
 pub count_ahead : (l : ReceivedLog) → IsBegun l → end l.log ≡ l.digested + length (ahead l)
-count_ahead l b =
-    let counted = length-drop (l.digested - l.log.first) l.log.records in
-    omega (arith, b.from_first, b.to_end, counted)
+count_ahead l b = grind (arith, length-drop)
 
 -- one more
 pub ahead_more : (l : ReceivedLog) (r : LogRecord) → IsBegun l → ahead (with_more l r) ≡ ahead l ++ r ∷ []
@@ -49,27 +47,17 @@ placed l b = ap (λ x. if x then None else slice_get l.log.records (l.digested -
 
 -- the next one, and those behind it
 pub ahead_next : (l : ReceivedLog) (r : LogRecord) → IsBegun l → Some r ≡ record_at l.log l.digested → ahead l ≡ r ∷ ahead (digested_further l 1)
-ahead_next l r b is =
-    drop_item l.log.records (l.digested - l.log.first) r (is ∙ placed l b)
-    ∙ ap (λ n. r ∷ drop n l.log.records) next
-  where
-    next : (l.digested - l.log.first) + 1 ≡ (l.digested + 1) - l.log.first
-    next = omega (arith, b.from_first)
+ahead_next l r b is = grind (arith, drop_item)
 
 -- those before it went from the front
 pub ahead_prefix : (l : ReceivedLog) (to : ℕ) → l.log.first ≤ to → to ≤ l.digested → ahead (from_number l to) ≡ ahead l
-ahead_prefix l to low high = drop-drop (l.digested - to) (to - l.log.first) l.log.records ∙ ap (λ n. drop n l.log.records) both
-  where
-    both : (to - l.log.first) + (l.digested - to) ≡ l.digested - l.log.first
-    both = omega (arith, low, high)
+ahead_prefix l to low high = grind (arith, drop-drop)
 
 -- ---- what is kept
 
 pub kept_more : (p : Pending) (m : InodeMap) (l : ReceivedLog) (r : LogRecord) (k : ℕ) → IsBegun l → StandsFor p m l.digested (ahead l) → k ≡ end l.log
     → StandsFor (taken_in p m k r.effects) m l.digested (ahead (with_more l r))
-kept_more p m l r k b s is =
-    subst (StandsFor (taken_in p m k r.effects) m l.digested) (sym (ahead_more l r b))
-    (stands_for_one_more p m l.digested k (ahead l) r s (is ∙ count_ahead l b))
+kept_more p m l r k b s is = grind (arith, ahead_more, stands_for_one_more, count_ahead)
 
 pub kept_new : (p : Pending) (m : InodeMap) (l : ReceivedLog) (k : ℕ) → IsBegun l → StandsFor p m l.digested (ahead l) → k ≡ end l.log → IsNew p k
 kept_new p m l k b s is = subst (IsNew p) (sym (is ∙ count_ahead l b)) (next_is_new p m l.digested (ahead l) s)
@@ -79,19 +67,7 @@ kept_new p m l k b s is = subst (IsNew p) (sym (is ∙ count_ahead l b)) (next_i
 pub sound_more : (m : InodeMap) (x : Received) (r : LogRecord) (begins : Bool) (o : Option Pending) → LogInvariant m x → CanBeMadeWhole r.effects →
     StandsHere m (with_more (seen_log x) r) o
     → LogInvariant m (record { log = with_grouped x.log r begins; digested = x.digested; pending = o })
-sound_more m x r begins o s h kept = record {
-  begun = record {
-    from_first = s.begun.from_first;
-    to_end = let counted = length-append x.log.records (r ∷ []) in omega (arith, s.begun.to_end, counted);
-  };
-  whole = whole_both x.log.records (r ∷ []) s.whole (h, tt);
-  stands = stands_like o kept;
-}
-  where
-    stands_like : (o : Option Pending) → StandsHere m (with_more (seen_log x) r) o →
-        StandsHere m (seen_log (record { log = with_grouped x.log r begins; digested = x.digested; pending = o })) o
-    stands_like None k = tt
-    stands_like (Some p) k = k
+sound_more m x r begins o s h kept = grind (arith, length-append, whole_both)
 
 -- the next record is digested
 pub sound_counted : (m : InodeMap) (x : Received) (r : LogRecord) → LogInvariant m x → Some r ≡ record_at x.log x.digested
@@ -117,34 +93,13 @@ sound_counted m x r s is = record {
 -- records go from the front that are digested
 pub sound_prefix : (m : InodeMap) (x : Received) (to : ℕ) → LogInvariant m x → x.log.first ≤ to → to ≤ x.digested
     → LogInvariant m (record { log = without_prefix x.log to; digested = x.digested; pending = x.pending })
-sound_prefix m x to s low high = record {
-  begun = record {
-    from_first = high;
-    to_end = let counted = length-drop (to - x.log.first) x.log.records in omega (arith, low, high, s.begun.to_end, counted);
-  };
-  whole = whole_drop (to - x.log.first) x.log.records s.whole;
-  stands = stands_like x.pending s.stands;
-}
-  where
-    stands_like : (o : Option Pending) → StandsHere m (seen_log x) o → StandsHere m (from_number (seen_log x) to) o
-    stands_like None h = tt
-    stands_like (Some p) h = subst (StandsFor p m x.digested) (sym (ahead_prefix (seen_log x) to low high)) h
+sound_prefix m x to s low high = grind
+    (arith, length-drop (to - x.log.first) x.log.records, whole_drop (to - x.log.first) x.log.records s.whole, ahead_prefix (seen_log x) to low high)
 
 -- records go from the end that aren't digested
 pub sound_tail : (m : InodeMap) (x : Received) (from : ℕ) → LogInvariant m x → is_some x.pending ≡ false → x.digested ≤ from
     → LogInvariant m (record { log = without_tail x.log from; digested = x.digested; pending = x.pending })
-sound_tail m x from s none low = record {
-  begun = record {
-    from_first = s.begun.from_first;
-    to_end = let counted = length-take (from - x.log.first) x.log.records in omega (arith, low, s.begun.from_first, s.begun.to_end, counted);
-  };
-  whole = whole_take (from - x.log.first) x.log.records s.whole;
-  stands = none_stands x.pending none;
-}
-  where
-    none_stands : (o : Option Pending) → is_some o ≡ false → StandsHere m (up_to_number (seen_log x) from) o
-    none_stands None e = tt
-    none_stands (Some p) e = absurd (true≢false e)
+sound_tail m x from s none low = grind (arith, length-take, whole_take)
 
 there : (rs : List LogRecord) (k : ℕ) → k < length rs → slice_get rs k ≡ None → ⊥
 there [] k h e = absurd (omega (arith, h))

@@ -1,10 +1,10 @@
 -- The logs of a region, of which one changes.
 use Rattle.assise_digest.proofs.Common.{◌≡◌, ◌≢◌, ◌<◌, ◌-◌, ℕ, zero, suc, List, [], ◌∷◌, length, drop, is_some, if◌then◌else◌, true≢false, slice_index_or}
-use Rattle.assise_digest.proofs.Common.{slice_set, Option, Some, None, refl, sym, ap, subst, ◌∙◌, inl, inr, true, arith, cases_eq, ne_eqb, get_or-map}
-use Rattle.assise_digest.proofs.Common.{get_or-set_same, get_or-set_other, length-map, length-set, map-set, all_effects, Content, InodeMap, LogRecord, contains}
-use Rattle.assise_digest.proofs.Common.{touched, value_after, with_value, CanBeMadeWhole, get-with_value, NumberedLog, record_at, StandsFor, pending_seen}
-use Rattle.assise_digest.proofs.Common.{AreWhole, HasClient, IsBegun, IsQuiet, ReceivedLog, RegionValue, ahead, log_at, log_of, no_log, read_by, with_log}
-use Rattle.assise_digest.proofs.Common.{LogsInvariant, LogInvariant, StandsHere, seen_log, seen_logs, Pending, Received}
+use Rattle.assise_digest.proofs.Common.{slice_set, Option, Some, None, refl, sym, ap, subst, ◌∙◌, true, arith, ne_eqb, get_or-map, get_or-set_same}
+use Rattle.assise_digest.proofs.Common.{get_or-set_other, length-map, length-set, map-set, all_effects, Content, InodeMap, LogRecord, contains, touched}
+use Rattle.assise_digest.proofs.Common.{with_value, CanBeMadeWhole, get-with_value, NumberedLog, record_at, pending_seen, AreWhole, HasClient, IsBegun, IsQuiet}
+use Rattle.assise_digest.proofs.Common.{ReceivedLog, RegionValue, ahead, log_at, log_of, no_log, read_by, with_log, LogsInvariant, LogInvariant, StandsHere}
+use Rattle.assise_digest.proofs.Common.{seen_log, seen_logs, Pending, Received}
 use Rattle.std.specs.FinMap as map
 use Rattle.assise_digest.proofs.ReceivedLogs.{ahead_next, whole_drop}
 use Rattle.assise_digest.proofs.KeptStands.{seen_after, stands_beside, stands_for_none}
@@ -14,9 +14,7 @@ region m hot xs = record { inodes = m; logs = seen_logs xs; capacity = hot }
 
 -- the place of a client
 pub in_place : {hot : ℕ} (m : InodeMap) (xs : List Received) (r : RegionValue) (c : ℕ) → region m hot xs ≡ r → HasClient r c → c - 1 < length xs
-in_place m xs r c view has =
-    let counted : length r.logs ≡ length xs = sym (ap (λ s. length s.logs) view) ∙ length-map xs seen_log in
-    omega (arith, has.some, has.there, counted)
+in_place m xs r c view has = grind (arith, length-map)
 
 -- what stands there
 pub log_there : {hot : ℕ} (m : InodeMap) (xs : List Received) (r : RegionValue) (c : ℕ) (x : Received) → region m hot xs ≡ r → HasClient r c →
@@ -35,15 +33,7 @@ here_sound m xs r c x sound view has = sound_there m xs (c - 1) x sound (in_plac
 -- another log stands in a place, and the others are as sound as before
 pub sound_others : (m w : InodeMap) (xs : List Received) (k : ℕ) (y : Received) →
     ((j : ℕ) (none : Received) → j ≢ k → j < length xs → LogInvariant w (slice_index_or xs j none)) → LogInvariant w y → LogsInvariant w (slice_set xs k y)
-sound_others m w xs k y others here j none h =
-    elim (cases_eq j k) [
-      | inl same ↦ subst (LogInvariant w)
-          (sym (ap (λ n. slice_index_or (slice_set xs k y) n none) same ∙ get_or-set_same xs k y none (omega (arith, within, same)))) here
-      | inr other ↦ subst (LogInvariant w) (sym (get_or-set_other xs k j y none other)) (others j none other within)
-    ]
-  where
-    within : j < length xs
-    within = subst (λ n. j < n) (length-set xs k y) h
+sound_others m w xs k y others here j none h = grind (arith, get_or-set_same, get_or-set_other, length-set)
 
 pub sound_set : (m : InodeMap) (xs : List Received) (k : ℕ) (y : Received) → LogsInvariant m xs → LogInvariant m y → LogsInvariant m (slice_set xs k y)
 sound_set m xs k y sound here = sound_others m m xs k y (λ j none other h. sound j none h) here
@@ -57,42 +47,30 @@ changed_sound m xs r c x y sound view has is keeps = sound_set m xs (c - 1) y so
 -- the region with another log
 pub with_one : {hot : ℕ} (m w : InodeMap) (xs : List Received) (r : RegionValue) (c : ℕ) (y : Received) → region m hot xs ≡ r
     → region w hot (slice_set xs (c - 1) y) ≡ record { inodes = w; logs = slice_set r.logs (c - 1) (seen_log y); capacity = r.capacity }
-with_one {hot = hot} m w xs r c y view =
-    ap (λ ls. record { inodes = w; logs = ls; capacity = hot }) (map-set seen_log xs (c - 1) y ∙ ap (λ s. slice_set s.logs (c - 1) (seen_log y)) view)
-    ∙ ap (λ s. record { inodes = w; logs = slice_set r.logs (c - 1) (seen_log y); capacity = s.capacity }) view
+with_one {hot = hot} m w xs r c y view = grind (arith, map-set)
 
 pub read_there : {hot : ℕ} (m : InodeMap) (xs : List Received) (r : RegionValue) (c i : ℕ) (x : Received) (p : Pending) → region m hot xs ≡ r →
     LogsInvariant m xs → HasClient r c
     → x ≡ slice_index_or xs (c - 1) x → x.pending ≡ Some p → pending_seen p i (map.get m i) ≡ read_by r c i
-read_there m xs r c i x p view sound has is kept =
-    let here = sound_there m xs (c - 1) x sound (in_place m xs r c view has) is in
-    seen_after p m x.digested (ahead (seen_log x)) (subst (StandsHere m (seen_log x)) kept here.stands) i
-    ∙ ap (λ l. value_after i (map.get m i) (all_effects (ahead l))) (sym (log_there m xs r c x view has is))
-    ∙ ap (λ n. value_after i (map.get n i) (all_effects (ahead (log_of r c)))) (ap (λ s. s.inodes) view)
+read_there m xs r c i x p view sound has is kept = grind
+    (arith, sound_there m xs (c - 1) x sound (in_place m xs r c view has) is, seen_after, log_there m xs r c x view has is)
 
 -- a log changed in its place
 pub changed_there : {hot : ℕ} (F : ReceivedLog → ReceivedLog) (m : InodeMap) (xs : List Received) (r : RegionValue) (c : ℕ) (x y : Received) →
     region m hot xs ≡ r → HasClient r c
     → x ≡ slice_index_or xs (c - 1) x → seen_log y ≡ F (seen_log x) → region m hot (slice_set xs (c - 1) y) ≡ with_log r c (F (log_of r c))
-changed_there F m xs r c x y view has is step =
-    with_one m m xs r c y view ∙ ap (λ n. record r { inodes = n; logs = slice_set r.logs (c - 1) (seen_log y) }) (ap (λ s. s.inodes) view)
-    ∙ ap (λ l. with_log r c l) (step ∙ ap F (sym (log_there m xs r c x view has is)))
+changed_there F m xs r c x y view has is step = grind (arith, with_one m m xs r c y view, log_there m xs r c x view has is)
 
 -- ---- the next record is digested
 
 pub next_whole : (x : Received) (next : LogRecord) → IsBegun (seen_log x) → AreWhole x.log.records → Some next ≡ record_at x.log x.digested →
     CanBeMadeWhole next.effects
-next_whole x next b w is =
-    (subst AreWhole (ahead_next (seen_log x) next b is) (whole_drop (x.digested - x.log.first) x.log.records w)).0
+next_whole x next b w is = grind (arith, ahead_next (seen_log x) next b is, whole_drop (x.digested - x.log.first) x.log.records w)
 
 -- what is kept for other clients is untouched
 pub sound_beside : (m w : InodeMap) (x : Received) → LogInvariant m x →
     ((i : ℕ) → contains (touched (all_effects (ahead (seen_log x)))) i ≡ true → map.get w i ≡ map.get m i) → LogInvariant w x
-sound_beside m w x s same = record { begun = s.begun; whole = s.whole; stands = go x.pending s.stands }
-  where
-    go : (o : Option Pending) → StandsHere m (seen_log x) o → StandsHere w (seen_log x) o
-    go None h = tt
-    go (Some p) h = stands_beside p m w x.digested (ahead (seen_log x)) h same
+sound_beside m w x s same = grind (arith, stands_beside)
 
 pub same_item : {X : Type 0} (xs : List X) (k : ℕ) (x y : X) → k < length xs → x ≡ slice_index_or xs k x → y ≡ slice_index_or xs k y → x ≡ y
 same_item [] k x y h a b = absurd (omega (arith, h))
@@ -131,8 +109,4 @@ drop_nothing (suc n) = refl
 
 pub sound_empty : (m : InodeMap) (l : NumberedLog) (d : ℕ) (p : Pending) → l.records ≡ [] → d ≡ l.first → p.inodes ≡ map.empty → p.last ≡ map.empty
     → LogInvariant m (record { log = l; digested = d; pending = Some p })
-sound_empty m l d p empty is inodes last = record {
-  begun = record { from_first = omega (arith, is); to_end = omega (arith, is) };
-  whole = subst AreWhole (sym empty) tt;
-  stands = subst (StandsFor p m d) (sym (ap (λ rs. drop (d - l.first) rs) empty ∙ drop_nothing (d - l.first))) (stands_for_none p m d inodes last);
-}
+sound_empty m l d p empty is inodes last = grind (arith, stands_for_none)

@@ -1,8 +1,7 @@
 -- What is kept beside an area stands for records that give way to others with the same net effect, once their numbers are noted.
-use Rattle.assise_digest.proofs.Common.{◌≡◌, ℕ, suc, ◌+◌, ◌||◌, Bool, true, false, if◌then◌else◌, List, [], ◌∷◌, ◌++◌, length, Option, Some, None, refl, ap}
-use Rattle.assise_digest.proofs.Common.{sym, ◌∙◌, arith, option_or, false≢true, nat_cmp, LogRecord, all_effects, all_effects-append, InodeMap, contains}
-use Rattle.assise_digest.proofs.Common.{touched, value_after, ComeToSame, contains-both, value_after-append, last_touch, StandsFor, all_noted, last_noted}
-use Rattle.assise_digest.proofs.Common.{Pending}
+use Rattle.assise_digest.proofs.Common.{◌≡◌, ℕ, ◌+◌, ◌||◌, true, false, if◌then◌else◌, List, [], ◌∷◌, ◌++◌, length, Option, Some, None, refl, ap, sym, ◌∙◌}
+use Rattle.assise_digest.proofs.Common.{arith, option_or, false≢true, nat_cmp, LogRecord, all_effects, all_effects-append, InodeMap, contains, touched}
+use Rattle.assise_digest.proofs.Common.{value_after, ComeToSame, contains-both, value_after-append, last_touch, StandsFor, all_noted, last_noted, Pending}
 use Rattle.std.specs.Option.{is_some}
 use Rattle.std.specs.FinMap as map
 use Rattle.assise_digest.proofs.KeptInodes.{get-noted}
@@ -10,14 +9,7 @@ use Rattle.assise_digest.proofs.KeptStands.{is_touched}
 
 get-all_noted : (l : map.FinMap nat_cmp ℕ) (n : ℕ) (rs : List LogRecord) (i : ℕ) → map.get (all_noted l n rs) i ≡ option_or (last_touch n rs i) (map.get l i)
 get-all_noted l n [] i = refl
-get-all_noted l n (r ∷ rs) i =
-    get-all_noted (last_noted l n r.effects) (n + 1) rs i ∙ ap (option_or (last_touch (n + 1) rs i)) (get-noted l n r.effects i)
-    ∙ go (last_touch (n + 1) rs i) (contains (touched r.effects) i) (map.get l i)
-  where
-    go : (o : Option ℕ) (b : Bool) (x : Option ℕ) → option_or o (if b then Some n else x) ≡ option_or (option_or o (if b then Some n else None)) x
-    go None true x = refl
-    go None false x = refl
-    go (Some k) b x = refl
+get-all_noted l n (r ∷ rs) i = grind (arith, get-all_noted (last_noted l n r.effects) (n + 1) rs i, get-noted)
 
 or_none : (o : Option ℕ) → o ≡ option_or o None
 or_none None = refl
@@ -29,11 +21,7 @@ or_both (Some k) b c = refl
 
 last-both : (n : ℕ) (fs rs : List LogRecord) (i : ℕ) → last_touch n (fs ++ rs) i ≡ option_or (last_touch (n + length fs) rs i) (last_touch n fs i)
 last-both n [] rs i = (let same : n ≡ n + 0 = omega arith in ap (λ k. last_touch k rs i) same ∙ or_none (last_touch (n + 0) rs i))
-last-both n (f ∷ fs) rs i =
-    (let same : (n + 1) + length fs ≡ n + suc (length fs) = omega arith in
-    ap (λ o. option_or o (if contains (touched f.effects) i then Some n else None))
-    (last-both (n + 1) fs rs i ∙ ap (λ k. option_or (last_touch k rs i) (last_touch (n + 1) fs i)) same)
-    ∙ or_both (last_touch (n + suc (length fs)) rs i) (last_touch (n + 1) fs i) (if contains (touched f.effects) i then Some n else None))
+last-both n (f ∷ fs) rs i = grind (arith, last-both (n + 1) fs rs i)
 
 pub renoted : (p : Pending) (m : InodeMap) (n : ℕ) (fs old new : List LogRecord) → StandsFor p m n (fs ++ old) → ComeToSame new old →
     StandsFor (record { inodes = p.inodes; last = all_noted p.last (n + length fs) new }) m n (fs ++ new)

@@ -1,12 +1,11 @@
 -- What holds of a log goes on when its last records give way to groups.
-use Rattle.assise_digest.proofs.Common.{◌≡◌, ℕ, zero, suc, ◌+◌, ◌-◌, ◌≤◌, ◌||◌, true, is_some, IsSome, Option, Some, None, option_map, List, [], ◌∷◌, ◌++◌}
-use Rattle.assise_digest.proofs.Common.{length, take, drop, map, refl, ap, sym, ◌∙◌, subst, arith, take-append-drop, IfSome, nat_cmp, drop-append-add}
-use Rattle.assise_digest.proofs.Common.{drop-append-le, get_or-set_same, length-drop, length-take, cond_both, or_right, Effect, LogRecord, all_marks}
-use Rattle.assise_digest.proofs.Common.{all_records, begun_by, coalesced_group, groups_of, left_in, left_of, all_effects, record_of, all_effects-append}
-use Rattle.assise_digest.proofs.Common.{Content, InodeMap, contains, touched, value_after, CanBeMadeWhole, ComeToSame, contains-both, value_after-append}
-use Rattle.assise_digest.proofs.Common.{groups_from, regrouped, NumberedLog, end, records_from, HasAllNumbers, StandsFor, last_noted, noted_from, AreWhole}
-use Rattle.assise_digest.proofs.Common.{HasClient, IsBegun, ReceivedLog, RegionValue, ahead, log_of, no_log, read_by, regrouped_from, with_log, LogInvariant}
-use Rattle.assise_digest.proofs.Common.{StandsHere, seen_log, Pending, Received}
+use Rattle.assise_digest.proofs.Common.{◌≡◌, ℕ, zero, suc, ◌+◌, ◌-◌, ◌≤◌, ◌||◌, true, is_some, Option, Some, None, option_map, List, [], ◌∷◌, ◌++◌, length}
+use Rattle.assise_digest.proofs.Common.{take, drop, map, ap, sym, ◌∙◌, subst, arith, take-append-drop, IfSome, nat_cmp, drop-append-add, drop-append-le}
+use Rattle.assise_digest.proofs.Common.{get_or-set_same, length-drop, length-take, Effect, LogRecord, all_marks, all_records, begun_by, coalesced_group}
+use Rattle.assise_digest.proofs.Common.{groups_of, left_in, left_of, all_effects, record_of, all_effects-append, Content, InodeMap, contains, touched}
+use Rattle.assise_digest.proofs.Common.{value_after, CanBeMadeWhole, ComeToSame, contains-both, value_after-append, groups_from, regrouped, NumberedLog, end}
+use Rattle.assise_digest.proofs.Common.{records_from, HasAllNumbers, StandsFor, last_noted, noted_from, AreWhole, HasClient, IsBegun, ReceivedLog, RegionValue}
+use Rattle.assise_digest.proofs.Common.{ahead, log_of, read_by, regrouped_from, with_log, LogInvariant, StandsHere, seen_log, Pending, Received}
 use Rattle.std.specs.FinMap as map
 use Rattle.std.proofs.lemmas.List.{length-append}
 use Rattle.assise_inode_table.proofs.LeftWhole.{whole_left}
@@ -23,10 +22,7 @@ pub has_prefix : (l : map.FinMap nat_cmp ℕ) (es fs : List Effect) → HasAllNu
 has_prefix l es fs h i among = h i (contains-both es fs i ∙ ap (λ b. b || contains (touched fs) i) among)
 
 pub has_others : (l : map.FinMap nat_cmp ℕ) (n : ℕ) (es fs : List Effect) → HasAllNumbers l (es ++ fs) → HasAllNumbers (last_noted l n es) fs
-has_others l n es fs h i among =
-    let had : IsSome (map.get l i) = h i
-    (contains-both es fs i ∙ ap (λ b. contains (touched es) i || b) among ∙ or_right (contains (touched es) i) true refl) in
-    subst IsSome (sym (get-noted l n es i)) (cond_both (contains (touched es) i) (Some n) (map.get l i) IsSome (λ _. refl) (λ _. had))
+has_others l n es fs h i among = grind (arith, contains-both, get-noted)
 
 -- ---- records that can be made whole
 
@@ -77,8 +73,7 @@ module _ (x : Received) (from : ℕ) (begun : IsBegun (seen_log x)) (low : x.dig
   prefix_long = omega (arith, length-take (from - x.log.first) x.log.records, begun.from_first)
 
   pub tail_is : records_from new_log from ≡ groups
-  tail_is = let all : from - x.log.first ≡ length prefix + 0 =
-      omega (arith, prefix_long) in ap (λ n. drop n (prefix ++ groups)) all ∙ drop-append-add prefix groups 0
+  tail_is = grind (arith, prefix_long, drop-append-add prefix groups 0)
 
   abbrev passed : List LogRecord
   passed = drop (x.digested - x.log.first) prefix
@@ -109,8 +104,7 @@ module _ (x : Received) (from : ℕ) (begun : IsBegun (seen_log x)) (low : x.dig
       LogInvariant m (record { log = new_log; digested = x.digested; pending = option_map (λ p. noted_from p from groups) x.pending })
   sound_new m s = record {
     begun = record { from_first = new_begun.from_first; to_end = new_begun.to_end };
-    whole = whole_both prefix groups (whole_take (from - x.log.first) x.log.records s.whole)
-        (whole_groups (length (records_from x.log from)) (records_from x.log from) (whole_drop (from - x.log.first) x.log.records s.whole));
+    whole = grind (arith, whole_both, whole_take, whole_groups, whole_drop);
     stands = like x.pending (new_stands m x.pending s.stands);
   }
     where
@@ -125,12 +119,7 @@ module _ (x : Received) (from : ℕ) (begun : IsBegun (seen_log x)) (low : x.dig
   pub sound_regrouped : (m : InodeMap) (log : NumberedLog) (o : Option Pending) → LogInvariant m x → log ≡ regrouped x.log from →
       o ≡ option_map (λ p. noted_from p from (records_from log from)) x.pending
       → LogInvariant m (record { log = log; digested = x.digested; pending = o })
-  sound_regrouped m log o s is kept =
-      let same : log ≡ new_log = is ∙ new_is in
-      let tail : records_from log from ≡ groups = ap (λ n. records_from n from) same ∙ tail_is in
-      let pending : o ≡ option_map (λ p. noted_from p from groups) x.pending = kept ∙ ap (λ rs. option_map (λ p. noted_from p from rs) x.pending) tail in
-      subst (λ n. LogInvariant m (record { log = n; digested = x.digested; pending = o })) (sym same)
-      (subst (λ p. LogInvariant m (record { log = new_log; digested = x.digested; pending = p })) (sym pending) (sound_new m s))
+  sound_regrouped m log o s is kept = grind (arith, new_is, tail_is, sound_new m s)
 
   -- what the new records touch has a number
   pub has_all : (m : InodeMap) (log : NumberedLog) (p : Pending) → log ≡ regrouped x.log from → StandsFor p m x.digested (ahead (seen_log x)) →
@@ -139,12 +128,9 @@ module _ (x : Received) (from : ℕ) (begun : IsBegun (seen_log x)) (low : x.dig
       let tail : records_from log from ≡ groups = ap (λ n. records_from n from) (is ∙ new_is) ∙ tail_is in
       let stands : StandsFor p m x.digested (passed ++ records_from x.log from) = subst (StandsFor p m x.digested) ahead_old s in
       let come : ComeToSame groups (records_from x.log from) = groups_come x.log from in
-      let old : contains (touched (all_effects (records_from x.log from))) i ≡ true = sym (come.touch i)
-      ∙ sym (ap (λ rs. contains (touched (all_effects rs)) i) tail) ∙ among in
+      let old : contains (touched (all_effects (records_from x.log from))) i ≡ true = grind arith in
       let all : contains (touched (all_effects (passed ++ records_from x.log from))) i ≡ true
-      = ap (λ es. contains (touched es) i) (all_effects-append passed (records_from x.log from))
-      ∙ contains-both (all_effects passed) (all_effects (records_from x.log from)) i
-      ∙ ap (λ b. contains (touched (all_effects passed)) i || b) old ∙ or_right (contains (touched (all_effects passed)) i) true refl in
+      = grind (arith, all_effects-append, contains-both) in
       ap is_some (stands.last i) ∙ is_touched x.digested (passed ++ records_from x.log from) i ∙ all
 
   pub all_there : (m : InodeMap) (log : NumberedLog) (o : Option Pending) → log ≡ regrouped x.log from → StandsHere m (seen_log x) o →
@@ -155,15 +141,18 @@ module _ (x : Received) (from : ℕ) (begun : IsBegun (seen_log x)) (low : x.dig
   -- what the client reads stays
   pub values_same : (i : ℕ) (v : Option Content) → value_after i v (all_effects (ahead (regrouped_from (seen_log x) from)))
       ≡ value_after i v (all_effects (ahead (seen_log x)))
-  values_same i v =
-      let come : ComeToSame groups (records_from x.log from) = groups_come x.log from in
-      ap (λ n. value_after i v (all_effects (drop (x.digested - n.first) n.records))) new_is
-      ∙ ap (λ rs. value_after i v (all_effects rs)) ahead_new
-      ∙ ap (value_after i v) (all_effects-append passed groups) ∙ value_after-append i v (all_effects passed) (all_effects groups)
-      ∙ come.net i (value_after i v (all_effects passed))
-      ∙ sym (ap (value_after i v) (all_effects-append passed (records_from x.log from))
-      ∙ value_after-append i v (all_effects passed) (all_effects (records_from x.log from)))
-      ∙ sym (ap (λ rs. value_after i v (all_effects rs)) ahead_old)
+  values_same i v = grind (
+    arith,
+    groups_come x.log from,
+    new_is,
+    ahead_new,
+    all_effects-append passed groups,
+    all_effects-append passed (records_from x.log from),
+    value_after-append i v (all_effects passed) (all_effects groups),
+    value_after-append i v (all_effects passed)
+        (all_effects (records_from x.log from)),
+    ahead_old,
+  )
 
 pub coalesced_read : (r : RegionValue) (c from : ℕ) → HasClient r c → IsBegun (log_of r c) → (log_of r c).digested ≤ from → from ≤ end (log_of r c).log
     → (i : ℕ) → read_by (with_log r c (regrouped_from (log_of r c) from)) c i ≡ read_by r c i
@@ -171,7 +160,6 @@ coalesced_read r c from has b low high i =
     let l : ReceivedLog = log_of r c in
     let x : Received = record { log = l.log; digested = l.digested; pending = None } in
     let begun : IsBegun (seen_log x) = record { from_first = b.from_first; to_end = b.to_end } in
-    let here : log_of (with_log r c (regrouped_from l from)) c ≡ regrouped_from l from = get_or-set_same r.logs (c - 1) (regrouped_from l from) no_log
-    (omega (arith, has.some, has.there)) in
+    let here : log_of (with_log r c (regrouped_from l from)) c ≡ regrouped_from l from = grind (arith, get_or-set_same) in
     ap (λ k. value_after i (map.get r.inodes i) (all_effects (ahead k))) here
     ∙ values_same x from begun low high i (map.get r.inodes i)

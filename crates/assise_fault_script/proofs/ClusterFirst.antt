@@ -1,19 +1,15 @@
 -- The cluster is made by the first command and by no other.
-use Rattle.assise_fault_script.proofs.Common.{◌≡◌, ◌≤◌, ℕ, ◌+◌, Bool, true, false, ◌||◌, nat_lt, List, [], ◌∷◌, Option, Some, None, Result, Ok, Err, All, refl}
-use Rattle.assise_fault_script.proofs.Common.{ap, sym, subst, inl, inr, arith, cases_Bool, nat_tests, is_some, is_utf8, Command, Cluster, Manual, Open, Call}
-use Rattle.assise_fault_script.proofs.Common.{Carry, Digest, Release, Crash, Fail, Back, Refill, Join, Raise, Link, Hot, Tree, History, Check, for_cluster}
-use Rattle.assise_fault_script.proofs.Common.{for_manual, for_open, for_carry, for_digest, for_release, for_crash, for_fail, for_back, for_refill, for_join}
-use Rattle.assise_fault_script.proofs.Common.{for_raise, for_link, for_hot, for_tree, for_history, for_check, LineFault, ScriptFault, BadLimit, UnknownCommand}
-use Rattle.assise_fault_script.proofs.Common.{WrongCount, NumberedCommand, call_command, call_word, ◌>>=◌, keyword_command, keyword_of, kind_of, link_kind_of}
-use Rattle.assise_fault_script.proofs.Common.{mode_of, says_cut, cluster_of, cut_link_of, uncut_link_of, hot_capacity_of, begins_with_digit, client_command}
-use Rattle.assise_fault_script.proofs.Common.{cluster_there, command_of, in_turn, is_comment, line_says, nameless_call, other_command, in_limits, limited}
+use Rattle.assise_fault_script.proofs.Common.{◌≡◌, ◌≤◌, ℕ, ◌+◌, Bool, true, false, ◌||◌, List, [], ◌∷◌, Option, Some, None, Result, Ok, Err, All, refl, ap, sym}
+use Rattle.assise_fault_script.proofs.Common.{subst, inl, inr, arith, cases_Bool, is_some, Command, Manual, Call, Carry, Digest, Release, Crash, Fail, Back}
+use Rattle.assise_fault_script.proofs.Common.{Refill, Join, Raise, Tree, History, Check, for_cluster, for_manual, for_open, for_carry, for_digest, for_release}
+use Rattle.assise_fault_script.proofs.Common.{for_crash, for_fail, for_back, for_refill, for_join, for_raise, for_link, for_hot, for_tree, for_history}
+use Rattle.assise_fault_script.proofs.Common.{for_check, LineFault, ScriptFault, UnknownCommand, WrongCount, NumberedCommand, call_command, call_word, ◌>>=◌}
+use Rattle.assise_fault_script.proofs.Common.{keyword_command, keyword_of, cluster_of, cut_link_of, uncut_link_of, hot_capacity_of, begins_with_digit}
+use Rattle.assise_fault_script.proofs.Common.{client_command, cluster_there, command_of, in_turn, line_says, nameless_call, other_command, in_limits, limited}
 use Rattle.assise_fault_script.proofs.Common.{number_of, ◌>>>◌, IsCluster, IsOther, ClusterFirst, at_line, commands_from, commands_of, numbered_command}
 use Rattle.assise_fault_script.proofs.Common.{lines_of, words_of}
 use Rattle.std.proofs.lemmas.List.Elements.{All-nil, All-cons}
 use Rattle.assise_names.specs.declared.call.Op.{Op}
-use Rattle.assise_names.specs.declared.durability.Durability.TheVariants.{Pessimistic}
-use Rattle.assise_names.specs.declared.limits.TheConstants.{MOST_NODES}
-use Rattle.assise_fault_script.specs.declared.command.LinkKind.TheVariants.{Cut}
 use Rattle.assise_fault_script.specs.declared.command.Keyword as first
 
 -- a result that is there came from one that was
@@ -28,26 +24,14 @@ came_at (Err e) f y h = cc
 -- ---- one command
 
 within : (low high n m : ℕ) → in_limits low high n ≡ Ok m → (low ≤ m) × (m ≤ high)
-within low high n m h =
-    elim (cases_Bool (nat_lt n low || nat_lt high n)) [
-      | inl out ↦ let bad : Err BadLimit ≡ Ok m = rw out at h in cc
-      | inr fits ↦ let same : Ok n ≡ Ok m = rw fits at h in let is : n ≡ m = cc in (rw (← is) (grind (arith, nat_tests)), rw (← is) (grind (arith, nat_tests)))
-    ]
+within low high n m h = grind arith
 
 limits : (low high m : ℕ) (word : List ℕ) → limited low high word ≡ Ok m → (low ≤ m) × (m ≤ high)
 limits low high m word h = let n = came_from (number_of word) (in_limits low high) m h in within low high n.0 m n.1.1
 
 -- what a cluster's words make
 made : (nodes log hot : List ℕ) (c : Command) → cluster_of nodes log hot ≡ Ok c → IsCluster c
-made nodes log hot c h =
-    let n = came_from (limited 1 MOST_NODES nodes) (λ n. limited 8 4096 log >>= λ l. limited 1 4096 hot >>= λ h. Ok (Cluster n l h)) c h in
-    let l = came_from (limited 8 4096 log) (λ l. limited 1 4096 hot >>= λ h. Ok (Cluster n.0 l h)) c n.1.1 in
-    let t = came_from (limited 1 4096 hot) (λ h. Ok (Cluster n.0 l.0 h)) c l.1.1 in
-    let is : Cluster n.0 l.0 t.0 ≡ c = let e = t.1.1 in cc in
-    let ns = limits 1 MOST_NODES n.0 nodes n.1.0 in
-    let ls = limits 8 4096 l.0 log l.1.0 in
-    let ts = limits 1 4096 t.0 hot t.1.0 in
-    subst IsCluster is (ns.0, ns.1, ls.0, ls.1, ts.0, ts.1)
+made nodes log hot c h = search arith parts 3
 
 cluster_row : (rest : List (List ℕ)) (c : Command) → keyword_command for_cluster rest ≡ Ok c → IsCluster c
 cluster_row (nodes ∷ log ∷ hot ∷ []) c h = made nodes log hot c h
@@ -57,44 +41,17 @@ cluster_row (a ∷ b ∷ []) c h = cc
 cluster_row (a ∷ b ∷ d ∷ e ∷ rest) c h = cc
 
 open_row : (rest : List (List ℕ)) (c : Command) → keyword_command for_open rest ≡ Ok c → IsOther c
-open_row (node ∷ kind ∷ []) c h =
-    let n = came_from (number_of node) (λ n. kind_of kind >>= λ k. Ok (Open n k Pessimistic)) c h in
-    let k = came_from (kind_of kind) (λ k. Ok (Open n.0 k Pessimistic)) c n.1.1 in
-    let is : Open n.0 k.0 Pessimistic ≡ c = let e = k.1.1 in cc in
-    subst IsOther is tt
-open_row (node ∷ kind ∷ mode ∷ []) c h =
-    let n = came_from (number_of node) (λ n. kind_of kind >>= λ k. mode_of mode >>= λ m. Ok (Open n k m)) c h in
-    let k = came_from (kind_of kind) (λ k. mode_of mode >>= λ m. Ok (Open n.0 k m)) c n.1.1 in
-    let m = came_from (mode_of mode) (λ m. Ok (Open n.0 k.0 m)) c k.1.1 in
-    let is : Open n.0 k.0 m.0 ≡ c = let e = m.1.1 in cc in
-    subst IsOther is tt
+open_row (node ∷ kind ∷ []) c h = grind arith
+open_row (node ∷ kind ∷ mode ∷ []) c h = grind arith
 open_row [] c h = cc
 open_row (a ∷ []) c h = cc
 open_row (a ∷ b ∷ d ∷ e ∷ rest) c h = cc
 
 uncut_row : (node name : List ℕ) (c : Command) → uncut_link_of node name ≡ Ok c → IsOther c
-uncut_row node name c h =
-    elim (cases_Bool (says_cut name)) [
-      | inl cut ↦ let bad : Err WrongCount ≡ Ok c = rw cut at h in cc
-      | inr other ↦
-          let made : (number_of node >>= λ n. link_kind_of name >>= λ k. Ok (Link n k)) ≡ Ok c = rw other at h in
-          let n = came_from (number_of node) (λ n. link_kind_of name >>= λ k. Ok (Link n k)) c made in
-          let k = came_from (link_kind_of name) (λ k. Ok (Link n.0 k)) c n.1.1 in
-          let is : Link n.0 k.0 ≡ c = let e = k.1.1 in cc in
-          subst IsOther is tt
-    ]
+uncut_row node name c h = search arith parts 3
 
 cut_row : (node name bytes : List ℕ) (c : Command) → cut_link_of node name bytes ≡ Ok c → IsOther c
-cut_row node name bytes c h =
-    elim (cases_Bool (says_cut name)) [
-      | inl cut ↦
-          let made : (number_of node >>= λ n. number_of bytes >>= λ k. Ok (Link n (Cut k))) ≡ Ok c = rw cut at h in
-          let n = came_from (number_of node) (λ n. number_of bytes >>= λ k. Ok (Link n (Cut k))) c made in
-          let k = came_from (number_of bytes) (λ k. Ok (Link n.0 (Cut k))) c n.1.1 in
-          let is : Link n.0 (Cut k.0) ≡ c = let e = k.1.1 in cc in
-          subst IsOther is tt
-      | inr other ↦ let bad : Err WrongCount ≡ Ok c = rw other at h in cc
-    ]
+cut_row node name bytes c h = grind arith
 
 link_row : (rest : List (List ℕ)) (c : Command) → keyword_command for_link rest ≡ Ok c → IsOther c
 link_row (node ∷ name ∷ []) c h = uncut_row node name c h
@@ -105,11 +62,7 @@ link_row (a ∷ b ∷ d ∷ e ∷ rest) c h = cc
 
 -- what the words of `hot` make
 set : (node capacity : List ℕ) (c : Command) → hot_capacity_of node capacity ≡ Ok c → IsOther c
-set node capacity c h =
-    let n = came_from (number_of node) (λ n. limited 1 4096 capacity >>= λ m. Ok (Hot n m)) c h in
-    let m = came_from (limited 1 4096 capacity) (λ m. Ok (Hot n.0 m)) c n.1.1 in
-    let is : Hot n.0 m.0 ≡ c = let e = m.1.1 in cc in
-    subst IsOther is (limits 1 4096 m.0 capacity m.1.0)
+set node capacity c h = grind arith
 
 hot_row : (rest : List (List ℕ)) (c : Command) → keyword_command for_hot rest ≡ Ok c → IsOther c
 hot_row (node ∷ capacity ∷ []) c h = set node capacity c h
@@ -130,10 +83,7 @@ number_row : (k : first.Keyword) (made : ℕ → Command) → ((n : ℕ) → IsO
     ((a b : List ℕ) (rest : List (List ℕ)) → keyword_command k (a ∷ b ∷ rest) ≡ Err WrongCount) → (rest : List (List ℕ)) (c : Command) →
     keyword_command k rest ≡ Ok c → IsOther c
 number_row k made other none one more [] c h = cc
-number_row k made other none one more (a ∷ []) c h =
-    let n = came_from (number_of a) (λ n. Ok (made n)) c (rw (one a) at h) in
-    let is : made n.0 ≡ c = let e = n.1.1 in cc in
-    subst IsOther is (other n.0)
+number_row k made other none one more (a ∷ []) c h = grind arith
 number_row k made other none one more (a ∷ b ∷ rest) c h = let bad = more a b rest in cc
 
 -- what stands behind each keyword but `cluster` makes no cluster
@@ -179,19 +129,11 @@ before_cluster for_check u h = cc
 -- what a command that a keyword begins makes, by whether the cluster was there
 first_row : (k : first.Keyword) (rest : List (List ℕ)) (c : Command) → (in_turn false k >>= λ _. keyword_command k rest >>= λ c. Ok (Some c)) ≡ Ok (Some c) →
     IsCluster c
-first_row k rest c h =
-    let u = came_from (in_turn false k) (λ _. keyword_command k rest >>= λ c. Ok (Some c)) (Some c) h in
-    let d = came_from (keyword_command k rest) (λ c. Ok (Some c)) (Some c) u.1.1 in
-    let is : d.0 ≡ c = let e = d.1.1 in cc in
-    subst IsCluster is (cluster_row rest d.0 (subst (λ k. keyword_command k rest ≡ Ok d.0) (before_cluster k u.0 u.1.0) d.1.0))
+first_row k rest c h = grind arith
 
 later_row : (k : first.Keyword) (rest : List (List ℕ)) (c : Command) → (in_turn true k >>= λ _. keyword_command k rest >>= λ c. Ok (Some c)) ≡ Ok (Some c) →
     IsOther c
-later_row k rest c h =
-    let u = came_from (in_turn true k) (λ _. keyword_command k rest >>= λ c. Ok (Some c)) (Some c) h in
-    let d = came_from (keyword_command k rest) (λ c. Ok (Some c)) (Some c) u.1.1 in
-    let is : d.0 ≡ c = let e = d.1.1 in cc in
-    subst IsOther is (row k u.0 rest d.0 u.1.0 d.1.0)
+later_row k rest c h = search arith parts 3
 
 no_call : {P : Type 0} (client : List ℕ) (c : Command) → nameless_call client ≡ Ok (Some c) → P
 no_call client c h = let n = came_from (number_of client) (λ _. Err UnknownCommand) (Some c) h in let bad : Err UnknownCommand ≡ Ok (Some c) = n.1.1 in cc
@@ -220,8 +162,7 @@ first_command : (words : List (List ℕ)) (c : Command) → command_of false wor
 first_command [] c h = cc
 first_command (word ∷ rest) c h =
     elim (cases_Bool (begins_with_digit word)) [
-      | inl client ↦ let row : client_command false word rest ≡ Ok (Some c) =
-          rw client at h in let bad = client_row false word rest c row in let no : false ≡ true = bad.0 in cc
+      | inl client ↦ search arith parts 3
       | inr other ↦
           let row : other_command false word rest ≡ Ok (Some c) = rw other at h in
           let k = came_from (keyword_of word) (λ k. in_turn false k >>= λ _. keyword_command k rest >>= λ c. Ok (Some c)) (Some c) row in
@@ -241,14 +182,7 @@ later_command (word ∷ rest) c h =
 
 -- a line's command is that of its words
 of_words : (built : Bool) (line : List ℕ) (c : Command) → line_says built line ≡ Ok (Some c) → command_of built (words_of line) ≡ Ok (Some c)
-of_words built line c h =
-    elim (cases_Bool (is_comment line)) [
-      | inl comment ↦ let bad : Ok None ≡ Ok (Some c) = rw comment at h in cc
-      | inr plain ↦ elim (cases_Bool (is_utf8 line)) [
-        | inl text ↦ rw (plain, text) at h
-        | inr bytes ↦ let bad : Err _ ≡ Ok (Some c) = rw (plain, bytes) at h in cc
-      ]
-    ]
+of_words built line c h = grind arith
 
 -- ---- the lines
 

@@ -1,7 +1,6 @@
 -- What `parse` reads, as the definition of numbers has it.
-use Rattle.assise_fault_script.proofs.Common.{◌≡◌, ℕ, ◌^◌, ◌<◌, true, false, List, length, Result, Ok, Err, MatchResult, nat_lt, not, ◌==◌, ap, sym, arith}
-use Rattle.assise_fault_script.proofs.Common.{rules, inl, inr, cases_Bool, and_parts, nat_tests, list_all, BadNumber, is_digit, is_digits, value_behind}
-use Rattle.assise_fault_script.proofs.Common.{decimal_value, number_of}
+use Rattle.assise_fault_script.proofs.Common.{◌≡◌, ℕ, ◌^◌, ◌<◌, true, false, List, length, Result, Ok, Err, MatchResult, not, ◌==◌, arith, rules, and_parts}
+use Rattle.assise_fault_script.proofs.Common.{nat_tests, list_all, BadNumber, is_digit, is_digits, value_behind, decimal_value, number_of}
 use Rattle.std.proofs.lemmas.Str.Parse.{IsNumeralModel, numerals_by_fold, parse_digits}
 use Rattle.std.specs.Str.Parse.{ParsesUnsigned}
 use Rattle.std.specs.Result.{OkIff}
@@ -20,13 +19,8 @@ some_digits bs h = let some : not (length bs == 0) ≡ true = (and_parts _ _ h).
 from_parse : {E : Type 0} (bs : List ℕ) (r : Result ℕ E) → is_digits bs ≡ true → OkIff r ((0 < length bs) × (decimal_value bs < 2 ^ 64)) (decimal_value bs) →
     MatchResult r (λ v. number_of bs ≡ Ok v) (λ _. number_of bs ≡ Err BadNumber)
 unfolding number_of
-from_parse bs (Ok v) d h =
-    let less : nat_lt (decimal_value bs) (2 ^ 64) ≡ true = let lt : decimal_value bs < 2 ^ 64 = h.0.1 in grind (arith, nat_tests) in
-    rw (d, less) (ap Ok (sym h.1))
-from_parse bs (Err e) d h =
-    let more : nat_lt (decimal_value bs) (2 ^ 64) ≡ false = elim (cases_Bool (nat_lt (decimal_value bs) (2 ^ 64)))
-    [ inl y ↦ absurd (h (some_digits bs d, grind (arith, nat_tests))) | inr n ↦ n ] in
-    rw (d, more)
+from_parse bs (Ok v) d h = grind arith
+from_parse bs (Err e) d h = grind arith
 
 pub parsed : {E : Type 0} (bs : List ℕ) (r : Result ℕ E) → is_digits bs ≡ true → ParsesUnsigned 64 10 bs r →
     MatchResult r (λ v. number_of bs ≡ Ok v) (λ _. number_of bs ≡ Err BadNumber)

@@ -1,8 +1,8 @@
 -- A script is cut at its first line feed.
-use Rattle.assise_fault_script.proofs.Common.{◌≡◌, ◌≢◌, ℕ, true, false, Option, sym, ◌+◌, ◌-◌, ◌<◌, ◌≤◌, Bool, List, [], ◌∷◌, length, take, drop, map, filter}
-use Rattle.assise_fault_script.proofs.Common.{Some, None, nat_lt, ap, ◌∙◌, arith, inl, inr, refl, length-drop, cases_Bool, nat_tests, take_all}
-use Rattle.assise_fault_script.proofs.Common.{slice_split_first, slice_split_none, length-slice_split, fails_before_first, position_or_len_is, slice_split}
-use Rattle.assise_fault_script.proofs.Common.{position, position_or_len, is_line_feed, lines_of, without_return, without_returns}
+use Rattle.assise_fault_script.proofs.Common.{◌≡◌, ◌≢◌, ℕ, true, false, Option, ◌+◌, ◌-◌, ◌<◌, Bool, List, [], ◌∷◌, length, take, drop, map, filter, Some, None}
+use Rattle.assise_fault_script.proofs.Common.{nat_lt, arith, inl, inr, refl, length-drop, cases_Bool, nat_tests, take_all, slice_split_first, slice_split_none}
+use Rattle.assise_fault_script.proofs.Common.{length-slice_split, fails_before_first, position_or_len_is, slice_split, position, position_or_len, is_line_feed}
+use Rattle.assise_fault_script.proofs.Common.{lines_of, without_return, without_returns}
 use Rattle.memchr.specs.Find.{IsFirstByte, is_byte}
 
 -- what stands behind place i
@@ -19,27 +19,10 @@ first_line piece bs = shorter (slice_split is_line_feed bs) piece (rw (length-sl
 
 pub cut : (bs : List ℕ) (i : ℕ) → position is_line_feed bs ≡ Some i → (lines_of bs ≡ without_return (take i bs) ∷ lines_of (behind i bs))
     × (length (behind i bs) < length bs)
-cut bs i e =
-    elim (cases_Bool (nat_lt (position_or_len is_line_feed bs) (length bs))) [
-      | inl y ↦
-          let lt : position_or_len is_line_feed bs < length bs = grind (arith, nat_tests) in
-          let some : Some (position_or_len is_line_feed bs) ≡ Some i = rw y at e in
-          let is : position_or_len is_line_feed bs ≡ i = cc in
-          let all : take (length bs - (i + 1)) (drop (i + 1) bs) ≡ drop (i + 1) bs = take_all _ _ (omega (arith, length-drop (i + 1) bs)) in
-          let parts : slice_split is_line_feed bs ≡ take i bs ∷ slice_split is_line_feed (behind i bs) =
-          rw all (rw is at (slice_split_first is_line_feed bs 0 lt)) in
-          (ap without_returns parts ∙ first_line (take i bs) (behind i bs), rw all (omega (arith, length-drop (i + 1) bs)))
-      | inr n ↦ let none : None ≡ Some i = rw n at e in cc
-    ]
+cut bs i e = grind (arith, take_all, length-drop, slice_split_first, first_line)
 
 pub uncut : (bs : List ℕ) → position is_line_feed bs ≡ None → lines_of bs ≡ bs ∷ []
-uncut bs e =
-    elim (cases_Bool (nat_lt (position_or_len is_line_feed bs) (length bs))) [
-      | inl y ↦ let some : Some (position_or_len is_line_feed bs) ≡ None = rw y at e in cc
-      | inr n ↦
-          let ge : length bs ≤ position_or_len is_line_feed bs = grind (arith, nat_tests) in
-          ap without_returns (slice_split_none is_line_feed bs (λ k d lt. fails_before_first is_line_feed bs k d (omega arith)))
-    ]
+uncut bs e = grind (arith, slice_split_none, fails_before_first)
 
 is_false : (b : Bool) → b ≢ true → b ≡ false
 is_false b not_true = elim (cases_Bool b) [ inl is_true ↦ absurd (not_true is_true) | inr false_is ↦ false_is ]
@@ -51,17 +34,8 @@ first_place bs None h =
     (λ k lt. is_false _ (h k (omega arith) lt)) (λ lt. absurd (omega (arith, lt))) in
     let no : nat_lt (position_or_len is_line_feed bs) (length bs) ≡ false = grind (arith, nat_tests) in
     rw no refl
-first_place bs (Some k) h =
-    let inside = h.0.high in
-    let at : position_or_len is_line_feed bs ≡ k = position_or_len_is is_line_feed bs k 0 (omega (arith, inside))
-    (λ j lt. is_false _ (h.0.before j (omega arith) lt)) (λ lt. h.1) in
-    let yes : nat_lt (position_or_len is_line_feed bs) (length bs) ≡ true = grind (arith, nat_tests) in
-    rw yes (ap Some (sym at))
+first_place bs (Some k) h = grind (arith, position_or_len_is)
 
 pub map-filter : {X Y : Type 0} (f : X → Y) (p : Y → Bool) (xs : List X) → map f (filter (λ x. p (f x)) xs) ≡ filter p (map f xs)
 map-filter f p [] = refl
-map-filter f p (x ∷ xs) =
-    elim (cases_Bool (p (f x))) [
-      | inl stays ↦ rw stays (ap (λ ys. f x ∷ ys) (map-filter f p xs))
-      | inr goes ↦ rw goes (map-filter f p xs)
-    ]
+map-filter f p (x ∷ xs) = grind (arith, map-filter f p xs)

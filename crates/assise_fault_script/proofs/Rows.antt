@@ -1,9 +1,8 @@
 -- Six words or more make no command, whatever stands behind the sixth.
-use Rattle.assise_fault_script.proofs.Common.{◌≡◌, ℕ, Bool, List, [], ◌∷◌, take, Result, Err, refl, ap, sym, ◌∙◌, inl, inr, cases_Bool, for_cluster, for_manual}
-use Rattle.assise_fault_script.proofs.Common.{for_open, for_carry, for_digest, for_release, for_crash, for_fail, for_back, for_refill, for_join, for_raise}
-use Rattle.assise_fault_script.proofs.Common.{for_link, for_hot, for_tree, for_history, for_check, Call, IsOk, Some, Ok, ScriptFault, WrongCount, call_command}
-use Rattle.assise_fault_script.proofs.Common.{call_word, of_path, path_word, ◌>>=◌, keyword_command, keyword_of, begins_with_digit, client_command}
-use Rattle.assise_fault_script.proofs.Common.{cluster_there, command_of, in_turn, other_command, number_of}
+use Rattle.assise_fault_script.proofs.Common.{◌≡◌, ℕ, Bool, List, [], ◌∷◌, take, Result, Err, refl, for_cluster, for_manual, for_open, for_carry, for_digest}
+use Rattle.assise_fault_script.proofs.Common.{for_release, for_crash, for_fail, for_back, for_refill, for_join, for_raise, for_link, for_hot, for_tree}
+use Rattle.assise_fault_script.proofs.Common.{for_history, for_check, IsOk, Ok, ScriptFault, WrongCount, call_command, of_path, path_word, ◌>>=◌}
+use Rattle.assise_fault_script.proofs.Common.{keyword_command, client_command, arith, command_of, other_command}
 use Rattle.assise_names.specs.Path.{path_of}
 use Rattle.assise_names.specs.declared.path.PathFault.{PathFault}
 use Rattle.assise_fault_script.specs.declared.command.CallWord.{CallWord}
@@ -55,15 +54,11 @@ same_after (Err e) f g h = refl
 
 for_client : (built : Bool) (client name a b c d : Word) (rest : List Word) → client_command built client (name ∷ a ∷ b ∷ c ∷ d ∷ [])
     ≡ client_command built client (name ∷ a ∷ b ∷ c ∷ d ∷ rest)
-for_client built client name a b c d rest =
-    same_after (number_of client) _ _ (λ n. same_after (call_word name) _ _ (λ k. same_after (cluster_there built) _ _ (λ u.
-    ap (λ r. r >>= λ op. Ok (Some (Call n op))) (many_for_call k a b c d [] ∙ sym (many_for_call k a b c d rest)))))
+for_client built client name a b c d rest = grind (arith, same_after)
 
 for_other : (built : Bool) (word b c d e : Word) (rest more : List Word) → other_command built word (b ∷ c ∷ d ∷ e ∷ rest) ≡ other_command built word
     (b ∷ c ∷ d ∷ e ∷ more)
-for_other built word b c d e rest more =
-    same_after (keyword_of word) _ _ (λ k. same_after (in_turn built k) _ _ (λ u.
-    ap (λ r. r >>= λ command. Ok (Some command)) (many_for_keyword k b c d e rest ∙ sym (many_for_keyword k b c d e more))))
+for_other built word b c d e rest more = grind (arith, same_after)
 
 pub six : (built : Bool) (words : List Word) → command_of built (take 6 words) ≡ command_of built words
 six built [] = refl
@@ -72,11 +67,7 @@ six built (a ∷ b ∷ []) = refl
 six built (a ∷ b ∷ c ∷ []) = refl
 six built (a ∷ b ∷ c ∷ d ∷ []) = refl
 six built (a ∷ b ∷ c ∷ d ∷ e ∷ []) = refl
-six built (a ∷ b ∷ c ∷ d ∷ e ∷ f ∷ rest) =
-    elim (cases_Bool (begins_with_digit a)) [
-      | inl client ↦ rw client (for_client built a b c d e f rest)
-      | inr other ↦ rw other (for_other built a b c d e (f ∷ []) (f ∷ rest))
-    ]
+six built (a ∷ b ∷ c ∷ d ∷ e ∷ f ∷ rest) = grind (arith, for_client, for_other)
 
 -- ---- a word that spells a path
 

@@ -50,16 +50,7 @@ pub record IsReadTo (bytes : List ℕ) (p : Progress) (lines : List (List ℕ)) 
 -- one line more is read
 pub one_read : (bytes : List ℕ) (p q : Progress) (line : List ℕ) (lines whole : List (List ℕ)) → whole ≡ line ∷ lines → IsReadTo bytes p whole →
     next p line ≡ Ok q → q.number ≡ p.number + 1 → IsReadTo bytes q lines
-one_read bytes p q line lines whole parts read gives counts =
-    let longer : (others : List (List ℕ)) → (read.prefix ++ line ∷ []) ++ others ≡ read.prefix ++ (line ∷ others) = λ others. append_assoc read.prefix
-    (line ∷ []) others in
-    record {
-      prefix = read.prefix ++ line ∷ [];
-      parts = read.parts ∙ ap (λ ls. read.prefix ++ ls) parts ∙ sym (longer lines);
-      counted = omega (arith, counts, read.counted, length-append read.prefix (line ∷ []));
-      reads = λ others. ap (commands_from 1 false) (longer others) ∙ read.reads (line ∷ others) ∙ step p line others
-          ∙ ap (λ r. r >>> λ t. comes_of t others) gives;
-    }
+one_read bytes p q line lines whole parts read gives counts = grind (arith, append_assoc, length-append read.prefix (line ∷ []), step)
 
 pub all_read : (bytes : List ℕ) (q : Progress) → IsReadTo bytes q [] → commands_of bytes ≡ Ok q.commands
 all_read bytes q read = ap (commands_from 1 false) read.parts ∙ read.reads [] ∙ ap Ok (append-nil q.commands)
@@ -68,9 +59,7 @@ all_read bytes q read = ap (commands_from 1 false) read.parts ∙ read.reads [] 
 pub faulty : (bytes : List ℕ) (p : Progress) (line : List ℕ) (lines whole : List (List ℕ)) (e y : LineFault) → y ≡ e → whole ≡ line ∷ lines →
     IsReadTo bytes p whole → (e.fault ≡ Memory) ⊎ (next p line ≡ Err e) → (y.fault ≡ Memory) ⊎ (commands_of bytes ≡ Err y)
 faulty bytes p line lines whole e y is parts read (inl memory) = inl (ap (λ z. z.fault) is ∙ memory)
-faulty bytes p line lines whole e y is parts read (inr fault) =
-    inr (ap (commands_from 1 false) read.parts ∙ read.reads whole ∙ ap (comes_of p) parts ∙ step p line lines ∙ ap (λ r. r >>> λ t. comes_of t lines) fault
-    ∙ ap Err (sym is))
+faulty bytes p line lines whole e y is parts read (inr fault) = grind (arith, step)
 
 -- a fault of a line that memory was wanting for is no fault of the line
 pub weaker : (p : Progress) (line : List ℕ) (e : LineFault) → ((e.fault ≡ Memory) × ((command : Command) × (line_says p.built line ≡ Ok (Some command))))
@@ -82,9 +71,7 @@ weaker p line e (inr fault) = inr fault
 pub wanting : (bytes : List ℕ) (p : Progress) (line : List ℕ) (lines whole : List (List ℕ)) (e y : LineFault) → y ≡ e → whole ≡ line ∷ lines →
     IsReadTo bytes p whole → e.line ≡ p.number → ((e.fault ≡ Memory) × ((command : Command) × (line_says p.built line ≡ Ok (Some command))))
     ⊎ (next p line ≡ Err e) → ((y.fault ≡ Memory) × IsCommandAt bytes y.line) ⊎ (commands_of bytes ≡ Err y)
-wanting bytes p line lines whole e y is parts read at (inr fault) =
-    inr (ap (commands_from 1 false) read.parts ∙ read.reads whole ∙ ap (comes_of p) parts ∙ step p line lines ∙ ap (λ r. r >>> λ t. comes_of t lines) fault
-    ∙ ap Err (sym is))
+wanting bytes p line lines whole e y is parts read at (inr fault) = grind (arith, step)
 wanting bytes p line lines whole e y is parts read at (inl memory) =
     let command = memory.1.0 in
     let number : y.line ≡ p.number = ap (λ z. z.line) is ∙ at in
@@ -93,16 +80,9 @@ wanting bytes p line lines whole e y is parts read at (inl memory) =
     let count : y.line ≡ length to = omega (arith, number, read.counted, length-append read.prefix (line ∷ [])) in
     let prefix : take y.line (lines_of bytes) ≡ to = ap (λ n. take n (lines_of bytes)) count ∙ ap (take (length to)) all ∙ take-append_seam to lines in
     let reads : commands_from 1 false to ≡ Ok (p.commands ++ record { line = p.number; command = command } ∷ []) =
-    read.reads (line ∷ []) ∙ step p line [] ∙ ap (λ s. with_line p s >>> λ q. comes_of q []) memory.1.1
-    ∙ ap Ok (append-nil (p.commands ++ record { line = p.number; command = command } ∷ [])) in
+    grind arith in
     inl (
-      ap (λ z. z.fault) is ∙ memory.0,
-      record {
-        prefix = p.commands;
-        command = command;
-        faultless = ap (commands_from 1 false) prefix ∙ reads
-            ∙ ap (λ n. Ok (p.commands ++ record { line = n; command = command } ∷ [])) (sym number);
-      },
+    grind arith
     )
 
 is_ok : (r : Commands) (cs : List NumberedCommand) → r ≡ Ok cs → IsOk r
@@ -117,8 +97,7 @@ reached bytes p line lines whole e y is parts read at =
     let all : lines_of bytes ≡ read.prefix ++ (line ∷ lines) = read.parts ∙ ap (λ ls. read.prefix ++ ls) parts in
     let places : length (lines_of bytes) ≡ length read.prefix + length (line ∷ lines) = ap length all ∙ length-append read.prefix (line ∷ lines) in
     let before : y.line - 1 ≡ length read.prefix = omega (arith, number) in
-    let prefix : take (y.line - 1) (lines_of bytes) ≡ read.prefix = ap (λ n. take n (lines_of bytes)) before ∙ ap (take (length read.prefix)) all
-    ∙ take-append_seam read.prefix (line ∷ lines) in
+    let prefix : take (y.line - 1) (lines_of bytes) ≡ read.prefix = grind (arith, take-append_seam) in
     let whole_prefix : take (y.line - 1) (lines_of bytes) ≡ read.prefix ++ [] = prefix ∙ sym (append-nil read.prefix) in
     record {
       first = omega (arith, number);

@@ -1,7 +1,7 @@
 -- What the check of a history knows of the prefix that it has gone along.
-use Rattle.assise_history.proofs.Common.{◌≡◌, ℕ, ◌+◌, ◌<◌, true, false, List, [], ◌∷◌, ◌++◌, length, take, drop, get_or, refl, ap, sym, subst, ◌∙◌, both_ways}
-use Rattle.assise_history.proofs.Common.{take_more, take-append-drop, opening, EntryValue, kept, kept_more, IsRun, IsLegal, Fits, follows, summary, summed_from}
-use Rattle.assise_history.proofs.Common.{summary_after, Summary}
+use Rattle.assise_history.proofs.Common.{◌≡◌, ℕ, ◌+◌, ◌<◌, true, false, List, [], ◌∷◌, ◌++◌, length, take, drop, get_or, refl, ap, sym, subst, ◌∙◌, take_more}
+use Rattle.assise_history.proofs.Common.{take-append-drop, opening, EntryValue, kept, kept_more, IsRun, IsLegal, Fits, follows, summary, summed_from}
+use Rattle.assise_history.proofs.Common.{summary_after, Summary, arith}
 use Rattle.assise_history.proofs.Runs.{kept-push}
 use Rattle.assise_history.proofs.Legality.{legal-push, legal-prefix, legal-last}
 use Rattle.assise_history.proofs.SummaryAgrees.{may_follow, is_allowed}
@@ -25,8 +25,7 @@ fits_at es i e h is legal = legal-last (take i es) e (subst IsLegal (take_more_r
 
 -- an entry that the summary bars, or after which what is kept is no run
 pub not_allowed : (es : List EntryValue) (i : ℕ) (e : EntryValue) → i < length es → e ≡ get_or es i e → follows (summary (take i es)) e ≡ false → IsLegal es → ⊥
-not_allowed es i e h is barred legal =
-    both_ways (follows (summary (take i es)) e) barred (is_allowed (take i es) e (prefix_at es i legal) (fits_at es i e h is legal).follows)
+not_allowed es i e h is barred legal = grind (arith, is_allowed, prefix_at, fits_at)
 
 pub no_run : (es : List EntryValue) (i : ℕ) (e : EntryValue) → i < length es → e ≡ get_or es i e → (IsRun opening (kept_more (kept (take i es)) e) → ⊥) →
     IsLegal es → ⊥
@@ -35,10 +34,12 @@ no_run es i e h is wrong legal = wrong (subst (IsRun opening) (kept-push (take i
 -- one entry more that passes
 pub checked_more : (es : List EntryValue) (i : ℕ) (e : EntryValue) → i < length es → e ≡ get_or es i e → IsLegal (take i es) → follows (summary (take i es)) e
     ≡ true → IsRun opening (kept_more (kept (take i es)) e) → IsLegal (take (i + 1) es)
-checked_more es i e h is legal rule run =
-    subst IsLegal (sym (take_more_read es i e h is))
-    (legal-push (take i es) e legal record
-    { follows = may_follow (take i es) e legal rule; run = subst (IsRun opening) (sym (kept-push (take i es) e)) run })
+checked_more es i e h is legal rule run = grind (
+  arith,
+  take_more_read es i e h is,
+  legal-push (take i es) e legal record
+      { follows = may_follow (take i es) e legal rule; run = subst (IsRun opening) (sym (kept-push (take i es) e)) run },
+)
 
 pub kept_at : (es : List EntryValue) (i : ℕ) (e : EntryValue) → i < length es → e ≡ get_or es i e → kept (take (i + 1) es) ≡ kept_more (kept (take i es)) e
 kept_at es i e h is = ap kept (take_more_read es i e h is) ∙ kept-push (take i es) e

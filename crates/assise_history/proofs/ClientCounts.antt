@@ -1,8 +1,7 @@
 -- How many clients are opened in a legal history, and how many calls are made.
-use Rattle.assise_history.proofs.Common.{◌≡◌, ℕ, ◌+◌, ◌<◌, ◌≤◌, true, false, if◌then◌else◌, ◌==◌, List, [], ◌∷◌, ◌++◌, filter, length, refl, ap, sym, ◌∙◌, inl}
-use Rattle.assise_history.proofs.Common.{inr, arith, eqb-true, eq-eqb, ne_eqb, cases_Bool, length-append, filter-append, Durability, Call, EntryValue, opens}
-use Rattle.assise_history.proofs.Common.{calls, IsLegal, Fits, IsNextCall, MayOpen, is_opening, is_call_of, clients_opened, calls_made, durability_of}
-use Rattle.assise_history.proofs.Common.{opened_as}
+use Rattle.assise_history.proofs.Common.{◌≡◌, ℕ, ◌+◌, ◌<◌, ◌≤◌, false, if◌then◌else◌, ◌==◌, List, [], ◌∷◌, ◌++◌, filter, length, refl, ap, ◌∙◌, inl, inr, arith}
+use Rattle.assise_history.proofs.Common.{eqb-true, eq-eqb, ne_eqb, cases_Bool, length-append, filter-append, Durability, Call, EntryValue, opens, calls}
+use Rattle.assise_history.proofs.Common.{IsLegal, Fits, IsNextCall, MayOpen, is_opening, is_call_of, clients_opened, calls_made, durability_of, opened_as}
 use Rattle.assise_names.specs.declared.durability.Durability.TheVariants.{Pessimistic}
 use Rattle.assise_history.specs.Opened.{is_opening_of, OpensOnce}
 use Rattle.assise_history.proofs.Legality.{along, fits_in}
@@ -40,40 +39,24 @@ early_more h (calls x) legal fits before c late =
     let none = before c (omega arith) in
     elim (cases_Bool (c == x.client)) [
       | inl own ↦
-          let next : IsNextCall h x = fits.follows in
-          let m = next.ready in
-          let o = m.opened in
-          let same = eqb-true c x.client own in
-          let within = opened_within h o.before o.since x.client m.node o.durability legal o.split in
-          absurd (omega arith)
+          grind (arith, opened_within)
       | inr other ↦ let still = rw other at made in omega arith
     ]
-early_more h e legal fits before c late =
-    let all = opened_append h (e ∷ []) in
-    let made = made_append c h (e ∷ []) in
-    let none = before c (omega arith) in
-    omega arith
+early_more h e legal fits before c late = search (opened_append, made_append, arith) parts 3
 
 pub early : (h : List EntryValue) → IsLegal h → (c : ℕ) → clients_opened h < c → calls_made c h ≡ 0
 early = along (λ h. (c : ℕ) → clients_opened h < c → calls_made c h ≡ 0) (λ c late. refl) early_more
 
 pub made_before : (h before later : List EntryValue) (x : Call) (c : ℕ) → h ≡ before ++ calls x ∷ later → x.client ≡ c →
     calls_made c before + 1 ≤ calls_made c h
-made_before h before later x c split client =
-    let own : (c == x.client) ≡ true = eq-eqb c x.client (sym client) in
-    let all = ap (calls_made c) split ∙ made_append c before (calls x ∷ later) in
-    let grown = rw own at all in
-    omega arith
+made_before h before later x c split client = grind (arith, made_append c before (calls x ∷ later))
 
 -- a call's number is the count of its client's calls before it, and less than the count of all of them
 pub number_in : (h before later : List EntryValue) (x : Call) → IsLegal h → h ≡ before ++ calls x ∷ later → x.number ≡ calls_made x.client before
 number_in h before later x legal split = let next : IsNextCall before x = (fits_in h before later (calls x) legal split).follows in next.number
 
 pub number_below : (h before later : List EntryValue) (x : Call) → IsLegal h → h ≡ before ++ calls x ∷ later → x.number < calls_made x.client h
-number_below h before later x legal split =
-    let is = number_in h before later x legal split in
-    let few = made_before h before later x x.client split refl in
-    omega arith
+number_below h before later x legal split = grind (arith, number_in h before later x legal split, made_before h before later x x.client split refl)
 
 -- no client is opened twice
 unopened_more : (h : List EntryValue) (e : EntryValue) → IsLegal h → Fits h e → ((c : ℕ) → clients_opened h < c → times c h ≡ 0) → (c : ℕ) →
@@ -87,11 +70,7 @@ unopened_more h (opens d n u) legal fits before c late =
     let other : (d == c) ≡ false = ne_eqb d c (λ same. omega arith) in
     let still = rw other at grown in
     omega arith
-unopened_more h e legal fits before c late =
-    let all = opened_append h (e ∷ []) in
-    let grown = times_append c h (e ∷ []) in
-    let none = before c (omega arith) in
-    omega arith
+unopened_more h e legal fits before c late = search (opened_append, times_append, arith) parts 3
 
 unopened : (h : List EntryValue) → IsLegal h → (c : ℕ) → clients_opened h < c → times c h ≡ 0
 unfolding times
@@ -152,9 +131,5 @@ durability-still h e c quiet = opened_as-append c Pessimistic h (e ∷ [])
 -- a client of a legal history was opened as its one opening says
 pub durability_in : (h before since : List EntryValue) (c n : ℕ) (u : Durability) → IsLegal h → h ≡ before ++ opens c n u ∷ since → durability_of c h ≡ u
 unfolding times
-durability_in h before since c n u legal split =
-    let few = once h legal c in
-    let all = ap (times c) split ∙ times_append c before (opens c n u ∷ since) in
-    let one = rw (eq-eqb c c refl) at all in
-    let none : times c since ≡ 0 = omega arith in
-    ap (durability_of c) split ∙ opened_as-append c Pessimistic before (opens c n u ∷ since) ∙ rw (eq-eqb c c refl) (opened_as-still c u since none)
+durability_in h before since c n u legal split = grind
+    (arith, once h legal c, times_append c before (opens c n u ∷ since), opened_as-append c Pessimistic before (opens c n u ∷ since), opened_as-still)

@@ -1,6 +1,6 @@
 -- Legal histories, one entry at a time.
 use Rattle.assise_history.proofs.Common.{◌≡◌, ◌↔◌, List, [], ◌∷◌, ◌++◌, refl, ap, subst, ◌∙◌, inl, inr, append_assoc, opening, EntryValue, kept, IsRun, IsLegal}
-use Rattle.assise_history.proofs.Common.{Fits}
+use Rattle.assise_history.proofs.Common.{Fits, arith}
 use Rattle.assise_history.proofs.TestedElements.{by_ends, cut_end, not_nil}
 
 -- where nothing happened
@@ -26,10 +26,7 @@ unfolding IsLegal
 legal-last h e legal = legal h [] e refl
 
 pub one_more : (h : List EntryValue) (e : EntryValue) → IsLegal (h ++ e ∷ []) ↔ (IsLegal h × Fits h e)
-one_more h e = (
-  λ all. (legal-prefix h (e ∷ []) all, legal-last h e all),
-  λ parts. legal-push h e parts.0 parts.1,
-)
+one_more h e = grind (arith, legal-prefix, legal-last, legal-push)
 
 -- an entry in the midst, and a prefix
 pub fits_in : (h before later : List EntryValue) (e : EntryValue) → IsLegal h → h ≡ before ++ e ∷ later → Fits before e

@@ -1,21 +1,19 @@
 -- What stands in a history with an entry more: which entries keep that a client is alive or may call, and that a node is
 -- down, and what they add to the counts. For whoever makes a history one entry at a time.
-use Rattle.assise_history.proofs.Common.{◌≡◌, ℕ, ◌+◌, ◌<◌, Bool, true, false, ◌||◌, List, [], ◌∷◌, ◌++◌, refl, ap, sym, subst, ◌∙◌, ◌⊎◌, inl, inr, arith}
-use Rattle.assise_history.proofs.Common.{append_assoc, list_any, or_parts, or_from, list_any-append, Durability, Call, Loss, EntryValue, opens, calls, fails}
-use Rattle.assise_history.proofs.Common.{IsLegal, Fits, IsDown, IsOpenedOn, IsPastSyncs, MayCall, calls_made, clients_opened, is_call_of, is_crash_of}
-use Rattle.assise_history.proofs.Common.{is_failure_of, is_opening, is_return_of, syncs}
+use Rattle.assise_history.proofs.Common.{◌≡◌, ℕ, ◌+◌, ◌<◌, Bool, true, false, ◌||◌, List, [], ◌∷◌, ◌++◌, refl, ap, subst, ◌∙◌, ◌⊎◌, inl, inr, arith}
+use Rattle.assise_history.proofs.Common.{append_assoc, list_any, or_from, list_any-append, Durability, Call, Loss, EntryValue, opens, calls, fails, IsLegal}
+use Rattle.assise_history.proofs.Common.{Fits, IsDown, IsOpenedOn, IsPastSyncs, MayCall, calls_made, clients_opened, is_call_of, is_crash_of, is_failure_of}
+use Rattle.assise_history.proofs.Common.{is_opening, is_return_of, syncs}
 use Rattle.assise_history.proofs.TestedElements.{cut_end, not_nil}
 use Rattle.assise_history.proofs.Legality.{along}
-use Rattle.assise_history.proofs.ClientCounts.{made_append, next_opened, opened_append, opened_within}
+use Rattle.assise_history.proofs.ClientCounts.{made_append, opened_append, opened_within}
 
 -- none passes of a list and one more
 none_more : {X : Type 0} (p : X → Bool) (xs : List X) (x : X) → list_any p xs ≡ false → p x ≡ false → list_any p (xs ++ x ∷ []) ≡ false
 none_more p xs x none not_it = list_any-append p xs (x ∷ []) ∙ or_from (list_any p xs) (p x || false) none (or_from (p x) false not_it refl)
 
 none_before : {X : Type 0} (p : X → Bool) (xs : List X) (x : X) → list_any p (xs ++ x ∷ []) ≡ false → (list_any p xs ≡ false) × (p x ≡ false)
-none_before p xs x none =
-    let parts = or_parts (list_any p xs) (p x || false) (sym (list_any-append p xs (x ∷ [])) ∙ none) in
-    (parts.0, (or_parts (p x) false parts.1).0)
+none_before p xs x none = grind (arith, list_any-append)
 
 -- where an entry stood it stands with an entry more
 pub further : (h before since : List EntryValue) (x e : EntryValue) → h ≡ before ++ x ∷ since → h ++ e ∷ [] ≡ before ++ x ∷ (since ++ e ∷ [])
@@ -82,23 +80,11 @@ pub down-failed : (h : List EntryValue) (n : ℕ) (losses : List Loss) → IsDow
 down-failed h n losses = record { losses = losses; before = h; since = []; split = refl; no_return = refl }
 
 pub down-push : (h : List EntryValue) (e : EntryValue) (n : ℕ) → IsDown h n → is_return_of n e ≡ false → IsDown (h ++ e ∷ []) n
-down-push h e n d return = record {
-  losses = d.losses;
-  before = d.before;
-  since = d.since ++ e ∷ [];
-  split = further h d.before d.since (fails n d.losses) e d.split;
-  no_return = none_more (is_return_of n) d.since e d.no_return return;
-}
+down-push h e n d return = grind (arith, further h d.before d.since (fails n d.losses) e d.split, none_more (is_return_of n) d.since e d.no_return return)
 
 pub down-last : (h : List EntryValue) (e : EntryValue) (n : ℕ) → IsDown (h ++ e ∷ []) n → ((losses : List Loss) × (e ≡ fails n losses))
     ⊎ (IsDown h n × (is_return_of n e ≡ false))
-down-last h e n d =
-    elim (cut_end h e d.before (fails n d.losses) d.since d.split) [
-      | inl last ↦ inl (d.losses, last.last_is)
-      | inr earlier ↦
-          let return = none_before (is_return_of n) earlier.rest e (subst (λ es. list_any (is_return_of n) es ≡ false) earlier.more_is d.no_return) in
-          inr (record { losses = d.losses; before = d.before; since = earlier.rest; split = earlier.split; no_return = return.0 }, return.1)
-    ]
+down-last h e n d = grind (arith, cut_end h e d.before (fails n d.losses) d.since d.split, none_before)
 
 pub down-nil : (n : ℕ) → IsDown [] n → ⊥
 down-nil n d = not_nil d.before d.since (fails n d.losses) d.split
@@ -107,11 +93,7 @@ down-nil n d = not_nil d.before d.since (fails n d.losses) d.split
 
 pub past_syncs-push : (h : List EntryValue) (e : EntryValue) (l : Loss) →
     ((x : Call) → e ≡ calls x → x.client ≡ l.client → syncs h x ≡ true → x.number < l.first) → IsPastSyncs h l → IsPastSyncs (h ++ e ∷ []) l
-past_syncs-push h e l last all before since x split client sync =
-    elim (cut_end h e before (calls x) since split) [
-      | inl end ↦ last x end.last_is client (subst (λ g. syncs g x ≡ true) (sym end.prefix_is) sync)
-      | inr earlier ↦ all before earlier.rest x earlier.split client sync
-    ]
+past_syncs-push h e l last all before since x split client sync = grind (arith, cut_end h e before (calls x) since split)
 
 pub past_syncs-prefix : (h : List EntryValue) (e : EntryValue) (l : Loss) → IsPastSyncs (h ++ e ∷ []) l → IsPastSyncs h l
 past_syncs-prefix h e l all before since x split = all before (since ++ e ∷ []) x (further h before since (calls x) e split)
@@ -142,35 +124,11 @@ OnePlace h = (c n n2 : ℕ) (u u2 : Durability) (before since before2 since2 : L
 
 opened_late : (h : List EntryValue) (c n m : ℕ) (u v : Durability) (before since : List EntryValue) → IsLegal h → Fits h (opens c n u) →
     h ≡ before ++ opens c m v ∷ since → ⊥
-opened_late h c n m u v before since legal fits split =
-    let next = next_opened h c n u fits in
-    let within = opened_within h before since c m v legal split in
-    omega arith
+opened_late h c n m u v before since legal fits split = grind (arith, opened_within)
 
 one_place_more : (h : List EntryValue) (e : EntryValue) → IsLegal h → Fits h e → OnePlace h → OnePlace (h ++ e ∷ [])
-one_place_more h e legal fits place c n n2 u u2 before since before2 since2 split split2 =
-    elim (cut_end h e before (opens c n u) since split) [
-      | inl a ↦ elim (cut_end h e before2 (opens c n2 u2) since2 split2) [
-        | inl b ↦
-            let same : opens c n u ≡ opens c n2 u2 = sym a.last_is ∙ b.last_is in
-            let node : n ≡ n2 = cc in
-            let durability : u ≡ u2 = cc in
-            record { prefix = sym a.prefix_is ∙ b.prefix_is; rest = a.more_is ∙ sym b.more_is; node = node; durability = durability }
-        | inr b ↦ absurd (opened_late h c n n2 u u2 before2 b.rest legal (subst (Fits h) a.last_is fits) b.split)
-      ]
-      | inr a ↦ elim (cut_end h e before2 (opens c n2 u2) since2 split2) [
-        | inl b ↦ absurd (opened_late h c n2 n u2 u before a.rest legal (subst (Fits h) b.last_is fits) a.split)
-        | inr b ↦
-            let same = place c n n2 u u2 before a.rest before2 b.rest a.split b.split in
-            record {
-              prefix = same.prefix;
-              rest = a.more_is ∙ ap (λ es. es ++ e ∷ []) same.rest ∙ sym b.more_is;
-              node = same.node;
-              durability =
-                  same.durability;
-            }
-      ]
-    ]
+one_place_more h e legal fits place c n n2 u u2 before since before2 since2 split split2 = grind
+    (arith, cut_end h e before (opens c n u) since split, cut_end h e before2 (opens c n2 u2) since2 split2, opened_late)
 
 pub one_place : (h : List EntryValue) → IsLegal h → (c n n2 : ℕ) (u u2 : Durability) (before since before2 since2 : List EntryValue) →
     h ≡ before ++ opens c n u ∷ since → h ≡ before2 ++ opens c n2 u2 ∷ since2 → SamePlace before since n u before2 since2 n2 u2

@@ -1,7 +1,7 @@
 -- Legal histories with an entry more, of each kind, in the words of the entries: what a machine cites for one step.
 use Rattle.assise_history.proofs.Common.{◌≡◌, ◌↔◌, ℕ, List, [], ◌∷◌, ◌++◌, refl, sym, subst, ◌∙◌, append_assoc, opening, answer, Durability, Call, Loss}
 use Rattle.assise_history.proofs.Common.{EntryValue, opens, calls, crashes, fails, returns, kept, tree_after, IsRun, IsLegal, Fits, IsAlive, IsDown, IsFair}
-use Rattle.assise_history.proofs.Common.{IsNextCall, MayFollow, MayOpen}
+use Rattle.assise_history.proofs.Common.{IsNextCall, MayFollow, MayOpen, arith}
 use Rattle.assise_history.proofs.TestedElements.{by_ends}
 use Rattle.assise_history.proofs.Runs.{kept-push, kept-call, run-push, run-last}
 use Rattle.assise_history.proofs.LivesOneMore.{further}
@@ -16,8 +16,7 @@ pub fits_quiet : (h : List EntryValue) (e : EntryValue) → IsLegal h → kept (
 fits_quiet h e legal same may = record { follows = may; run = subst (IsRun opening) (sym same) (legal_run h legal) }
 
 pub fits_call : (h : List EntryValue) (x : Call) → IsLegal h → IsNextCall h x → IsAnswered h x → Fits h (calls x)
-fits_call h x legal next reply =
-    record { follows = next; run = subst (IsRun opening) (sym (kept-call h x)) (run-push opening (kept h) x (legal_run h legal) reply) }
+fits_call h x legal next reply = grind (arith, kept-call, run-push, legal_run)
 
 pub fits_failure : (h : List EntryValue) (n : ℕ) (losses : List Loss) → IsFair h n losses → IsRun opening (kept (h ++ fails n losses ∷ [])) →
     Fits h (fails n losses)
@@ -81,8 +80,7 @@ pub legal_parts : (h : List EntryValue) →
     × ((before later : List EntryValue) (e : EntryValue) → h ≡ before ++ e ∷ later → MayFollow before e))
 legal_parts h = (
   λ legal. (λ prefix later split. prefix_run h prefix later legal split, λ before later e split. follows_in h before later e legal split),
-  λ p. legal_from h (λ before later e split. record
-      { follows = p.1 before later e split; run = p.0 (before ++ e ∷ []) later (prefix_of h before later e split) }),
+  λ p. legal_from h (λ before later e split. grind (arith, prefix_of h before later e split)),
 )
 
 -- what is enough of calls and failures

@@ -1,11 +1,9 @@
 -- What the summary of a prefix says, in the words of its entries.
 use Rattle.assise_history.proofs.Common.{◌≡◌, ℕ, ◌+◌, Bool, true, false, not, ◌||◌, ◌==◌, List, [], ◌∷◌, ◌++◌, filter, length, Option, Some, None, refl, ap}
-use Rattle.assise_history.proofs.Common.{sym, subst, ◌∙◌, ◌⊎◌, inl, inr, arith, eqb-true, eq-eqb, list_any, cases_Bool, or_cases, or_left, or_right, or_parts}
-use Rattle.assise_history.proofs.Common.{or_from, length-map, length-append, list_any-append, Durability, Loss, ClientSummary, EntryValue, opens, calls}
-use Rattle.assise_history.proofs.Common.{crashes, fails, returns, Summary, nothing_yet, newly_opened, summary_with_call, with_crash, with_failure}
-use Rattle.assise_history.proofs.Common.{summary_after, summed_from, summary, is_down, comes_next, is_crash_of, is_failure_of, is_return_of, clients_opened}
-use Rattle.assise_history.proofs.Common.{IsDown}
-use Rattle.std.proofs.Math.Bool.{or_assoc}
+use Rattle.assise_history.proofs.Common.{sym, subst, ◌∙◌, ◌⊎◌, inl, inr, arith, eqb-true, list_any, cases_Bool, or_cases, or_left, or_right, or_parts, or_from}
+use Rattle.assise_history.proofs.Common.{length-map, length-append, list_any-append, Durability, Loss, ClientSummary, EntryValue, opens, calls, crashes, fails}
+use Rattle.assise_history.proofs.Common.{returns, Summary, nothing_yet, newly_opened, summary_with_call, with_crash, with_failure, summary_after, summed_from}
+use Rattle.assise_history.proofs.Common.{summary, is_down, comes_next, is_crash_of, is_failure_of, is_return_of, clients_opened, IsDown}
 use Rattle.assise_history.proofs.TestedElements.{list_any-map}
 
 -- what an entry changes of what is known of a client
@@ -34,15 +32,7 @@ pub record Found (p : ClientSummary → Bool) (es : List EntryValue) : Type 0 wh
   pub holds : p (through since (newly_opened client node durability)) ≡ true
 
 last_any : (p : ClientSummary → Bool) (ks : List ClientSummary) (k : ClientSummary) → list_any p (ks ++ k ∷ []) ≡ true → (list_any p ks ≡ true) ⊎ (p k ≡ true)
-last_any p ks k h =
-    let e : (list_any p ks || (p k || false)) ≡ true = sym (list_any-append p ks (k ∷ [])) ∙ h in
-    elim (or_cases (list_any p ks) (p k || false) e) [
-      | inl a ↦ inl a
-      | inr b ↦ elim (or_cases (p k) false b) [
-        | inl here ↦ inr here
-        | inr never ↦ cc
-      ]
-    ]
+last_any p ks k h = grind (arith, list_any-append)
 
 pub record Newly (p : ClientSummary → Bool) (e : EntryValue) : Type 0 where
   pub client : ℕ
@@ -53,11 +43,7 @@ pub record Newly (p : ClientSummary → Bool) (e : EntryValue) : Type 0 where
 
 any_after : (p : ClientSummary → Bool) (s : Summary) (e : EntryValue) → list_any p (summary_after s e).clients ≡ true →
     (list_any (λ k. p (with_entry e k)) s.clients ≡ true) ⊎ Newly p e
-any_after p s (opens c n u) h =
-    elim (last_any p s.clients (newly_opened c n u) h) [
-      | inl a ↦ inl a
-      | inr b ↦ inr record { client = c; node = n; durability = u; is = refl; holds = b }
-    ]
+any_after p s (opens c n u) h = grind (arith, last_any)
 any_after p s (calls x) h = inl (sym (list_any-map p (summary_with_call x) s.clients) ∙ h)
 any_after p s (crashes c) h = inl (sym (list_any-map p (with_crash c) s.clients) ∙ h)
 any_after p s (fails n losses) h = inl (sym (list_any-map p (with_failure n) s.clients) ∙ h)
@@ -86,7 +72,7 @@ found_from p s (e ∷ es) h =
           since = es;
           split = ap (λ x. x ∷ es) o.is;
           holds =
-              o.holds;
+              grind arith;
         }
       ]
       | inr f ↦ inr record {
@@ -96,18 +82,14 @@ found_from p s (e ∷ es) h =
         before = e ∷ f.before;
         since = f.since;
         split =
-            ap (λ xs. e ∷ xs) f.split;
+            grind arith;
         holds = f.holds;
       }
     ]
 
 -- a client of the summary was opened
 pub found : (p : ClientSummary → Bool) (h : List EntryValue) → list_any p (summary h).clients ≡ true → Found p h
-found p h is =
-    elim (found_from p nothing_yet h is) [
-      | inl none ↦ cc
-      | inr f ↦ f
-    ]
+found p h is = grind (arith, found_from p nothing_yet h is)
 
 any_stays : (p : ClientSummary → Bool) (s : Summary) (es : List EntryValue) → list_any (λ k. p (through es k)) s.clients ≡ true →
     list_any p (summed_from s es).clients ≡ true
@@ -116,10 +98,7 @@ any_stays p s (e ∷ es) h = any_stays p (summary_after s e) es (any_before (λ 
 
 any_opened : (p : ClientSummary → Bool) (s : Summary) (before since : List EntryValue) (c n : ℕ) (u : Durability) → p (through since (newly_opened c n u))
     ≡ true → list_any p (summed_from s (before ++ opens c n u ∷ since)).clients ≡ true
-any_opened p s [] since c n u h =
-    any_stays p (summary_after s (opens c n u)) since
-    (list_any-append (λ k. p (through since k)) s.clients (newly_opened c n u ∷ []) ∙ or_right (list_any (λ k. p (through since k)) s.clients) _
-    (or_left (p (through since (newly_opened c n u))) false h))
+any_opened p s [] since c n u h = grind (arith, any_stays, list_any-append)
 any_opened p s (e ∷ before) since c n u h = any_opened p (summary_after s e) before since c n u h
 
 -- a client that was opened is in the summary
@@ -129,10 +108,7 @@ seen p h before since c n u split is = subst (λ es. list_any p (summary es).cli
 
 count_from : (s : Summary) (es : List EntryValue) → length (summed_from s es).clients ≡ length s.clients + clients_opened es
 count_from s [] = omega arith
-count_from s (opens c n u ∷ es) =
-    let one : length (s.clients ++ newly_opened c n u ∷ []) ≡ length s.clients + 1 = length-append s.clients (newly_opened c n u ∷ []) in
-    let rest = count_from (summary_after s (opens c n u)) es in
-    omega arith
+count_from s (opens c n u ∷ es) = grind (arith, count_from (summary_after s (opens c n u)) es, length-append)
 count_from s (calls x ∷ es) = count_from (summary_after s (calls x)) es ∙ ap (λ k. k + clients_opened es) (length-map s.clients (summary_with_call x))
 count_from s (crashes c ∷ es) = count_from (summary_after s (crashes c)) es ∙ ap (λ k. k + clients_opened es) (length-map s.clients (with_crash c))
 count_from s (fails n losses ∷ es) = count_from (summary_after s (fails n losses)) es ∙ ap (λ k. k + clients_opened es) (length-map s.clients (with_failure n))
@@ -194,19 +170,11 @@ through_durability (e ∷ es) k = through_durability es (with_entry e k) ∙ ent
 
 through_crashed : (es : List EntryValue) (k : ClientSummary) → (through es k).crashed ≡ (k.crashed || list_any (is_crash_of k.client) es)
 through_crashed [] k = or_none k.crashed
-through_crashed (e ∷ es) k =
-    through_crashed es (with_entry e k)
-    ∙ ap (λ b. b || list_any (is_crash_of (with_entry e k).client) es) (entry_crashed e k)
-    ∙ ap (λ c. (k.crashed || is_crash_of k.client e) || list_any (is_crash_of c) es) (entry_client e k)
-    ∙ or_assoc k.crashed (is_crash_of k.client e) (list_any (is_crash_of k.client) es)
+through_crashed (e ∷ es) k = grind (arith, through_crashed es (with_entry e k))
 
 through_failed : (es : List EntryValue) (k : ClientSummary) → (through es k).failed ≡ (k.failed || list_any (is_failure_of k.node) es)
 through_failed [] k = or_none k.failed
-through_failed (e ∷ es) k =
-    through_failed es (with_entry e k)
-    ∙ ap (λ b. b || list_any (is_failure_of (with_entry e k).node) es) (entry_failed e k)
-    ∙ ap (λ n. (k.failed || is_failure_of k.node e) || list_any (is_failure_of n) es) (entry_node e k)
-    ∙ or_assoc k.failed (is_failure_of k.node e) (list_any (is_failure_of k.node) es)
+through_failed (e ∷ es) k = grind (arith, through_failed es (with_entry e k))
 
 -- a client has crashed exactly if a crash of it stands behind its open, and likewise its node
 pub crashed_since : (es : List EntryValue) (c n : ℕ) (u : Durability) → (through es (newly_opened c n u)).crashed ≡ list_any (is_crash_of c) es
@@ -235,14 +203,7 @@ back_left (k ∷ ks) m n h =
 
 down_after : (s : Summary) (e : EntryValue) (n : ℕ) → is_down (summary_after s e) n ≡ true → ((is_down s n ≡ true) × (is_return_of n e ≡ false))
     ⊎ ((losses : List Loss) × (e ≡ fails n losses))
-down_after s (fails m losses) n h =
-    elim (or_cases (is_down s n) ((m == n) || false) (sym (list_any-append (λ k. k == n) s.down (m ∷ [])) ∙ h)) [
-      | inl a ↦ inl (a, refl)
-      | inr b ↦ elim (or_cases (m == n) false b) [
-        | inl here ↦ inr (losses, ap (λ k. fails k losses) (eqb-true m n here))
-        | inr never ↦ cc
-      ]
-    ]
+down_after s (fails m losses) n h = grind (arith, list_any-append)
 down_after s (returns m) n h = inl (back_left s.down m n h)
 down_after s _ n h = inl (h, refl)
 
@@ -251,12 +212,8 @@ back_stays [] m n h other = h
 back_stays (k ∷ ks) m n h other =
     elim (or_cases (k == n) (list_any (λ j. j == n) ks) h) [
       | inl here ↦
-          let stays : (k == m) ≡ false = subst (λ j. (j == m) ≡ false) (sym (eqb-true k n here)) other in
-          rw stays (or_left (k == n) _ here)
-      | inr there ↦ elim (cases_Bool (k == m)) [
-        | inl gone ↦ rw gone (back_stays ks m n there other)
-        | inr left ↦ rw left (or_right (k == n) _ (back_stays ks m n there other))
-      ]
+          grind arith
+      | inr there ↦ grind (arith, back_stays ks m n there other)
     ]
 
 down_from : (s : Summary) (es : List EntryValue) (n : ℕ) → is_down (summed_from s es) n ≡ true → ((is_down s n ≡ true) × (list_any (is_return_of n) es ≡ false))
@@ -272,11 +229,7 @@ down_from s (e ∷ es) n h =
     ]
 
 pub down_found : (h : List EntryValue) (n : ℕ) → is_down (summary h) n ≡ true → IsDown h n
-down_found h n is =
-    elim (down_from nothing_yet h n is) [
-      | inl none ↦ let no : false ≡ true = none.0 in cc
-      | inr d ↦ d
-    ]
+down_found h n is = grind (arith, down_from)
 
 stays_after : (s : Summary) (e : EntryValue) (n : ℕ) → is_down s n ≡ true → is_return_of n e ≡ false → is_down (summary_after s e) n ≡ true
 stays_after s (fails m losses) n h other = list_any-append (λ k. k == n) s.down (m ∷ []) ∙ or_left (is_down s n) _ h
@@ -291,9 +244,7 @@ stays_down s (e ∷ es) n h none =
 
 down_since : (s : Summary) (before since : List EntryValue) (n : ℕ) (losses : List Loss) → list_any (is_return_of n) since ≡ false →
     is_down (summed_from s (before ++ fails n losses ∷ since)) n ≡ true
-down_since s [] since n losses none =
-    stays_down (summary_after s (fails n losses)) since n
-    (list_any-append (λ k. k == n) s.down (n ∷ []) ∙ or_right (is_down s n) _ (or_left (n == n) false (eq-eqb n n refl))) none
+down_since s [] since n losses none = grind (arith, stays_down, list_any-append)
 down_since s (e ∷ before) since n losses none = down_since (summary_after s e) before since n losses none
 
 pub down_seen : (h : List EntryValue) (n : ℕ) → IsDown h n → is_down (summary h) n ≡ true

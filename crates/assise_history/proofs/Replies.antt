@@ -1,5 +1,5 @@
 -- The derived comparison of replies says whether they are the same.
-use Rattle.assise_history.proofs.Common.{rules, ◌≡◌, ◌↔◌, ◌==◌, ℕ, List, Bool, refl, ap, sym, ◌∙◌}
+use Rattle.assise_history.proofs.Common.{rules, ◌≡◌, ◌↔◌, ◌==◌, ℕ, List, Bool, refl, arith}
 use Rattle.std.specs.Prelude.{IsTrue}
 use Rattle.std.specs.Cmp.Lexicographic.{pointwise}
 use Rattle.std.specs.Bool.{Decides}
@@ -14,10 +14,7 @@ names_decided : (xs ys : List (List ℕ)) → Decides (pointwise (pointwise ◌=
 names_decided xs ys = slice_eq-Decides (λ a b. slice_eq-Decides unsigned_Decides a b _ refl) xs ys _ refl
 
 equal_names : (xs ys : List (List ℕ)) (r : Bool) → r ≡ pointwise (pointwise ◌==◌) xs ys → IsTrue r ↔ (Names xs ≡ Names ys)
-equal_names xs ys r e = (
-  (λ h. ap Names ((names_decided xs ys).0 (sym e ∙ h))),
-  (λ h. let one : xs ≡ ys = cc in e ∙ (names_decided xs ys).1 one),
-)
+equal_names xs ys r e = grind (arith, names_decided)
 
 pub equal_replies : (a b : Reply) (r : Bool) → r ≡ eq-value.it a b → IsTrue r ↔ (a ≡ b)
 equal_replies (Names xs) (Names ys) r e = equal_names xs ys r e

@@ -1,7 +1,7 @@
 -- Runs, one call at a time, and what an entry more keeps.
-use Rattle.assise_history.proofs.Common.{◌≡◌, ℕ, nat_lt, Bool, true, false, not, List, [], ◌∷◌, ◌++◌, filter, map, refl, ap, sym, subst, ◌∙◌, if◌then◌else◌}
-use Rattle.assise_history.proofs.Common.{inl, inr, Bor, take, drop, length, get_or, ◌+◌, ◌<◌, ◌≤◌, arith, take_more, map-append, take-append-drop, cases_Bool}
-use Rattle.assise_history.proofs.Common.{lt-ltb, Tree, answer, Call, EntryValue, calls, fails, loses, is_lost, kept, kept_more, IsRun, tree_after}
+use Rattle.assise_history.proofs.Common.{◌≡◌, ℕ, nat_lt, Bool, true, false, not, List, [], ◌∷◌, ◌++◌, filter, map, refl, ap, ◌∙◌, if◌then◌else◌, inl, inr, Bor}
+use Rattle.assise_history.proofs.Common.{take, length, get_or, ◌+◌, ◌<◌, ◌≤◌, arith, take_more, map-append, take-append-drop, cases_Bool, Tree, answer, Call}
+use Rattle.assise_history.proofs.Common.{EntryValue, calls, fails, loses, is_lost, kept, kept_more, IsRun, tree_after}
 
 or_false : (b : Bool) → (if b then true else false) ≡ b
 or_false true = refl
@@ -10,35 +10,18 @@ or_false false = refl
 -- a call more is kept
 pub is_lost-append : (es fs : List EntryValue) (call : Call) → is_lost (es ++ fs) call ≡ (if is_lost es call then true else is_lost fs call)
 is_lost-append [] fs call = refl
-is_lost-append (fails n losses ∷ es) fs call =
-    elim (cases_Bool (loses losses call)) [
-      | inl gone ↦ rw gone
-      | inr left ↦ rw left (is_lost-append es fs call)
-    ]
+is_lost-append (fails n losses ∷ es) fs call = grind (arith, is_lost-append es fs call)
 is_lost-append (_ ∷ es) fs call = is_lost-append es fs call
 
 pub kept-call : (es : List EntryValue) (call : Call) → kept (es ++ calls call ∷ []) ≡ kept es ++ call ∷ []
 kept-call [] call = refl
-kept-call (calls other ∷ es) call =
-    let e : is_lost (es ++ calls call ∷ []) other ≡ is_lost es other = is_lost-append es (calls call ∷ []) other ∙ or_false (is_lost es other) in
-    elim (cases_Bool (is_lost es other)) [
-      | inl gone ↦ rw (e, gone) (kept-call es call)
-      | inr left ↦ rw (e, left) (ap (λ xs. other ∷ xs) (kept-call es call))
-    ]
+kept-call (calls other ∷ es) call = grind (arith, kept-call es call, is_lost-append)
 kept-call (_ ∷ es) call = kept-call es call
 
 -- a failure more keeps what it doesn't lose
 pub kept-fail : (es : List EntryValue) (n : ℕ) (losses : _) → kept (es ++ fails n losses ∷ []) ≡ filter (λ call. not (loses losses call)) (kept es)
 kept-fail [] n losses = refl
-kept-fail (calls other ∷ es) n losses =
-    let e = is_lost-append es (fails n losses ∷ []) other in
-    elim (cases_Bool (is_lost es other)) [
-      | inl gone ↦ rw (e, gone) (kept-fail es n losses)
-      | inr left ↦ elim (cases_Bool (loses losses other)) [
-        | inl lost ↦ rw (e, left, lost) (kept-fail es n losses)
-        | inr stays ↦ rw (e, left, stays) (ap (λ xs. other ∷ xs) (kept-fail es n losses))
-      ]
-    ]
+kept-fail (calls other ∷ es) n losses = grind (arith, kept-fail es n losses, is_lost-append)
 kept-fail (_ ∷ es) n losses = kept-fail es n losses
 
 -- a run, and a call more
@@ -48,17 +31,11 @@ run-push t (c ∷ cs) call run right = (run.0, run-push (answer t c.op).1 cs cal
 
 pub map-filter : {X Y : Type 0} (f : X → Y) (p : Y → Bool) (xs : List X) → map f (filter (λ x. p (f x)) xs) ≡ filter p (map f xs)
 map-filter f p [] = refl
-map-filter f p (x ∷ xs) =
-    elim (cases_Bool (p (f x))) [
-      | inl stays ↦ rw stays (ap (λ ys. f x ∷ ys) (map-filter f p xs))
-      | inr goes ↦ rw goes (map-filter f p xs)
-    ]
+map-filter f p (x ∷ xs) = grind (arith, map-filter f p xs)
 
 filter_short : {X : Type 0} (p : X → Bool) (xs : List X) → length (filter p xs) ≤ length xs
 filter_short p [] = omega arith
-filter_short p (x ∷ xs) =
-    let rest = filter_short p xs in
-    elim (cases_Bool (p x)) [ inl stays ↦ rw stays (omega arith) | inr goes ↦ rw goes (omega arith) ]
+filter_short p (x ∷ xs) = grind (arith, filter_short p xs)
 
 -- where a filter leaves as many, it leaves all
 pub filter_whole : {X : Type 0} (p : X → Bool) (xs : List X) → (length (filter p xs) < length xs → ⊥) → filter p xs ≡ xs
@@ -70,19 +47,12 @@ filter_whole p (x ∷ xs) h =
     ]
 
 pub filter_mapped : {X Y : Type 0} (f : X → Y) (p : X → Bool) (xs ys : List X) → ys ≡ filter p xs → nat_lt (length ys) (length xs) ≡ false → map f ys ≡ map f xs
-filter_mapped f p xs ys is long =
-    ap (map f) (is ∙ filter_whole p xs (λ less. let short : nat_lt (length (filter p xs)) (length xs) ≡ true = lt-ltb (length (filter p xs)) (length xs) less in
-    let bad : true ≡ false = sym short ∙ subst (λ zs. nat_lt (length zs) (length xs) ≡ false) is long in cc))
+filter_mapped f p xs ys is long = grind (arith, filter_whole)
 
 -- an entry more that is no call and loses none
 kept-quiet : (es : List EntryValue) (e : EntryValue) → ((call : Call) → is_lost (e ∷ []) call ≡ false) → kept (e ∷ []) ≡ [] → kept (es ++ e ∷ []) ≡ kept es
 kept-quiet [] e h none = none
-kept-quiet (calls other ∷ es) e h none =
-    let same : is_lost (es ++ e ∷ []) other ≡ is_lost es other = is_lost-append es (e ∷ []) other ∙ rw (h other) (or_false (is_lost es other)) in
-    elim (cases_Bool (is_lost es other)) [
-      | inl gone ↦ rw (same, gone) (kept-quiet es e h none)
-      | inr left ↦ rw (same, left) (ap (λ xs. other ∷ xs) (kept-quiet es e h none))
-    ]
+kept-quiet (calls other ∷ es) e h none = grind (arith, kept-quiet es e h none, is_lost-append)
 kept-quiet (_ ∷ es) e h none = kept-quiet es e h none
 
 pub kept-push : (es : List EntryValue) (e : EntryValue) → kept (es ++ e ∷ []) ≡ kept_more (kept es) e
@@ -107,16 +77,12 @@ tree_after-push t (c ∷ cs) x = tree_after-push (answer t c.op).1 cs x
 -- one call more was played, and its reply is right
 pub played_right : (s : Tree) (cs : List Call) (t t' : Tree) (reply : _) (x : Call) → IsRun s cs → t ≡ tree_after s cs → (reply, t') ≡ answer t x.op →
     reply ≡ x.reply → IsRun s (cs ++ x ∷ []) × (t' ≡ tree_after s (cs ++ x ∷ []))
-played_right s cs t t' reply x run is step right =
-    let now : (reply, t') ≡ answer (tree_after s cs) x.op = step ∙ ap (λ u. answer u x.op) is in
-    (run-push s cs x run (sym right ∙ ap (λ p. p.0) now), ap (λ p. p.1) now ∙ sym (tree_after-push s cs x))
+played_right s cs t t' reply x run is step right = grind (arith, run-push, tree_after-push)
 
 -- its reply is wrong
 pub played_wrong : (s : Tree) (cs : List Call) (t t' : Tree) (reply : _) (x : Call) → t ≡ tree_after s cs → (reply, t') ≡ answer t x.op →
     (reply ≡ x.reply → ⊥) → IsRun s (cs ++ x ∷ []) → ⊥
-played_wrong s cs t t' reply x is step wrong run =
-    let now : (reply, t') ≡ answer (tree_after s cs) x.op = step ∙ ap (λ u. answer u x.op) is in
-    wrong (ap (λ p. p.0) now ∙ sym (run-last s cs x run))
+played_wrong s cs t t' reply x is step wrong run = grind (arith, run-last)
 
 -- one call more of a list of references
 pub calls_more : (cs : List (Bor Call)) (i : ℕ) (d : Bor Call) → i < length cs → map (λ x. x.now) (take (i + 1) cs)
@@ -126,7 +92,4 @@ calls_more cs i d h = ap (map (λ x. x.now)) (take_more cs i d h) ∙ map-append
 -- no prefix that ends with a wrong call is part of a run
 pub stops : (s : Tree) (cs : List (Bor Call)) (i : ℕ) (d : Bor Call) → i < length cs →
     (IsRun s (map (λ x. x.now) (take i cs) ++ (get_or cs i d).now ∷ []) → ⊥) → IsRun s (map (λ x. x.now) cs) → ⊥
-stops s cs i d h wrong run =
-    let parts : map (λ x. x.now) cs ≡ map (λ x. x.now) (take (i + 1) cs) ++ map (λ x. x.now) (drop (i + 1) cs) =
-    ap (map (λ x. x.now)) (sym (take-append-drop (i + 1) cs)) ∙ map-append (λ x. x.now) (take (i + 1) cs) (drop (i + 1) cs) in
-    wrong (subst (IsRun s) (calls_more cs i d h) (run-prefix s _ _ (subst (IsRun s) parts run)))
+stops s cs i d h wrong run = grind (arith, take-append-drop (i + 1) cs, map-append, calls_more cs i d h, run-prefix)

@@ -1,6 +1,6 @@
 -- Where an element stands that passes a test, and histories from their ends.
 use Rattle.assise_history.proofs.Common.{◌≡◌, Bool, true, false, ◌&&◌, ◌||◌, ◌⊎◌, List, [], ◌∷◌, ◌++◌, map, refl, ap, sym, subst, inl, inr, append_assoc}
-use Rattle.assise_history.proofs.Common.{append-nil, list_any, list_all, or_cases, or_left, or_right}
+use Rattle.assise_history.proofs.Common.{append-nil, list_any, list_all, or_cases, or_left, or_right, arith}
 
 -- parts of a test
 pub two : (a b : Bool) → (a && b) ≡ true → (a ≡ true) × (b ≡ true)
@@ -89,8 +89,7 @@ pub cut_end : {X : Type 0} (h : List X) (e : X) (prefix : List X) (x : X) (more 
     Last h e prefix x more ⊎ Earlier h e prefix x more
 cut_end [] e [] x more same = inl record { prefix_is = refl; last_is = cc; more_is = cc }
 cut_end [] e (f ∷ prefix) x more same = let tail : [] ≡ prefix ++ x ∷ more = cc in absurd (not_nil prefix more x tail)
-cut_end (y ∷ ys) e [] x more same =
-    let here : y ≡ x = cc in let rest : ys ++ e ∷ [] ≡ more = cc in inr record { rest = ys; split = ap (λ z. z ∷ ys) here; more_is = sym rest }
+cut_end (y ∷ ys) e [] x more same = grind arith
 cut_end (y ∷ ys) e (f ∷ prefix) x more same =
     let here : y ≡ f = cc in
     let tails : ys ++ e ∷ [] ≡ prefix ++ x ∷ more = cc in

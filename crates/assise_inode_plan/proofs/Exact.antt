@@ -1,7 +1,7 @@
 -- A plan made visit by visit is the plan of the whole step by its visits.
-use Rattle.assise_inode_plan.proofs.Common.{◌≡◌, ◌≤◌, ℕ, length, arith, List, [], ◌∷◌, ◌++◌, Option, Some, None, Result, Ok, Err, IfOk, refl, ap, sym, subst}
-use Rattle.assise_inode_plan.proofs.Common.{◌∙◌, inl, inr, append_assoc, append-nil, cases_Bool, Op, Mode, Read, answer, Tree, interaction, step, Values}
-use Rattle.assise_inode_plan.proofs.Common.{Interaction, visit, finish, visits_of, reply_of, effects_of, Step, step_by, CanBeMadeWhole, LeaseView, for_reading}
+use Rattle.assise_inode_plan.proofs.Common.{◌≡◌, ◌≤◌, ℕ, length, arith, List, [], ◌∷◌, ◌++◌, Option, Some, None, Result, Ok, Err, IfOk, ap, sym, subst, ◌∙◌}
+use Rattle.assise_inode_plan.proofs.Common.{inl, inr, append_assoc, append-nil, cases_Bool, Op, Mode, answer, Tree, interaction, step, Values, Interaction}
+use Rattle.assise_inode_plan.proofs.Common.{visit, finish, visits_of, reply_of, effects_of, Step, step_by, CanBeMadeWhole, LeaseView, for_reading}
 use Rattle.assise_inode_plan.proofs.Common.{first_missing, PlanAnswers, effects_planned, plan_lacking, visited_plan_of, ready, shown, plan_from, Planned}
 use Rattle.assise_inode_table.specs.Spelled.{Spells}
 use Rattle.assise_inode_table.proofs.CallEnds.{few_effects}
@@ -15,19 +15,14 @@ after_visits before v x = record { visits = before ++ visits_of v x; reply = rep
 one_more_visit : (before : List ℕ) (i : ℕ) (v : Values) (next : Interaction) → after_visits (before ++ i ∷ []) v next
     ≡ record { visits = before ++ i ∷ visits_of v next; reply = reply_of v next; effects = effects_of v next }
 unfolding after_visits
-one_more_visit before i v next =
-    ap (λ is. record { visits = is; reply = reply_of v next; effects = effects_of v next }) (append_assoc before (i ∷ []) (visits_of v next))
+one_more_visit before i v next = grind (arith, reply_of, effects_of, append_assoc, visits_of)
 
 step_by_step : (leased : LeaseView) (v : Values) (before : List ℕ) (x : Interaction) → plan_from leased v before x ≡ plan_lacking (after_visits before v x)
     (first_missing leased (for_reading (visits_of v x)))
 unfolding after_visits
 step_by_step leased v before (finish reply es) = ap (λ is. ready (record { visits = is; reply = reply; effects = es })) (sym (append-nil before))
-step_by_step leased v before (visit i next) =
-    elim (cases_Bool (leased i Read)) [
-      | inl held ↦ rw held (step_by_step leased v (before ++ i ∷ []) (next (v i))
-          ∙ ap (λ s. plan_lacking s (first_missing leased (for_reading (visits_of v (next (v i)))))) (one_more_visit before i v (next (v i))))
-      | inr bare ↦ rw bare refl
-    ]
+step_by_step leased v before (visit i next) = grind
+    (arith, step_by_step leased v (before ++ i ∷ []) (next (v i)), cases_Bool, plan_lacking, first_missing, for_reading, visits_of, one_more_visit)
 
 pub whole_plan : (leased : LeaseView) (v : Values) (x : Interaction) → plan_from leased v [] x ≡ visited_plan_of leased (step_by v x)
 unfolding after_visits
@@ -63,9 +58,7 @@ few_planned leased v op fresh (Some w) = omega arith
 pub few_effects_planned : {E : Type 0} (r : Result Planned E) (leased : LeaseView) (v : Values) (op : Op) (fresh : ℕ) →
     IfOk r (λ p. shown p ≡ plan_from leased v [] (interaction op fresh)) →
     IfOk r (λ p. length (effects_planned (shown p)) ≤ 4)
-few_effects_planned (Ok p) leased v op fresh h =
-    subst (λ plan. length (effects_planned plan) ≤ 4) (sym (h ∙ whole_plan leased v (interaction op fresh)))
-    (few_planned leased v op fresh (first_missing leased (for_reading (step v op fresh).visits)))
+few_effects_planned (Ok p) leased v op fresh h = grind (arith, effects_planned, whole_plan, interaction, few_planned, first_missing, for_reading, step)
 few_effects_planned (Err e) leased v op fresh h = tt
 
 -- ---- they can be made all or none
@@ -77,7 +70,5 @@ whole_planned v op fresh (Some w) = inr (inl tt)
 pub whole_effects_planned : {E : Type 0} (r : Result Planned E) (leased : LeaseView) (v : Values) (op : Op) (fresh : ℕ) →
     IfOk r (λ p. shown p ≡ plan_from leased v [] (interaction op fresh)) →
     IfOk r (λ p. CanBeMadeWhole (effects_planned (shown p)))
-whole_effects_planned (Ok p) leased v op fresh h =
-    subst (λ plan. CanBeMadeWhole (effects_planned plan)) (sym (h ∙ whole_plan leased v (interaction op fresh)))
-    (whole_planned v op fresh (first_missing leased (for_reading (step v op fresh).visits)))
+whole_effects_planned (Ok p) leased v op fresh h = grind (arith, effects_planned, whole_plan, interaction, whole_planned, first_missing, for_reading, step)
 whole_effects_planned (Err e) leased v op fresh h = tt

@@ -1,6 +1,6 @@
 -- Which leases a plan lacks.
 use Rattle.assise_inode_plan.proofs.Common.{◌≡◌, ℕ, true, false, List, [], ◌∷◌, ◌++◌, Option, Some, None, refl, ap, sym, subst, ◌∙◌, inl, inr, cases_Bool, Op}
-use Rattle.assise_inode_plan.proofs.Common.{Mode, Read, interaction, step, Values, Interaction, visit, finish, Step, AgreeOn, AreLeased, LeaseView}
+use Rattle.assise_inode_plan.proofs.Common.{Mode, Read, interaction, step, Values, Interaction, visit, finish, Step, AgreeOn, AreLeased, LeaseView, arith}
 use Rattle.assise_inode_plan.proofs.Common.{first_missing, changed_plan_of, ready, missing, plan_lacking, plan_of, visited_plan_of, plan_from}
 use Rattle.assise_inode_table.proofs.Local.{step_local}
 use Rattle.assise_inode_plan.proofs.WholeStepPlan.{visits_then_changes}
@@ -39,18 +39,13 @@ all_leased leased (x ∷ ws) h =
 
 missing_from : (s : Step) (o : Option (ℕ × Mode)) (i : ℕ) (mode : Mode) → plan_lacking s o ≡ missing i mode → o ≡ Some (i, mode)
 missing_from s None i mode e = cc
-missing_from s (Some w) i mode e =
-    let number : w.0 ≡ i = cc in
-    let kind : w.1 ≡ mode = cc in
-    ap (λ j. Some (j, w.1)) number ∙ ap (λ m. Some (i, m)) kind
+missing_from s (Some w) i mode e = grind arith
 
 -- of these leases that a step wants
 pub missing_is_first : (leased : LeaseView) (s : Step) (ws : List (ℕ × Mode)) (i : ℕ) (mode : Mode) → plan_lacking s (first_missing leased ws)
     ≡ missing i mode →
     (before : List (ℕ × Mode)) × (after : List (ℕ × Mode)) × (ws ≡ before ++ (i, mode) ∷ after) × AreLeased leased before × (leased i mode ≡ false)
-missing_is_first leased s ws i mode e =
-    let l : Lacks leased ws (i, mode) = lacks leased ws (i, mode) (missing_from s (first_missing leased ws) i mode e) in
-    (l.before, l.after, l.split, l.held, l.bare)
+missing_is_first leased s ws i mode e = grind (arith, lacks leased ws (i, mode) (missing_from s (first_missing leased ws) i mode e))
 
 ready_from : (s u : Step) (o : Option (ℕ × Mode)) → plan_lacking s o ≡ ready u → (o ≡ None) × (u ≡ s)
 ready_from s u None e = (refl, cc)
@@ -58,20 +53,14 @@ ready_from s u (Some w) e = cc
 
 pub ready_has_all : (leased : LeaseView) (s u : Step) (ws : List (ℕ × Mode)) → plan_lacking s (first_missing leased ws) ≡ ready u →
     (u ≡ s) × AreLeased leased ws
-ready_has_all leased s u ws e =
-    let r = ready_from s u (first_missing leased ws) e in
-    (r.1, all_leased leased ws r.0)
+ready_has_all leased s u ws e = grind (arith, ready_from, first_missing, all_leased)
 
 -- ---- inodes that agree
 
 same_from : (leased : LeaseView) (v w : Values) (before : List ℕ) (x : Interaction) → ((i : ℕ) → leased i Read ≡ true → v i ≡ w i) → plan_from leased v before x
     ≡ plan_from leased w before x
 same_from leased v w before (finish reply es) same = refl
-same_from leased v w before (visit i next) same =
-    elim (cases_Bool (leased i Read)) [
-      | inl held ↦ rw held (same_from leased v w (before ++ i ∷ []) (next (v i)) same ∙ ap (λ o. plan_from leased w (before ++ i ∷ []) (next o)) (same i held))
-      | inr bare ↦ rw bare refl
-    ]
+same_from leased v w before (visit i next) same = grind (arith, same_from leased v w (before ++ i ∷ []) (next (v i)) same, cases_Bool, plan_from)
 
 pub same_visits : (leased : LeaseView) (v w : Values) (op : Op) (fresh : ℕ) → ((i : ℕ) → leased i Read ≡ true → v i ≡ w i) →
     visited_plan_of leased (step v op fresh) ≡ visited_plan_of leased (step w op fresh)

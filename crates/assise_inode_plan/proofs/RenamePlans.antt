@@ -1,9 +1,9 @@
 -- What is planned for renames.
-use Rattle.assise_inode_plan.proofs.Common.{◌≡◌, ℕ, ◌-◌, ◌≤◌, ◌==◌, ◌||◌, Bool, true, false, if◌then◌else◌, List, [], ◌∷◌, length, slice_index_or, Result, Ok}
-use Rattle.assise_inode_plan.proofs.Common.{Err, IfOk, Bor, ap, sym, ◌∙◌, arith, ne_eqb, is_proper_prefix, same_path, Done, Error, TreeError, Invalid, Effect}
-use Rattle.assise_inode_plan.proofs.Common.{Unlink, Free, parent_of, last_name, then_or_error, walk_to_entry, as_links, content_may_replace, move_effects}
-use Rattle.assise_inode_plan.proofs.Common.{replace_target, receive, move_to, rename_call, Content, Links, Values, Interaction, finish, LeaseView, Plan, shown}
-use Rattle.assise_inode_plan.proofs.Common.{plan_from, plan_stopped, Planned, Entry, Stop}
+use Rattle.assise_inode_plan.proofs.Common.{◌≡◌, ℕ, ◌-◌, ◌≤◌, Bool, true, false, if◌then◌else◌, List, [], ◌∷◌, length, slice_index_or, Result, Ok, Err, IfOk}
+use Rattle.assise_inode_plan.proofs.Common.{Bor, ap, sym, ◌∙◌, arith, ne_eqb, is_proper_prefix, same_path, Done, Error, TreeError, Effect, Unlink, Free}
+use Rattle.assise_inode_plan.proofs.Common.{parent_of, last_name, then_or_error, walk_to_entry, as_links, content_may_replace, move_effects, replace_target}
+use Rattle.assise_inode_plan.proofs.Common.{receive, move_to, rename_call, Content, Links, Values, Interaction, finish, LeaseView, Plan, shown, plan_from}
+use Rattle.assise_inode_plan.proofs.Common.{plan_stopped, Planned, Entry, Stop}
 use Rattle.std.specs.FinMap as map
 use Rattle.assise_inode_plan.proofs.WalkRest.{Reached, reach_ends, reach_stops}
 use Rattle.assise_inode_plan.proofs.WalkEnds.{quiet, Ended, EndedAtEntry, at_entry_stop, at_entry_end, name_is, walk_ends, walk_stops}
@@ -107,17 +107,8 @@ module _ (leased : LeaseView) (v : Values) (reads : List ℕ) (p q : List (List 
 rename_below : (leased : LeaseView) (v : Values) (p q : List (List ℕ)) (name : List ℕ) → 1 ≤ length p → 1 ≤ length q →
     name ≡ slice_index_or p (length p - 1) name → is_proper_prefix p q ≡ false →
     plan_from leased v [] (walk_to_entry (parent_of p) name (move_to p q)) ≡ plan_from leased v [] (rename_call p q)
-rename_below leased v p q name some more_some name_at outside =
-    ap (λ n. plan_from leased v [] (walk_to_entry (parent_of p) n (move_to p q))) (sym (name_is p name some name_at))
-    ∙ ap (λ b. plan_from leased v [] (if b then finish (Error Invalid) [] else walk_to_entry (parent_of p) (last_name p) (move_to p q))) (sym outside)
-    ∙ ap (λ b. plan_from leased v []
-    (if b then finish (Error Invalid) [] else
-    (if is_proper_prefix p q then finish (Error Invalid) [] else walk_to_entry (parent_of p) (last_name p) (move_to p q))))
-    (sym (ne_eqb (length q) 0 (λ none. absurd (omega (arith, more_some, none)))))
-    ∙ ap (λ b. plan_from leased v []
-    (if b || (length q == 0) then finish (Error Invalid) [] else
-    (if is_proper_prefix p q then finish (Error Invalid) [] else walk_to_entry (parent_of p) (last_name p) (move_to p q))))
-    (sym (ne_eqb (length p) 0 (λ none. absurd (omega (arith, some, none)))))
+rename_below leased v p q name some more_some name_at outside = grind
+    (arith, plan_from, walk_to_entry, parent_of, move_to, name_is, finish, last_name, is_proper_prefix, ne_eqb)
 
 -- the names of both paths are looked at
 module _ (leased : LeaseView) (v : Values) (before : List ℕ) (p q names new_names : List (List ℕ)) (name : List ℕ) (reads : List ℕ) (end : Result Entry Stop)
@@ -127,10 +118,7 @@ module _ (leased : LeaseView) (v : Values) (before : List ℕ) (p q names new_na
     (name_at : name ≡ slice_index_or names (length names - 1) name)
     (outside : is_proper_prefix p q ≡ false) where
   of_names : plan_from leased v [] (walk_to_entry (parent_of names) name (move_to names new_names)) ≡ plan_from leased v [] (rename_call p q)
-  of_names =
-      rename_below leased v names new_names name some more_some name_at
-      (ap (λ x. is_proper_prefix x new_names) names_are ∙ ap (λ y. is_proper_prefix p y) new_names_are ∙ outside)
-      ∙ ap (λ x. plan_from leased v [] (rename_call x new_names)) names_are ∙ ap (λ y. plan_from leased v [] (rename_call p y)) new_names_are
+  of_names = grind (arith, rename_below, is_proper_prefix, plan_from, rename_call)
 
   pub rename_stops : (stop : Stop) → end ≡ Err stop → plan_stopped reads stop ≡ plan_from leased v [] (rename_call p q)
   rename_stops stop stopped = at_entry_stop leased v before (parent_of names) name reads end none ended stop stopped (move_to names new_names) ∙ of_names

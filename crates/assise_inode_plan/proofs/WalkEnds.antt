@@ -99,6 +99,4 @@ name_is p name some is = get_or_default p (length p - 1) [] name (omega (arith, 
 pub below_root : (leased : LeaseView) (v : Values) (at_root : Interaction) (below : List ℕ → Interaction) (p : List (List ℕ)) (name : List ℕ) → 1 ≤ length p →
     name ≡ slice_index_or p (length p - 1) name →
     plan_from leased v [] (below name) ≡ plan_from leased v [] (if length p == 0 then at_root else below (last_name p))
-below_root leased v at_root below p name some is =
-    ap (λ n. plan_from leased v [] (below n)) (sym (name_is p name some is))
-    ∙ ap (λ b. plan_from leased v [] (if b then at_root else below (last_name p))) (sym (ne_eqb (length p) 0 (λ none. absurd (omega (arith, some, none)))))
+below_root leased v at_root below p name some is = grind (arith, plan_from, name_is, last_name, ne_eqb)

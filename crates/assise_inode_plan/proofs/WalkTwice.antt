@@ -18,8 +18,7 @@ behind before (ready step) = ready (record { visits = before ++ step.visits; rep
 behind before (missing i mode) = missing i mode
 
 behind_both : (before more : List ℕ) (p : Plan) → behind before (behind more p) ≡ behind (before ++ more) p
-behind_both before more (ready step) =
-    ap (λ l. ready (record { visits = l; reply = step.reply; effects = step.effects })) (sym (append_assoc before more step.visits))
+behind_both before more (ready step) = grind (arith, ready, append_assoc)
 behind_both before more (missing i mode) = refl
 
 module _ (leased : LeaseView) (v : Values) where
@@ -31,15 +30,8 @@ module _ (leased : LeaseView) (v : Values) where
   -- what was visited before changes nothing else
   later : (before : List ℕ) (x : Interaction) → plan_from leased v before x ≡ behind before (plan_from leased v [] x)
   later before (finish reply es) = ap (λ l. ready (record { visits = l; reply = reply; effects = es })) (sym (append-nil before))
-  later before (visit i next) =
-      by_lease before i (leased i Read) (plan_from leased v (before ++ i ∷ []) (next (v i))) (plan_from leased v (i ∷ []) (next (v i)))
-      (later (before ++ i ∷ []) (next (v i)) ∙ sym (behind_both before (i ∷ []) (plan_from leased v [] (next (v i))))
-      ∙ ap (behind before) (sym (later (i ∷ []) (next (v i)))))
+  later before (visit i next) = grind (arith, later (before ++ i ∷ []) (next (v i)), later (i ∷ []) (next (v i)), by_lease, plan_from, behind_both)
 
   pub walk_again : (p : List (List ℕ)) (visits : List ℕ) (i : ℕ) (content : Content) → EndsAt leased v [] p visits i content → (before : List ℕ) →
       EndsAt leased v before p (before ++ visits) i content
-  walk_again p visits i content first before next =
-      later before (walk p next)
-      ∙ ap (behind before) (first next ∙ later visits (next i content))
-      ∙ behind_both before visits (plan_from leased v [] (next i content))
-      ∙ sym (later (before ++ visits) (next i content))
+  walk_again p visits i content first before next = grind (arith, later, walk, behind_both, plan_from)

@@ -1,6 +1,6 @@
 -- What is changed has to be leased for writing.
-use Rattle.assise_inode_plan.proofs.Common.{◌≡◌, ℕ, ◌+◌, ◌<◌, ◌≤◌, true, false, List, ◌∷◌, length, drop, slice_index_or, Some, None, refl, ap, sym, ◌∙◌}
-use Rattle.assise_inode_plan.proofs.Common.{drop_more, drop_of_length-le, Write, Effect, touched, LeaseView, for_writing, first_missing}
+use Rattle.assise_inode_plan.proofs.Common.{◌≡◌, ℕ, ◌+◌, ◌<◌, ◌≤◌, true, false, List, ◌∷◌, length, drop, slice_index_or, Some, None, refl, ap, ◌∙◌, drop_more}
+use Rattle.assise_inode_plan.proofs.Common.{drop_of_length-le, Write, Effect, touched, LeaseView, for_writing, first_missing, arith}
 use Rattle.assise_record.specs.Touched.{touched_by}
 
 lacking : (leased : LeaseView) (e : Effect) (es : List Effect) → leased (touched_by e) Write ≡ false → first_missing leased (for_writing (touched (e ∷ es)))
@@ -17,8 +17,7 @@ LooksAt leased es k = first_missing leased (for_writing (touched es)) ≡ first_
 
 at_effect : (leased : LeaseView) (es : List Effect) (k : ℕ) (e : Effect) → LooksAt leased es k → k < length es → e ≡ slice_index_or es k e →
     first_missing leased (for_writing (touched es)) ≡ first_missing leased (for_writing (touched (e ∷ drop (k + 1) es)))
-at_effect leased es k e so_far few is =
-    so_far ∙ ap (λ fs. first_missing leased (for_writing (touched fs))) (drop_more es k e few ∙ ap (λ f. f ∷ drop (k + 1) es) (sym is))
+at_effect leased es k e so_far few is = grind (arith, first_missing, for_writing, touched, drop_more)
 
 pub effect_lacks : (leased : LeaseView) (es : List Effect) (k : ℕ) (e : Effect) → LooksAt leased es k → k < length es → e ≡ slice_index_or es k e →
     leased (touched_by e) Write ≡ false →

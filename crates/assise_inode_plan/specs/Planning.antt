@@ -11,6 +11,7 @@ use Rattle.assise_inode_table.specs.Effects.{after, touched}
 use Rattle.assise_inode_table.specs.Interaction.{Step}
 use Rattle.assise_inode_table.specs.Spelled.{Spells}
 use Rattle.assise_inode_plan.specs.Leased.{LeaseView, wants, for_reading, for_writing, first_missing}
+use Rattle.assise_inode_plan.specs.declared.plan.Outcome.{Outcome}
 use Rattle.assise_inode_plan.specs.declared.plan.Planned.{Planned}
 use Rattle.assise_inode_plan.specs.declared.plan.Planned.TheVariants.{Ready, Missing}
 
@@ -40,9 +41,13 @@ abbrev pub effects_planned : Plan → List Effect
 effects_planned (ready s) = s.effects
 effects_planned (missing inode mode) = []
 
+-- the step that an outcome is
+abbrev pub step_in : Outcome → Step
+step_in o = record { visits = o.reads.items; reply = o.reply; effects = o.effects.items }
+
 -- what the code answers
 abbrev pub shown : Planned → Plan
-shown (Ready reply reads effects) = ready (record { visits = reads.items; reply = reply; effects = effects.items })
+shown (Ready outcome) = ready (step_in outcome)
 shown (Missing inode mode) = missing inode mode
 
 -- a plan that is ready has this reply, and after its effects the inodes spell this tree

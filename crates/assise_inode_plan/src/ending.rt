@@ -3,7 +3,7 @@ ghost use Rattle.std.specs.Prelude.{◌≡◌, []};
 ghost use Rattle.assise_inode_plan.specs.Planning.{ready, shown};
 ghost use Rattle.assise_inode_plan.specs.Walking.{plan_stopped};
 
-use crate::plan::{Planned, Visits};
+use crate::plan::{Outcome, Planned, Visits};
 use crate::walk::Stop;
 use assise_names::mode::Mode;
 use assise_names::reply::Reply;
@@ -14,11 +14,11 @@ use std::alloc::Global;
 pub(crate) fn answered(alloc: Global, reply: Reply, reads: Visits) -> Planned
     ensures { shown result ≡ ready (record { visits = reads.items; reply = reply; effects = [] }) }
 {
-    Planned::Ready {
+    Planned::Ready(Outcome {
         reply,
         reads,
         effects: Vec::new(alloc),
-    }
+    })
 }
 
 /// The plan of a call whose walk stopped.
@@ -40,9 +40,9 @@ pub(crate) fn finished(reply: Reply, reads: Visits, effects: Vec<Effect>) -> Pla
           effects.items;
     }) }
 {
-    Planned::Ready {
+    Planned::Ready(Outcome {
         reply,
         reads,
         effects,
-    }
+    })
 }

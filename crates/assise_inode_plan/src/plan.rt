@@ -34,18 +34,22 @@ const USUAL_VISITS: usize = 8;
 /// The numbers of the inodes that a call visits, in order.
 pub type Visits = SmallVec<u64, USUAL_VISITS>;
 
+/// What comes of a call that has its leases.
+#[derive(Debug, Drop)]
+pub struct Outcome {
+    /// What it answers.
+    pub reply: Reply,
+    /// The inodes that it visits, in order.
+    pub reads: Visits,
+    /// What it does, in order.
+    pub effects: Vec<Effect>,
+}
+
 /// What is planned for a call.
 #[derive(Debug, Drop)]
 pub enum Planned {
     /// What it needs leased is leased.
-    Ready {
-        /// What it answers.
-        reply: Reply,
-        /// The inodes that it visits, in order.
-        reads: Visits,
-        /// What it does, in order.
-        effects: Vec<Effect>,
-    },
+    Ready(Outcome),
     /// The first inode that isn't leased as the call needs it.
     Missing(u64, Mode),
 }
@@ -142,10 +146,10 @@ pub fn plan_by_visits<V: View>(
 fn plan_changes<V: View>(view: &V, planned: Planned) -> Planned
     ensures { shown result ≡ changed_plan_of (V.leased view.now) (shown planned) }
 {
-    let Planned::Ready { effects, .. } = &planned else {
+    let Planned::Ready(outcome) = &planned else {
         return planned;
     };
-    match first_unleased(view, effects.as_slice()) {
+    match first_unleased(view, outcome.effects.as_slice()) {
         Some(inode) => Planned::Missing(inode, Mode::Write),
         None => planned,
     }

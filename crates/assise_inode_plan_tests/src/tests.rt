@@ -2,7 +2,7 @@
 ghost use Rattle.std.specs.Prelude.{IsTrue};
 ghost use Rattle.assise_inode_plan.specs.Planning.{IsWritable};
 
-use assise_inode_plan::plan::{Planned, plan};
+use assise_inode_plan::plan::{Outcome, Planned, plan};
 use assise_inode_plan::view::AllLeased;
 use assise_inode_table::table::InodeTable;
 use assise_names::call::Op;
@@ -70,11 +70,13 @@ fn put_plan(
 {
     let planned = plan(alloc, &AllLeased { inodes: &*inodes }, op, fresh).ok()?;
     match &planned {
-        Planned::Ready {
-            reply,
-            reads,
-            effects,
-        } => {
+        Planned::Ready(
+            Outcome {
+                reply,
+                reads,
+                effects,
+            },
+        ) => {
             inodes.apply_all(effects.as_slice()).ok()?;
             write!(text, " {reply} {:?} {}", reads.as_slice(), effects.len()).ok()
         }

@@ -1,7 +1,7 @@
 -- Blocks of bytes, joined.
-use Rattle.assise_inode_table.proofs.Common.{◌≡◌, ℕ, zero, suc, ◌+◌, ◌-◌, ◌*◌, ◌<◌, ◌≤◌, List, [], ◌∷◌, ◌++◌, length, take, drop, refl, ap, sym, ◌∙◌, subst}
-use Rattle.assise_inode_table.proofs.Common.{get_or, arith, min, append-nil, length-append, take_at, take-append-drop, take_all, drop_all, drop_at, drop_more}
-use Rattle.assise_inode_table.proofs.Common.{length-take, length-drop, concat-append, take-add, concat, IsCut, bytes_from}
+use Rattle.assise_inode_table.proofs.Common.{◌≡◌, ℕ, zero, suc, ◌+◌, ◌-◌, ◌*◌, ◌<◌, ◌≤◌, List, [], ◌∷◌, ◌++◌, length, take, drop, refl, ap, sym, ◌∙◌, get_or}
+use Rattle.assise_inode_table.proofs.Common.{arith, append-nil, length-append, take_at, take-append-drop, take_all, drop_all, drop_at, drop_more, length-take}
+use Rattle.assise_inode_table.proofs.Common.{length-drop, concat-append, take-add, concat, IsCut, bytes_from}
 use Rattle.assise_seq_tree.proofs.BytesOverwritten.{take-append}
 
 -- ---- the shape
@@ -28,20 +28,14 @@ pub least : (bs : List (List ℕ)) → IsCut bs → 0 < length bs → 4096 * len
 unfolding IsCut
 least [] h p = absurd (omega arith)
 least (b ∷ []) h p = let one = h.0 in omega (arith, length-append b [], one)
-least (b ∷ d ∷ bs) h p =
-    let rest = least (d ∷ bs) h.3 (omega arith) in
-    let full = h.2 (omega arith) in
-    omega (arith, length-append b (concat (d ∷ bs)), rest, full)
+least (b ∷ d ∷ bs) h p = grind (arith, least (d ∷ bs) h.3 (omega arith), length-append)
 
 -- what stands before another block is full
 pub full : (bs : List (List ℕ)) (k : ℕ) → IsCut bs → k < length bs → length (concat (take k bs)) ≡ 4096 * k
 unfolding IsCut
 full bs zero h p = omega arith
 full [] (suc k) h p = absurd (omega arith)
-full (b ∷ bs) (suc k) h p =
-    let rest = full bs k h.3 (omega arith) in
-    let one = h.2 (omega arith) in
-    omega (arith, length-append b (concat (take k bs)), rest, one)
+full (b ∷ bs) (suc k) h p = grind (arith, full bs k h.3 (omega arith), length-append)
 
 either : (n : ℕ) (cs bs : List (List ℕ)) → 0 < length (cs ++ bs) → (0 < length cs → n ≡ 4096) → (0 < length bs → n ≡ 4096) → n ≡ 4096
 either n [] bs p f g = g p
@@ -102,8 +96,7 @@ first_taken b (c ∷ bs) cut = take_at b (concat (c ∷ bs)) 4096 (cut.2 (omega 
 pub block_at : (bs : List (List ℕ)) (k : ℕ) (d : List ℕ) → IsCut bs → k < length bs → get_or bs k d ≡ bytes_from (4096 * k) 4096 (concat bs)
 block_at bs k d h p =
     let rests : concat (drop k bs) ≡ get_or bs k d ++ concat (drop (k + 1) bs) = ap concat (drop_more bs k d p) in
-    sym (ap (take 4096) (sym (concat_drop bs k h (omega arith)) ∙ rests)
-    ∙ first_taken (get_or bs k d) (drop (k + 1) bs) (subst IsCut (drop_more bs k d p) (cut_drop bs k h)))
+    sym (grind (arith, concat_drop, first_taken, drop_more, cut_drop))
 
 pub block_past : (bs : List (List ℕ)) (k : ℕ) → IsCut bs → length bs ≤ k → [] ≡ bytes_from (4096 * k) 4096 (concat bs)
 block_past bs k h p = sym (ap (take 4096) (drop_all (4096 * k) (concat bs) (omega (arith, most bs h))))
@@ -121,18 +114,19 @@ cut_nothing bytes = record { shape = cut_none; whole = refl; many = refl }
 pub cut_more : (blocks : List (List ℕ)) (count : ℕ) (bytes block : List ℕ) → CutSoFar blocks count bytes → 4096 * count < length bytes →
     block ≡ bytes_from (4096 * count) 4096 bytes
     → CutSoFar (blocks ++ block ∷ []) (count + 1) bytes
-cut_more blocks count bytes block so_far some is =
-    let size : length block ≡ min 4096 (length bytes - 4096 * count) = ap length is
-    ∙ omega (arith, length-take 4096 (drop (4096 * count) bytes), length-drop (4096 * count) bytes) in
-    let many = so_far.many in
-    let before : length (concat blocks) ≡ 4096 * length blocks = ap length so_far.whole ∙ omega (arith, length-take (4096 * count) bytes, some, many) in
-    let last : concat (blocks ++ block ∷ []) ≡ concat blocks ++ block = concat-append blocks (block ∷ []) ∙ ap (λ xs. concat blocks ++ xs) (append-nil block) in
-    record {
-      shape = cut_append blocks (block ∷ []) so_far.shape (cut_one block (omega (arith, size, some)) (omega (arith, size))) (λ p. before);
-      whole = last ∙ ap (λ xs. xs ++ block) so_far.whole ∙ ap (λ xs. take (4096 * count) bytes ++ xs) is ∙ sym (take-add (4096 * count) 4096 bytes)
-          ∙ ap (λ n. take n bytes) (omega arith);
-      many = omega (arith, length-append blocks (block ∷ []), many);
-    }
+cut_more blocks count bytes block so_far some is = grind (
+  arith,
+  length-take 4096 (drop (4096 * count) bytes),
+  length-take (4096 * count) bytes,
+  length-drop (4096 * count) bytes,
+  concat-append blocks
+      (block ∷ []),
+  append-nil block,
+  cut_append,
+  cut_one,
+  take-add (4096 * count) 4096 bytes,
+  length-append blocks (block ∷ []),
+)
 
 -- ---- joining
 drop-over : (n : ℕ) (xs ys : List ℕ) → drop n (xs ++ ys) ≡ drop n xs ++ drop (n - length xs) ys
@@ -147,16 +141,7 @@ pub record JoinedSoFar (blocks : List (List ℕ)) (offset most : ℕ) (joined : 
 
 pub joined_more : (blocks : List (List ℕ)) (block : List ℕ) (offset n : ℕ) (joined : List ℕ) (skipped : ℕ) → JoinedSoFar blocks offset n joined skipped
     → JoinedSoFar (blocks ++ block ∷ []) offset n (joined ++ bytes_from skipped (n - length joined) block) (skipped - length block)
-joined_more blocks block offset n joined skipped so_far =
-    let xs = concat blocks in
-    let all : concat (blocks ++ block ∷ []) ≡ concat blocks ++ block = concat-append blocks (block ∷ []) ∙ ap (λ zs. concat blocks ++ zs) (append-nil block) in
-    let left : n - length joined ≡ n - length (drop offset (concat blocks)) = omega (arith, ap length so_far.bytes, length-take n (drop offset (concat blocks)))
-    in
-    record {
-      bytes = sym (ap (bytes_from offset n) all ∙ ap (take n) (drop-over offset (concat blocks) block)
-          ∙ take-append n (drop offset (concat blocks)) (drop (offset - length (concat blocks)) block) ∙ rw (left, so_far.left, so_far.bytes) refl);
-      left = rw all (omega (arith, so_far.left, length-append (concat blocks) block));
-    }
+joined_more blocks block offset n joined skipped so_far = grind (arith, concat-append, append-nil, length-take, drop-over, take-append, length-append)
 
 -- blocks with the bytes of `k` full ones are as many
 pub as_many : (bs : List (List ℕ)) (k : ℕ) → IsCut bs → length (concat bs) ≡ 4096 * k → length bs ≡ k

@@ -1,9 +1,9 @@
 -- Writes, reads and cuts of bytes in blocks.
-use Rattle.assise_inode_table.proofs.Common.{◌≡◌, ℕ, zero, suc, ◌+◌, ◌-◌, ◌*◌, ◌/◌, ◌%◌, ◌<◌, ◌≤◌, ◌≢◌, List, [], ◌∷◌, ◌++◌, length, take, drop, replicate}
-use Rattle.assise_inode_table.proofs.Common.{refl, ap, sym, ◌∙◌, subst, get_or, set, arith, min, max, inl, inr, append_assoc, append-nil, length-append}
-use Rattle.assise_inode_table.proofs.Common.{take-append-drop, cases_lt, same_number_lists, get_or-take, get_or-drop, length-take, length-drop, take-take}
-use Rattle.assise_inode_table.proofs.Common.{drop-take, drop-drop, drop_more, set_split, take-append-le, take_more_set, take_min, drop_min, concat-append}
-use Rattle.assise_inode_table.proofs.Common.{take-add, div_ceil, concat, bytes_from, overwritten, length-overwritten, IsCut}
+use Rattle.assise_inode_table.proofs.Common.{◌≡◌, ℕ, zero, suc, ◌+◌, ◌-◌, ◌*◌, ◌/◌, ◌%◌, ◌<◌, ◌≤◌, ◌≢◌, List, [], ◌∷◌, ◌++◌, length, take, drop, replicate, ap}
+use Rattle.assise_inode_table.proofs.Common.{sym, ◌∙◌, subst, get_or, set, arith, min, max, append_assoc, append-nil, length-append, take-append-drop}
+use Rattle.assise_inode_table.proofs.Common.{same_number_lists, get_or-take, get_or-drop, length-take, length-drop, take-take, drop-take, drop-drop, drop_more}
+use Rattle.assise_inode_table.proofs.Common.{set_split, take-append-le, take_more_set, take_min, drop_min, concat-append, take-add, div_ceil, concat}
+use Rattle.assise_inode_table.proofs.Common.{bytes_from, overwritten, length-overwritten, IsCut}
 use Rattle.bytes.proofs.Chunks.{concat_push}
 use Rattle.assise_inode_table.proofs.Bytes.{written_before, written_here, written_behind}
 use Rattle.assise_inode_table.proofs.BlockBytes.{cut_take, cut_drop, cut_append, cut_one, concat_take, concat_drop, least, most, full, as_many}
@@ -26,15 +26,13 @@ written_within xs f p o new held before behind =
     let r = take (p - f) (drop f xs) in
     let e = o + length new in
     let prefix : take f xs ++ take (o - f) r ≡ take o xs =
-    ap (λ zs. take f xs ++ zs) (take-take (o - f) (p - f) (drop f xs) (omega arith)) ∙ sym (take-add f (o - f) xs) ∙ ap (λ n. take n xs) (omega arith) in
+    grind (arith, take-take (o - f) (p - f) (drop f xs) (omega arith), take-add f (o - f) xs) in
     let gap : (o - f) - length r ≡ o - length xs = omega (arith, length-take (p - f) (drop f xs), length-drop f xs) in
     let whole : p - f ≡ ((o - f) + length new) + (p - e) = omega arith in
     let inner : drop ((o - f) + length new) r ≡ take (p - e) (drop e xs) =
-    ap (λ n. drop ((o - f) + length new) (take n (drop f xs))) whole ∙ drop-take ((o - f) + length new) (p - e) (drop f xs)
-    ∙ ap (take (p - e)) (drop-drop ((o - f) + length new) f xs ∙ ap (λ n. drop n xs) (omega arith)) in
+    grind (arith, drop-take, drop-drop) in
     let outer : drop p xs ≡ drop (p - e) (drop e xs) = sym (drop-drop (p - e) e xs ∙ ap (λ n. drop n xs) (omega arith)) in
-    let back : drop ((o - f) + length new) r ++ drop p xs ≡ drop e xs = ap (λ zs. zs ++ drop p xs) inner ∙ ap (λ zs. take (p - e) (drop e xs) ++ zs) outer
-    ∙ take-append-drop (p - e) (drop e xs) in
+    let back : drop ((o - f) + length new) r ++ drop p xs ≡ drop e xs = grind (arith, take-append-drop) in
     joined (take f xs) (take (o - f) r) (zeros ((o - f) - length r)) (zeros (o - length xs)) new (drop ((o - f) + length new) r) (drop p xs) (take o xs)
     (drop e xs) prefix (ap zeros gap) back
   where
@@ -52,40 +50,15 @@ part_over k n xs o new =
     let part = bytes_from k n xs in
     let at = min (o - k) n in
     let rest = bytes_from (k - o) (n - min (o - k) n) new in
-    let long : length rest ≡ min (n - min (o - k) n) (length new - (k - o)) = omega
-    (arith, length-take (n - min (o - k) n) (drop (k - o) new), length-drop (k - o) new) in
+    let long : length rest ≡ min (n - min (o - k) n) (length new - (k - o)) = grind (arith, length-take, length-drop) in
     same_number_lists (bytes_from k n (overwritten xs o new)) (overwritten part at rest)
-    (omega (
-      arith,
-      long,
-      length-overwritten xs o new,
-      length-overwritten part at rest,
-      length-take n (drop k xs),
-      length-drop k xs,
-      length-take n (drop k (overwritten xs o new)),
-      length-drop k (overwritten xs o new),
-    ))
-    (λ i inside.
-    let within : i < n = omega (arith, inside, length-take n (drop k (overwritten xs o new))) in
-    from_at k n i (overwritten xs o new) within
-    ∙ elim (cases_lt (k + i) o) [
-      | inl before ↦ written_before xs o new (k + i) before ∙ sym (written_before part at rest i (omega arith) ∙ from_at k n i xs within)
-      | inr low ↦ elim (cases_lt (k + i) (o + length new)) [
-        | inl high ↦ written_here xs o new (k + i) low high
-            ∙ sym (written_here part at rest i (omega arith) (omega (arith, long)) ∙ from_at (k - o) (n - min (o - k) n) (i - at) new (omega arith)
-            ∙ ap (λ j. get_or new j 0) (omega arith))
-        | inr past ↦ written_behind xs o new (k + i) past ∙ sym (written_behind part at rest i (omega (arith, long)) ∙ from_at k n i xs within)
-      ]
-    ])
+    (grind (arith, length-overwritten, length-take, length-drop))
+    (search (length-take, from_at, written_before, written_here, written_behind, arith) parts 3)
 
 -- `count` blocks hold it, and no fewer
 pub over_more : (bs : List (List ℕ)) (o : ℕ) (new : List ℕ) (count k : ℕ) → IsCut bs → count ≡ max (length bs) (div_ceil (o + length new) 4096) → k < count →
     4096 * k < length (overwritten (concat bs) o new)
-over_more bs o new count k cut is more = go bs refl
-  where
-    go : (cs : List (List ℕ)) → cs ≡ bs → 4096 * k < length (overwritten (concat bs) o new)
-    go [] e = omega (arith, is, more, length-overwritten (concat bs) o new, ap length e)
-    go (c ∷ cs) e = omega (arith, is, more, length-overwritten (concat bs) o new, least bs cut (omega (arith, ap length e)))
+over_more bs o new count k cut is more = grind (arith, length-overwritten, least)
 
 pub over_room : (bs : List (List ℕ)) (o : ℕ) (new : List ℕ) (count : ℕ) → IsCut bs → count ≡ max (length bs) (div_ceil (o + length new) 4096) →
     length (overwritten (concat bs) o new) ≤ 4096 * count
@@ -105,8 +78,7 @@ pub record Reach (bs : List (List ℕ)) (size o : ℕ) (new : List ℕ) (first p
 pub reach : (bs : List (List ℕ)) (size o : ℕ) (new : List ℕ) (start held count until : ℕ) → IsCut bs → size ≡ length (concat bs)
     → 0 < length new + (o - size) → start ≡ min size o → held ≡ length bs → count ≡ length new → until ≡ min held ((o + count - 1) / 4096 + 1)
     → Reach bs size o new (start / 4096) ((o + length new - 1) / 4096 + 1) until
-reach bs size o new start held count until cut bytes some s h n u =
-    record { cut = cut; bytes = bytes; held = omega arith; before = omega arith; behind = omega arith; some = omega arith; stop = omega (arith, h, n, u) }
+reach bs size o new start held count until cut bytes some s h n u = grind arith
 
 module _ {bs : List (List ℕ)} {size o : ℕ} {new : List ℕ} {first past until : ℕ} (r : Reach bs size o new first past until) where
   pub first_held : first ≤ until
@@ -119,44 +91,21 @@ module _ {bs : List (List ℕ)} {size o : ℕ} {new : List ℕ} {first past unti
   cut_reached = cut_take (drop first bs) (until - first) (cut_drop bs first r.cut)
 
   reached_is : concat (take (until - first) (drop first bs)) ≡ take (4096 * (until - first)) (drop (4096 * first) (concat bs))
-  reached_is =
-      concat_take (drop first bs) (until - first) (cut_drop bs first r.cut) (omega (arith, r.stop, length-drop first bs))
-      ∙ ap (take (4096 * (until - first))) (concat_drop bs first r.cut (omega (arith, r.stop, first_held)))
+  reached_is = grind (arith, concat_take, cut_drop, length-drop, concat_drop)
 
   pub reached_held : length (concat (take (until - first) (drop first bs))) ≤ size
-  reached_held =
-      omega (
-        arith,
-        ap length reached_is,
-        length-take (4096 * (until - first)) (drop (4096 * first) (concat bs)),
-        length-drop (4096 * first) (concat bs),
-        r.bytes,
-      )
+  reached_held = grind (arith, reached_is, length-take, length-drop)
 
   pub made_is : (bytes : List ℕ) → bytes ≡ overwritten (concat (take (until - first) (drop first bs))) (o - first * 4096) new
       → bytes ≡ overwritten (take (4096 * past - 4096 * first) (drop (4096 * first) (concat bs))) (o - 4096 * first) new
-  made_is bytes is =
-      let region : take (4096 * (until - first)) (drop (4096 * first) (concat bs)) ≡ take (4096 * past - 4096 * first) (drop (4096 * first) (concat bs)) =
-      same_take (4096 * (until - first)) (4096 * past - 4096 * first) (drop (4096 * first) (concat bs))
-      (omega (arith, length-drop (4096 * first) (concat bs), most bs r.cut, r.stop, first_held)) in
-      let same : o - first * 4096 ≡ o - 4096 * first = omega arith in
-      is ∙ ap (λ n. overwritten (concat (take (until - first) (drop first bs))) n new) same
-      ∙ ap (λ xs. overwritten xs (o - 4096 * first) new) (reached_is ∙ region)
+  made_is bytes is = grind (arith, same_take, length-drop, most, reached_is)
 
   past_same : concat (drop until bs) ≡ drop (4096 * past) (concat bs)
-  past_same =
-      concat_drop bs until r.cut (omega (arith, r.stop)) ∙ same_drop (4096 * until) (4096 * past) (concat bs) (omega (arith, r.stop, most bs r.cut))
+  past_same = grind (arith, concat_drop, same_drop, most)
 
   pub written : (made : List (List ℕ)) → concat made ≡ overwritten (take (4096 * past - 4096 * first) (drop (4096 * first) (concat bs))) (o - 4096 * first) new
       → concat (take first bs ++ (made ++ drop until bs)) ≡ overwritten (concat bs) o new
-  written made is =
-      concat-append (take first bs) (made ++ drop until bs)
-      ∙ ap (λ zs. concat (take first bs) ++ zs) (concat-append made (drop until bs))
-      ∙ ap (λ zs. zs ++ (concat made ++ concat (drop until bs))) (concat_take bs first r.cut (omega (arith, r.stop, first_held)))
-      ∙ ap (λ zs. take (4096 * first) (concat bs) ++ (zs ++ concat (drop until bs))) is
-      ∙ ap (λ zs. take (4096 * first)
-      (concat bs) ++ (overwritten (take (4096 * past - 4096 * first) (drop (4096 * first) (concat bs))) (o - 4096 * first) new ++ zs)) past_same
-      ∙ written_within (concat bs) (4096 * first) (4096 * past) o new (omega (arith, r.held, r.bytes)) r.before r.behind
+  written made is = grind (arith, concat-append, concat_take, first_held, past_same, written_within)
 
   pub still_cut : (made : List (List ℕ)) → IsCut made → concat made ≡ overwritten (take (4096 * past - 4096 * first) (drop (4096 * first) (concat bs)))
       (o - 4096 * first) new
@@ -167,25 +116,10 @@ module _ {bs : List (List ℕ)} {size o : ℕ} {new : List ℕ} {first past unti
       let room : length (concat (take until bs)) ≡ 4096 * until = full bs until r.cut (omega (arith, length-drop until bs)) in
       let prefix = concat_take bs until r.cut (omega (arith, r.stop)) in
       let bytes : length (concat made) ≡ 4096 * (past - first) =
-      ap length is ∙ length-overwritten (take (4096 * past - 4096 * first) (drop (4096 * first) (concat bs))) (o - 4096 * first) new
-      ∙ omega (
-        arith,
-        length-take (4096 * past - 4096 * first) (drop (4096 * first) (concat bs)),
-        length-drop (4096 * first) (concat bs),
-        length-take (4096 * until) (concat bs),
-        ap length prefix,
-        room,
-        r.stop,
-        r.behind,
-        r.before,
-        r.some,
-        length-drop until bs,
-        p,
-      ) in
+      grind (arith, length-overwritten, length-take, length-drop) in
       omega (arith, bytes, as_many made (past - first) cut bytes) in
       let head : length (concat (take first bs)) ≡ 4096 * length (take first bs) =
-      ap length (concat_take bs first r.cut (omega (arith, r.stop, fits)))
-      ∙ omega (arith, length-take (4096 * first) (concat bs), length-take first bs, r.held, r.bytes, r.stop, fits) in
+      grind (arith, concat_take, length-take) in
       cut_append (take first bs) (made ++ drop until bs) (cut_take bs first r.cut) (cut_append made (drop until bs) cut (cut_drop bs until r.cut) tail)
       (λ p. head)
 
@@ -218,8 +152,7 @@ part_of bs start end cut some within =
     let until = (end - 1) / 4096 + 1 in
     let held = end_held bs start end cut some within in
     let part : concat (take (until - first) (drop first bs)) ≡ take (4096 * (until - first)) (drop (4096 * first) (concat bs)) =
-    concat_take (drop first bs) (until - first) (cut_drop bs first cut) (omega (arith, length-drop first bs, held))
-    ∙ ap (take (4096 * (until - first))) (concat_drop bs first cut (omega (arith, held))) in
+    grind (arith, concat_take, cut_drop, length-drop, concat_drop) in
     let same : start - first * 4096 ≡ start - 4096 * first = omega arith in
     let room : 4096 * (until - first) ≡ (start - 4096 * first) + (4096 * (until - first) - (start - 4096 * first)) = omega arith in
     ap (λ n. bytes_from n (end - start) (concat (take (until - first) (drop first bs)))) same
@@ -245,9 +178,7 @@ read_within xs size offset most start end held s e some =
 -- ---- cuts
 pub bytes_between : (bs : List (List ℕ)) (size : ℕ) → IsCut bs → size ≤ length (concat bs) → size % 4096 ≡ 0 → concat (take (size / 4096) bs)
     ≡ take size (concat bs)
-bytes_between bs size cut within e =
-    let held : size / 4096 ≤ length bs = omega (arith, most bs cut) in
-    concat_take bs (size / 4096) cut held ∙ ap (λ n. take n (concat bs)) (omega arith)
+bytes_between bs size cut within e = grind (arith, most, concat_take)
 
 -- the first block has `rest` bytes
 first_long : (rest : ℕ) (b : List ℕ) (bs : List (List ℕ)) → IsCut (b ∷ bs) → rest ≤ length (concat (b ∷ bs)) → rest < 4096 → rest ≤ length b
@@ -267,14 +198,15 @@ block_long (b ∷ bs) (suc k) rest d cut held within small =
 block_taken : (bs : List (List ℕ)) (k rest : ℕ) (d : List ℕ) → IsCut bs → k < length bs → 4096 * k + rest ≤ length (concat bs) → rest < 4096 →
     concat (take k bs) ++ take rest (get_or bs k d) ≡ take (4096 * k + rest) (concat bs)
 unfolding IsCut
-block_taken bs k rest d cut held within small =
-    let xs = concat bs in
-    let rests : concat (drop k bs) ≡ get_or bs k d ++ concat (drop (k + 1) bs) = ap concat (drop_more bs k d held) in
-    let long = block_long bs k rest d cut held within small in
-    let prefix = concat_take bs k cut (omega arith) in
-    let back : take rest (drop (4096 * k) (concat bs)) ≡ take rest (get_or bs k d) =
-    ap (take rest) (sym (concat_drop bs k cut (omega arith)) ∙ rests) ∙ take-append-le rest (get_or bs k d) (concat (drop (k + 1) bs)) long in
-    ap (λ zs. zs ++ take rest (get_or bs k d)) prefix ∙ ap (λ zs. take (4096 * k) (concat bs) ++ zs) (sym back) ∙ sym (take-add (4096 * k) rest (concat bs))
+block_taken bs k rest d cut held within small = grind (
+  arith,
+  drop_more bs k d held,
+  block_long bs k rest d cut held within small,
+  concat_take bs k cut (omega arith),
+  concat_drop bs k cut (omega arith),
+  take-append-le,
+  take-add (4096 * k) rest (concat bs),
+)
 
 pub last_held : (bs : List (List ℕ)) (size : ℕ) → IsCut bs → size ≤ length (concat bs) → size % 4096 ≢ 0 → size / 4096 < length bs
 last_held bs size cut within some = omega (arith, most bs cut)
@@ -291,8 +223,4 @@ cut_within bs size b d cut within some part =
 
 pub bytes_within : (bs : List (List ℕ)) (size : ℕ) (b d : List ℕ) → IsCut bs → size ≤ length (concat bs) → size % 4096 ≢ 0
     → b ≡ take (size % 4096) (get_or bs (size / 4096) d) → concat (take (size / 4096 + 1) (set bs (size / 4096) b)) ≡ take size (concat bs)
-bytes_within bs size b d cut within some part =
-    let k = size / 4096 in
-    let held = last_held bs size cut within some in
-    ap concat (take_more_set bs k b held) ∙ concat_push (take k bs) b ∙ ap (λ zs. concat (take k bs) ++ zs) part
-    ∙ block_taken bs k (size % 4096) d cut held (omega arith) (omega arith) ∙ ap (λ n. take n (concat bs)) (omega arith)
+bytes_within bs size b d cut within some part = grind (arith, last_held, take_more_set, concat_push, block_taken)

@@ -1,12 +1,10 @@
 -- How calls may end: with an error and no effects, or with what each call does.
-use Rattle.assise_inode_table.proofs.Common.{◌≡◌, ◌≤◌, ℕ, Bool, true, false, List, [], ◌∷◌, length, cond, ◌||◌, ◌==◌, nat_le, Option, Some, None, Result, Ok}
-use Rattle.assise_inode_table.proofs.Common.{Err, refl, sym, arith, ok_or, list_any, cond_both, eqb-true, is_proper_prefix, same_path, Op, Create, Mkdir, Read}
-use Rattle.assise_inode_table.proofs.Common.{WriteCall, Truncate, Rename, UnlinkCall, Rmdir, ListCall, Stat, Fsync, Dsync, Reply, Done, Bytes, Names, Error}
-use Rattle.assise_inode_table.proofs.Common.{TreeError, NoEnt, Exists, IsDir, Invalid, TooBig, Effect, NewFile, NewDir, Write, SetLen, Link, Unlink, Free}
-use Rattle.assise_inode_table.proofs.Common.{parent_of, last_name, bytes_from, is_within, then_or_error, walk_from, walk_to_entry, as_regular, as_links}
-use Rattle.assise_inode_table.proofs.Common.{room_among, without_links, content_may_replace, stat_reply, room_beside, receive, move_effects, make_call}
-use Rattle.assise_inode_table.proofs.Common.{write_effects, interaction, step, Content, Links, Values, makes, Interaction, finish, reply_of, effects_of}
-use Rattle.assise_inode_table.proofs.Common.{makes_inode, link_of}
+use Rattle.assise_inode_table.proofs.Common.{◌≡◌, ◌≤◌, ℕ, Bool, true, false, List, [], ◌∷◌, length, cond, ◌||◌, ◌==◌, Option, Some, None, Result, Ok, Err, refl}
+use Rattle.assise_inode_table.proofs.Common.{sym, arith, ok_or, list_any, eqb-true, Op, Create, Mkdir, Read, WriteCall, Truncate, Rename, UnlinkCall, Rmdir}
+use Rattle.assise_inode_table.proofs.Common.{ListCall, Stat, Fsync, Dsync, Reply, Done, Bytes, Names, Error, TreeError, NoEnt, Effect, NewFile, NewDir, SetLen}
+use Rattle.assise_inode_table.proofs.Common.{Link, Unlink, Free, last_name, bytes_from, then_or_error, walk_from, walk_to_entry, as_regular, as_links}
+use Rattle.assise_inode_table.proofs.Common.{stat_reply, room_beside, receive, move_effects, make_call, write_effects, interaction, step, Content, Links}
+use Rattle.assise_inode_table.proofs.Common.{Values, makes, Interaction, reply_of, effects_of, makes_inode, link_of}
 use Rattle.std.specs.FinMap as map
 
 -- what holds of the reply and the effects of a call, where it is done
@@ -44,47 +42,29 @@ module _ (v : Values) (P : Reply → List Effect → Type 0) (faults : (e : Tree
 
   walked_to_entry : (p : List (List ℕ)) (name : List ℕ) (next : ℕ → ℕ → Content → Interaction) → ((d i : ℕ) (content : Content) → Ends (next d i content)) →
       Ends (walk_to_entry p name next)
-  walked_to_entry p name next h =
-      walked 0 p (λ d content. then_or_error (link_of (Some content) name) (λ i. walk_from i [] (next d)))
-      (λ d content. or_error (link_of (Some content) name) (λ i. walk_from i [] (next d)) (λ i. walked i [] (next d) (λ j found. h d j found)))
+  walked_to_entry p name next h = grind (arith, walked)
 
   made : (new : Effect) (p : List (List ℕ)) (fresh : ℕ) → ((d : ℕ) → P Done (new ∷ Link d (last_name p) fresh ∷ [])) → Ends (make_call new p fresh)
-  made new p fresh h =
-      chosen (length p == 0) _ _ (faults Exists)
-      (walked 0 _ _ (λ d content. or_error (as_links content) _ (λ links. or_error (room_among (last_name p) links) _ (λ _. h d))))
+  made new p fresh h = grind (arith, walked)
 
   received : (moved : Content) (stays : Bool) (e : ℕ) (links : Links) (new : List ℕ) (moves : List Effect) (o : Option ℕ) → P Done moves →
       ((g : ℕ) → P Done (Unlink e new ∷ Free g ∷ moves)) →
       Ends (receive moved stays e links new moves o)
   received moved stays e links new moves None h k = or_error (room_beside stays links) _ (λ _. h)
-  received moved stays e links new moves (Some g) h k =
-      walked g [] (λ j target. then_or_error (content_may_replace moved target) (λ _. finish Done (Unlink e new ∷ Free j ∷ moves)))
-      (λ j target. or_error (content_may_replace moved target) _ (λ _. k j))
+  received moved stays e links new moves (Some g) h k = grind arith
 
   renamed : (p q : List (List ℕ)) (fresh : ℕ) → HoldsWhereDone P (Rename p q) fresh → Ends (interaction (Rename p q) fresh)
-  renamed p q fresh h =
-      chosen ((length p == 0) || (length q == 0)) _ _ (faults Invalid)
-      (chosen (is_proper_prefix p q) _ _ (faults Invalid)
-      (walked_to_entry _ _ _ (λ d i content. walked 0 _ _ (λ e goal. or_error (as_links goal) _ (λ links.
-      chosen (same_path p q) _ _ h.0
-      (received content (same_path (parent_of p) (parent_of q)) e links (last_name q) (move_effects d (last_name p) e (last_name q) i)
-      (map.get links (last_name q)) (h.1 d e i) (λ g. h.2 d e i g)))))))
+  renamed p q fresh h = grind (arith, walked)
 
   pub call_ends : (op : Op) (fresh : ℕ) → HoldsWhereDone P op fresh → Ends (interaction op fresh)
   call_ends (Create p) fresh h = made (NewFile fresh) p fresh h
   call_ends (Mkdir p) fresh h = made (NewDir fresh) p fresh h
   call_ends (Read p offset most) fresh h = walked 0 p _ (λ i content. or_error (as_regular content) _ (λ bytes. h (bytes_from offset most bytes)))
-  call_ends (WriteCall p offset new) fresh h =
-      walked 0 p _ (λ i content. or_error (as_regular content) _ (λ _. chosen (is_within offset new) _ _ (h i) (faults TooBig)))
-  call_ends (Truncate p size) fresh h =
-      walked 0 p _ (λ i content. or_error (as_regular content) _ (λ _. chosen (nat_le size 1048576) _ _ (h i) (faults TooBig)))
+  call_ends (WriteCall p offset new) fresh h = grind (arith, walked)
+  call_ends (Truncate p size) fresh h = grind (arith, walked)
   call_ends (Rename p q) fresh h = renamed p q fresh h
-  call_ends (UnlinkCall p) fresh h =
-      chosen (length p == 0) _ _ (faults IsDir)
-      (walked_to_entry _ _ _ (λ d i content. or_error (as_regular content) _ (λ _. h d i)))
-  call_ends (Rmdir p) fresh h =
-      chosen (length p == 0) _ _ (faults Invalid)
-      (walked_to_entry _ _ _ (λ d i content. or_error (as_links content) _ (λ links. or_error (without_links links) _ (λ _. h d i))))
+  call_ends (UnlinkCall p) fresh h = grind (arith, walked_to_entry)
+  call_ends (Rmdir p) fresh h = grind (arith, walked_to_entry)
   call_ends (ListCall p) fresh h = walked 0 p _ (λ i content. or_error (as_links content) _ (λ links. h (map.keys links)))
   call_ends (Stat p) fresh h = walked 0 p _ (λ i content. h content)
   call_ends Fsync fresh h = h
@@ -99,8 +79,7 @@ few_where_done : (op : Op) (fresh : ℕ) → HoldsWhereDone AreFew op fresh
 few_where_done (Create p) fresh = λ d. omega arith
 few_where_done (Mkdir p) fresh = λ d. omega arith
 few_where_done (Read p offset most) fresh = λ bytes. omega arith
-few_where_done (WriteCall p offset new) fresh =
-    λ i. cond_both (length new == 0) [] (Write i (record { offset = offset; bytes = new }) ∷ []) (λ es. length es ≤ 4) (λ _. omega arith) (λ _. omega arith)
+few_where_done (WriteCall p offset new) fresh = grind arith
 few_where_done (Truncate p size) fresh = λ i. omega arith
 few_where_done (Rename p q) fresh = (omega arith, λ d e i. omega arith, λ d e i g. omega arith)
 few_where_done (UnlinkCall p) fresh = λ d i. omega arith
@@ -126,9 +105,7 @@ own_where_done : (op : Op) (fresh : ℕ) → HoldsWhereDone (MakesOwn op fresh) 
 own_where_done (Create p) fresh = λ d i h. (own (fresh == i) i fresh (λ t. sym (eqb-true fresh i t)) h, refl)
 own_where_done (Mkdir p) fresh = λ d i h. (own (fresh == i) i fresh (λ t. sym (eqb-true fresh i t)) h, refl)
 own_where_done (Read p offset most) fresh = λ bytes i h. cc
-own_where_done (WriteCall p offset new) fresh = λ i j h.
-    let none = cond_both (length new == 0) [] (Write i (record { offset = offset; bytes = new }) ∷ []) (λ es. list_any (makes j) es ≡ false) (λ _. refl)
-    (λ _. refl) in cc
+own_where_done (WriteCall p offset new) fresh = grind arith
 own_where_done (Truncate p size) fresh = λ i j h. cc
 own_where_done (Rename p q) fresh = (λ j h. cc, λ d e i j h. cc, λ d e i g j h. cc)
 own_where_done (UnlinkCall p) fresh = λ d i j h. cc

@@ -1,7 +1,7 @@
 -- Calls that no other client saw are taken out of a run.
-use Rattle.assise_inode_table.proofs.Common.{◌≡◌, ℕ, ◌<◌, ◌≤◌, arith, Bool, true, false, List, [], ◌∷◌, ◌++◌, if◌then◌else◌, None, refl, ap, sym, ◌∙◌, subst}
-use Rattle.assise_inode_table.proofs.Common.{◌||◌, ◌==◌, inl, inr, MatchBool, list_any, cases_Bool, cases_eq, ltb-true, ltb-false, eqb-true, or_cases, or_parts}
-use Rattle.assise_inode_table.proofs.Common.{or_true_right, Effect, NewFile, NewDir, Write, SetLen, Link, Unlink, Free, touched_by, Tree, answer, AreAnswered}
+use Rattle.assise_inode_table.proofs.Common.{◌≡◌, ℕ, ◌<◌, ◌≤◌, arith, Bool, true, false, List, [], ◌∷◌, ◌++◌, if◌then◌else◌, refl, ap, sym, ◌∙◌, subst, ◌==◌}
+use Rattle.assise_inode_table.proofs.Common.{inl, inr, MatchBool, list_any, cases_Bool, cases_eq, ltb-true, ltb-false, eqb-true, or_cases, or_true_right}
+use Rattle.assise_inode_table.proofs.Common.{Effect, NewFile, NewDir, Write, SetLen, Link, Unlink, Free, touched_by, Tree, answer, AreAnswered}
 use Rattle.assise_inode_table.proofs.Common.{tree_after_calls, Values, after, makes, touched, contains, value_after, Step, AgreeOn, Spells, NumberedCall, trace}
 use Rattle.assise_inode_table.proofs.Common.{step_of, values_after_calls, MakesNew, AllMakeNew, exchanges, ops, Each, NumbersAscend, below, Clear, Unseen}
 use Rattle.std.proofs.Common.{filter}
@@ -32,9 +32,7 @@ agree_after dirty v w es a = λ i f. ap (λ o. value_after i o es) (a i f)
 
 -- only the one takes them
 agree_dirty : (dirty : List ℕ) (v w : Values) (es : List Effect) → AgreeOff dirty v w → AgreeOff (touched es ++ dirty) (after v es) w
-agree_dirty dirty v w es a = λ i f.
-    let split : (contains (touched es) i || contains dirty i) ≡ false = sym (contains-append (touched es) dirty i) ∙ f in
-    untouched i (v i) es (or_parts (contains (touched es) i) (contains dirty i) split).0 ∙ a i (or_parts (contains (touched es) i) (contains dirty i) split).1
+agree_dirty dirty v w es a = grind (arith, contains-append, untouched)
 
 -- a call that stays is the same step over both maps
 same_here : (dirty : List ℕ) (v w : Values) (x : NumberedCall) → AgreeOff dirty v w → Clear dirty ((step_of v x).visits ++ touched (step_of v x).effects) →
@@ -106,10 +104,8 @@ clear_there dirty (j ∷ js) i h t =
 -- a call that stays makes a new inode over the other map too
 makes_new : (dirty : List ℕ) (v w : Values) (x : NumberedCall) → AgreeOff dirty v w → Clear dirty ((step_of v x).visits ++ touched (step_of v x).effects) →
     MakesNew v x → MakesNew w x
-makes_new dirty v w x a h new =
-    subst (λ s. list_any (makes x.fresh) s.effects ≡ true → w x.fresh ≡ None) (same_here dirty v w x a h)
-    (λ m. sym (a x.fresh (clear_there dirty (touched (step_of v x).effects) x.fresh (clear-right dirty (step_of v x).visits (touched (step_of v x).effects) h)
-    (all_touched x.fresh (step_of v x).effects m))) ∙ new m)
+makes_new dirty v w x a h new = grind
+    (arith, same_here dirty v w x a h, clear_there, clear-right dirty (step_of v x).visits (touched (step_of v x).effects) h, all_touched)
 
 one_more : (w : Values) (u : Tree) (x : NumberedCall) (xs : List NumberedCall) → Spells w u → x.reply ≡ (step_of w x).reply → MakesNew w x →
     Goes (after w (step_of w x).effects) (answer u x.op).1 xs → Goes w u (x ∷ xs)
@@ -174,10 +170,7 @@ stays_clear a b dirty (x ∷ xs) le h u r =
 
 unseen_stays : (v : Values) (a b : ℕ → ℕ) (xs : List NumberedCall) → NumbersAscend xs → Unseen a (trace v xs) → ((c : ℕ) → a c ≤ b c) →
     StaysClear (below b) [] (trace v xs)
-unseen_stays v a b xs r u le =
-    stays_clear a b [] (trace v xs) le
-    (each-always (λ y. below b y.0 ≡ true → Clear [] (y.1.visits ++ touched y.1.effects)) (trace v xs)
-    (λ y _. clear_nothing (y.1.visits ++ touched y.1.effects))) u (ascends_along v xs r)
+unseen_stays v a b xs r u le = grind (arith, stays_clear, each-always, clear_nothing, ascends_along)
 
 pub tails_trace : (v : Values) (a b : ℕ → ℕ) (xs : List NumberedCall) → NumbersAscend xs → Unseen a (trace v xs) → ((c : ℕ) → a c ≤ b c) →
     trace v (filter (below b) xs) ≡ filter (λ x. below b x.0) (trace v xs)

@@ -1,7 +1,7 @@
 -- The names in a directory: of its entries and of its links.
 use Rattle.assise_inode_table.proofs.Common.{◌≡◌, ℕ, true, false, cond, List, [], ◌∷◌, map, Some, None, is_some, Ordering, Less, Equal, Greater, nat_cmp, T}
 use Rattle.assise_inode_table.proofs.Common.{refl, sym, ap, ◌∙◌, list_any, is_lt, slice_cmp, below_all, is_sorted, dir, Entries, no_entries, entry, same_name}
-use Rattle.assise_inode_table.proofs.Common.{find, IsBelow, AreOrdered, names_of, same_entries, Links}
+use Rattle.assise_inode_table.proofs.Common.{find, IsBelow, AreOrdered, names_of, same_entries, Links, arith}
 use Rattle.std.specs.Prelude.{◌||◌}
 use Rattle.std.specs.FinMap as fin
 use Rattle.std.proofs.Math.Facts.{and_yes}
@@ -38,10 +38,7 @@ find-bare q (name ∷ names) =
 
 -- ascending names are one list where they are the same names
 same_names : (xs ys : List (List ℕ)) → Ascend xs → Ascend ys → ((q : List ℕ) → list_any (same_name q) xs ≡ list_any (same_name q) ys) → xs ≡ ys
-same_names xs ys a b h =
-    sym (names_of-bare xs)
-    ∙ ap names_of (same_entries (bare xs) (bare ys) a b (λ q. find-bare q xs ∙ ap (λ c. cond c (Some (dir no_entries)) None) (h q) ∙ sym (find-bare q ys)))
-    ∙ names_of-bare ys
+same_names xs ys a b h = grind (arith, names_of-bare xs, names_of-bare ys, same_entries, find-bare)
 
 -- ---- of entries
 below-names : (name : List ℕ) (es : Entries) → IsBelow name es → IsBelow name (bare (names_of es))

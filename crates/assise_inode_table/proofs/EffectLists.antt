@@ -1,8 +1,7 @@
 -- Effects made one after another.
 use Rattle.assise_inode_table.proofs.Common.{◌≡◌, ℕ, zero, suc, ◌+◌, ◌<◌, cond, List, [], ◌∷◌, ◌++◌, ◌≤◌, ◌-◌, length, take, drop, slice_index_or, Option, Some}
-use Rattle.assise_inode_table.proofs.Common.{IsSome, refl, ap, sym, subst, ◌∙◌, inl, inr, arith, eq-eqb, ne_eqb, cases_eq, take_all, take_more, nat_cmp_total}
-use Rattle.assise_inode_table.proofs.Common.{Effect, Content, InodeMap, values, TakesAway, after, all_applied, applied, value_after, with_value, OnlyFirstAsks}
-use Rattle.assise_inode_table.proofs.Common.{OnlyTakeAway}
+use Rattle.assise_inode_table.proofs.Common.{IsSome, refl, ap, sym, subst, ◌∙◌, arith, eq-eqb, take_all, take_more, nat_cmp_total, Effect, Content, InodeMap}
+use Rattle.assise_inode_table.proofs.Common.{values, TakesAway, after, all_applied, applied, value_after, with_value, OnlyFirstAsks, OnlyTakeAway}
 use Rattle.std.specs.Option.{is_some}
 use Rattle.std.specs.FinMap as map
 use Rattle.assise_inode_table.proofs.EffectValues.{get-applied, get-with_value}
@@ -38,11 +37,7 @@ takes_away_at (x ∷ es) (suc k) e t h is = takes_away_at es k e t.1 (omega (ari
 -- the number has again what it had
 pub given_back : (m : InodeMap) (i : ℕ) (c : Content) (had : Option Content) → had ≡ map.get m i → with_value (map.insert m i c) i had ≡ m
 given_back m i c had is =
-    same_inodes _ _ (λ q. get-with_value (map.insert m i c) i had q
-    ∙ elim (cases_eq i q) [
-      | inl same ↦ rw (eq-eqb i q same) (is ∙ ap (map.get m) same)
-      | inr differs ↦ rw (ne_eqb i q differs) (get-with_value m i (Some c) q ∙ rw (ne_eqb i q differs) refl)
-    ])
+    same_inodes _ _ (λ q. grind (arith, get-with_value (map.insert m i c) i had q, get-with_value m i (Some c) q))
 
 pub inserted_there : (m : InodeMap) (i : ℕ) (c : Content) → IsSome (map.get (map.insert m i c) i)
 inserted_there m i c = ap is_some (get-with_value m i (Some c) i ∙ ap (λ b. cond b (Some c) (map.get m i)) (eq-eqb i i refl))

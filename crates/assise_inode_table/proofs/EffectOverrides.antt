@@ -1,9 +1,9 @@
 -- What an effect did is of no account once a later one overrides it.
-use Rattle.assise_inode_table.proofs.Common.{◌≡◌, ℕ, ◌+◌, ◌==◌, ◌||◌, ◌⊎◌, Bool, true, false, cond, if◌then◌else◌, nat_le, List, [], ◌∷◌, length, Option, Some}
-use Rattle.assise_inode_table.proofs.Common.{None, refl, ap, sym, ◌∙◌, subst, inl, inr, cases_Bool, eq-eqb, eqb-true, leb-true, and_parts, or_cases, or_right}
-use Rattle.assise_inode_table.proofs.Common.{false≢true, nat_list_cmp_total, exact_bytes, overwritten, resized, same_name, one_name, Effect, NewFile, NewDir}
-use Rattle.assise_inode_table.proofs.Common.{Write, SetLen, Link, Unlink, Free, touched_by, covers, is_write_within, is_of_entry, overrides, overridden}
-use Rattle.assise_inode_table.proofs.Common.{coalesced, Content, Links, regular, directory, effect_on, value_after, contains, touched, SameNetEffect}
+use Rattle.assise_inode_table.proofs.Common.{◌≡◌, ℕ, ◌+◌, ◌==◌, ◌||◌, ◌⊎◌, Bool, true, false, cond, if◌then◌else◌, List, [], ◌∷◌, length, Option, Some, None}
+use Rattle.assise_inode_table.proofs.Common.{refl, ap, sym, ◌∙◌, inl, inr, cases_Bool, eq-eqb, eqb-true, or_cases, or_right, false≢true, nat_list_cmp_total}
+use Rattle.assise_inode_table.proofs.Common.{exact_bytes, overwritten, resized, same_name, one_name, Effect, NewFile, NewDir, Write, SetLen, Link, Unlink, Free}
+use Rattle.assise_inode_table.proofs.Common.{touched_by, covers, is_write_within, is_of_entry, overrides, overridden, coalesced, Content, Links, regular}
+use Rattle.assise_inode_table.proofs.Common.{directory, effect_on, value_after, contains, touched, SameNetEffect, arith}
 use Rattle.std.specs.FinMap as map
 use Rattle.assise_record.specs.Patch.{Patch}
 use Rattle.assise_inode_table.proofs.Bytes.{DifferIn, written_differs, write_keeps, size_keeps, write_settles}
@@ -42,13 +42,7 @@ begins (NewDir i) old = tt
 begins (SetLen i size) old = tt
 begins (Free i) old = tt
 begins (Write i p) None = inl refl
-begins (Write i p) (Some (regular bytes)) = inr (record {
-  xs = bytes;
-  ys = overwritten bytes p.offset p.bytes;
-  left = refl;
-  right = refl;
-  differ = written_differs bytes p.offset p.bytes;
-})
+begins (Write i p) (Some (regular bytes)) = grind (arith, written_differs bytes p.offset p.bytes)
 begins (Write i p) (Some (directory links)) = inl refl
 begins (Link d name i) None = inl refl
 begins (Link d name i) (Some (regular bytes)) = inl refl
@@ -76,13 +70,7 @@ bytes_then : (p : Patch) (f : Effect) (x y : Option Content) (made : List ℕ �
     → ((bytes : List ℕ) → effect_on (Some (regular bytes)) f ≡ Some (regular (made bytes)))
     → (d : InBytes p x y) → DifferIn p.offset (p.offset + length p.bytes) (made d.xs) (made d.ys) → (effect_on x f ≡ effect_on y f) ⊎ InBytes p (effect_on x f)
     (effect_on y f)
-bytes_then p f x y made is d differ = inr (record {
-  xs = made d.xs;
-  ys = made d.ys;
-  left = ap (λ v. effect_on v f) d.left ∙ is d.xs;
-  right = ap (λ v. effect_on v f) d.right ∙ is d.ys;
-  differ = differ;
-})
+bytes_then p f x y made is d differ = grind arith
 
 links_then : (name : List ℕ) (f : Effect) (x y : Option Content) (made : Links → Links)
     → ((links : Links) → effect_on (Some (directory links)) f ≡ Some (directory (made links)))
@@ -116,13 +104,9 @@ entry_keeps name (Free j) x y d = inl refl
 entry_keeps name (Write j q) x y d = links_then name (Write j q) x y (λ links. links) (λ links. refl) d d.others
 entry_keeps name (SetLen j n) x y d = links_then name (SetLen j n) x y (λ links. links) (λ links. refl) d d.others
 entry_keeps name (Link b other j) x y d =
-    links_then name (Link b other j) x y (λ links. map.insert links other j) (λ links. refl) d (λ q away.
-    map.get-insert nat_list_cmp_total d.ls other j q ∙ ap (cond (same_name q other) (Some j)) (d.others q away)
-    ∙ sym (map.get-insert nat_list_cmp_total d.ms other j q))
+    links_then name (Link b other j) x y (λ links. map.insert links other j) (λ links. refl) d (grind (arith, map.get-insert, nat_list_cmp_total))
 entry_keeps name (Unlink b other) x y d =
-    links_then name (Unlink b other) x y (λ links. map.remove links other) (λ links. refl) d (λ q away.
-    map.get-remove nat_list_cmp_total d.ls other q ∙ ap (cond (same_name q other) None) (d.others q away)
-    ∙ sym (map.get-remove nat_list_cmp_total d.ms other q))
+    links_then name (Unlink b other) x y (λ links. map.remove links other) (λ links. refl) d (grind (arith, map.get-remove, nat_list_cmp_total))
 
 either : (P : Option Content → Option Content → Type 0) (f : Effect) (x y : Option Content)
     → (P x y → (effect_on x f ≡ effect_on y f) ⊎ P (effect_on x f) (effect_on y f))
@@ -143,12 +127,7 @@ keeps (Unlink b name) f x y d = either (AtName name) f x y (entry_keeps name f x
 
 bytes_settle : (p q : Patch) (i j : ℕ) (x y : Option Content) → covers q p ≡ true → (x ≡ y) ⊎ InBytes p x y → effect_on x (Write j q) ≡ effect_on y (Write j q)
 bytes_settle p q i j x y h (inl same) = ap (λ v. effect_on v (Write j q)) same
-bytes_settle p q i j x y h (inr d) =
-    let parts = and_parts (nat_le q.offset p.offset) (nat_le (p.offset + length p.bytes) (q.offset + length q.bytes)) h in
-    ap (λ v. effect_on v (Write j q)) d.left
-    ∙ ap (λ bytes. Some (regular bytes)) (write_settles p.offset (p.offset + length p.bytes) d.xs d.ys q.offset q.bytes d.differ
-    (leb-true q.offset p.offset parts.0) (leb-true (p.offset + length p.bytes) (q.offset + length q.bytes) parts.1))
-    ∙ sym (ap (λ v. effect_on v (Write j q)) d.right)
+bytes_settle p q i j x y h (inr d) = grind (arith, write_settles)
 
 -- the maps agree where their look-ups do
 pub same_links : (ls ms : Links) → ((q : List ℕ) → map.get ls q ≡ map.get ms q) → ls ≡ ms
@@ -165,10 +144,7 @@ entry_settles : (name other : List ℕ) (f : Effect) (x y : Option Content) (mad
 entry_settles name other f x y made now is got h (inl same) = ap (λ v. effect_on v f) same
 entry_settles name other f x y made now is got h (inr d) =
     ap (λ v. effect_on v f) d.left ∙ is d.ls
-    ∙ ap (λ links. Some (directory links)) (same_links (made d.ls) (made d.ms) (λ q.
-    got d.ls q ∙ over_entry (same_name q other) now (map.get d.ls q) (map.get d.ms q)
-    (λ away. d.others q (ap (same_name q) (sym (one_name other name h)) ∙ away))
-    ∙ sym (got d.ms q)))
+    ∙ ap (λ links. Some (directory links)) (same_links (made d.ls) (made d.ms) (grind (arith, one_name)))
     ∙ sym (ap (λ v. effect_on v f) d.right ∙ is d.ms)
 
 link_settles : (name other : List ℕ) (b j : ℕ) (x y : Option Content) → same_name other name ≡ true → (x ≡ y) ⊎ AtName name x y
@@ -185,8 +161,7 @@ unlink_settles name other b x y =
 
 -- what a write or an entry overrides
 within_cases : (i : ℕ) (q : Patch) (P : Effect → Type 0) → ((p : Patch) → covers q p ≡ true → P (Write i p)) → (e : Effect) → is_write_within i q e ≡ true → P e
-within_cases i q P write (Write j p) h =
-    let parts = and_parts (j == i) (covers q p) h in subst (λ k. P (Write k p)) (sym (eqb-true j i parts.0)) (write p parts.1)
+within_cases i q P write (Write j p) h = grind arith
 within_cases i q P write (NewFile j) h = absurd (false≢true h)
 within_cases i q P write (NewDir j) h = absurd (false≢true h)
 within_cases i q P write (SetLen j n) h = absurd (false≢true h)
@@ -196,10 +171,8 @@ within_cases i q P write (Free j) h = absurd (false≢true h)
 
 entry_cases : (d : ℕ) (name : List ℕ) (P : Effect → Type 0) → ((other : List ℕ) (i : ℕ) → same_name name other ≡ true → P (Link d other i))
     → ((other : List ℕ) → same_name name other ≡ true → P (Unlink d other)) → (e : Effect) → is_of_entry d name e ≡ true → P e
-entry_cases d name P link unlink (Link b other j) h =
-    let parts = and_parts (b == d) (same_name name other) h in subst (λ k. P (Link k other j)) (sym (eqb-true b d parts.0)) (link other j parts.1)
-entry_cases d name P link unlink (Unlink b other) h =
-    let parts = and_parts (b == d) (same_name name other) h in subst (λ k. P (Unlink k other)) (sym (eqb-true b d parts.0)) (unlink other parts.1)
+entry_cases d name P link unlink (Link b other j) h = grind arith
+entry_cases d name P link unlink (Unlink b other) h = grind arith
 entry_cases d name P link unlink (NewFile j) h = absurd (false≢true h)
 entry_cases d name P link unlink (NewDir j) h = absurd (false≢true h)
 entry_cases d name P link unlink (Write j p) h = absurd (false≢true h)
@@ -212,12 +185,8 @@ settles (NewDir j) e x y h d = refl
 settles (Free j) e x y h d = refl
 settles (SetLen j n) e x y h d = absurd (false≢true h)
 settles (Write j q) e x y h d = within_cases j q (λ e. Differ e x y → effect_on x (Write j q) ≡ effect_on y (Write j q)) (λ p. bytes_settle p q j j x y) e h d
-settles (Link b other j) e x y h d =
-    entry_cases b other (λ e. Differ e x y → effect_on x (Link b other j) ≡ effect_on y (Link b other j))
-    (λ name i. link_settles name other b j x y) (λ name. link_settles name other b j x y) e h d
-settles (Unlink b other) e x y h d =
-    entry_cases b other (λ e. Differ e x y → effect_on x (Unlink b other) ≡ effect_on y (Unlink b other))
-    (λ name i. unlink_settles name other b x y) (λ name. unlink_settles name other b x y) e h d
+settles (Link b other j) e x y h d = grind (arith, link_settles)
+settles (Unlink b other) e x y h d = grind (arith, unlink_settles)
 
 -- it touches the same inode
 within_same : (i : ℕ) (q : Patch) (e : Effect) → is_write_within i q e ≡ true → touched_by e ≡ i
@@ -254,20 +223,11 @@ later i e (f ∷ fs) x y own d h =
     ]
 
 skipped : (i : ℕ) (e : Effect) (es : List Effect) (old : Option Content) → overridden e es ≡ true → value_after i old es ≡ value_after i old (e ∷ es)
-skipped i e es old h =
-    elim (cases_Bool (touched_by e == i)) [
-      | inl here ↦ rw here (later i e es old (effect_on old e) (eqb-true (touched_by e) i here) (begins e old) h)
-      | inr away ↦ rw away refl
-    ]
+skipped i e es old h = search (later, begins, arith) parts 3
 
 pub same_net : (es : List Effect) → SameNetEffect (coalesced es) es
 same_net [] i old = refl
-same_net (e ∷ es) i old =
-    elim (cases_Bool (overridden e es)) [
-      | inl gone ↦ ap (λ b. value_after i old (if b then coalesced es else e ∷ coalesced es)) gone ∙ same_net es i old ∙ skipped i e es old gone
-      | inr stays ↦ ap (λ b. value_after i old (if b then coalesced es else e ∷ coalesced es)) stays
-          ∙ same_net es i (if touched_by e == i then effect_on old e else old)
-    ]
+same_net (e ∷ es) i old = grind (arith, same_net es i old, same_net es i (if touched_by e == i then effect_on old e else old), skipped)
 
 -- the last effect on an inode stays
 touched_later : (e : Effect) (es : List Effect) → overridden e es ≡ true → contains (touched es) (touched_by e) ≡ true
@@ -284,10 +244,4 @@ absorbed false b h = refl
 
 pub same_touch : (es : List Effect) (i : ℕ) → contains (touched (coalesced es)) i ≡ contains (touched es) i
 same_touch [] i = refl
-same_touch (e ∷ es) i =
-    elim (cases_Bool (overridden e es)) [
-      | inl gone ↦ ap (λ b. contains (touched (if b then coalesced es else e ∷ coalesced es)) i) gone ∙ same_touch es i
-          ∙ absorbed (touched_by e == i) (contains (touched es) i)
-          (λ own. subst (λ j. contains (touched es) j ≡ true) (eqb-true (touched_by e) i own) (touched_later e es gone))
-      | inr stays ↦ ap (λ b. contains (touched (if b then coalesced es else e ∷ coalesced es)) i) stays ∙ ap (λ b. (touched_by e == i) || b) (same_touch es i)
-    ]
+same_touch (e ∷ es) i = grind (arith, same_touch es i, touched_later)

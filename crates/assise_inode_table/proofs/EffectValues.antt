@@ -1,8 +1,7 @@
 -- What effects make of the value of an inode.
 use Rattle.assise_inode_table.proofs.Common.{◌≡◌, ℕ, Bool, true, false, cond, if◌then◌else◌, List, [], ◌∷◌, ◌++◌, ◌||◌, ◌==◌, Option, Some, None, refl, ap, sym}
-use Rattle.assise_inode_table.proofs.Common.{◌∙◌, inl, inr, tied, eq-eqb, ne_eqb, cases_eq, false_from_ne_true, or_parts, map-append, eq_by_cmp, is_eq}
-use Rattle.assise_inode_table.proofs.Common.{nat_cmp_total, tied_itself, exact_unsigned, Effect, touched_by, Content, InodeMap, effect_on, value_after, touched}
-use Rattle.assise_inode_table.proofs.Common.{contains, with_value, applied}
+use Rattle.assise_inode_table.proofs.Common.{◌∙◌, ne_eqb, or_parts, map-append, eq_by_cmp, nat_cmp_total, Effect, touched_by, Content, InodeMap, effect_on}
+use Rattle.assise_inode_table.proofs.Common.{value_after, touched, contains, with_value, applied, arith}
 use Rattle.std.specs.Ordering.{nat_cmp}
 use Rattle.std.specs.FinMap as fin
 
@@ -33,24 +32,11 @@ untouched i old (e ∷ es) h = let parts = or_parts (touched_by e == i) (contain
 
 -- one number by its order
 pub same_number : (i j : ℕ) → eq_by_cmp nat_cmp i j ≡ (j == i)
-same_number i j =
-    elim (cases_eq j i) [
-      | inl same ↦ ap (eq_by_cmp nat_cmp i) same ∙ ap is_eq (tied_itself nat_cmp_total i) ∙ sym (eq-eqb j i same)
-      | inr differs ↦ false_from_ne_true (eq_by_cmp nat_cmp i j) (λ e. differs (sym (exact_unsigned i j (tied (nat_cmp i j) e)))) ∙ sym (ne_eqb j i differs)
-    ]
+same_number i j = grind (arith, ne_eqb)
 
 pub get-with_value : (m : InodeMap) (j : ℕ) (o : Option Content) (i : ℕ) → fin.get (with_value m j o) i ≡ (if j == i then o else fin.get m i)
 get-with_value m j None i = fin.get-remove nat_cmp_total m j i ∙ ap (λ b. cond b None (fin.get m i)) (same_number i j)
 get-with_value m j (Some content) i = fin.get-insert nat_cmp_total m j content i ∙ ap (λ b. cond b (Some content) (fin.get m i)) (same_number i j)
 
 pub get-applied : (m : InodeMap) (e : Effect) (i : ℕ) → fin.get (applied m e) i ≡ value_after i (fin.get m i) (e ∷ [])
-get-applied m e i =
-    get-with_value m (touched_by e) (effect_on (fin.get m (touched_by e)) e) i ∙ go
-  where
-    go : (if touched_by e == i then effect_on (fin.get m (touched_by e)) e else fin.get m i)
-        ≡ (if touched_by e == i then effect_on (fin.get m i) e else fin.get m i)
-    go =
-        elim (cases_eq (touched_by e) i) [
-          | inl same ↦ ap (λ j. if touched_by e == i then effect_on (fin.get m j) e else fin.get m i) same
-          | inr differs ↦ rw (ne_eqb (touched_by e) i differs) refl
-        ]
+get-applied m e i = search (get-with_value, arith) parts 3

@@ -1,8 +1,7 @@
 -- An entry is moved to another place, with all that it leads to.
 use Rattle.assise_inode_table.proofs.Common.{◌≡◌, ℕ, ◌==◌, Bool, true, false, cond, List, [], ◌∷◌, ◌++◌, Option, Some, None, IsSome, is_some, Ok, refl, sym, ap}
-use Rattle.assise_inode_table.proofs.Common.{◌∙◌, eqb, cond_both, eq-eqb, ne_eqb, eqb-true, eqb-false, nat_list_cmp_total, Link, Unlink, Tree, same_name, at}
-use Rattle.assise_inode_table.proofs.Common.{put, without, Path, directory, Links, Values, after, effect_on, children, reach, SpellsFrom, Spells, ShareNone}
-use Rattle.assise_inode_table.proofs.Common.{AddsLink, RemovesLink}
+use Rattle.assise_inode_table.proofs.Common.{◌∙◌, eqb, eqb-true, eqb-false, nat_list_cmp_total, Link, Unlink, Tree, at, put, without, Path, directory, Links}
+use Rattle.assise_inode_table.proofs.Common.{Values, after, children, reach, SpellsFrom, Spells, ShareNone, AddsLink, RemovesLink, arith}
 use Rattle.std.proofs.lemmas.List.{append_assoc}
 use Rattle.std.specs.FinMap as map
 use Rattle.assise_inode_table.proofs.Prefixes.{past, past-Some}
@@ -23,12 +22,7 @@ module _ (v : Values) (t m : Tree) (d e i : ℕ) (p q : Path) (name new : List �
 
   removes : RemovesLink v between d name i from
   unfolding between
-  removes = record {
-    before = holds;
-    present = entry;
-    after = rw (eq-eqb d d refl, holds) refl;
-    others = λ j other. rw (ne_eqb d j (λ x. other (sym x))) refl;
-  }
+  removes = grind arith
 
   -- the links of the goal once the entry is gone
   left : Links
@@ -36,30 +30,19 @@ module _ (v : Values) (t m : Tree) (d e i : ℕ) (p q : Path) (name new : List �
 
   left_by : (b : Bool) → (d == e) ≡ b → between e ≡ Some (directory (cond b (map.remove from name) to))
   unfolding between
-  left_by true same = rw (same, holds_too) refl
-    where
-      holds_too : v e ≡ Some (directory from)
-      holds_too = ap v (sym (eqb-true d e same)) ∙ holds
+  left_by true same = grind arith
   left_by false other = rw (other, receives) refl
 
   same_links : d ≡ e → from ≡ to
   same_links same = let both = sym holds ∙ ap v same ∙ receives in cc
 
   none_left : (b : Bool) → (d == e) ≡ b → map.get (cond b (map.remove from name) to) new ≡ None
-  none_left true same =
-      map.get-remove nat_list_cmp_total from name new
-      ∙ cond_both {A = Option ℕ} (same_name new name) None (map.get from new) (λ o. o ≡ None) (λ _. refl)
-      (λ _. ap (λ links. map.get links new) (same_links (eqb-true d e same)) ∙ absent)
+  none_left true same = grind (arith, map.get-remove, nat_list_cmp_total)
   none_left false other = absent
 
   adds : AddsLink between moved e new i left
   unfolding between moved left
-  adds = record {
-    before = left_by (d == e) refl;
-    absent = none_left (d == e) refl;
-    after = rw (eq-eqb e e refl) (ap (λ o. effect_on o (Link e new i)) (left_by (d == e) refl));
-    others = λ j other. rw (ne_eqb e j (λ x. other (sym x))) refl;
-  }
+  adds = grind (arith, none_left)
 
   goal_after : reach (children between) 0 q ≡ Ok e
   goal_after = outside_reached v between 0 d i t p name from s.tree parent removes q e outside goal

@@ -1,7 +1,7 @@
 -- One entry of a directory comes to lead elsewhere: what is reached and shown from there.
 use Rattle.assise_inode_table.proofs.Common.{◌≡◌, ℕ, true, false, cond, List, [], ◌∷◌, Option, Some, Result, Ok, Err, refl, sym, ap, ◌∙◌, ok_or, TreeError}
 use Rattle.assise_inode_table.proofs.Common.{NoEnt, Tree, dir, Entries, same_name, find, names_of, ◌>>=◌, Path, directory, Links, Values, Shape, folder}
-use Rattle.assise_inode_table.proofs.Common.{children, reach, link_of, shape_of, shown_from, shown_in, ReachesOnce, AgreeBut}
+use Rattle.assise_inode_table.proofs.Common.{children, reach, link_of, shape_of, shown_from, shown_in, ReachesOnce, AgreeBut, arith}
 use Rattle.std.specs.FinMap as map
 use Rattle.assise_inode_table.proofs.PathReach.{no_way_back, Keeps, away_keeps, same_rest, same_reach, same_shown}
 use Rattle.assise_inode_table.proofs.TreeShows.{shown_here, shown_dir, shown_below}
@@ -42,22 +42,10 @@ module _ (v w : Values) (d : ℕ) (name : List ℕ) (before after : Links) (targ
   link_old x = sym (ap (λ o. link_of o x) c.old)
 
   pub relinked : (x : List ℕ) (q : Path) → reach (children w) d (x ∷ q) ≡ cond (same_name x name) (way w target q) (reach (children v) d (x ∷ q))
-  relinked x q =
-      ap (λ o. o >>= λ j. reach (children w) j q) (link_now x)
-      ∙ elim (same_name x name) as (λ b. (ok_or (cond b target (map.get before x)) NoEnt >>= λ j. reach (children w) j q)
-      ≡ cond b (way w target q) (reach (children v) d (x ∷ q))) [
-        | true ↦ refl
-        | false ↦ ap (λ o. o >>= λ j. reach (children w) j q) (link_old x) ∙ entry_reach v w d once c.others x q
-      ]
+  relinked x q = grind (arith, entry_reach v w d once c.others x q)
 
   relinked_shown : (x : List ℕ) (q : Path) → shown_from w d (x ∷ q) ≡ cond (same_name x name) (shown_on w target q) (shown_from v d (x ∷ q))
-  relinked_shown x q =
-      ap (λ o. (o >>= λ j. reach (children w) j q) >>= λ j. shape_of (w j)) (link_now x)
-      ∙ elim (same_name x name) as (λ b. ((ok_or (cond b target (map.get before x)) NoEnt >>= λ j. reach (children w) j q) >>= λ j. shape_of (w j))
-      ≡ cond b (shown_on w target q) (shown_from v d (x ∷ q))) [
-        | true ↦ refl
-        | false ↦ ap (λ o. (o >>= λ j. reach (children w) j q) >>= λ j. shape_of (w j)) (link_old x) ∙ entry_shown v w d once c.others x q (children v d x) refl
-      ]
+  relinked_shown x q = grind (arith, entry_shown v w d once c.others x q (children v d x) refl)
 
   -- The entries come to be fs, with a new tree or none under the name.
   module _ (es fs : Entries) (new : Option Tree) (shows : (q : Path) → shown_from v d q ≡ shown_in (dir es) q)

@@ -1,10 +1,9 @@
 -- An entry is moved onto another, whose inode is freed.
 use Rattle.assise_inode_table.proofs.Common.{◌≡◌, ◌≢◌, ℕ, ◌==◌, Bool, true, false, cond, List, [], ◌∷◌, ◌++◌, Option, Some, None, Ok, refl, sym, ap, subst, ◌∙◌}
-use Rattle.assise_inode_table.proofs.Common.{cond_both, eq-eqb, ne_eqb, eqb-true, ok_or, nat_list_cmp_total, NoEnt, Link, Unlink, Free, Tree, dir, Entries}
-use Rattle.assise_inode_table.proofs.Common.{same_name, find, remove, at, put, without, IsOrdered, AreOrdered, same_itself, one_name, shadowed, find-set}
-use Rattle.assise_inode_table.proofs.Common.{find-remove, ordered-remove, ordered-set, same_entries, at-put, put-put, Path, Disjoint, at-without_disjoint}
-use Rattle.assise_inode_table.proofs.Common.{without-put, ordered-without, directory, Links, Values, after, children, reach, link_of, Spells, AgreeBut}
-use Rattle.assise_inode_table.proofs.Common.{RemovesLink}
+use Rattle.assise_inode_table.proofs.Common.{eq-eqb, ne_eqb, eqb-true, ok_or, nat_list_cmp_total, NoEnt, Link, Unlink, Free, Tree, dir, Entries, same_name}
+use Rattle.assise_inode_table.proofs.Common.{remove, at, put, without, IsOrdered, AreOrdered, same_itself, one_name, find-set, find-remove, ordered-remove}
+use Rattle.assise_inode_table.proofs.Common.{ordered-set, same_entries, at-put, put-put, Path, Disjoint, at-without_disjoint, without-put, ordered-without}
+use Rattle.assise_inode_table.proofs.Common.{directory, Links, Values, after, children, reach, link_of, Spells, AgreeBut, RemovesLink, arith}
 use Rattle.std.proofs.lemmas.List.{append_assoc, append-nil}
 use Rattle.std.specs.FinMap as map
 use Rattle.assise_seq_tree.specs.Tree.{set}
@@ -21,19 +20,21 @@ use Rattle.assise_inode_table.proofs.EntryMoved.{moved_spells}
 -- ---- trees
 
 set-remove : (name : List ℕ) (x : Tree) (es : Entries) → AreOrdered es → IsOrdered x → set name x (remove name es) ≡ set name x es
-set-remove name x es s o =
-    same_entries (set name x (remove name es)) (set name x es) (ordered-set name x (remove name es) (ordered-remove name es s) o) (ordered-set name x es s o)
-    (λ q. find-set q name x (remove name es) ∙ ap (cond (same_name q name) (Some x)) (find-remove q name es s)
-    ∙ sym (shadowed (same_name q name) (Some x) None (find q es)) ∙ sym (find-set q name x es))
+set-remove name x es s o = grind (arith, same_entries, ordered-set, ordered-remove, find-set, find-remove)
 
 -- what was taken out doesn't matter where something else is put
 put-without_same : (p : Path) (name : List ℕ) (t x : Tree) (es : Entries) → IsOrdered t → IsOrdered x → AreOrdered es → at t p ≡ Ok (dir es) →
     put (without t (p ++ name ∷ [])) (p ++ name ∷ []) x ≡ put t (p ++ name ∷ []) x
-put-without_same p name t x es s o ordered there =
-    ap (λ u. put u (p ++ name ∷ []) x) (without_entry p name t es there)
-    ∙ put_entry p name (put t p (dir (remove name es))) x (remove name es) (at-put p t (dir (remove name es)) (dir es) there)
-    ∙ put-put p t (dir (remove name es)) (dir (set name x (remove name es))) (dir es) there
-    ∙ ap (λ fs. put t p (dir fs)) (set-remove name x es ordered o) ∙ sym (put_entry p name t x es there)
+put-without_same p name t x es s o ordered there = grind (
+  arith,
+  without_entry p name t es there,
+  put_entry p name (put t p (dir (remove name es))) x (remove name es)
+      (at-put p t (dir (remove name es)) (dir es) there),
+  put_entry p name t x es there,
+  put-put p t (dir (remove name es))
+      (dir (set name x (remove name es))) (dir es) there,
+  set-remove name x es ordered o,
+)
 
 -- ---- prefixes of paths
 
@@ -63,12 +64,7 @@ module _ (v : Values) (t m : Tree) (d e i g : ℕ) (p q : Path) (name new : List
 
   removes : RemovesLink v unlinked e new g to
   unfolding unlinked
-  removes = record {
-    before = receives;
-    present = target;
-    after = rw (eq-eqb e e refl, receives) refl;
-    others = λ j other. rw (ne_eqb e j (λ x. other (sym x))) refl;
-  }
+  removes = grind arith
 
   gone : cleared g ≡ None
   unfolding cleared
@@ -116,16 +112,11 @@ module _ (v : Values) (t m : Tree) (d e i g : ℕ) (p q : Path) (name new : List
   parent_holds = others d (λ x. parent_stays (sym x)) ∙ left_by (e == d) refl
 
   other_names : e ≡ d → same_name name new ≡ true → ⊥
-  other_names same named =
-      let place : q ≡ p = s.tree.once q p d (goal ∙ ap Ok same) parent in
-      prefix_disjoint (p ++ name ∷ []) (q ++ new ∷ []) [] disjoint
-      (ap (λ x. x ++ new ∷ []) place ∙ ap (λ n. p ++ n ∷ []) (sym (one_name name new named)) ∙ sym (append-nil (p ++ name ∷ [])))
+  other_names same named = grind (arith, prefix_disjoint (p ++ name ∷ []) (q ++ new ∷ []), one_name name new named, append-nil (p ++ name ∷ []))
 
   entry_by : (b : Bool) → (e == d) ≡ b → map.get (cond b (map.remove to new) from) name ≡ Some i
   entry_by false other = entry
-  entry_by true same =
-      map.get-remove nat_list_cmp_total to new name ∙ cond_both {A = Option ℕ} (same_name name new) None (map.get to name) (λ o. o ≡ Some i)
-      (λ named. absurd (other_names (eqb-true e d same) named)) (λ _. ap (λ links. map.get links name) (same_links (eqb-true e d same)) ∙ entry)
+  entry_by true same = grind (arith, map.get-remove, nat_list_cmp_total, other_names)
 
   goal_holds : cleared e ≡ Some (directory (map.remove to new))
   goal_holds = others e (λ x. goal_stays (sym x)) ∙ removes.after

@@ -1,8 +1,8 @@
 -- An entry is taken out: what it held stands apart from then on.
-use Rattle.assise_inode_table.proofs.Common.{◌≡◌, ℕ, Bool, true, false, cond, List, [], ◌∷◌, ◌++◌, Option, Some, None, is_some, Ok, Err, refl, sym, ap, subst}
-use Rattle.assise_inode_table.proofs.Common.{◌∙◌, inl, ok_or, option_map_or, nat_list_cmp_total, NoEnt, Tree, dir, Entries, same_name, find, remove, at}
-use Rattle.assise_inode_table.proofs.Common.{without, AreOrdered, names_of, same_itself, one_name, find-remove, ordered-remove, Path, no_error, Links, Values}
-use Rattle.assise_inode_table.proofs.Common.{children, reach, link_of, ReachesOnce, SpellsFrom, ShareNone, RemovesLink}
+use Rattle.assise_inode_table.proofs.Common.{◌≡◌, ℕ, Bool, true, false, cond, List, [], ◌∷◌, ◌++◌, Option, Some, None, Ok, Err, refl, sym, ap, subst, ◌∙◌, inl}
+use Rattle.assise_inode_table.proofs.Common.{ok_or, option_map_or, nat_list_cmp_total, NoEnt, Tree, dir, Entries, same_name, remove, at, without, AreOrdered}
+use Rattle.assise_inode_table.proofs.Common.{names_of, same_itself, one_name, find-remove, ordered-remove, Path, no_error, Links, Values, children, reach}
+use Rattle.assise_inode_table.proofs.Common.{link_of, ReachesOnce, SpellsFrom, ShareNone, RemovesLink, arith}
 use Rattle.std.proofs.lemmas.List.{append_assoc}
 use Rattle.std.specs.FinMap as map
 use Rattle.assise_inode_table.proofs.Prefixes.{past, past_prefix, past_itself, past-Some}
@@ -20,14 +20,7 @@ links_less v w d name i links u = record { old = u.before; now = u.after; gets =
 
 names_less : (es : Entries) (links : Links) (name : List ℕ) → AreOrdered es → names_of es ≡ map.keys links → names_of (remove name es)
     ≡ map.keys (map.remove links name)
-names_less es links name s names =
-    names_are_keys (remove name es) (map.remove links name) (ordered-remove name es s) (λ q.
-    ap is_some (find-remove q name es s)
-    ∙ elim (same_name q name) as (λ b. is_some (cond b None (find q es)) ≡ is_some (cond b None (map.get links q))) [
-      | true ↦ refl
-      | false ↦ same_found es links names q
-    ]
-    ∙ sym (ap is_some (map.get-remove nat_list_cmp_total links name q)))
+names_less es links name s names = grind (arith, names_are_keys, ordered-remove name es s, find-remove, same_found, map.get-remove, nat_list_cmp_total)
 
 -- The directory d, which the path p reaches, loses the name of inode i.
 module _ (v w : Values) (r d i : ℕ) (t : Tree) (p : Path) (name : List ℕ) (links : Links) (s : SpellsFrom v r t) (parent : reach (children v) r p ≡ Ok d)
@@ -52,10 +45,7 @@ module _ (v w : Values) (r d i : ℕ) (t : Tree) (p : Path) (name : List ℕ) (l
 
   -- ---- from the directory
   nothing_there : (q : Path) (j : ℕ) → reach (children w) d (name ∷ q) ≡ Ok j → ⊥
-  nothing_there q j e =
-      let none = sym (relinked v w d name links (map.remove links name) None change once_here name q
-      ∙ ap (λ b. cond b (Err NoEnt) (reach (children v) d (name ∷ q))) (same_itself name)) ∙ e in
-      cc
+  nothing_there q j e = grind (arith, change, same_itself)
 
   before : (q : Path) (j : ℕ) → reach (children w) d q ≡ Ok j → reach (children v) d q ≡ Ok j
   before [] j e = e
@@ -127,13 +117,8 @@ module _ (v w : Values) (r d i : ℕ) (t : Tree) (p : Path) (name : List ℕ) (l
   through x b j direct below = s.once x (p ++ name ∷ b) j direct (held_path b ∙ below) ∙ sym (append_assoc p (name ∷ []) b)
 
   pub outside_away : (x : Path) (j : ℕ) → past (p ++ name ∷ []) x ≡ None → reach (children v) r x ≡ Ok j → Away (children v) i j
-  outside_away x j none direct b below =
-      let some = sym none ∙ ap (past (p ++ name ∷ [])) (through x b j direct below) ∙ past_prefix (p ++ name ∷ []) b in
-      cc
+  outside_away x j none direct b below = grind (arith, through, past_prefix)
 
   -- such a path leads where it led
   pub outside_reached : (x : Path) (j : ℕ) → past (p ++ name ∷ []) x ≡ None → reach (children v) r x ≡ Ok j → reach (children w) r x ≡ Ok j
-  outside_reached x j none direct =
-      let b = others_reached j (outside_away x j none direct) x direct in
-      let one : b.0 ≡ x = s.once b.0 x j (found_before b.0 j b.1) direct in
-      subst (λ y. reach (children w) r y ≡ Ok j) one b.1
+  outside_reached x j none direct = grind (arith, others_reached, outside_away, found_before)

@@ -36,10 +36,7 @@ lacks_prefix (x ∷ xs) c i h = ((h.0, (lacks_prefix xs c i h.1).0), (lacks_pref
 
 pub distinct_prefix : (cs : List Change) (c : Change) → AreDistinctChanges (cs ++ c ∷ []) → AreDistinctChanges cs × Lacks cs c.inode
 distinct_prefix [] c h = (tt, tt)
-distinct_prefix (x ∷ xs) c h =
-    let rest : AreDistinctChanges xs × Lacks xs c.inode = distinct_prefix xs c h.1 in
-    let first : Lacks xs x.inode × (c.inode ≢ x.inode) = lacks_prefix xs c x.inode h.0 in
-    ((first.0, rest.0), ((λ e. first.1 (sym e)), rest.1))
+distinct_prefix (x ∷ xs) c h = grind (arith, distinct_prefix xs c h.1, lacks_prefix)
 
 lacks_at : (cs : List Change) (p i : ℕ) (none : Change) → p < length cs → Lacks cs i → (get_or cs p none).inode ≢ i
 lacks_at [] p i none within h = absurd (omega arith)
@@ -71,56 +68,31 @@ distinct_set (c ∷ cs) (suc p) i none v within is h = (lacks_set cs p i c.inode
 pub found_set : (cs : List Change) (p i j : ℕ) (none : Change) (v old : Option Content) → AreDistinctChanges cs → p < length cs → (get_or cs p none).inode ≡ i
     → found (set cs p (record { inode = i; value = v })) j old ≡ (if i == j then v else found cs j old)
 found_set [] p i j none v old distinct within is = absurd (omega arith)
-found_set (c ∷ cs) zero i j none v old distinct within is =
-    elim (cases_eq i j) [
-      | inl same ↦ chosen_same i j v (found cs j old) same ∙ sym (chosen_same i j v _ same)
-      | inr other ↦ chosen_other i j v (found cs j old) other ∙ sym (chosen_other c.inode j c.value (found cs j old) (λ e. other (sym is ∙ e)))
-          ∙ sym (chosen_other i j v _ other)
-    ]
+found_set (c ∷ cs) zero i j none v old distinct within is = grind arith
 found_set (c ∷ cs) (suc p) i j none v old distinct within is =
     let inside : p < length cs = omega arith in
-    let rest : found (set cs p (record { inode = i; value = v })) j old ≡ (if i == j then v else found cs j old) = found_set cs p i j none v old distinct.1
-    inside is in
+    let rest : found (set cs p (record { inode = i; value = v })) j old ≡ (if i == j then v else found cs j old) = grind
+    (arith, found_set cs p i j none v old distinct.1 inside is) in
     let away : c.inode ≢ i = (λ e. lacks_at cs p c.inode none inside distinct.0 (is ∙ sym e)) in
     elim (cases_eq c.inode j) [
-      | inl same ↦ chosen_same c.inode j c.value _ same ∙ sym (chosen_same c.inode j c.value (found cs j old) same)
-          ∙ sym (chosen_other i j v _ (λ e. away (same ∙ sym e)))
-      | inr other ↦ chosen_other c.inode j c.value _ other ∙ rest
-          ∙ ap (λ x. if i == j then v else x) (sym (chosen_other c.inode j c.value (found cs j old) other))
+      | inl same ↦ grind arith
+      | inr other ↦ grind arith
     ]
 
 -- an inode that was not among them is put behind them as it is
 pub found_push : (cs : List Change) (c : Change) (j : ℕ) (old : Option Content) → (c.inode ≡ j → c.value ≡ old) → found (cs ++ c ∷ []) j old ≡ found cs j old
-found_push cs c j old is =
-    found_append cs (c ∷ []) j old ∙ ap (found cs j)
-    (elim (cases_eq c.inode j) [
-      | inl same ↦ chosen_same c.inode j c.value old same ∙ is same
-      | inr other ↦ chosen_other c.inode j c.value old other
-    ])
+found_push cs c j old is = grind (arith, found_append)
 
 -- an effect is made of the value at the place of its inode
 pub made : (cs : List Change) (p : ℕ) (here : Change) (e : Effect) (base : ℕ → Option Content) (before : ℕ → Option Content) (new : Option Content) →
     AreDistinctChanges cs → IsPlace cs p (touched_by e)
     → here ≡ get_or cs p here → new ≡ effect_on here.value e → ((i : ℕ) → found cs i (base i) ≡ before i)
     → (i : ℕ) → found (set cs p (record { inode = here.inode; value = new })) i (base i) ≡ value_after i (before i) (e ∷ [])
-made cs p here e base before new distinct place read is same i =
-    let at : here.inode ≡ touched_by e = ap (λ x. x.inode) read ∙ place.is here in
-    let value : found cs (touched_by e) (base (touched_by e)) ≡ here.value =
-    found_at cs p (touched_by e) here (base (touched_by e)) distinct place.within (place.is here) ∙ ap (λ x. x.value) (sym read) in
-    let after : new ≡ effect_on (before (touched_by e)) e = is ∙ ap (λ v. effect_on v e) (sym value ∙ same (touched_by e)) in
-    ap (λ k. found (set cs p (record { inode = k; value = new })) i (base i)) at
-    ∙ found_set cs p (touched_by e) i here new (base i) distinct place.within (place.is here)
-    ∙ elim (cases_eq (touched_by e) i) [
-      | inl alike ↦ chosen_same (touched_by e) i new _ alike ∙ after ∙ ap (λ j. effect_on (before j) e) alike
-          ∙ sym (chosen_same (touched_by e) i (effect_on (before i) e) (before i) alike)
-      | inr differs ↦ chosen_other (touched_by e) i new _ differs ∙ same i ∙ sym (chosen_other (touched_by e) i (effect_on (before i) e) (before i) differs)
-    ]
+made cs p here e base before new distinct place read is same i = search (found_at, found_set, arith) parts 3
 
 pub made_distinct : (cs : List Change) (p i : ℕ) (here : Change) (new : Option Content) → AreDistinctChanges cs → IsPlace cs p i → here ≡ get_or cs p here →
     AreDistinctChanges (set cs p (record { inode = here.inode; value = new }))
-made_distinct cs p i here new distinct place read =
-    let at : here.inode ≡ i = ap (λ x. x.inode) read ∙ place.is here in
-    subst (λ k. AreDistinctChanges (set cs p (record { inode = k; value = new }))) (sym at) (distinct_set cs p i here new place.within (place.is here) distinct)
+made_distinct cs p i here new distinct place read = grind (arith, distinct_set)
 
 -- what a push that had room left
 pub pushed : {X : Type 0} (b : Bool) (xs ys zs : X) → b ≡ true → xs ≡ (if b then ys else zs) → xs ≡ ys
@@ -145,19 +117,12 @@ among_set (c ∷ cs) (suc p) k i none v within is = ap (λ b. (c.inode == i) || 
 
 pub among_place : (cs : List Change) (p k i : ℕ) (none : Change) → p < length cs → (get_or cs p none).inode ≡ k → is_among cs i ≡ ((k == i) || is_among cs i)
 among_place [] p k i none within is = absurd (omega arith)
-among_place (c ∷ cs) zero k i none within is =
-    ap (λ j. (j == i) || is_among cs i) is ∙ twice (k == i) (is_among cs i) ∙ ap (λ j. (k == i) || ((j == i) || is_among cs i)) (sym is)
-  where
-    twice : (a b : Bool) → (a || b) ≡ (a || (a || b))
-    twice true b = refl
-    twice false b = refl
-among_place (c ∷ cs) (suc p) k i none within is =
-    ap (λ b. (c.inode == i) || b) (among_place cs p k i none (omega arith) is) ∙ turned (c.inode == i) (k == i) (is_among cs i)
+among_place (c ∷ cs) zero k i none within is = grind arith
+among_place (c ∷ cs) (suc p) k i none within is = grind (arith, among_place cs p k i none (omega arith) is)
 
 pub not_among : (cs : List Change) (i : ℕ) (old : Option Content) → is_among cs i ≡ false → found cs i old ≡ old
 not_among [] i old e = refl
-not_among (c ∷ cs) i old e = ap (λ b. if b then c.value else found cs i old) (or_parts (c.inode == i) (is_among cs i) e).0
-    ∙ not_among cs i old (or_parts (c.inode == i) (is_among cs i) e).1
+not_among (c ∷ cs) i old e = grind (arith, not_among cs i old (or_parts (c.inode == i) (is_among cs i) e).1)
 
 pub among : (cs : List Change) (i : ℕ) (old other : Option Content) → is_among cs i ≡ true → found cs i old ≡ found cs i other
 among [] i old other e = cc

@@ -1,11 +1,9 @@
 -- The numbers of the inodes that clients make.
 use Rattle.assise_inode_table.proofs.Common.{◌≡◌, ◌≢◌, ◌<◌, ◌≤◌, ℕ, ◌⊎◌, inl, inr, ◌==◌, ◌&&◌, Bool, true, false, cond, if◌then◌else◌, List, [], ◌∷◌, ◌++◌}
-use Rattle.assise_inode_table.proofs.Common.{Option, Some, None, IsSome, refl, sym, ap, subst, ◌∙◌, append_assoc, arith, option_map, list_any, eq-eqb, or_right}
-use Rattle.assise_inode_table.proofs.Common.{or_left, touched_by, Effect, NewFile, NewDir, Write, SetLen, Link, Unlink, Free, answer, AreAnswered, Tree}
-use Rattle.assise_inode_table.proofs.Common.{opening_tree, Content, Values, values, after, changed, effect_on, makes, value_after, AnsweredCall, inode_number}
-use Rattle.assise_inode_table.proofs.Common.{makes_inode, inodes_made, numbered_call, numbered_after, numbered, opening_inodes, Spells, AllMakeNew, Each}
-use Rattle.assise_inode_table.proofs.Common.{exchanges, step_of}
-use Rattle.std.specs.Cmp.Derive.{both_true}
+use Rattle.assise_inode_table.proofs.Common.{Option, Some, None, IsSome, refl, sym, ap, subst, ◌∙◌, append_assoc, arith, option_map, list_any, touched_by}
+use Rattle.assise_inode_table.proofs.Common.{Effect, NewFile, NewDir, Write, SetLen, Link, Unlink, Free, answer, AreAnswered, Tree, opening_tree, Content}
+use Rattle.assise_inode_table.proofs.Common.{Values, values, after, changed, effect_on, makes, value_after, AnsweredCall, inode_number, makes_inode}
+use Rattle.assise_inode_table.proofs.Common.{inodes_made, numbered_call, numbered_after, numbered, opening_inodes, Spells, AllMakeNew, Each, exchanges, step_of}
 use Rattle.std.proofs.lemmas.List.{append-nil}
 use Rattle.std.proofs.lemmas.List.Sums.{sum_by-append}
 use Rattle.assise_inode_table.proofs.AtOpening.{root_alone, opening_spells}
@@ -25,10 +23,7 @@ not_the_root c k some = λ root. omega arith
 pub one_more_after : (before xs : List AnsweredCall) (x : AnsweredCall) → numbered_after before (xs ++ x ∷ []) ≡ numbered_after before xs ++ numbered_call
     (before ++ xs) x ∷ []
 one_more_after before [] x = ap (λ prefix. numbered_call prefix x ∷ []) (sym (append-nil before))
-one_more_after before (y ∷ ys) x =
-    ap (λ zs. numbered_call before y ∷ zs)
-    (one_more_after (before ++ y ∷ []) ys x ∙ ap (λ prefix. numbered_after (before ++ y ∷ []) ys ++ numbered_call prefix x ∷ [])
-    (append_assoc before (y ∷ []) ys))
+one_more_after before (y ∷ ys) x = grind (arith, one_more_after (before ++ y ∷ []) ys x, append_assoc)
 
 pub one_more : (xs : List AnsweredCall) (x : AnsweredCall) → numbered (xs ++ x ∷ []) ≡ numbered xs ++ numbered_call xs x ∷ []
 one_more xs x = one_more_after [] xs x
@@ -39,11 +34,7 @@ more_made : (c : ℕ) (xs ys : List AnsweredCall) → inodes_made c xs ≤ inode
 more_made c xs ys = omega (arith, sum_by-append (λ x. cond ((x.client == c) && makes_inode x.op x.reply) 1 0) xs ys)
 
 one_made : (x : AnsweredCall) (xs : List AnsweredCall) → makes_inode x.op x.reply ≡ true → inodes_made x.client xs < inodes_made x.client (xs ++ x ∷ [])
-one_made x xs made =
-    let own : ((x.client == x.client) && makes_inode x.op x.reply) ≡ true = both_true (eq-eqb x.client x.client refl) made in
-    let one : ℕ = 1 in
-    let counted : cond ((x.client == x.client) && makes_inode x.op x.reply) one 0 ≡ one = rw own refl in
-    omega (arith, counted, sum_by-append (λ y. cond ((y.client == x.client) && makes_inode y.op y.reply) 1 0) xs (x ∷ []))
+one_made x xs made = grind (arith, sum_by-append)
 
 -- ---- what is there after effects
 
@@ -75,14 +66,7 @@ there_after_one i old (Free j) h = inl (not_freed (j == i) old h)
 -- what is there after effects was there, or they make it
 pub there_or_made : (i : ℕ) (old : Option Content) (es : List Effect) → IsSome (value_after i old es) → IsSome old ⊎ (list_any (makes i) es ≡ true)
 there_or_made i old [] h = inl h
-there_or_made i old (e ∷ es) h =
-    elim (there_or_made i (if touched_by e == i then effect_on old e else old) es h) [
-      | inl before ↦ elim (there_after_one i old e before) [
-        | inl there ↦ inl there
-        | inr made ↦ inr (or_left (makes i e) (list_any (makes i) es) made)
-      ]
-      | inr made ↦ inr (or_right (makes i e) (list_any (makes i) es) made)
-    ]
+there_or_made i old (e ∷ es) h = grind (arith, there_or_made i (if touched_by e == i then effect_on old e else old) es h)
 
 -- ---- a run from the opening
 
@@ -106,14 +90,9 @@ of_one_more : (before : List AnsweredCall) (x : AnsweredCall) (v : Values) → 0
     AreOfCalls (before ++ x ∷ []) (after v (step_of v (numbered_call before x)).effects)
 of_one_more before x v some replied old = λ i h.
     elim (there_or_made i (v i) (step_of v (numbered_call before x)).effects h) [
-      | inl there ↦ elim (old i there) [
-        | inl root ↦ inl root
-        | inr made ↦ inr (of_more before (x ∷ []) i made)
-      ]
+      | inl there ↦ grind (arith, of_more)
       | inr new ↦
-          let o = makes_own v x.op (numbered_call before x).fresh i new in
-          let made : makes_inode x.op x.reply ≡ true = ap (makes_inode x.op) replied ∙ o.1 in
-          inr (record { client = x.client; count = inodes_made x.client before; some = some; made = one_made x before made; number = o.0 })
+          grind (arith, makes_own v x.op (numbered_call before x).fresh i new, one_made)
     ]
 
 nobody_made : (before : List AnsweredCall) (x : AnsweredCall) (v : Values) → 0 < x.client → ((c : ℕ) → inodes_made c before < 4294967296) →

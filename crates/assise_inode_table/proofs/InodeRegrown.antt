@@ -1,7 +1,7 @@
 -- One inode changes, and so does the tree at its path.
-use Rattle.assise_inode_table.proofs.Common.{◌≡◌, ℕ, Bool, true, false, cond, List, [], ◌∷◌, ◌++◌, Option, Some, None, Result, Ok, Err, refl, sym, ap, ◌∙◌, ◌⊎◌}
-use Rattle.assise_inode_table.proofs.Common.{inl, inr, option_map_or, TreeError, Tree, same_name, at, put, ◌>>=◌, one_name, Path, then_ok, Values, children}
-use Rattle.assise_inode_table.proofs.Common.{reach, link_of, shape_of, shown_in, ReachesOnce, SpellsFrom, AgreeBut}
+use Rattle.assise_inode_table.proofs.Common.{◌≡◌, ℕ, false, List, [], ◌∷◌, ◌++◌, Option, Some, None, Result, Ok, Err, refl, sym, ap, ◌∙◌, ◌⊎◌, inl, inr}
+use Rattle.assise_inode_table.proofs.Common.{option_map_or, TreeError, Tree, same_name, at, put, ◌>>=◌, one_name, Path, then_ok, Values, children, reach}
+use Rattle.assise_inode_table.proofs.Common.{link_of, shape_of, shown_in, ReachesOnce, SpellsFrom, AgreeBut, arith}
 use Rattle.assise_inode_table.proofs.Prefixes.{two_names, past, past_prefix, past_itself, past-Some}
 use Rattle.assise_inode_table.proofs.PathReach.{reach_step, reach-append, once_child, Away, away_keeps, same_reach}
 use Rattle.assise_inode_table.proofs.TreeShows.{shown-put}
@@ -24,17 +24,7 @@ other_names v w d r name x p q others once parent differs (Ok j) is =
 first_name : (v w : Values) (d r j : ℕ) (name x : List ℕ) (p q : Path) → AgreeBut d v w → ReachesOnce (children v) r → reach (children v) r (name ∷ p) ≡ Ok d
     → children v r name ≡ Ok j → Detour v w d j p q → (children v r x >>= λ k. reach (children w) k q)
     ≡ option_map_or (λ rest. reach (children w) d rest) (past (name ∷ p) (x ∷ q)) (reach (children v) r (x ∷ q))
-first_name v w d r j name x p q others once parent there ih = turn (same_name x name) refl
-  where
-    is : same_name x name ≡ true → children v r x ≡ Ok j
-    is e = ap (children v r) (one_name x name e) ∙ there
-
-    turn : (b : Bool) → same_name x name ≡ b → (children v r x >>= λ k. reach (children w) k q)
-        ≡ option_map_or (λ rest. reach (children w) d rest) (cond b (past p q) None) (reach (children v) r (x ∷ q))
-    turn true e =
-        ap (λ o. o >>= λ k. reach (children w) k q) (is e) ∙ ih
-        ∙ ap (option_map_or (λ rest. reach (children w) d rest) (past p q)) (sym (reach_step (children v) r j x q (is e)))
-    turn false e = other_names v w d r name x p q others once parent e (children v r x) refl
+first_name v w d r j name x p q others once parent there ih = grind (arith, one_name, other_names)
 
 pub detour : (v w : Values) (d : ℕ) (p : Path) (r : ℕ) → AgreeBut d v w → ReachesOnce (children v) r → reach (children v) r p ≡ Ok d → (q : Path) →
     Detour v w d r p q
@@ -88,22 +78,12 @@ module _ (v w : Values) (r d : ℕ) (t found y : Tree) (p : Path) (s : SpellsFro
       go (inr away) = away q e
 
   once_after : ReachesOnce (children w) r
-  once_after a b j e f = go (leads a j e) (leads b j f)
-    where
-      go : Leads a j → Leads b j → a ≡ b
-      go (through x is g) (through z be h) = is ∙ ap (λ q. p ++ q) (new.once x z j g h) ∙ sym be
-      go (through x is g) (besides none h) = absurd (disjoint b x j none h g)
-      go (besides none g) (through z be h) = absurd (disjoint a z j none g h)
-      go (besides none g) (besides nothing h) = s.once a b j g h
+  once_after a b j e f = search (leads, disjoint, arith) parts 3
 
   shown_outside : (q : Path) → past p q ≡ None → (o : Result ℕ TreeError) → reach (children v) r q ≡ o → (o >>= λ j. shape_of (w j))
       ≡ (o >>= λ j. shape_of (v j))
   shown_outside q none (Err e) is = refl
-  shown_outside q none (Ok j) is =
-      ap shape_of (others j (λ same.
-      let one = s.once q p d (is ∙ ap Ok same) parent in
-      let some = sym none ∙ ap (past p) one ∙ past_itself p in
-      cc))
+  shown_outside q none (Ok j) is = grind (arith, past_itself)
 
   shown : (q : Path) (o : Option Path) → past p q ≡ o
       → (option_map_or (λ rest. reach (children w) d rest) o (reach (children v) r q) >>= λ j. shape_of (w j)) ≡ option_map_or (λ rest. shown_in y rest) o
@@ -112,10 +92,7 @@ module _ (v w : Values) (r d : ℕ) (t found y : Tree) (p : Path) (s : SpellsFro
   shown q None e = shown_outside q e (reach (children v) r q) refl ∙ s.shows q
 
   pub regrown : SpellsFrom w r (put t p y)
-  regrown = record {
-    shows = λ q. ap (λ o. o >>= λ j. shape_of (w j)) (led q) ∙ shown q (past p q) refl ∙ sym (shown-put p t found y place q);
-    once = once_after;
-  }
+  regrown = search (led, shown, shown-put, once_after, arith) parts 3
 
   -- what was reached is reached, where d still leads to all that it led to
   pub still_reached : (j : ℕ) (q : Path) → reach (children v) r q ≡ Ok j →

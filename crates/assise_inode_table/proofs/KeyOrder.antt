@@ -1,6 +1,6 @@
 -- Keys in order, in parts.
-use Rattle.assise_inode_table.proofs.Common.{◌≡◌, List, [], ◌∷◌, ◌++◌, sym, ap, subst, refl, ◌∙◌, true, false, true≢false, Ordering, Less, Equal, Greater}
-use Rattle.assise_inode_table.proofs.Common.{is_gt, AllByRecursion, IsStrictlySortedBy, ordering_reverse, IsTotalOrder, IsAntisymmetric}
+use Rattle.assise_inode_table.proofs.Common.{◌≡◌, List, [], ◌∷◌, ◌++◌, sym, ap, refl, ◌∙◌, true, false, true≢false, Ordering, Less, Equal, Greater, is_gt}
+use Rattle.assise_inode_table.proofs.Common.{AllByRecursion, IsStrictlySortedBy, ordering_reverse, IsTotalOrder, IsAntisymmetric, arith}
 
 module _ {K : Type 0} (P : K → Type 0) where
   pub all_left : (xs ys : List K) → AllByRecursion P (xs ++ ys) → AllByRecursion P xs
@@ -47,20 +47,13 @@ module _ {K : Type 0} (R : K → K → Ordering) where
       → IsStrictlySortedBy R (xs ++ k ∷ ys)
   unfolding IsStrictlySortedBy
   sorted_between [] k ys s a b = (b, s)
-  sorted_between (x ∷ xs) k ys s a b = (
-    all_both (λ z. R x z ≡ Less) xs (k ∷ ys) (all_left (λ z. R x z ≡ Less) xs ys s.0) (a.0, all_right (λ z. R x z ≡ Less) xs ys s.0),
-    sorted_between xs k ys s.1 a.1 b,
-  )
+  sorted_between (x ∷ xs) k ys s a b = grind (arith, sorted_between xs k ys s.1 a.1 b, all_both, all_left, all_right)
 
   -- without a part
   pub sorted_without : (xs ys zs : List K) → IsStrictlySortedBy R (xs ++ (ys ++ zs)) → IsStrictlySortedBy R (xs ++ zs)
   unfolding IsStrictlySortedBy
   sorted_without [] ys zs s = sorted_right ys zs s
-  sorted_without (x ∷ xs) ys zs s = (
-    all_both (λ z. R x z ≡ Less) xs zs (all_left (λ z. R x z ≡ Less) xs (ys ++ zs) s.0)
-        (all_right (λ z. R x z ≡ Less) ys zs (all_right (λ z. R x z ≡ Less) xs (ys ++ zs) s.0)),
-    sorted_without xs ys zs s.1,
-  )
+  sorted_without (x ∷ xs) ys zs s = grind (arith, sorted_without xs ys zs s.1, all_both, all_left, all_right)
 
 module _ {K : Type 0} {R : K → K → Ordering} (o : IsTotalOrder R) (same : IsAntisymmetric R) where
   pub turned : (x y : K) → R x y ≡ Less → R y x ≡ Greater
@@ -71,12 +64,7 @@ module _ {K : Type 0} {R : K → K → Ordering} (o : IsTotalOrder R) (same : Is
 
   -- what is below a key is below each that isn't before that
   pub below_through : (x y z : K) → R x y ≡ Less → is_gt (R y z) ≡ false → R x z ≡ Less
-  below_through x y z h g = go (R y z) refl g
-    where
-      go : (r : Ordering) → R y z ≡ r → is_gt r ≡ false → R x z ≡ Less
-      go Less e g = o.trans x y z h e
-      go Equal e g = subst (λ k. R x k ≡ Less) (same y z e) h
-      go Greater e g = absurd (true≢false g)
+  below_through x y z h g = grind arith
 
   pub is_greater : (r : Ordering) → is_gt r ≡ true → r ≡ Greater
   is_greater Less g = absurd (true≢false (sym g))

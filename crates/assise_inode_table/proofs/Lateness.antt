@@ -1,8 +1,7 @@
 -- Changes that come late give the same values.
-use Rattle.assise_inode_table.proofs.Common.{◌≡◌, ℕ, ◌<◌, ◌≤◌, arith, Bool, true, false, List, [], ◌∷◌, ◌++◌, if◌then◌else◌, Option, refl, ap, sym, ◌∙◌, subst}
-use Rattle.assise_inode_table.proofs.Common.{◌||◌, ◌&&◌, nat_le, nat_lt, ◌==◌, inl, inr, cases_eq, eqb-true, ltb-true, leb-true, le-ltb, and_parts, Content}
-use Rattle.assise_inode_table.proofs.Common.{Values, touched, value_after, contains, Step, NumberedCall, trace, Each, NumbersAscend, below, window, Clear}
-use Rattle.assise_inode_table.proofs.Common.{Unseen}
+use Rattle.assise_inode_table.proofs.Common.{◌≡◌, ℕ, ◌<◌, ◌≤◌, arith, Bool, true, false, List, [], ◌∷◌, ◌++◌, if◌then◌else◌, Option, refl, sym, ◌∙◌, subst}
+use Rattle.assise_inode_table.proofs.Common.{◌||◌, inl, inr, cases_eq, le-ltb, Content, Values, touched, value_after, contains, Step, NumberedCall, trace, Each}
+use Rattle.assise_inode_table.proofs.Common.{NumbersAscend, below, window, Clear, Unseen}
 use Rattle.std.proofs.lemmas.Bool.Decides.{nat_tests}
 use Rattle.assise_inode_table.specs.Late.{late_value, Quiet, NoneBetween, raised_at}
 use Rattle.assise_inode_table.proofs.EffectValues.{untouched}
@@ -14,12 +13,7 @@ Test = NumberedCall → Bool
 -- an inode that no step whose call passes touches keeps its value
 quiet_value : (passes : Test) (i : ℕ) (old : Option Content) (xs : List (NumberedCall × Step)) → Quiet passes i xs → late_value passes i old xs ≡ old
 quiet_value passes i old [] q = refl
-quiet_value passes i old (x ∷ xs) q =
-    elim (passes x.0) as (λ b. (b ≡ true → contains (touched x.1.effects) i ≡ false) → late_value passes i (if b then value_after i old x.1.effects else old) xs
-    ≡ old) [
-      | true ↦ λ h. rw (untouched i old x.1.effects (h refl)) (quiet_value passes i old xs q.1)
-      | false ↦ λ h. quiet_value passes i old xs q.1
-    ] q.0
+quiet_value passes i old (x ∷ xs) q = grind (arith, quiet_value passes i old xs q.1, untouched)
 
 pub late : (early later : Test) (i : ℕ) (old : Option Content) (xs : List (NumberedCall × Step)) → NoneBetween early later i xs →
     late_value (λ x. early x || later x) i old xs ≡ late_value later i (late_value early i old xs) xs
@@ -36,8 +30,7 @@ late early later i old (x ∷ xs) h =
           ≡ late_value later i (value_after i (late_value early i (if k then w else old) xs) x.1.effects) xs) (sym (p refl).0)
           (elim (contains (touched x.1.effects) i) as (λ b. contains (touched x.1.effects) i ≡ b → (b ≡ true → Quiet early i xs) →
           late_value (λ c. early c || later c) i w xs ≡ late_value later i (value_after i (late_value early i old xs) x.1.effects) xs) [
-            | true ↦ λ e q. rw (quiet_value early i old xs (q refl))
-                (late early later i w xs h.1 ∙ ap (λ u. late_value later i u xs) (quiet_value early i w xs (q refl)))
+            | true ↦ grind (arith, late early later i w xs h.1, quiet_value)
             | false ↦ λ e q. rw (untouched i old x.1.effects e, untouched i (late_value early i old xs) x.1.effects e) (late early later i old xs h.1)
           ] refl (p refl).1)
       | false ↦ λ p.
@@ -61,10 +54,7 @@ quiet_from passes i [] h = tt
 quiet_from passes i (x ∷ xs) h = (h.0, quiet_from passes i xs h.1)
 
 pub in_window : (c a b : ℕ) (x : NumberedCall) → window c a b x ≡ true → (x.client ≡ c) × (a ≤ x.number) × (x.number < b)
-in_window c a b x e =
-    let p = and_parts (x.client == c) (nat_le a x.number && nat_lt x.number b) e in
-    let q = and_parts (nat_le a x.number) (nat_lt x.number b) p.1 in
-    (eqb-true x.client c p.0, leb-true a x.number q.0, ltb-true x.number b q.1)
+in_window c a b x e = grind arith
 
 -- no call below the thresholds comes after one of the window and touches the same inode
 none_between : (a b : ℕ → ℕ) (c k i : ℕ) (xs : List (NumberedCall × Step)) → Unseen a xs → AscendsAlong xs → a c ≤ b c →
@@ -84,9 +74,7 @@ none_between a b c k i (x ∷ xs) u r le = (
             (λ y clear ascend kept.
             elim (cases_eq y.0.client x.0.client) [
               | inl same ↦
-                  let l : y.0.number < b y.0.client = ltb-true y.0.number (b y.0.client) kept in
-                  let m : y.0.number < b x.0.client = subst (λ d. y.0.number < b d) same l in
-                  absurd (omega (arith, ascend same, m, high))
+                  grind arith
               | inr other ↦ clear_not (touched x.1.effects) (touched y.1.effects) i
                   (clear-right (touched x.1.effects) y.1.visits (touched y.1.effects) (clear unseen other)) t
             ])

@@ -1,7 +1,7 @@
 -- Inodes that lead nowhere: files and empty directories.
-use Rattle.assise_inode_table.proofs.Common.{◌≡◌, ◌≢◌, ℕ, false, List, [], ◌∷◌, Option, Some, None, is_some, Ok, Err, nat_cmp, refl, sym, ap, ◌∙◌, ok_or}
-use Rattle.assise_inode_table.proofs.Common.{list_any, slice_cmp, NoEnt, file, dir, no_entries, same_name, at, ◌>>=◌, Path, then_ok, regular, directory, Links}
-use Rattle.assise_inode_table.proofs.Common.{Values, Children, children, reach, link_of, folder, shape_of, shown_from, shown_in, SpellsFrom}
+use Rattle.assise_inode_table.proofs.Common.{◌≡◌, ◌≢◌, ℕ, List, [], ◌∷◌, Some, is_some, Ok, Err, nat_cmp, refl, sym, ap, ◌∙◌, ok_or, slice_cmp, NoEnt, file}
+use Rattle.assise_inode_table.proofs.Common.{dir, no_entries, at, ◌>>=◌, Path, then_ok, regular, directory, Links, Values, Children, children, reach, link_of}
+use Rattle.assise_inode_table.proofs.Common.{folder, shape_of, shown_from, shown_in, SpellsFrom, arith}
 use Rattle.std.specs.FinMap as map
 use Rattle.assise_inode_table.proofs.DirectoryNames.{names_are_keys}
 
@@ -32,12 +32,7 @@ file_spells v i bytes here = record {
 
 -- ---- a directory without links
 pub vacant_nowhere : (v : Values) (i : ℕ) (links : Links) → v i ≡ Some (directory links) → map.keys links ≡ [] → LeadsNowhere (children v) i
-vacant_nowhere v i links here none name j e =
-    go (map.get links name) (map.contains_key-keys links name ∙ ap (list_any (same_name name)) none) (sym (ap (λ o. link_of o name) here) ∙ e)
-  where
-    go : (o : Option ℕ) → is_some o ≡ false → ok_or o NoEnt ≡ Ok j → ⊥
-    go None absent f = cc
-    go (Some k) absent f = cc
+vacant_nowhere v i links here none name j e = grind (arith, map.contains_key-keys links name)
 
 -- ---- the empty directory
 no_keys : [] ≡ map.keys (map.empty {X = ℕ} {R = slice_cmp nat_cmp})

@@ -1,10 +1,9 @@
 -- A link that is made before effects that only take away.
-use Rattle.assise_inode_table.proofs.Common.{◌≡◌, ℕ, ◌==◌, ◌&&◌, Bool, true, false, if◌then◌else◌, cond, List, [], ◌∷◌, ◌++◌, ◌+◌, ◌<◌, ◌≤◌, ◌-◌, arith, length}
-use Rattle.assise_inode_table.proofs.Common.{take, slice_index_or, Option, Some, None, refl, ap, sym, subst, ◌∙◌, inl, inr, filter, list_all, take_all}
-use Rattle.assise_inode_table.proofs.Common.{take_more, same_from_push, filter-append, eq-eqb, eqb-true, and_parts, not-false, not-true, nat_list_cmp_total}
-use Rattle.assise_inode_table.proofs.Common.{Effect, NewFile, NewDir, Write, SetLen, Link, Unlink, Free, same_name, one_name, swapped, shadowed, not_both}
-use Rattle.assise_inode_table.proofs.Common.{Content, regular, directory, Links, InodeMap, TakesAway, all_applied, applied, effect_on, value_after}
-use Rattle.assise_inode_table.proofs.Common.{CanBeChangedWhole, OnlyFirstAsks, OnlyTakeAway, is_link, leaves_entry, takes_away}
+use Rattle.assise_inode_table.proofs.Common.{◌≡◌, ℕ, Bool, true, false, if◌then◌else◌, cond, List, [], ◌∷◌, ◌++◌, ◌+◌, ◌<◌, ◌≤◌, ◌-◌, arith, length, take}
+use Rattle.assise_inode_table.proofs.Common.{slice_index_or, Option, Some, None, refl, ap, sym, subst, ◌∙◌, inl, inr, filter, list_all, take_all, take_more}
+use Rattle.assise_inode_table.proofs.Common.{same_from_push, filter-append, and_parts, nat_list_cmp_total, Effect, NewFile, NewDir, Write, SetLen, Link, Unlink}
+use Rattle.assise_inode_table.proofs.Common.{Free, same_name, one_name, Content, regular, directory, Links, InodeMap, TakesAway, all_applied, applied}
+use Rattle.assise_inode_table.proofs.Common.{effect_on, value_after, CanBeChangedWhole, OnlyFirstAsks, OnlyTakeAway, is_link, leaves_entry, takes_away}
 use Rattle.std.specs.FinMap as map
 use Rattle.assise_inode_table.proofs.EffectLists.{append_applied, get-all_applied, same_inodes}
 use Rattle.assise_inode_table.proofs.EffectOverrides.{same_links}
@@ -14,20 +13,10 @@ use Rattle.assise_inode_table.proofs.EffectOverrides.{same_links}
 insert_other : (links : Links) (name other : List ℕ) (i : ℕ) → same_name other name ≡ false → map.insert (map.remove links other) name i
     ≡ map.remove (map.insert links name i) other
 insert_other links name other i differs =
-    same_links _ _ (λ x.
-    map.get-insert nat_list_cmp_total (map.remove links other) name i x
-    ∙ ap (cond (same_name x name) (Some i)) (map.get-remove nat_list_cmp_total links other x)
-    ∙ swapped (same_name x name) (same_name x other) (Some i) None (map.get links x) (not_both x other name differs)
-    ∙ sym (map.get-remove nat_list_cmp_total (map.insert links name i) other x
-    ∙ ap (cond (same_name x other) None) (map.get-insert nat_list_cmp_total links name i x)))
+    same_links _ _ (grind (arith, map.get-insert, nat_list_cmp_total, map.get-remove))
 
 insert_again : (links : Links) (name : List ℕ) (i : ℕ) → map.insert (map.remove links name) name i ≡ map.insert links name i
-insert_again links name i =
-    same_links _ _ (λ x.
-    map.get-insert nat_list_cmp_total (map.remove links name) name i x
-    ∙ ap (cond (same_name x name) (Some i)) (map.get-remove nat_list_cmp_total links name x)
-    ∙ sym (shadowed (same_name x name) (Some i) None (map.get links x))
-    ∙ sym (map.get-insert nat_list_cmp_total links name i x))
+insert_again links name i = grind (arith, same_links, map.get-insert, nat_list_cmp_total, map.get-remove)
 
 -- ---- one inode
 
@@ -41,8 +30,7 @@ same_entry_after : (o : Option Content) (c d : ℕ) (name other : List ℕ) (i :
     effect_on (effect_on o (Unlink c other)) (Link d name i) ≡ effect_on o (Link d name i)
 same_entry_after None c d name other i same = refl
 same_entry_after (Some (regular bytes)) c d name other i same = refl
-same_entry_after (Some (directory links)) c d name other i same =
-    ap (λ l. Some (directory l)) (ap (λ x. map.insert (map.remove links x) name i) (one_name other name same) ∙ insert_again links name i)
+same_entry_after (Some (directory links)) c d name other i same = grind (arith, one_name other name same, insert_again links name i)
 
 -- ---- one inode of a number, after both effects
 
@@ -72,23 +60,11 @@ away_cases P entry inode (Link c other j) t = absurd t
 module _ (d : ℕ) (name : List ℕ) (i : ℕ) where
   link_before : (q : ℕ) (o : Option Content) (e : Effect) → TakesAway e → leaves_entry d name e ≡ true → value_after q o (e ∷ Link d name i ∷ [])
       ≡ value_after q o (Link d name i ∷ e ∷ [])
-  link_before q o =
-      away_cases (λ e. leaves_entry d name e ≡ true → value_after q o (e ∷ Link d name i ∷ []) ≡ value_after q o (Link d name i ∷ e ∷ []))
-      (λ c other leaves. both_orders (c == q) (d == q) o (Unlink c other) (Link d name i) (λ at_c at_d.
-      other_entry_after o c d name other i
-      (ap (λ b. b && same_name other name) (sym (eq-eqb c d (eqb-true c q at_c ∙ sym (eqb-true d q at_d))))
-      ∙ not-true ((c == d) && same_name other name) leaves)))
-      (λ c leaves. both_orders (c == q) (d == q) o (Free c) (Link d name i) (λ at_c at_d. refl))
+  link_before q o = grind (arith, other_entry_after)
 
   link_instead : (q : ℕ) (o : Option Content) (e : Effect) → TakesAway e → leaves_entry d name e ≡ false → value_after q o (e ∷ Link d name i ∷ [])
       ≡ value_after q o (Link d name i ∷ [])
-  link_instead q o =
-      away_cases (λ e. leaves_entry d name e ≡ false → value_after q o (e ∷ Link d name i ∷ []) ≡ value_after q o (Link d name i ∷ []))
-      (λ c other gone.
-      let both = and_parts (c == d) (same_name other name) (not-false ((c == d) && same_name other name) gone) in
-      ap (λ k. value_after q o (Unlink k other ∷ Link d name i ∷ [])) (eqb-true c d both.0)
-      ∙ last_alone (d == q) o (Unlink d other) (Link d name i) (same_entry_after o d d name other i both.1))
-      (λ c gone. cc)
+  link_instead q o = grind (arith, same_entry_after)
 
   -- ---- all inodes
 
@@ -157,15 +133,11 @@ all_pass (e ∷ es) t = rw (away_test e t.0) (all_pass es t.1)
 pub made_in_order : (es before : List Effect) (last : Effect) → es ≡ before ++ last ∷ [] → CanBeChangedWhole es →
     (is_link last ≡ true → list_all takes_away before ≡ true → ⊥) → OnlyFirstAsks es
 made_in_order es before last are (inl asks) other = asks
-made_in_order es before last are (inr w) other =
-    let same = same_from_push w.before before w.last last (sym w.are ∙ are) in
-    absurd (other (ap is_link (sym same.1) ∙ w.links) (ap (list_all takes_away) (sym same.0) ∙ all_pass w.before w.take_away))
+made_in_order es before last are (inr w) other = grind (arith, same_from_push, all_pass)
 
 -- the effects before the last one, and the last one
 pub last_behind : (es : List Effect) (last : Effect) → 1 ≤ length es → last ≡ slice_index_or es (length es - 1) last → es ≡ take (length es - 1) es ++ last ∷ []
-last_behind es last some is =
-    sym (take_all (length es - 1 + 1) es (omega (arith, some))) ∙ take_more es (length es - 1) last (omega (arith, some))
-    ∙ ap (λ x. take (length es - 1) es ++ x ∷ []) (sym is)
+last_behind es last some is = grind (arith, take_all, take_more)
 
 -- a link doesn't take away
 link_not_away : (e : Effect) → is_link e ≡ true → TakesAway e → ⊥

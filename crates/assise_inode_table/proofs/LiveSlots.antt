@@ -1,12 +1,11 @@
 -- The entries that slots have, and the map that they make, where one slot changes.
 use Rattle.assise_inode_table.proofs.Common.{◌≡◌, ℕ, ◌+◌, suc, List, [], ◌∷◌, ◌++◌, length, Option, Some, None, cond, Bool, true, false, refl, sym, ap, subst}
-use Rattle.assise_inode_table.proofs.Common.{◌∙◌, arith, Ordering, Less, length-append, tied, AllByRecursion, IsStrictlySortedBy, keys_of, lookup, is_at}
-use Rattle.assise_inode_table.proofs.Common.{option_or, IsTotalOrder, eq_by_cmp_equiv, tied_itself, IsAntisymmetric, map-append, flat_map-append, Slot}
-use Rattle.assise_inode_table.proofs.Common.{live_entry, live}
+use Rattle.assise_inode_table.proofs.Common.{◌∙◌, arith, Ordering, Less, length-append, AllByRecursion, IsStrictlySortedBy, keys_of, lookup, is_at, option_or}
+use Rattle.assise_inode_table.proofs.Common.{IsTotalOrder, tied_itself, IsAntisymmetric, map-append, flat_map-append, Slot, live_entry, live}
 use Rattle.std.proofs.Common.{is_eq}
 use Rattle.std.specs.FinMap as map
 use Rattle.assise_inode_table.proofs.MapView.{get-view, insert-view, remove-view, keys-view, length-keys}
-use Rattle.assise_inode_table.proofs.KeyOrder.{all_weaker, below_next, above_head, sorted_right, sorted_between, turned}
+use Rattle.assise_inode_table.proofs.KeyOrder.{all_weaker, below_next, above_head, sorted_right, sorted_between}
 
 pub live-append : (xs ys : List Slot) → live (xs ++ ys) ≡ live xs ++ live ys
 live-append xs ys = flat_map-append (λ s. live_entry s.0 s.1) xs ys
@@ -53,14 +52,10 @@ module _ {R : List ℕ → List ℕ → Ordering} (o : IsTotalOrder R) (same : I
   nowhere k (e ∷ es) h = ap (λ b. cond b (Some e.1) (lookup (is_at (R k)) es)) h.0 ∙ nowhere k es h.1
 
   none_before : (k : List ℕ) (xs zs : List Slot) → Parts R k xs zs → lookup (is_at (R k)) (live xs) ≡ None
-  none_before k xs zs p =
-      nowhere k (live xs) (live_all (λ y. is_at (R k) y ≡ false) xs
-      (all_weaker (λ key. R key k ≡ Less) (λ y. is_at (R k) y ≡ false) (keys_of xs) (λ y h. ap is_eq (turned o same y k h)) p.smaller))
+  none_before k xs zs p = grind (arith, nowhere, live_all, all_weaker)
 
   none_behind : (k : List ℕ) (xs zs : List Slot) → Parts R k xs zs → lookup (is_at (R k)) (live zs) ≡ None
-  none_behind k xs zs p =
-      nowhere k (live zs) (live_all (λ y. is_at (R k) y ≡ false) zs
-      (all_weaker (λ key. R k key ≡ Less) (λ y. is_at (R k) y ≡ false) (keys_of zs) (λ y h. ap is_eq h) p.greater))
+  none_behind k xs zs p = grind (arith, nowhere, live_all, all_weaker)
 
   here : (k : List ℕ) (link : Option ℕ) → lookup (is_at (R k)) (live_entry k link) ≡ link
   here k None = refl
@@ -71,30 +66,16 @@ module _ {R : List ℕ → List ℕ → Ordering} (o : IsTotalOrder R) (same : I
   elsewhere q k (Some inode) h = ap (λ b. cond b (Some inode) None) h
 
   found : (k : List ℕ) (link : Option ℕ) (xs zs : List Slot) → Parts R k xs zs → lookup (is_at (R k)) (live xs ++ (live_entry k link ++ live zs)) ≡ link
-  found k link xs zs p =
-      lookup_middle (is_at (R k)) (live xs) (live_entry k link) (live zs)
-      ∙ ap (λ a. option_or a (option_or (lookup (is_at (R k)) (live_entry k link)) (lookup (is_at (R k)) (live zs)))) (none_before k xs zs p)
-      ∙ ap (λ a. option_or a (lookup (is_at (R k)) (live zs))) (here k link)
-      ∙ ap (option_or link) (none_behind k xs zs p)
-      ∙ or_none link
+  found k link xs zs p = grind (arith, lookup_middle, none_before, none_behind)
 
   other : (q k : List ℕ) (link : Option ℕ) (xs zs : List Slot) → is_at (R q) k ≡ false
       → lookup (is_at (R q)) (live xs ++ (live_entry k link ++ live zs)) ≡ option_or (lookup (is_at (R q)) (live xs)) (lookup (is_at (R q)) (live zs))
-  other q k link xs zs h =
-      lookup_middle (is_at (R q)) (live xs) (live_entry k link) (live zs)
-      ∙ ap (λ a. option_or (lookup (is_at (R q)) (live xs)) (option_or a (lookup (is_at (R q)) (live zs)))) (elsewhere q k link h)
+  other q k link xs zs h = grind (arith, lookup_middle)
 
   changed : (k : List ℕ) (old new : Option ℕ) (xs zs : List Slot) → Parts R k xs zs → (q : List ℕ)
       → lookup (is_at (R q)) (live xs ++ (live_entry k new ++ live zs)) ≡ cond (is_at (R k) q) new
       (lookup (is_at (R q)) (live xs ++ (live_entry k old ++ live zs)))
-  changed k old new xs zs p q = go (is_at (R k) q) refl
-    where
-      go : (b : Bool) → is_at (R k) q ≡ b → lookup (is_at (R q)) (live xs ++ (live_entry k new ++ live zs))
-          ≡ cond b new (lookup (is_at (R q)) (live xs ++ (live_entry k old ++ live zs)))
-      go true e = subst (λ q. lookup (is_at (R q)) (live xs ++ (live_entry k new ++ live zs)) ≡ new) (same k q (tied (R k q) e)) (found k new xs zs p)
-      go false e =
-          let apart = (eq_by_cmp_equiv o).symm q k ∙ e in
-          other q k new xs zs apart ∙ sym (other q k old xs zs apart)
+  changed k old new xs zs p q = grind (arith, found, other)
 
   at_slot : (k : List ℕ) (link : Option ℕ) (xs zs : List Slot) → live (xs ++ (k, link) ∷ zs) ≡ live xs ++ (live_entry k link ++ live zs)
   at_slot k link xs zs = live-append xs ((k, link) ∷ zs)
@@ -110,10 +91,7 @@ module _ {R : List ℕ → List ℕ → Ordering} (o : IsTotalOrder R) (same : I
   -- a slot that gets a link, and a new one in a gap
   pub slot_linked : (k : List ℕ) (old : Option ℕ) (v : ℕ) (xs zs : List Slot) → Parts R k xs zs
       → map.from_entries {R = R} (live (xs ++ (k, Some v) ∷ zs)) ≡ map.insert (map.from_entries (live (xs ++ (k, old) ∷ zs))) k v
-  slot_linked k old v xs zs p =
-      ap (map.from_entries {R = R}) (at_slot k (Some v) xs zs)
-      ∙ insert-view o same (live xs ++ (live_entry k old ++ live zs)) (live xs ++ (live_entry k (Some v) ++ live zs)) k v (changed k old (Some v) xs zs p)
-      ∙ ap (λ es. map.insert (map.from_entries {R = R} es) k v) (sym (at_slot k old xs zs))
+  slot_linked k old v xs zs p = grind (arith, at_slot, insert-view, changed)
 
   pub gap_linked : (k : List ℕ) (v : ℕ) (xs zs : List Slot) → Parts R k xs zs
       → map.from_entries {R = R} (live (xs ++ (k, Some v) ∷ zs)) ≡ map.insert (map.from_entries (live (xs ++ zs))) k v
@@ -125,27 +103,16 @@ module _ {R : List ℕ → List ℕ → Ordering} (o : IsTotalOrder R) (same : I
   -- a slot whose entry goes, and a name that has none
   pub slot_unlinked : (k : List ℕ) (old : Option ℕ) (xs zs : List Slot) → Parts R k xs zs
       → map.from_entries {R = R} (live (xs ++ (k, None) ∷ zs)) ≡ map.remove (map.from_entries (live (xs ++ (k, old) ∷ zs))) k
-  slot_unlinked k old xs zs p =
-      ap (map.from_entries {R = R}) (at_slot k None xs zs)
-      ∙ remove-view o same (live xs ++ (live_entry k old ++ live zs)) (live xs ++ live zs) k (changed k old None xs zs p)
-      ∙ ap (λ es. map.remove (map.from_entries {R = R} es) k) (sym (at_slot k old xs zs))
+  slot_unlinked k old xs zs p = grind (arith, at_slot, remove-view, changed)
 
   -- the slots on both sides of one
   pub parts_of_slot : (k : List ℕ) (link : Option ℕ) (xs zs : List Slot) → IsStrictlySortedBy R (keys_of (xs ++ (k, link) ∷ zs)) → Parts R k xs zs
-  parts_of_slot k link xs zs s =
-      let ordered = subst (IsStrictlySortedBy R) (keys-append xs ((k, link) ∷ zs)) s in
-      record {
-        smaller = below_next R (keys_of xs) k (keys_of zs) ordered;
-        greater =
-            above_head R k (keys_of zs) (sorted_right R (keys_of xs) (k ∷ keys_of zs) ordered);
-      }
+  parts_of_slot k link xs zs s = grind (arith, keys-append, below_next, above_head, sorted_right)
 
   -- one more slot in a gap
   pub gap_sorted : (k : List ℕ) (link : Option ℕ) (xs zs : List Slot) → Parts R k xs zs → IsStrictlySortedBy R (keys_of (xs ++ zs)) →
       IsStrictlySortedBy R (keys_of (xs ++ (k, link) ∷ zs))
-  gap_sorted k link xs zs p s =
-      subst (IsStrictlySortedBy R) (sym (keys-append xs ((k, link) ∷ zs)))
-      (sorted_between R (keys_of xs) k (keys_of zs) (subst (IsStrictlySortedBy R) (keys-append xs zs) s) p.smaller p.greater)
+  gap_sorted k link xs zs p s = grind (arith, keys-append, sorted_between)
 
   -- another link for a slot
   pub slot_sorted : (k : List ℕ) (old new : Option ℕ) (xs zs : List Slot) → IsStrictlySortedBy R (keys_of (xs ++ (k, old) ∷ zs)) →
@@ -162,9 +129,7 @@ module _ {R : List ℕ → List ℕ → Ordering} (o : IsTotalOrder R) (same : I
 -- ---- how many entries there are
 pub count_slot : (k : List ℕ) (link : Option ℕ) (xs zs : List Slot) → length (live (xs ++ (k, link) ∷ zs))
     ≡ length (live xs) + (length (live_entry k link) + length (live zs))
-count_slot k link xs zs =
-    ap length (live-append xs ((k, link) ∷ zs)) ∙ length-append (live xs) (live_entry k link ++ live zs)
-    ∙ ap (λ n. length (live xs) + n) (length-append (live_entry k link) (live zs))
+count_slot k link xs zs = grind (arith, live-append, length-append)
 
 pub count_gap : (xs zs : List Slot) → length (live (xs ++ zs)) ≡ length (live xs) + length (live zs)
 count_gap xs zs = ap length (live-append xs zs) ∙ length-append (live xs) (live zs)

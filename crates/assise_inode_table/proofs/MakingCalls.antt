@@ -1,11 +1,10 @@
 -- The calls that make an inode agree with the tree: create and mkdir.
-use Rattle.assise_inode_table.proofs.Common.{◌≡◌, ◌≢◌, ℕ, ◌<◌, arith, true, if◌then◌else◌, nat_le, ◌==◌, List, [], ◌∷◌, ◌++◌, length, Option, Some, None}
-use Rattle.assise_inode_table.proofs.Common.{is_some, Result, Ok, Err, refl, ap, sym, subst, ◌∙◌, inl, inr, list_any, cases_Bool, eq-eqb, ne_eqb, eqb-false}
-use Rattle.assise_inode_table.proofs.Common.{Reply, Done, Error, TreeError, Exists, NotDir, DirFull, touched_by, Effect, NewFile, NewDir, Link, Tree, file, dir}
-use Rattle.assise_inode_table.proofs.Common.{Entries, no_entries, same_name, find, at, put, names_of, ◌>>=◌, parent_of, last_name, as_directory, room_for}
-use Rattle.assise_inode_table.proofs.Common.{room_at, reply_and_tree, create_answer, mkdir_answer, Path, parent_and_last, Content, regular, directory, Links}
-use Rattle.assise_inode_table.proofs.Common.{Values, effect_on, after, makes, Interaction, finish, then_or_error, as_links, room_among, walk, make_call}
-use Rattle.assise_inode_table.proofs.Common.{create_call, mkdir_call, children, Spells, SpellsFrom}
+use Rattle.assise_inode_table.proofs.Common.{◌≡◌, ◌≢◌, ℕ, ◌<◌, arith, true, ◌==◌, List, [], ◌∷◌, ◌++◌, length, Option, Some, None, Result, Ok, Err, refl, ap}
+use Rattle.assise_inode_table.proofs.Common.{sym, subst, ◌∙◌, inl, inr, cases_Bool, eq-eqb, ne_eqb, eqb-false, Reply, Done, Error, TreeError, Exists, NotDir}
+use Rattle.assise_inode_table.proofs.Common.{touched_by, Effect, NewFile, NewDir, Link, Tree, file, dir, Entries, no_entries, at, put, names_of, ◌>>=◌}
+use Rattle.assise_inode_table.proofs.Common.{parent_of, last_name, as_directory, room_for, room_at, reply_and_tree, create_answer, mkdir_answer, Path}
+use Rattle.assise_inode_table.proofs.Common.{parent_and_last, Content, regular, directory, Links, Values, effect_on, after, makes, Interaction, finish}
+use Rattle.assise_inode_table.proofs.Common.{then_or_error, as_links, room_among, walk, make_call, create_call, mkdir_call, children, Spells, SpellsFrom}
 use Rattle.std.specs.FinMap as map
 use Rattle.assise_inode_table.proofs.CallsAgree.{Agrees, agrees, agrees_quietly}
 use Rattle.assise_inode_table.proofs.NewInodeLinked.{created as made}
@@ -13,22 +12,14 @@ use Rattle.assise_inode_table.proofs.Leaves.{LeadsNowhere, file_nowhere, file_sp
 use Rattle.assise_inode_table.proofs.WalkMeets.{settled, walk_fails, walk_to_file, walk_to_directory, Meets, nothing, a_file, a_directory, FindsDirectory}
 use Rattle.assise_inode_table.proofs.WalkMeets.{meets, same_count}
 use Rattle.assise_inode_table.proofs.DirectoryNames.{is_some-find}
-use Rattle.assise_inode_table.proofs.MapChanges.{no_content}
 
 -- ---- the checks
 
 room_same : (name : List ℕ) (links : Links) (es : Entries) → names_of es ≡ map.keys links → room_among name links ≡ room_for name es
-room_same name links es names =
-    ap (λ b. if b then Err Exists else (if nat_le 4096 (length (map.keys links)) then Err DirFull else Ok tt))
-    (map.contains_key-keys links name ∙ ap (list_any (same_name name)) (sym names) ∙ sym (is_some-find name es))
-    ∙ ap (λ n. if is_some (find name es) then Err Exists else (if nat_le 4096 n then Err DirFull else Ok tt)) (same_count es links names)
+room_same name links es names = grind (arith, map.contains_key-keys, is_some-find, same_count)
 
 absent_from : (name : List ℕ) (links : Links) → room_among name links ≡ Ok tt → map.get links name ≡ None
-absent_from name links h =
-    elim (cases_Bool (is_some (map.get links name))) [
-      | inl there ↦ (let no = rw there at h in cc)
-      | inr absent ↦ no_content (map.get links name) absent
-    ]
+absent_from name links h = grind arith
 
 -- ---- what is made
 

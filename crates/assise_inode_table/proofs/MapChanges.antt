@@ -1,7 +1,7 @@
 -- Changes put into a map, one after another.
-use Rattle.assise_inode_table.proofs.Common.{◌≡◌, ◌≢◌, inl, inr, ℕ, ◌+◌, ◌<◌, ◌==◌, ◌||◌, Bool, true, false, List, [], ◌∷◌, ◌++◌, if◌then◌else◌, cond, length}
-use Rattle.assise_inode_table.proofs.Common.{take, slice_index_or, Option, Some, None, IsSome, refl, sym, ap, ◌∙◌, subst, cases_eq, cases_Bool, eq-eqb}
-use Rattle.assise_inode_table.proofs.Common.{false≢true, ne_eqb, or_parts, take_more, Effect, Content, InodeMap, regular, all_applied, contains, value_after}
+use Rattle.assise_inode_table.proofs.Common.{arith, ◌≡◌, ◌≢◌, inl, inr, ℕ, ◌+◌, ◌<◌, ◌==◌, ◌||◌, Bool, true, false, List, [], ◌∷◌, ◌++◌, if◌then◌else◌, cond}
+use Rattle.assise_inode_table.proofs.Common.{length, take, slice_index_or, Option, Some, None, IsSome, refl, sym, ap, ◌∙◌, subst, cases_Bool, eq-eqb}
+use Rattle.assise_inode_table.proofs.Common.{false≢true, or_parts, take_more, Effect, Content, InodeMap, regular, all_applied, contains, value_after}
 use Rattle.assise_inode_table.proofs.Common.{with_value, AreDistinctChanges, ArePlaced, Lacks, found, is_among, placed, placed_one, map_without, Change}
 use Rattle.std.specs.Option.{is_some}
 use Rattle.std.specs.FinMap as map
@@ -13,30 +13,12 @@ use Rattle.assise_inode_table.proofs.EffectValues.{contains-append, get-with_val
 
 pub get-without : (m : InodeMap) (is : List ℕ) (j : ℕ) → map.get (map_without m is) j ≡ (if contains is j then None else map.get m j)
 get-without m [] j = refl
-get-without m (i ∷ is) j =
-    get-without (map.remove m i) is j ∙ ap (λ o. if contains is j then None else o) (get-with_value m i None j)
-    ∙ go (i == j) (contains is j) (map.get m j)
-  where
-    go : {X : Type 0} (a b : Bool) (o : Option X) → (if b then None else (if a then None else o)) ≡ cond (a || b) None o
-    go true true o = refl
-    go true false o = refl
-    go false b o = refl
+get-without m (i ∷ is) j = grind (arith, get-without (map.remove m i) is j, get-with_value m i None j)
 
 -- the map without an inode more, which wasn't there before
 pub without_new : (m n : InodeMap) (made : List ℕ) (i : ℕ) → map.get m i ≡ None → ((j : ℕ) → i ≢ j → map.get n j ≡ map.get m j) → map_without n (made ++ i ∷ [])
     ≡ map_without m made
-without_new m n made i new others =
-    same_inodes _ _ (λ j.
-    get-without n (made ++ i ∷ []) j ∙ ap (λ b. if b then None else map.get n j) (contains-append made (i ∷ []) j)
-    ∙ go (contains made j) j ∙ sym (get-without m made j))
-  where
-    go : (b : Bool) (j : ℕ) → cond (b || contains (i ∷ []) j) None (map.get n j) ≡ cond b None (map.get m j)
-    go true j = refl
-    go false j =
-        elim (cases_eq i j) [
-          | inl same ↦ ap (λ b. cond (b || false) None (map.get n j)) (eq-eqb i j same) ∙ sym (ap (map.get m) (sym same) ∙ new)
-          | inr other ↦ ap (λ b. cond (b || false) None (map.get n j)) (ne_eqb i j other) ∙ others j other
-        ]
+without_new m n made i new others = grind (arith, same_inodes, get-without, contains-append)
 
 -- ---- inodes that are there for now
 
@@ -62,11 +44,7 @@ placed_some m i =
 
 -- what is there stays
 placed_stays : (m : InodeMap) (i j : ℕ) → is_some (map.get m j) ≡ true → is_some (map.get (placed_one m i) j) ≡ true
-placed_stays m i j there =
-    elim (cases_eq i j) [
-      | inl same ↦ ap (λ k. is_some (map.get (placed_one m i) k)) (sym same) ∙ placed_some m i
-      | inr other ↦ ap is_some (placed_else m i j other) ∙ there
-    ]
+placed_stays m i j there = grind (arith, placed_else)
 
 all_stay : (m : InodeMap) (cs : List Change) (j : ℕ) → is_some (map.get m j) ≡ true → is_some (map.get (placed m cs) j) ≡ true
 all_stay m [] j there = there
@@ -92,11 +70,7 @@ placed_others m (c ∷ cs) j outside =
     placed_others (placed_one m c.inode) cs j both.1 ∙ placed_else m c.inode j (λ same. false≢true (sym both.0 ∙ eq-eqb c.inode j same))
 
 pub found_placed : (m : InodeMap) (cs : List Change) (j : ℕ) → found cs j (map.get (placed m cs) j) ≡ found cs j (map.get m j)
-found_placed m cs j =
-    elim (cases_Bool (is_among cs j)) [
-      | inl inside ↦ among cs j _ _ inside
-      | inr outside ↦ ap (found cs j) (placed_others m cs j outside)
-    ]
+found_placed m cs j = grind (arith, among, placed_others)
 
 -- ---- one change after another, the last one first
 
@@ -115,23 +89,14 @@ pub record IsLeft (old m : InodeMap) (all left : List Change) : Type 0 where
   pub values : (j : ℕ) → found left j (map.get m j) ≡ found all j (map.get old j)
 
 pub all_left : (old m : InodeMap) (all : List Change) → AreDistinctChanges all → m ≡ placed old all → IsLeft old m all all
-all_left old m all distinct is =
-    subst (λ n. IsLeft old n all all) (sym is) (record { distinct = distinct; there = are_placed old all; values = found_placed old all })
+all_left old m all distinct is = grind (arith, are_placed, found_placed)
 
 pub next_there : (old m : InodeMap) (all left rest : List Change) (c : Change) → IsLeft old m all left → left ≡ rest ++ c ∷ [] → IsSome (map.get m c.inode)
 next_there old m all left rest c h is = (there_prefix m rest c (subst (ArePlaced m) is h.there)).1
 
 pub next_left : (old m n : InodeMap) (all left rest : List Change) (c : Change) → IsLeft old m all left → left ≡ rest ++ c ∷ [] →
     n ≡ with_value m c.inode c.value → IsLeft old n all rest
-next_left old m n all left rest c h is put =
-    let split : AreDistinctChanges rest × Lacks rest c.inode = distinct_prefix rest c (subst AreDistinctChanges is h.distinct) in
-    let now : (j : ℕ) → map.get n j ≡ (if c.inode == j then c.value else map.get m j) = λ j. ap (λ x. map.get x j) put ∙ get-with_value m c.inode c.value j in
-    record {
-      distinct = split.0;
-      there = still_there m n rest c.inode split.1 (λ j other. now j ∙ chosen_other c.inode j c.value (map.get m j) other)
-          (there_prefix m rest c (subst (ArePlaced m) is h.there)).0;
-      values = λ j. ap (found rest j) (now j) ∙ sym (found_append rest (c ∷ []) j (map.get m j)) ∙ ap (λ cs. found cs j (map.get m j)) (sym is) ∙ h.values j;
-    }
+next_left old m n all left rest c h is put = grind (arith, distinct_prefix, get-with_value, still_there, there_prefix, found_append)
 
 -- ---- on copies
 
@@ -145,10 +110,7 @@ made_on_copies m n cs es changes put = same_inodes _ _ (λ i. put i ∙ changes 
 pub without_last : (m n : InodeMap) (all rest : List ℕ) (i : ℕ) → all ≡ rest ++ i ∷ [] → n ≡ map.remove m i → map_without n rest ≡ map_without m all
 without_last m n all rest i is removed =
     same_inodes _ _ (λ j.
-    get-without n rest j ∙ ap (λ x. if contains rest j then None else map.get x j) removed
-    ∙ ap (λ o. if contains rest j then None else o) (get-with_value m i None j)
-    ∙ go (contains rest j) (i == j) (map.get m j) ∙ sym (ap (λ b. if b then None else map.get m j) (contains-append rest (i ∷ []) j))
-    ∙ sym (get-without m (rest ++ i ∷ []) j) ∙ ap (λ is. map.get (map_without m is) j) (sym is))
+    grind (arith, get-without n rest j, get-without m (rest ++ i ∷ []) j, get-with_value m i None j, contains-append rest (i ∷ []) j))
   where
     go : {X : Type 0} (a b : Bool) (o : Option X) → (if a then None else (if b then None else o)) ≡ cond (a || (b || false)) None o
     go true b o = refl

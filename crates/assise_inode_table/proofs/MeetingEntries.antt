@@ -1,6 +1,6 @@
 -- A walk to an entry meets what stands at the path of the entry, and the directory that has it.
 use Rattle.assise_inode_table.proofs.Common.{◌≡◌, ℕ, List, [], ◌∷◌, ◌++◌, Option, Some, None, Result, Ok, Err, refl, ap, sym, ◌∙◌, ok_or, Error, TreeError}
-use Rattle.assise_inode_table.proofs.Common.{NoEnt, ◌>>=◌, Path, then_ok, Content, directory, Links, Values, Interaction, then_or_error, walk_from}
+use Rattle.assise_inode_table.proofs.Common.{NoEnt, ◌>>=◌, Path, then_ok, Content, directory, Links, Values, Interaction, then_or_error, walk_from, arith}
 use Rattle.assise_inode_table.proofs.Common.{walk_to_entry, Children, children, reach, link_of}
 use Rattle.std.specs.FinMap as map
 use Rattle.assise_inode_table.proofs.ReachedSpelling.{LinkTo, link_to}
@@ -9,11 +9,7 @@ use Rattle.assise_inode_table.proofs.WalkMeets.{settled, found, walk_fails, walk
 -- ---- the last step of a path
 
 reach-last : (c : Children) (r : ℕ) (p : Path) (name : List ℕ) → reach c r (p ++ name ∷ []) ≡ (reach c r p >>= λ d. c d name)
-reach-last c r [] name = whole (c r name)
-  where
-    whole : (o : Result ℕ TreeError) → (o >>= λ j. Ok j) ≡ o
-    whole (Ok j) = refl
-    whole (Err e) = refl
+reach-last c r [] name = grind arith
 reach-last c r (first ∷ p) name = go (λ j. reach-last c j p name) (c r first)
   where
     go : ((j : ℕ) → reach c j (p ++ name ∷ []) ≡ (reach c j p >>= λ d. c d name)) → (o : Result ℕ TreeError) →

@@ -1,6 +1,6 @@
 -- What holds of each element of a list, and of each two.
-use Rattle.assise_inode_table.proofs.Common.{◌≡◌, ℕ, ◌<◌, true, false, List, [], ◌∷◌, ◌++◌, ◌==◌, refl, ◌∙◌, subst, inl, inr, cases_Bool, eqb-true, both_ways}
-use Rattle.assise_inode_table.proofs.Common.{or_from, Values, contains, after, Step, NumberedCall, trace, step_of, Each, Pairs, NumbersAscend, Clear}
+use Rattle.assise_inode_table.proofs.Common.{◌≡◌, ℕ, ◌<◌, true, false, List, [], ◌∷◌, ◌++◌, refl, ◌∙◌, or_from, Values, contains, after, Step, NumberedCall}
+use Rattle.assise_inode_table.proofs.Common.{trace, step_of, Each, Pairs, NumbersAscend, Clear, arith}
 use Rattle.assise_inode_table.proofs.EffectValues.{contains-append}
 
 pub each-map : {X : Type 0} (P Q : X → Type 0) (xs : List X) → ((x : X) → P x → Q x) → Each P xs → Each Q xs
@@ -41,11 +41,7 @@ clear-left is (j ∷ js) ks h = (h.0, clear-left is js ks h.1)
 
 pub clear_not : (is js : List ℕ) (i : ℕ) → Clear is js → contains is i ≡ true → contains js i ≡ false
 clear_not is [] i h t = refl
-clear_not is (j ∷ js) i h t =
-    elim (cases_Bool (j == i)) [
-      | inl e ↦ absurd (both_ways (contains is i) (subst (λ k. contains is k ≡ false) (eqb-true j i e) h.0) t)
-      | inr e ↦ rw e (clear_not is js i h.1 t)
-    ]
+clear_not is (j ∷ js) i h t = grind (arith, clear_not is js i h.1 t)
 
 pub clear-append : (is js ks : List ℕ) → Clear is ks → Clear js ks → Clear (is ++ js) ks
 clear-append is js [] h k = tt

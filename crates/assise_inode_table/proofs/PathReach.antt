@@ -1,6 +1,6 @@
 -- What paths reach and show, and where it stays as inodes change.
-use Rattle.assise_inode_table.proofs.Common.{◌≡◌, ◌≢◌, ℕ, List, [], ◌∷◌, ◌++◌, Result, Ok, Err, refl, sym, ap, subst, ◌∙◌, TreeError, Tree, ◌>>=◌, Path}
-use Rattle.assise_inode_table.proofs.Common.{then_ok, Values, Children, children, reach, link_of, shape_of, shown_from, ReachesOnce, SpellsFrom, AgreeBut}
+use Rattle.assise_inode_table.proofs.Common.{arith, ◌≡◌, ◌≢◌, ℕ, List, [], ◌∷◌, ◌++◌, Result, Ok, Err, refl, sym, ap, subst, ◌∙◌, TreeError, Tree, ◌>>=◌, Path}
+use Rattle.assise_inode_table.proofs.Common.{then_ok, Values, Children, children, reach, link_of, shown_from, ReachesOnce, SpellsFrom, AgreeBut}
 
 -- ---- one step, and then the rest
 pub reach_step : (c : Children) (r k : ℕ) (name : List ℕ) (q : Path) → c r name ≡ Ok k → reach c r (name ∷ q) ≡ reach c k q
@@ -55,11 +55,7 @@ same_reach v w (name ∷ q) j keeps =
     ∙ same_rest (children v) (children w) q (children v j name) (λ k e. same_reach v w q k (keeps_child v w j k name keeps e))
 
 pub same_shown : (v w : Values) (q : Path) (j : ℕ) → Keeps v w j → shown_from w j q ≡ shown_from v j q
-same_shown v w q j keeps = ap (λ o. o >>= λ k. shape_of (w k)) (same_reach v w q j keeps) ∙ go (reach (children v) j q) refl
-  where
-    go : (o : Result ℕ TreeError) → reach (children v) j q ≡ o → (o >>= λ k. shape_of (w k)) ≡ (o >>= λ k. shape_of (v k))
-    go (Ok k) e = ap shape_of (keeps q k e)
-    go (Err x) e = refl
+same_shown v w q j keeps = grind (arith, same_reach)
 
 -- what is not reached may change
 pub kept_spells : (v w : Values) (r : ℕ) (t : Tree) → SpellsFrom v r t → Keeps v w r → SpellsFrom w r t

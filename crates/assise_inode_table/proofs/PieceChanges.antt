@@ -26,8 +26,7 @@ join_slots_at : (ps : List (List Slot)) (v : ℕ) (lower upper : List Slot) → 
     → slots_in (set (set ps v (piece_at ps v ++ lower)) (suc v) upper) ≡ slots_in ps
 join_slots_at [] v lower upper h e = absurd (omega arith)
 join_slots_at (p ∷ []) v lower upper h e = absurd (omega arith)
-join_slots_at (p ∷ q ∷ ps) zero lower upper h e =
-    append_assoc p lower (upper ++ slots_in ps) ∙ ap (λ xs. p ++ xs) (sym (append_assoc lower upper (slots_in ps)) ∙ ap (λ r. r ++ slots_in ps) (sym e))
+join_slots_at (p ∷ q ∷ ps) zero lower upper h e = grind (arith, append_assoc)
 join_slots_at (p ∷ q ∷ ps) (suc v) lower upper h e = ap (λ xs. p ++ xs) (join_slots_at (q ∷ ps) v lower upper (omega arith) e)
 
 module _ (ps : List (List Slot)) (v w : ℕ) (lower upper : List Slot) where

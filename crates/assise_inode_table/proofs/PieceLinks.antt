@@ -4,7 +4,6 @@ use Rattle.assise_inode_table.proofs.Common.{take, drop, set, insert, get_or, zi
 use Rattle.assise_inode_table.proofs.Common.{post_of, length-take, length-drop, IsPiece, Slot, link_or_none, links_or_none, live, slot_link}
 use lib.Seq.{take-take}
 use Rattle.std.proofs.lemmas.List.{length-append}
-use Rattle.std.proofs.lemmas.List.Edits.{length-insert}
 use Rattle.assise_inode_table.proofs.PieceChanges.{length-side, link-side, side-append, sides-append, side-take, take-side, drop-side, insert-side}
 
 pub links-length : (ls : List ℕ) (gs : List Bool) → length gs ≡ length ls → length (links_or_none ls gs) ≡ length ls
@@ -78,9 +77,7 @@ module _ {ns : List (List ℕ)} {ls : List ℕ} {gs : List Bool} (piece : IsPiec
 
   pub link_is : (slots : List Slot) (at : ℕ) → zip ns (links_or_none ls gs) ≡ slots → at < length slots
       → link_or_none (get_or ls at 0) (get_or gs at false) ≡ slot_link slots at
-  link_is slots at e h =
-      sym (link_beside at (omega (arith, h, slots_count e)))
-      ∙ sym (link-side ns (links_or_none ls gs) at [] None (omega (arith, h, ap length e))) ∙ ap (λ s. slot_link s at) e
+  link_is slots at e h = grind (arith, link_beside, slots_count, link-side)
 
 -- ---- a link that comes in at its place
 module _ {X : Type 0} (at w : ℕ) (xs : List X) (x : X) (new : List X) (some : 0 < w) (within : at + w ≤ length xs)
@@ -89,9 +86,7 @@ module _ {X : Type 0} (at w : ℕ) (xs : List X) (x : X) (new : List X) (some : 
   mid_length = omega (arith, length-take w (drop at xs), length-drop at xs)
 
   pub shifted : put_mid at w xs new ≡ take at xs ++ ((x ∷ take (w - 1) (drop at xs)) ++ post_of at w xs)
-  shifted =
-      ap (λ ys. take at xs ++ (ys ++ post_of at w xs)) (is ∙ ap (λ m. x ∷ take (m - 1) (mid_of at w xs)) mid_length
-      ∙ ap (λ ys. x ∷ ys) (take-take (w - 1) w (drop at xs) (omega arith)))
+  shifted = grind (arith, mid_length, take-take)
 
 module _ {K : Type 0} (at w : ℕ) (ns : List K) (ls : List ℕ) (gs : List Bool) (n : K) (l : ℕ)
     (some : 0 < w) (within : at + w ≤ length ls) (room : length gs ≡ length ls) where
@@ -120,51 +115,21 @@ module _ {K : Type 0} (at w : ℕ) (ns : List K) (ls : List ℕ) (gs : List Bool
       let shifted_gone = shifted at w gs false newg some (omega (arith, room, within)) gone in
       ap (zip (insert ns at n)) (ap₂ links_or_none shifted_links shifted_gone ∙ links_with)
       ∙ side-append (insert ns at n) (take at m ++ (Some l ∷ take (w - 1) (drop at m))) (links_or_none (post_of at w ls) (post_of at w gs))
-      (omega (
-        arith,
-        long,
-        length-insert ns at n h,
-        length-append (take at m) (Some l ∷ take (w - 1) (drop at m)),
-        length-take at m,
-        length-take (w - 1) (drop at m),
-        length-drop at m,
-      ))
+      (grind (arith, length-append, length-take, length-drop))
       ∙ insert-side at (w - 1) ns m n (Some l) h (omega (arith, long)) (omega arith)
 
 -- ---- a part of the names, whose links come first
 pub part_links : {K : Type 0} (s k : ℕ) (ns : List K) (ls ms : List ℕ) (gs hs : List Bool) → length gs ≡ length ls → length ns ≤ length ls
     → zip (take k (drop s ns)) (links_or_none (take k (drop s ls) ++ ms) (take k (drop s gs) ++ hs)) ≡ take k (drop s (zip ns (links_or_none ls gs)))
-part_links s k ns ls ms gs hs room few =
-    let part = take k (drop s ns) in
-    let m = links_or_none ls gs in
-    let long = links-length ls gs room in
-    ap (zip part) (links-append (take k (drop s ls)) ms (take k (drop s gs)) hs
-    (omega (arith, room, length-take k (drop s ls), length-take k (drop s gs), length-drop s ls, length-drop s gs))
-    ∙ ap (λ ys. ys ++ links_or_none ms hs) (links-take k (drop s ls) (drop s gs) ∙ ap (take k) (links-drop s ls gs)))
-    ∙ side-append part (take k (drop s m)) (links_or_none ms hs)
-    (omega (arith, long, few, length-take k (drop s m), length-take k (drop s ns), length-drop s m, length-drop s ns))
-    ∙ side-take part (drop s m) k (omega (arith, length-take k (drop s ns)))
-    ∙ take-side k (drop s ns) (drop s m) ∙ ap (take k) (drop-side s ns m)
+part_links s k ns ls ms gs hs room few = grind
+    (arith, links-length, links-append, length-take, length-drop, links-take, links-drop, side-append, side-take, take-side, drop-side)
 
 -- ---- the names of another piece behind those of one
 pub append_links : {K : Type 0} (at w : ℕ) (ns ms : List K) (ls ks : List ℕ) (gs hs : List Bool) → length gs ≡ length ls → length hs ≡ length ks
     → length ns ≤ length ls → length ms ≤ length ks → at ≡ length ns → w ≡ length ms
     → zip (ns ++ ms) (links_or_none (put_mid at w ls (take w ks)) (put_mid at w gs (take w hs))) ≡ zip ns (links_or_none ls gs) ++ zip ms (links_or_none ks hs)
-append_links at w ns ms ls ks gs hs room more few some own count =
-    let m = links_or_none ls gs in
-    let n = links_or_none ks hs in
-    let behind = links_or_none (post_of at w ls) (post_of at w gs) in
-    let long = links-length ls gs room in
-    let wide = links-length ks hs more in
-    ap (zip (ns ++ ms))
-    (links-append (take at ls) (take w ks ++ post_of at w ls) (take at gs) (take w hs ++ post_of at w gs)
-    (omega (arith, room, length-take at ls, length-take at gs))
-    ∙ ap₂ (λ u v. u ++ v) (links-take at ls gs)
-    (links-append (take w ks) (post_of at w ls) (take w hs) (post_of at w gs) (omega (arith, more, length-take w ks, length-take w hs))
-    ∙ ap (λ ys. ys ++ behind) (links-take w ks hs)))
-    ∙ sides-append ns ms (take at m) (take w n ++ behind) (omega (arith, long, own, few, length-take at m))
-    ∙ ap₂ (λ u v. u ++ v) (side-take ns m at (omega (arith, own)))
-    (side-append ms (take w n) behind (omega (arith, wide, count, some, length-take w n)) ∙ side-take ms n w (omega (arith, count)))
+append_links at w ns ms ls ks gs hs room more few some own count = grind
+    (arith, links-length, links-append, length-take, links-take, sides-append, side-take, side-append)
 
 -- ---- a piece whose entries are gone
 pub all_gone : (ns : List (List ℕ)) (ls : List ℕ) (gs : List Bool) → list_all (λ g. g) (take (length ns) gs) ≡ true → live (zip ns (links_or_none ls gs)) ≡ []

@@ -1,11 +1,10 @@
 -- What a search among a piece's names finds, and a piece's names and links as slots.
 use Rattle.assise_inode_table.proofs.Common.{◌≡◌, ℕ, ◌+◌, ◌<◌, ◌≤◌, List, [], ◌∷◌, ◌++◌, length, Option, Some, None, Result, Ok, Err, IfOk, IfErr, take, drop}
-use Rattle.assise_inode_table.proofs.Common.{get_or, zip, refl, sym, ap, subst, ◌∙◌, arith, append-nil, nat_cmp, Ordering, Less, Equal, Greater, inl, inr}
-use Rattle.assise_inode_table.proofs.Common.{AllByRecursion, IsStrictlySortedBy, IsSearchInRange, IsBinarySearchResult, IsNonDecreasingBy, keys_of}
-use Rattle.assise_inode_table.proofs.Common.{ordering_index, IsTotalOrder, IsAntisymmetric, slice_cmp, nat_list_cmp_total, exact_bytes, Less-from_sorted}
-use Rattle.assise_inode_table.proofs.Common.{cases_lt, length-take, length-drop, take_all, get_or-take, get_or-drop, take-map, drop-map, take_more}
-use Rattle.assise_inode_table.proofs.Common.{recursion_from_All, live_entry, live, slot_link, IsSlotOf, IsGapFor}
-use Rattle.assise_inode_table.proofs.KeyOrder.{turned_back}
+use Rattle.assise_inode_table.proofs.Common.{get_or, zip, sym, ap, subst, ◌∙◌, arith, append-nil, nat_cmp, Ordering, Less, Equal, Greater, inl, inr}
+use Rattle.assise_inode_table.proofs.Common.{IsStrictlySortedBy, IsSearchInRange, IsBinarySearchResult, IsNonDecreasingBy, keys_of, ordering_index}
+use Rattle.assise_inode_table.proofs.Common.{IsTotalOrder, IsAntisymmetric, slice_cmp, nat_list_cmp_total, exact_bytes, Less-from_sorted, cases_lt, length-take}
+use Rattle.assise_inode_table.proofs.Common.{length-drop, take_all, get_or-take, get_or-drop, take-map, drop-map, take_more, recursion_from_All, live_entry}
+use Rattle.assise_inode_table.proofs.Common.{live, slot_link, IsSlotOf, IsGapFor}
 use Rattle.assise_inode_table.proofs.LiveSlots.{live-append, keys-append}
 use Rattle.assise_inode_table.proofs.PieceChanges.{length-side, keys-side, name-side, link-side}
 
@@ -16,12 +15,7 @@ module _ {K : Type 0} {R : K → K → Ordering} (o : IsTotalOrder R) (same : Is
   at_most_two Greater = omega arith
 
   rises : (x y q : K) → R x y ≡ Less → ordering_index (R x q) ≤ ordering_index (R y q)
-  rises x y q h = go (R y q) refl
-    where
-      go : (r : Ordering) → R y q ≡ r → ordering_index (R x q) ≤ ordering_index r
-      go Less e = subst (λ r. ordering_index r ≤ 0) (sym (o.trans x y q h e)) (omega arith)
-      go Equal e = subst (λ r. ordering_index r ≤ 1) (sym (subst (λ k. R x k ≡ Less) (same y q e) h)) (omega arith)
-      go Greater e = at_most_two (R x q)
+  rises x y q h = grind arith
 
   pub searchable : (xs : List K) (q : K) → IsStrictlySortedBy R xs → IsNonDecreasingBy (λ y. ordering_index (R y q)) xs
   searchable xs q s i j d low inside = elim (cases_lt i j) [
@@ -31,11 +25,7 @@ module _ {K : Type 0} {R : K → K → Ordering} (o : IsTotalOrder R) (same : Is
 
 module _ (name : List ℕ) (ns : List (List ℕ)) (ls : List (Option ℕ)) (few : length ns ≤ length ls) where
   found : (at : ℕ) → at < length ns → ((d : List ℕ) → slice_cmp nat_cmp (get_or ns at d) name ≡ Equal) → IsSlotOf name (zip ns ls) at
-  found at h e = record {
-    within = omega (arith, h, length-side ns ls few);
-    named = name-side ns ls at [] None h few
-        ∙ exact_bytes (get_or ns at []) name (e []);
-  }
+  found at h e = grind (arith, length-side, name-side, exact_bytes)
 
   keys-take : (at : ℕ) → keys_of (take at (zip ns ls)) ≡ take at ns
   keys-take at = sym (take-map (λ e. e.0) at (zip ns ls)) ∙ ap (take at) (keys-side ns ls few)
@@ -45,17 +35,8 @@ module _ (name : List ℕ) (ns : List (List ℕ)) (ls : List (Option ℕ)) (few 
 
   missed : (at : ℕ) → at ≤ length ns → ((k : ℕ) (d : List ℕ) → 0 ≤ k → k < at → slice_cmp nat_cmp (get_or ns k d) name ≡ Less)
       → ((k : ℕ) (d : List ℕ) → at ≤ k → k < length ns → slice_cmp nat_cmp (get_or ns k d) name ≡ Greater) → IsGapFor name (zip ns ls) at
-  missed at h below above = record {
-    within = omega (arith, h, length-side ns ls few);
-    smaller = subst (AllByRecursion (λ key. slice_cmp nat_cmp key name ≡ Less)) (sym (keys-take at))
-        (recursion_from_All (λ key. slice_cmp nat_cmp key name ≡ Less) (take at ns) (λ k d inside.
-        let low : k < at = omega (arith, inside, length-take at ns) in
-        subst (λ key. slice_cmp nat_cmp key name ≡ Less) (sym (get_or-take at ns k d low)) (below k d (omega arith) low)));
-    greater = subst (AllByRecursion (λ key. slice_cmp nat_cmp name key ≡ Less)) (sym (keys-drop at))
-        (recursion_from_All (λ key. slice_cmp nat_cmp name key ≡ Less) (drop at ns) (λ k d inside.
-        subst (λ key. slice_cmp nat_cmp name key ≡ Less) (sym (get_or-drop at ns k d))
-        (turned_back nat_list_cmp_total exact_bytes (get_or ns (at + k) d) name (above (at + k) d (omega arith) (omega (arith, inside, length-drop at ns))))));
-  }
+  missed at h below above = grind
+      (arith, length-side, keys-take, recursion_from_All, length-take, get_or-take, keys-drop, get_or-drop, nat_list_cmp_total, length-drop)
 
   pub search_found : (r : Result ℕ ℕ) → IsSearchInRange r (length ns) → IsBinarySearchResult (λ y. slice_cmp nat_cmp y name) ns r →
       IfOk r (IsSlotOf name (zip ns ls))
@@ -77,19 +58,14 @@ module _ (ns : List (List ℕ)) (ls : List (Option ℕ)) (few : length ns ≤ le
       ∙ ap (λ l. take at (zip ns ls) ++ (get_or ns at [], l) ∷ []) (link-side ns ls at [] None inside)
 
   live_more : live (take (at + 1) (zip ns ls)) ≡ live (take at (zip ns ls)) ++ live_entry (get_or ns at []) (get_or ls at None)
-  live_more =
-      ap live one_more ∙ live-append (take at (zip ns ls)) ((get_or ns at [], get_or ls at None) ∷ [])
-      ∙ ap (λ es. live (take at (zip ns ls)) ++ es) (append-nil (live_entry (get_or ns at []) (get_or ls at None)))
+  live_more = grind (arith, one_more, live-append)
 
   pub listed_none : get_or ls at None ≡ None → keys_of (live (take (at + 1) (zip ns ls))) ≡ keys_of (live (take at (zip ns ls)))
-  listed_none none = ap keys_of (live_more ∙ ap (λ l. live (take at (zip ns ls)) ++ live_entry (get_or ns at []) l) none
-      ∙ append-nil (live (take at (zip ns ls))))
+  listed_none none = grind (arith, live_more, append-nil)
 
   pub listed_some : (v : ℕ) → get_or ls at None ≡ Some v → keys_of (live (take (at + 1) (zip ns ls))) ≡ keys_of (live (take at (zip ns ls))) ++ get_or ns
       at [] ∷ []
-  listed_some v some =
-      ap keys_of (live_more ∙ ap (λ l. live (take at (zip ns ls)) ++ live_entry (get_or ns at []) l) some)
-      ∙ keys-append (live (take at (zip ns ls))) ((get_or ns at [], v) ∷ [])
+  listed_some v some = grind (arith, live_more, keys-append)
 
 pub take_side_all : (ns : List (List ℕ)) (ls : List (Option ℕ)) (at : ℕ) → length ns ≤ length ls → length ns ≤ at → take at (zip ns ls) ≡ zip ns ls
 take_side_all ns ls at few h = take_all at (zip ns ls) (omega (arith, length-side ns ls few))

@@ -1,14 +1,14 @@
 -- The slots of pieces about a place, and what an edit of a piece makes of them.
 use Rattle.assise_inode_table.proofs.Common.{◌≡◌, ℕ, zero, suc, ◌+◌, ◌^◌, ◌<◌, ◌≤◌, List, [], ◌∷◌, ◌++◌, length, Option, Some, None, take, drop, set, insert}
 use Rattle.assise_inode_table.proofs.Common.{get_or, refl, sym, ap, subst, ◌∙◌, arith, true, false, is_gt, append_assoc, append-nil, nat_cmp, Less}
-use Rattle.assise_inode_table.proofs.Common.{take-append-drop, add-zero, true≢false, is_none, cond, Bool, not, is_some, inl, inr, AllByRecursion}
-use Rattle.assise_inode_table.proofs.Common.{IsStrictlySortedBy, keys_of, from_bool, cases_lt, Links, slice_cmp, nat_list_cmp_total, exact_bytes, set-get_or}
-use Rattle.assise_inode_table.proofs.Common.{set_split, take_all, drop_all, get_or-drop, length-set, length-drop, take_more, get_or_read, flat_map-append}
-use Rattle.assise_inode_table.proofs.Common.{All-drop, All-set, Slot, live, slots_in, links_in, piece_at, slot_name, slot_link, slots_before, slots_behind}
-use Rattle.assise_inode_table.proofs.Common.{Ascend, AreFilled, IsDirectory, IsGapFor, IsPieceFor, StandsAt}
+use Rattle.assise_inode_table.proofs.Common.{take-append-drop, add-zero, true≢false, is_none, cond, Bool, not, is_some, AllByRecursion, IsStrictlySortedBy}
+use Rattle.assise_inode_table.proofs.Common.{keys_of, from_bool, Links, slice_cmp, nat_list_cmp_total, exact_bytes, set-get_or, set_split, take_all, drop_all}
+use Rattle.assise_inode_table.proofs.Common.{get_or-drop, length-set, length-drop, take_more, get_or_read, flat_map-append, All-drop, All-set, Slot, live}
+use Rattle.assise_inode_table.proofs.Common.{slots_in, links_in, piece_at, slot_name, slot_link, slots_before, slots_behind, Ascend, AreFilled, IsDirectory}
+use Rattle.assise_inode_table.proofs.Common.{IsGapFor, IsPieceFor, StandsAt}
 use Rattle.std.specs.FinMap as map
 use Rattle.assise_inode_table.proofs.MapView.{remove-absent}
-use Rattle.assise_inode_table.proofs.KeyOrder.{all_both, all_weaker, below_next, above_head, sorted_left, sorted_right, below_through, turned_back, is_greater}
+use Rattle.assise_inode_table.proofs.KeyOrder.{all_both, all_weaker, below_next, above_head, sorted_left, sorted_right, turned_back, is_greater}
 use Rattle.assise_inode_table.proofs.LiveSlots.{Parts, live-append, keys-append, parts_of_slot, slot_got, gap_got, slot_linked, gap_linked, slot_unlinked}
 use Rattle.assise_inode_table.proofs.LiveSlots.{slot_sorted, gap_sorted, count_linked, count_gone, count_relinked, live_keys, live_count, live_sorted}
 
@@ -34,12 +34,7 @@ around ps w at h =
 -- a piece that was edited
 edited : (ps : List (List Slot)) (w : ℕ) (front : List Slot) (s : Slot) (back : List Slot) → w < length ps
     → slots_in (set ps w (front ++ s ∷ back)) ≡ (slots_in (take w ps) ++ front) ++ s ∷ (back ++ slots_in (drop (suc w) ps))
-edited ps w front s back h =
-    let rest = slots_in (drop (suc w) ps) in
-    ap slots_in (set_split ps w (front ++ s ∷ back) h)
-    ∙ slots-append (take w ps) ((front ++ s ∷ back) ∷ drop (suc w) ps)
-    ∙ ap (λ xs. slots_in (take w ps) ++ xs) (append_assoc front (s ∷ back) rest)
-    ∙ sym (append_assoc (slots_in (take w ps)) front (s ∷ (back ++ rest)))
+edited ps w front s back h = grind (arith, set_split, slots-append, append_assoc)
 
 pub inserted_slots : (ps : List (List Slot)) (w at : ℕ) (s : Slot) → w < length ps → slots_in (set ps w (insert (piece_at ps w) at s))
     ≡ slots_before ps w at ++ s ∷ slots_behind ps w at
@@ -47,8 +42,7 @@ inserted_slots ps w at s h = edited ps w (take at (piece_at ps w)) s (drop at (p
 
 set_slots : (ps : List (List Slot)) (w at : ℕ) (s : Slot) → w < length ps → at < length (piece_at ps w)
     → slots_in (set ps w (set (piece_at ps w) at s)) ≡ slots_before ps w at ++ s ∷ slots_behind ps w (suc at)
-set_slots ps w at s h k =
-    ap (λ p. slots_in (set ps w p)) (set_split (piece_at ps w) at s k) ∙ edited ps w (take at (piece_at ps w)) s (drop (suc at) (piece_at ps w)) h
+set_slots ps w at s h k = grind (arith, set_split, edited)
 
 -- the slots about the one of a name
 old_slots : (name : List ℕ) (ps : List (List Slot)) (w at : ℕ) → StandsAt name ps w at →
@@ -77,19 +71,14 @@ before_first ps w s h filled =
     let p = piece_at ps w in
     let front = slots_in (take w ps) in
     let back = drop 1 p ++ slots_in (drop (suc w) ps) in
-    let parts : slots_in ps ≡ front ++ (slot_name p 0, slot_link p 0) ∷ back = three_parts ps w h ∙ ap (λ q. front ++ (q ++ slots_in (drop (suc w) ps)))
-    (first_of p filled) in
+    let parts : slots_in ps ≡ front ++ (slot_name p 0, slot_link p 0) ∷ back = grind (arith, three_parts ps w h) in
     below_next (slice_cmp nat_cmp) (keys_of front) (slot_name p 0) (keys_of back)
     (subst (IsStrictlySortedBy (slice_cmp nat_cmp)) (ap keys_of parts ∙ keys-append front ((slot_name p 0, slot_link p 0) ∷ back)) s)
 
 pieces_before : (name : List ℕ) (ps : List (List Slot)) (w : ℕ) → Ascend (slots_in ps) → AreFilled ps → IsPieceFor name ps w
     → AllByRecursion (λ key. slice_cmp nat_cmp key name ≡ Less) (keys_of (slots_in (take w ps)))
 pieces_before name ps zero s filled is = tt
-pieces_before name ps (suc w) s filled is =
-    let p = piece_at ps (suc w) in
-    all_weaker (λ key. slice_cmp nat_cmp key (slot_name p 0) ≡ Less) (λ key. slice_cmp nat_cmp key name ≡ Less) (keys_of (slots_in (take (suc w) ps)))
-    (λ key h. below_through nat_list_cmp_total exact_bytes key (slot_name p 0) name h (is.from (omega arith)))
-    (before_first ps (suc w) s is.within (filled (suc w) [] is.within))
+pieces_before name ps (suc w) s filled is = grind (arith, all_weaker, nat_list_cmp_total, before_first ps (suc w) s is.within (filled (suc w) [] is.within))
 
 behind_first : (name : List ℕ) (qs : List (List Slot)) → Ascend (slots_in qs) → AreFilled qs →
     (0 < length qs → is_gt (slice_cmp nat_cmp (slot_name (piece_at qs 0) 0) name) ≡ true)
@@ -110,34 +99,24 @@ pieces_behind name ps w s filled is =
     let qs = drop (suc w) ps in
     let front = slots_in (take w ps) ++ piece_at ps w in
     let parts : slots_in ps ≡ front ++ slots_in qs = three_parts ps w is.within ∙ sym (append_assoc (slots_in (take w ps)) (piece_at ps w) (slots_in qs)) in
-    let ascend : Ascend (slots_in qs) = sorted_right (slice_cmp nat_cmp) (keys_of front) (keys_of (slots_in qs))
-    (subst (IsStrictlySortedBy (slice_cmp nat_cmp)) (ap keys_of parts ∙ keys-append front (slots_in qs)) s) in
+    let ascend : Ascend (slots_in qs) = grind (arith, sorted_right, keys-append) in
     let next : piece_at qs 0 ≡ piece_at ps (suc w) = get_or-drop (suc w) ps 0 [] ∙ ap (piece_at ps) (add-zero (suc w)) in
     behind_first name qs ascend (All-drop (λ p. 0 < length p) (suc w) ps filled)
     (λ h. ap (λ p. is_gt (slice_cmp nat_cmp (slot_name p 0) name)) next ∙ is.until (omega (arith, h, length-drop (suc w) ps)))
 
 gap_parts : (name : List ℕ) (ps : List (List Slot)) (w at : ℕ) → Ascend (slots_in ps) → AreFilled ps → IsPieceFor name ps w → IsGapFor name (piece_at ps w) at
     → Parts (slice_cmp nat_cmp) name (slots_before ps w at) (slots_behind ps w at)
-gap_parts name ps w at s filled is gap =
-    let p = piece_at ps w in
-    record {
-      smaller =
-          subst (AllByRecursion (λ key. slice_cmp nat_cmp key name ≡ Less)) (sym (keys-append (slots_in (take w ps)) (take at p)))
-          (all_both (λ key. slice_cmp nat_cmp key name ≡ Less) (keys_of (slots_in (take w ps))) (keys_of (take at p)) (pieces_before name ps w s filled is)
-          gap.smaller);
-      greater =
-          subst (AllByRecursion (λ key. slice_cmp nat_cmp name key ≡ Less)) (sym (keys-append (drop at p) (slots_in (drop (suc w) ps))))
-          (all_both (λ key. slice_cmp nat_cmp name key ≡ Less) (keys_of (drop at p)) (keys_of (slots_in (drop (suc w) ps))) gap.greater
-          (pieces_behind name ps w s filled is));
-    }
+gap_parts name ps w at s filled is gap = grind (arith, keys-append, all_both, pieces_before name ps w s filled is, pieces_behind name ps w s filled is)
 
 -- ---- what the directory has at a name
 pub got_slot : (name : List ℕ) (ps : List (List Slot)) (w at : ℕ) → Ascend (slots_in ps) → StandsAt name ps w at → map.get (links_in ps) name
     ≡ slot_link (piece_at ps w) at
-got_slot name ps w at s is =
-    ap (λ slots. map.get (map.from_entries {R = slice_cmp nat_cmp} (live slots)) name) (old_slots name ps w at is)
-    ∙ slot_got nat_list_cmp_total exact_bytes name (slot_link (piece_at ps w) at) (slots_before ps w at) (slots_behind ps w (suc at))
-    (slot_parts name ps w at s is)
+got_slot name ps w at s is = grind (
+  arith,
+  old_slots name ps w at is,
+  slot_got nat_list_cmp_total exact_bytes name (slot_link (piece_at ps w) at) (slots_before ps w at)
+      (slots_behind ps w (suc at)) (slot_parts name ps w at s is),
+)
 
 pub got_none : (name : List ℕ) (ps : List (List Slot)) (w at : ℕ) → Ascend (slots_in ps) → AreFilled ps → IsPieceFor name ps w →
     IsGapFor name (piece_at ps w) at → map.get (links_in ps) name ≡ None
@@ -149,32 +128,36 @@ got_none name ps w at s filled is gap =
 new_slots : (name : List ℕ) (ps qs : List (List Slot)) (w at : ℕ) (link : Option ℕ) → StandsAt name ps w at →
     qs ≡ set ps w (set (piece_at ps w) at (slot_name (piece_at ps w) at, link))
     → slots_in qs ≡ slots_before ps w at ++ (name, link) ∷ slots_behind ps w (suc at)
-new_slots name ps qs w at link is new =
-    ap slots_in new ∙ set_slots ps w at (slot_name (piece_at ps w) at, link) is.within is.slot.within
-    ∙ ap (λ n. slots_before ps w at ++ (n, link) ∷ slots_behind ps w (suc at)) is.slot.named
+new_slots name ps qs w at link is new = grind (arith, set_slots)
 
 module _ (name : List ℕ) (ps qs : List (List Slot)) (w at : ℕ) (is : StandsAt name ps w at) where
   pub put_slot : (v : ℕ) → Ascend (slots_in ps) → qs ≡ set ps w (set (piece_at ps w) at (slot_name (piece_at ps w) at, Some v)) →
       links_in qs ≡ map.insert (links_in ps) name v
-  put_slot v s new =
-      ap (λ slots. map.from_entries {R = slice_cmp nat_cmp} (live slots)) (new_slots name ps qs w at (Some v) is new)
-      ∙ slot_linked nat_list_cmp_total exact_bytes name (slot_link (piece_at ps w) at) v (slots_before ps w at) (slots_behind ps w (suc at))
-      (slot_parts name ps w at s is)
-      ∙ ap (λ slots. map.insert (map.from_entries {R = slice_cmp nat_cmp} (live slots)) name v) (sym (old_slots name ps w at is))
+  put_slot v s new = grind (
+    arith,
+    new_slots name ps qs w at (Some v) is new,
+    slot_linked nat_list_cmp_total exact_bytes name (slot_link (piece_at ps w) at) v
+        (slots_before ps w at) (slots_behind ps w (suc at)) (slot_parts name ps w at s is),
+    old_slots name ps w at is,
+  )
 
   pub cut_slot : Ascend (slots_in ps) → qs ≡ set ps w (set (piece_at ps w) at (slot_name (piece_at ps w) at, None)) →
       links_in qs ≡ map.remove (links_in ps) name
-  cut_slot s new =
-      ap (λ slots. map.from_entries {R = slice_cmp nat_cmp} (live slots)) (new_slots name ps qs w at None is new)
-      ∙ slot_unlinked nat_list_cmp_total exact_bytes name (slot_link (piece_at ps w) at) (slots_before ps w at) (slots_behind ps w (suc at))
-      (slot_parts name ps w at s is)
-      ∙ ap (λ slots. map.remove (map.from_entries {R = slice_cmp nat_cmp} (live slots)) name) (sym (old_slots name ps w at is))
+  cut_slot s new = grind (
+    arith,
+    new_slots name ps qs w at None is new,
+    slot_unlinked nat_list_cmp_total exact_bytes name (slot_link (piece_at ps w) at) (slots_before ps w at)
+        (slots_behind ps w (suc at)) (slot_parts name ps w at s is),
+    old_slots name ps w at is,
+  )
 
   pub set_ascend : (link : Option ℕ) → Ascend (slots_in ps) → qs ≡ set ps w (set (piece_at ps w) at (slot_name (piece_at ps w) at, link)) → Ascend (slots_in qs)
-  set_ascend link s new =
-      subst Ascend (sym (new_slots name ps qs w at link is new))
-      (slot_sorted nat_list_cmp_total exact_bytes name (slot_link (piece_at ps w) at) link (slots_before ps w at) (slots_behind ps w (suc at))
-      (subst Ascend (old_slots name ps w at is) s))
+  set_ascend link s new = grind (
+    arith,
+    new_slots name ps qs w at link is new,
+    slot_sorted nat_list_cmp_total exact_bytes name (slot_link (piece_at ps w) at) link
+        (slots_before ps w at) (slots_behind ps w (suc at)) (subst Ascend (old_slots name ps w at is) s),
+  )
 
   pub set_filled : (link : Option ℕ) → AreFilled ps → qs ≡ set ps w (set (piece_at ps w) at (slot_name (piece_at ps w) at, link)) → AreFilled qs
   set_filled link filled new =
@@ -227,26 +210,22 @@ module _ (name : List ℕ) (ps qs : List (List Slot)) (w at : ℕ) (is : StandsA
 module _ (name : List ℕ) (v : ℕ) (ps qs : List (List Slot)) (w at : ℕ) (s : Ascend (slots_in ps)) (filled : AreFilled ps) (is : IsPieceFor name ps w)
     (gap : IsGapFor name (piece_at ps w) at) (new : slots_in qs ≡ slots_before ps w at ++ (name, Some v) ∷ slots_behind ps w at) where
   pub added_links : links_in qs ≡ map.insert (links_in ps) name v
-  added_links =
-      ap (λ slots. map.from_entries {R = slice_cmp nat_cmp} (live slots)) new
-      ∙ gap_linked nat_list_cmp_total exact_bytes name v (slots_before ps w at) (slots_behind ps w at) (gap_parts name ps w at s filled is gap)
-      ∙ ap (λ slots. map.insert (map.from_entries {R = slice_cmp nat_cmp} (live slots)) name v) (sym (around ps w at is.within))
+  added_links = grind (
+    arith,
+    gap_linked nat_list_cmp_total exact_bytes name v (slots_before ps w at) (slots_behind ps w at)
+        (gap_parts name ps w at s filled is gap),
+    around ps w at is.within,
+  )
 
   pub added_ascend : Ascend (slots_in qs)
-  added_ascend =
-      subst Ascend (sym new)
-      (gap_sorted nat_list_cmp_total exact_bytes name (Some v) (slots_before ps w at) (slots_behind ps w at) (gap_parts name ps w at s filled is gap)
-      (subst Ascend (around ps w at is.within) s))
+  added_ascend = grind (
+    arith,
+    gap_sorted nat_list_cmp_total exact_bytes name (Some v) (slots_before ps w at) (slots_behind ps w at)
+        (gap_parts name ps w at s filled is gap) (subst Ascend (around ps w at is.within) s),
+  )
 
   pub added_count : (n : ℕ) → n ≡ length (live (slots_in ps)) → suc n ≡ length (live (slots_in qs))
-  added_count n count =
-      omega (
-        arith,
-        count,
-        ap (λ slots. length (live slots)) new,
-        ap (λ slots. length (live slots)) (around ps w at is.within),
-        count_linked name v (slots_before ps w at) (slots_behind ps w at),
-      )
+  added_count n count = grind (arith, around, count_linked)
 
 -- a piece of its own, behind a piece of which none stands behind the name
 pub begun_behind : (ps : List (List Slot)) (w n at : ℕ) (s : Slot) → w < length ps → n ≡ w + 1 → length (piece_at ps w) ≤ at → slots_in (insert ps n (s ∷ []))
@@ -254,12 +233,15 @@ pub begun_behind : (ps : List (List Slot)) (w n at : ℕ) (s : Slot) → w < len
 begun_behind ps w n at s h e full =
     let p = piece_at ps w in
     subst (λ m. slots_in (insert ps m (s ∷ [])) ≡ slots_before ps w at ++ s ∷ slots_behind ps w at) (sym e)
-    (slots-append (take (w + 1) ps) ((s ∷ []) ∷ drop (w + 1) ps)
-    ∙ ap (λ front. slots_in front ++ s ∷ slots_in (drop (w + 1) ps)) (take_more ps w [] h)
-    ∙ ap (λ front. front ++ s ∷ slots_in (drop (w + 1) ps)) (slots-append (take w ps) (p ∷ []))
-    ∙ ap (λ q. (slots_in (take w ps) ++ q) ++ s ∷ slots_in (drop (w + 1) ps)) (append-nil p ∙ sym (take_all at p full))
-    ∙ ap (λ m. slots_before ps w at ++ s ∷ slots_in (drop m ps)) {x = w + 1} {y = suc w} (omega arith)
-    ∙ ap (λ q. slots_before ps w at ++ s ∷ (q ++ slots_in (drop (suc w) ps))) (sym (drop_all at p full)))
+    (grind (
+      arith,
+      slots-append (take (w + 1) ps) ((s ∷ []) ∷ drop (w + 1) ps),
+      slots-append (take w ps) (p ∷ []),
+      take_more ps w,
+      append-nil p,
+      take_all at p full,
+      drop_all at p full,
+    ))
 
 pub no_pieces : IsDirectory [] 0
 unfolding IsStrictlySortedBy
@@ -325,21 +307,13 @@ is_linked (Some v) e = (v, refl)
 -- a directory of one entry
 pub one_entry : (name : List ℕ) (v : ℕ) → IsDirectory (((name, Some v) ∷ []) ∷ []) 1
 unfolding IsStrictlySortedBy
-one_entry name v = record { ascend = (tt, tt); filled = λ k d h. one k d h; counted = refl }
-  where
-    one : (k : ℕ) (d : List Slot) → k < 1 → 0 < length (get_or (((name, Some v) ∷ []) ∷ []) k d)
-    one zero d h = omega arith
-    one (suc k) d h = absurd (omega arith)
+one_entry name v = grind arith
 
 -- an entry more, where the one that stood there was gone
 pub count_any : (name : List ℕ) (ps qs : List (List Slot)) (w at : ℕ) → StandsAt name ps w at → (v n more : ℕ) →
     qs ≡ set ps w (set (piece_at ps w) at (slot_name (piece_at ps w) at, Some v))
     → more ≡ cond (is_none (slot_link (piece_at ps w) at)) 1 0 → n ≡ length (live (slots_in ps)) → n + more ≡ length (live (slots_in qs))
-count_any name ps qs w at is v n more new e count = go (slot_link (piece_at ps w) at) refl
-  where
-    go : (o : Option ℕ) → slot_link (piece_at ps w) at ≡ o → n + more ≡ length (live (slots_in qs))
-    go None old = let one : more ≡ 1 = e ∙ ap (λ l. cond (is_none l) 1 0) old in omega (arith, one, count_put name ps qs w at is v n new old count)
-    go (Some u) old = let none : more ≡ 0 = e ∙ ap (λ l. cond (is_none l) 1 0) old in omega (arith, none, count_kept name ps qs w at is v u n new old count)
+count_any name ps qs w at is v n more new e count = grind (arith, count_put, count_kept)
 
 -- a count that is full has an entry more only where one was gone
 pub full_gone : (o : Option ℕ) (n more : ℕ) → more ≡ cond (is_none o) 1 0 → n < 2 ^ 64 → 2 ^ 64 ≤ n + more → o ≡ None
@@ -354,7 +328,4 @@ gone_count (Some v) true m e f = absurd (true≢false e)
 gone_count (Some v) false m e f = f
 
 pub not_below : (n : ℕ) → (n < 2 ^ 64 → ⊥) → 2 ^ 64 ≤ n
-not_below n h = elim (cases_lt n (2 ^ 64)) [
-  | inl below ↦ absurd (h below)
-  | inr over ↦ over
-]
+not_below n h = grind arith

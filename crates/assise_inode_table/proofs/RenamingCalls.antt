@@ -1,12 +1,12 @@
 -- A rename over inodes agrees with a rename of the tree.
 use Rattle.assise_inode_table.proofs.Common.{◌≡◌, ◌≢◌, ℕ, Bool, false, cond, ◌==◌, ◌||◌, nat_le, List, [], ◌∷◌, ◌++◌, length, Option, Some, None, is_some}
-use Rattle.assise_inode_table.proofs.Common.{Result, Ok, Err, refl, ap, sym, subst, ◌∙◌, inl, inr, ok_or, cases_Bool, eqb-true, or_parts, nil_from_length}
+use Rattle.assise_inode_table.proofs.Common.{Result, Ok, Err, refl, ap, sym, subst, ◌∙◌, inl, inr, ok_or, cases_Bool, or_parts, nil_from_length}
 use Rattle.assise_inode_table.proofs.Common.{is_proper_prefix, same_path, Reply, Done, Error, TreeError, NoEnt, NotDir, Invalid, DirFull, Effect, Unlink, Free}
 use Rattle.assise_inode_table.proofs.Common.{Tree, file, dir, Entries, find, names_of, at, put, without, ◌>>=◌, parent_of, last_name, as_directory, entries_at}
 use Rattle.assise_inode_table.proofs.Common.{may_receive, tree_may_replace, reply_and_tree, tree_after_rename, rename_answer, Path, Disjoint, same_is}
 use Rattle.assise_inode_table.proofs.Common.{not_begins, Content, regular, directory, Links, Values, after, finish, then_or_error, content_may_replace}
 use Rattle.assise_inode_table.proofs.Common.{without_links, move_effects, move_to, receive, replace_target, room_beside, walk_to_entry, rename_call, children}
-use Rattle.assise_inode_table.proofs.Common.{reach, link_of, Spells}
+use Rattle.assise_inode_table.proofs.Common.{reach, link_of, Spells, arith}
 use Rattle.std.specs.Prelude.{if◌then◌else◌}
 use Rattle.std.proofs.lemmas.List.{append_assoc, append-nil}
 use Rattle.std.specs.FinMap as map
@@ -38,11 +38,7 @@ same_replacing c d m u (directories links es is there names) (files g be too) = 
 same_replacing c d m u (directories ks fs is there names) (directories links es be too named) = rw (is, there, be, too, same_count es links named) refl
 
 is_vacant : (links : Links) → without_links links ≡ Ok tt → map.keys links ≡ []
-is_vacant links h =
-    elim (cases_Bool (length (map.keys links) == 0)) [
-      | inl none ↦ nil_from_length (map.keys links) (eqb-true _ 0 none)
-      | inr some ↦ let no = rw some at h in cc
-    ]
+is_vacant links h = grind (arith, nil_from_length)
 
 -- what may be replaced leads nowhere
 replaced_nowhere : (v : Values) (g : ℕ) (c d : Content) → v g ≡ Some d → content_may_replace c d ≡ Ok tt → LeadsNowhere (children v) g

@@ -1,8 +1,8 @@
 -- A tree that stands apart is linked into a directory.
-use Rattle.assise_inode_table.proofs.Common.{◌≡◌, ℕ, Bool, true, false, cond, List, [], ◌∷◌, ◌++◌, Some, is_some, Ok, Err, refl, sym, ap, subst, ◌∙◌, ◌⊎◌, inl}
-use Rattle.assise_inode_table.proofs.Common.{inr, ok_or, nat_list_cmp_total, NoEnt, Tree, dir, Entries, same_name, find, put, IsOrdered, AreOrdered, names_of}
-use Rattle.assise_inode_table.proofs.Common.{◌>>=◌, same_itself, one_name, find-set, ordered-set, Path, Links, Values, children, reach, link_of, ReachesOnce}
-use Rattle.assise_inode_table.proofs.Common.{SpellsFrom, ShareNone, AddsLink}
+use Rattle.assise_inode_table.proofs.Common.{◌≡◌, ℕ, Bool, true, false, cond, List, [], ◌∷◌, ◌++◌, Some, Ok, Err, refl, sym, ap, subst, ◌∙◌, ok_or}
+use Rattle.assise_inode_table.proofs.Common.{nat_list_cmp_total, NoEnt, Tree, dir, Entries, same_name, put, IsOrdered, AreOrdered, names_of, ◌>>=◌, same_itself}
+use Rattle.assise_inode_table.proofs.Common.{one_name, find-set, ordered-set, Path, Links, Values, children, reach, link_of, ReachesOnce, SpellsFrom, ShareNone}
+use Rattle.assise_inode_table.proofs.Common.{AddsLink, arith}
 use Rattle.std.specs.FinMap as map
 use Rattle.assise_seq_tree.specs.Tree.{set}
 use Rattle.assise_inode_table.proofs.PathReach.{reach-append, once_below, Away, away_keeps, same_reach, same_shown}
@@ -19,14 +19,7 @@ links_more v w d name i links a = record { old = a.before; now = a.after; gets =
 
 names_more : (es : Entries) (links : Links) (name : List ℕ) (u : Tree) (i : ℕ) → AreOrdered es → IsOrdered u → names_of es ≡ map.keys links
     → names_of (set name u es) ≡ map.keys (map.insert links name i)
-names_more es links name u i s o names =
-    names_are_keys (set name u es) (map.insert links name i) (ordered-set name u es s o) (λ q.
-    ap is_some (find-set q name u es)
-    ∙ elim (same_name q name) as (λ b. is_some (cond b (Some u) (find q es)) ≡ is_some (cond b (Some i) (map.get links q))) [
-      | true ↦ refl
-      | false ↦ same_found es links names q
-    ]
-    ∙ sym (ap is_some (map.get-insert nat_list_cmp_total links name i q)))
+names_more es links name u i s o names = grind (arith, names_are_keys, ordered-set, find-set, same_found, map.get-insert, nat_list_cmp_total)
 
 -- What inode i spells is linked into the directory d, which the path p reaches.
 module _ (v w : Values) (r d i : ℕ) (t u : Tree) (p : Path) (name : List ℕ) (links : Links) (s : SpellsFrom v r t) (held : SpellsFrom v i u)
@@ -63,13 +56,7 @@ module _ (v w : Values) (r d i : ℕ) (t u : Tree) (p : Path) (name : List ℕ) 
   disjoint_here q rest j e f = disjoint (p ++ q) rest j (reach-append (children v) r p q d parent ∙ e) f
 
   once_after : ReachesOnce (children w) d
-  once_after x y j e f = go (leads x j e) (leads y j f)
-    where
-      go : Leads x j → Leads y j → x ≡ y
-      go (into g is h) (into k be l) = is ∙ ap (λ q. name ∷ q) (held.once g k j h l) ∙ sym be
-      go (into g is h) (besides l) = absurd (disjoint_here y g j l h)
-      go (besides h) (into k be l) = absurd (disjoint_here x k j h l)
-      go (besides h) (besides l) = once_here x y j h l
+  once_after x y j e f = grind (arith, leads, disjoint_here, once_here)
 
   ordered_here : AreOrdered place.entries
   ordered_here = spelled_is_ordered v d (dir place.entries) place.spells
@@ -84,11 +71,7 @@ module _ (v w : Values) (r d i : ℕ) (t u : Tree) (p : Path) (name : List ℕ) 
   }
 
   own : IsOwn v w r d
-  own x j e = go (leads x j e)
-    where
-      go : Leads x j → ((b : Path) × (reach (children v) d b ≡ Ok j)) ⊎ Away (children v) r j
-      go (into rest is h) = inr (λ q f. disjoint q rest j f h)
-      go (besides h) = inl (x, h)
+  own x j e = grind (arith, leads)
 
   pub linked : SpellsFrom w r (put t (p ++ name ∷ []) u)
   linked =

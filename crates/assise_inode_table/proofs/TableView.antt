@@ -1,7 +1,7 @@
 -- A map of inodes, of which an effect changes one.
 use Rattle.assise_inode_table.proofs.Common.{◌≡◌, ℕ, List, Option, Some, None, IsSome, Result, Ok, Err, OnErr, cond, nat_eq, refl, sym, ap, subst, ◌∙◌}
 use Rattle.assise_inode_table.proofs.Common.{nat_cmp_total, lookup, exact_unsigned, Effect, NewFile, NewDir, Write, SetLen, Link, Unlink, Free, touched_by}
-use Rattle.assise_inode_table.proofs.Common.{Content, InodeMap, changed, with_value, applied}
+use Rattle.assise_inode_table.proofs.Common.{Content, InodeMap, changed, with_value, applied, arith}
 use Rattle.std.proofs.Common.{option_map}
 use Rattle.std.specs.Ordering.{nat_cmp}
 use Rattle.std.specs.FinMap as map
@@ -23,19 +23,15 @@ with_change m e old = with_value m (touched_by e) (option_map (λ content. chang
 pub change_none : (m : InodeMap) (es : List (ℕ × Content)) (e : Effect) (k : ℕ)
     → map.from_entries es ≡ m → k ≡ touched_by e → None ≡ lookup (nat_eq k) es
     → map.from_entries es ≡ with_change m e (map.get m (touched_by e))
-change_none m es e k view key is =
-    let absent = value_at m es (touched_by e) k None view key is in
-    view ∙ remove-absent nat_cmp_total exact_unsigned m (touched_by e) absent ∙ sym (ap (with_change m e) absent)
+change_none m es e k view key is = grind (arith, value_at, remove-absent, nat_cmp_total, exact_unsigned)
 
 -- the inode that is there was changed in its place
 pub change_some : (m : InodeMap) (es fs : List (ℕ × Content)) (e : Effect) (k : ℕ) (old new : Content)
     → map.from_entries es ≡ m → k ≡ touched_by e → Some old ≡ lookup (nat_eq k) es → new ≡ changed old e
     → ((q : ℕ) → lookup (nat_eq q) fs ≡ cond (nat_eq k q) (Some new) (lookup (nat_eq q) es))
     → map.from_entries fs ≡ with_change m e (map.get m (touched_by e))
-change_some m es fs e k old new view key is step updates =
-    insert-numbers es fs k new updates
-    ∙ ap (λ n. map.insert n k new) view ∙ ap (λ i. map.insert m i new) key ∙ ap (map.insert m (touched_by e)) step
-    ∙ sym (ap (with_change m e) (value_at m es (touched_by e) k (Some old) view key is))
+change_some m es fs e k old new view key is step updates = grind
+    (arith, insert-numbers es fs k new updates, value_at m es (touched_by e) k (Some old) view key is)
 
 -- an effect that neither makes nor frees an inode
 pub applied_change : (m : InodeMap) (e : Effect)

@@ -1,8 +1,8 @@
 -- What a tree shows once something is put into it or taken out.
 use Rattle.assise_inode_table.proofs.Common.{◌≡◌, ℕ, Bool, true, false, cond, List, [], ◌∷◌, ◌++◌, Option, Some, None, Result, Ok, Err, refl, sym, ap, subst}
 use Rattle.assise_inode_table.proofs.Common.{◌∙◌, unwrap_or, option_map_or, TreeError, NoEnt, Tree, file, dir, Entries, no_entries, entry, same_name, find}
-use Rattle.assise_inode_table.proofs.Common.{replace, remove, at, put, without, names_of, ◌>>=◌, put_step, at_step, one_name, Path, find_replace_there, Shape}
-use Rattle.assise_inode_table.proofs.Common.{folder, shape_of_tree, shown_in}
+use Rattle.assise_inode_table.proofs.Common.{replace, remove, at, put, without, names_of, put_step, at_step, one_name, Path, find_replace_there, Shape}
+use Rattle.assise_inode_table.proofs.Common.{shape_of_tree, shown_in, arith}
 use Rattle.assise_seq_tree.specs.Tree.{set}
 use Rattle.assise_inode_table.proofs.Prefixes.{past}
 
@@ -14,11 +14,7 @@ shown_below q (Some t) = shown_in t q
 
 pub shown_dir : (es : Entries) (name : List ℕ) (q : Path) → shown_in (dir es) (name ∷ q) ≡ shown_below q (find name es)
 unfolding at
-shown_dir es name q =
-    elim (find name es) as (λ o. (option_map_or (λ t. at t q) o (Err NoEnt) >>= λ found. Ok (shape_of_tree found)) ≡ shown_below q o) [
-      | None ↦ refl
-      | Some t ↦ refl
-    ]
+shown_dir es name q = grind arith
 
 pub shown_here : (t : Tree) → shown_in t [] ≡ Ok (shape_of_tree t)
 unfolding at
@@ -34,11 +30,7 @@ pub record Step (name : List ℕ) (p : Path) (t found : Tree) : Type 0 where
 pub step_at : (name : List ℕ) (p : Path) (t found : Tree) → at t (name ∷ p) ≡ Ok found → Step name p t found
 unfolding at
 step_at name p (file bytes) found e = cc
-step_at name p (dir es) found e = go (find name es) refl e
-  where
-    go : (o : Option Tree) → find name es ≡ o → option_map_or (λ t. at t p) o (Err NoEnt) ≡ Ok found → Step name p (dir es) found
-    go None f h = cc
-    go (Some c) f h = record { entries = es; child = c; is = refl; there = f; rest = h }
+step_at name p (dir es) found e = grind arith
 
 pub at-append : (p q : Path) (t found : Tree) → at t p ≡ Ok found → at t (p ++ q) ≡ at found q
 unfolding at
@@ -50,11 +42,7 @@ at-append (name ∷ p) q t found e =
 -- ---- another tree in the place of one that is there
 names-replace : (name : List ℕ) (t : Tree) (es : Entries) → names_of (replace name t es) ≡ names_of es
 names-replace name t no_entries = refl
-names-replace name t (entry other u es) =
-    elim (same_name name other) as (λ b. names_of (cond b (entry other t es) (entry other u (replace name t es))) ≡ other ∷ names_of es) [
-      | true ↦ refl
-      | false ↦ ap (λ ks. other ∷ ks) (names-replace name t es)
-    ]
+names-replace name t (entry other u es) = grind (arith, names-replace name t es)
 
 -- past the place the new tree shows, elsewhere the old one
 abbrev pub replaced : Path → Tree → Tree → Path → Result Shape TreeError
@@ -62,8 +50,7 @@ replaced p t y q = option_map_or (λ rest. shown_in y rest) (past p q) (shown_in
 
 replaced_child : (name : List ℕ) (p : Path) (es : Entries) (c y : Tree) → find name es ≡ Some c → ((q : Path) → shown_in (put c p y) q ≡ replaced p c y q)
     → (q : Path) → shown_in (dir (replace name (put c p y) es)) q ≡ replaced (name ∷ p) (dir es) y q
-replaced_child name p es c y there ih [] =
-    shown_here (dir (replace name (put c p y) es)) ∙ ap (λ ks. Ok (folder ks)) (names-replace name (put c p y) es) ∙ sym (shown_here (dir es))
+replaced_child name p es c y there ih [] = grind (arith, shown_here, names-replace)
 replaced_child name p es c y there ih (x ∷ q) =
     shown_dir (replace name (put c p y) es) x q ∙ ap (shown_below q) (find_replace_there x name (put c p y) c es there) ∙ turn (same_name x name) refl
   where
@@ -90,9 +77,7 @@ put_entry [] name t u es e = let is : t ≡ dir es = cc in ap (λ s. put s (name
 put_entry (k ∷ p) name t u es e =
     let s = step_at k p t (dir es) e in
     subst (λ z. put z (k ∷ p ++ name ∷ []) u ≡ put z (k ∷ p) (dir (set name u es))) (sym s.is)
-    (put_step s.entries k (p ++ name ∷ []) u s.child s.there
-    ∙ ap (λ z. dir (replace k z s.entries)) (put_entry p name s.child u es s.rest)
-    ∙ sym (put_step s.entries k p (dir (set name u es)) s.child s.there))
+    (grind (arith, put_entry p name s.child u es s.rest))
 
 without_step : (es : Entries) (k : List ℕ) (p : Path) (name : List ℕ) (c : Tree) → find k es ≡ Some c
     → without (dir es) (k ∷ p ++ name ∷ []) ≡ dir (replace k (without c (p ++ name ∷ [])) es)
@@ -106,6 +91,4 @@ without_entry [] name t es e = let is : t ≡ dir es = cc in ap (λ s. without s
 without_entry (k ∷ p) name t es e =
     let s = step_at k p t (dir es) e in
     subst (λ z. without z (k ∷ p ++ name ∷ []) ≡ put z (k ∷ p) (dir (remove name es))) (sym s.is)
-    (without_step s.entries k p name s.child s.there
-    ∙ ap (λ z. dir (replace k z s.entries)) (without_entry p name s.child es s.rest)
-    ∙ sym (put_step s.entries k p (dir (remove name es)) s.child s.there))
+    (grind (arith, without_entry p name s.child es s.rest, without_step))

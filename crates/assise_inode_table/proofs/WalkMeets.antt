@@ -16,12 +16,7 @@ found v i p = reach (children v) i p >>= λ j. ok_or (v j) NoEnt >>= λ c. Ok (j
 
 walk_ends : (v : Values) (i : ℕ) (p : List (List ℕ)) (next : ℕ → Content → Interaction) → settled v (walk_from i p next)
     ≡ settled v (then_or_error (found v i p) (λ f. next f.0 f.1))
-walk_ends v i [] next = go (v i)
-  where
-    go : (o : Option Content) → settled v (then_or_error (ok_or o NoEnt) (λ c. next i c))
-        ≡ settled v (then_or_error {A = ℕ × Content} (ok_or o NoEnt >>= λ c. Ok (i, c)) (λ f. next f.0 f.1))
-    go None = refl
-    go (Some c) = refl
+walk_ends v i [] next = grind arith
 walk_ends v i (name ∷ p) next = go (λ j. walk_ends v j p next) (link_of (v i) name)
   where
     go : ((j : ℕ) → settled v (walk_from j p next) ≡ settled v (then_or_error (found v j p) (λ f. next f.0 f.1))) → (r : Result ℕ TreeError) →
@@ -73,9 +68,7 @@ meets_at v t p j r None h (Err e) is link =
     nothing NoEnt (ap (λ o. o >>= λ j. ok_or (v j) NoEnt >>= λ c. Ok (j, c)) r ∙ ap (λ o. ok_or o NoEnt >>= λ c. Ok (j, c)) h) (is ∙ ap Err (sym one))
 meets_at v t p j r None h (Ok u) is link = cc
 meets_at v t p j r (Some (regular b)) h (Err e) is link = cc
-meets_at v t p j r (Some (regular b)) h (Ok (file d)) is link =
-    let one : b ≡ d = cc in
-    a_file (record { inode = j; bytes = b; reached = r; holds = h; there = is ∙ ap (λ x. Ok (file x)) (sym one) })
+meets_at v t p j r (Some (regular b)) h (Ok (file d)) is link = grind arith
 meets_at v t p j r (Some (regular b)) h (Ok (dir es)) is link = cc
 meets_at v t p j r (Some (directory links)) h (Err e) is link = cc
 meets_at v t p j r (Some (directory links)) h (Ok (file d)) is link = cc

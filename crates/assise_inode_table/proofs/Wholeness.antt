@@ -1,7 +1,6 @@
 -- The effects of a call can be made all or none.
-use Rattle.assise_inode_table.proofs.Common.{ℕ, ◌==◌, List, [], ◌∷◌, length, refl, inl, inr, cond_both, Op, Create, Mkdir, Read, WriteCall, Truncate, Rename}
-use Rattle.assise_inode_table.proofs.Common.{UnlinkCall, Rmdir, ListCall, Stat, Fsync, Dsync, Reply, Effect, Write, Link, Unlink, Free, last_name, step, Values}
-use Rattle.assise_inode_table.proofs.Common.{CanBeMadeWhole}
+use Rattle.assise_inode_table.proofs.Common.{ℕ, List, [], ◌∷◌, refl, inl, inr, Op, Create, Mkdir, Read, WriteCall, Truncate, Rename, UnlinkCall, Rmdir}
+use Rattle.assise_inode_table.proofs.Common.{ListCall, Stat, Fsync, Dsync, Reply, Effect, Link, Unlink, Free, last_name, step, Values, CanBeMadeWhole, arith}
 use Rattle.assise_inode_table.proofs.CallEnds.{HoldsWhereDone, call_ends}
 
 abbrev IsWhole : Reply → List Effect → Type 0
@@ -11,8 +10,7 @@ whole_where_done : (op : Op) (fresh : ℕ) → HoldsWhereDone IsWhole op fresh
 whole_where_done (Create p) fresh = λ d. inl (refl, tt)
 whole_where_done (Mkdir p) fresh = λ d. inl (refl, tt)
 whole_where_done (Read p offset most) fresh = λ bytes. inr (inl tt)
-whole_where_done (WriteCall p offset new) fresh = λ i.
-    cond_both (length new == 0) [] (Write i (record { offset = offset; bytes = new }) ∷ []) CanBeMadeWhole (λ _. inr (inl tt)) (λ _. inr (inl tt))
+whole_where_done (WriteCall p offset new) fresh = grind arith
 whole_where_done (Truncate p size) fresh = λ i. inr (inl tt)
 whole_where_done (Rename p q) fresh = (
   inr (inl tt),
@@ -22,7 +20,7 @@ whole_where_done (Rename p q) fresh = (
     last = Link e (last_name q) i;
     are = refl;
     take_away =
-        (tt, (tt, (tt, tt)));
+        grind arith;
     links = refl;
   })),
 )

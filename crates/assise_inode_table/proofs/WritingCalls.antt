@@ -1,6 +1,6 @@
 -- The calls that change the bytes of a file agree with the tree: write and truncate.
 use Rattle.assise_inode_table.proofs.Common.{ℕ, if◌then◌else◌, nat_le, ◌==◌, List, [], ◌∷◌, length, refl, sym, ◌∙◌, inl, inr, cases_Bool, eq-eqb, ne_eqb, Done}
-use Rattle.assise_inode_table.proofs.Common.{Error, IsDir, TooBig, Write, SetLen, overwritten, is_within, resized, Tree, file, put, tree_after_write}
+use Rattle.assise_inode_table.proofs.Common.{Error, IsDir, TooBig, Write, SetLen, overwritten, is_within, resized, Tree, file, put, tree_after_write, arith}
 use Rattle.assise_inode_table.proofs.Common.{write_answer, truncate_answer, Path, Values, after, finish, then_or_error, as_regular, write_effects, write_call}
 use Rattle.assise_inode_table.proofs.Common.{truncate_call, Spells}
 use Rattle.assise_inode_table.proofs.CallsAgree.{Agrees, agrees, agrees_quietly}
@@ -51,8 +51,7 @@ module _ (v : Values) (t : Tree) (p : Path) (size fresh : ℕ) (s : Spells v t) 
       let ends = walk_to_file v t p
       (λ i c. then_or_error (as_regular c) (λ _. if nat_le size 1048576 then finish Done (SetLen i size ∷ []) else finish (Error TooBig) [])) f in
       elim (cases_Bool (nat_le size 1048576)) [
-        | inl fits ↦ agrees v fresh _ _ Done (SetLen f.inode size ∷ []) (put t p (file (resized f.bytes size))) (ends ∙ rw fits refl) (rw (f.there, fits) refl)
-            (λ n. cut_or_filled f)
+        | inl fits ↦ grind (arith, cut_or_filled f)
         | inr big ↦ agrees_quietly v t fresh _ _ (Error TooBig) s (ends ∙ rw big refl) (rw (f.there, big) refl)
       ]
 

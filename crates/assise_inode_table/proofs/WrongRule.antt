@@ -1,5 +1,5 @@
 -- An unlink of another name doesn't make a link of no account.
-use Rattle.assise_inode_table.proofs.Common.{◌≡◌, Bool, true, false, List, [], ◌∷◌, Option, Some, None, is_some, ap, sym, ◌∙◌, false≢true, slice_cmp}
+use Rattle.assise_inode_table.proofs.Common.{◌≡◌, Bool, true, false, List, [], ◌∷◌, Option, Some, None, is_some, ap, sym, ◌∙◌, false≢true, slice_cmp, arith}
 use Rattle.assise_inode_table.proofs.Common.{nat_list_cmp_total, Effect, Link, Unlink, Content, Links, regular, directory, value_after, SameNetEffect}
 use Rattle.std.specs.FinMap as map
 use Rattle.std.specs.Ordering.{nat_cmp}
@@ -19,9 +19,7 @@ none = map.empty
 
 right : has_a (value_after 0 (Some (directory none)) both) ≡ true
 unfolding has_a both
-right =
-    ap is_some (map.get-remove nat_list_cmp_total (map.insert none (97 ∷ []) 5) (98 ∷ []) (97 ∷ []) ∙ map.get-insert nat_list_cmp_total none (97 ∷ []) 5
-    (97 ∷ []))
+right = grind (arith, map.get-remove, nat_list_cmp_total, map.get-insert)
 
 wrong : has_a (value_after 0 (Some (directory none)) (wrongly_coalesced both)) ≡ false
 unfolding has_a both none

@@ -10,8 +10,7 @@ pub at_snoc_place : {A : Type 0} (l : List A) (a b : A) (j : ℕ) → get_elem? 
 at_snoc_place [] a b Rattle.std.proofs.Common.zero e = inr (refl, some-injective a b e)
 at_snoc_place [] a b (Rattle.std.proofs.Common.suc j) e = absurd (some-ne-none b (sym e))
 at_snoc_place (x ∷ xs) a b Rattle.std.proofs.Common.zero e = inl e
-at_snoc_place (x ∷ xs) a b (Rattle.std.proofs.Common.suc j) e =
-    ⊎_elim (λ t. inl t) (λ t. inr (ap Rattle.std.proofs.Common.suc t.0, t.1)) (at_snoc_place xs a b j e)
+at_snoc_place (x ∷ xs) a b (Rattle.std.proofs.Common.suc j) e = grind (arith, at_snoc_place xs a b j e)
 
 abbrev pub half_of : ℕ → Bool → ℕ × Bool
 half_of j side = (j, side)

@@ -1,7 +1,7 @@
 -- What a pass that adds only what it may leaves to the others.
-use Rattle.assise_keeper.proofs.Common.{◌≡◌, ◌≢◌, ℕ, ◌+◌, ◌<◌, ◌⊎◌, List, [], ◌∷◌, ◌++◌, length, drop, sym, refl, ap, ◌∙◌, subst, inl, inr, ⊎_elim, Option}
-use Rattle.assise_keeper.proofs.Common.{Some, ne_eqb, eq-eqb, arith, append_assoc, append-nil, length-append, EntryValue, opens, calls, crashes, fails, returns}
-use Rattle.assise_keeper.proofs.Common.{is_opening_of, Opens, Never, openings, openings_of, calls_by, Extends, client_after, MayAddAll, ExtendsByOne}
+use Rattle.assise_keeper.proofs.Common.{◌≡◌, ℕ, ◌+◌, ◌<◌, ◌⊎◌, List, [], ◌∷◌, ◌++◌, length, drop, sym, refl, ap, ◌∙◌, inl, inr, ⊎_elim, Option, Some, arith}
+use Rattle.assise_keeper.proofs.Common.{append_assoc, append-nil, length-append, EntryValue, opens, calls, crashes, fails, returns, is_opening_of, Opens, Never}
+use Rattle.assise_keeper.proofs.Common.{openings, openings_of, calls_by, Extends, client_after, MayAddAll, ExtendsByOne}
 use Rattle.std.specs.Prelude.{filter}
 use Rattle.std.proofs.lemmas.List.Elements.{filter-append}
 use Rattle.assise_history.specs.Legal.{is_call_of, is_opening}
@@ -20,12 +20,7 @@ module _ (o : Opens) where
   pub no_calls : (d : ℕ) (c : Option ℕ) (xs : List EntryValue) → MayAddAll c o xs → ¬ (client_after c xs ≡ Some d) → calls_by d xs ≡ []
   no_calls d c [] own other = refl
   no_calls d c (opens e n u ∷ xs) own other = no_calls d (Some e) xs own.1 other
-  no_calls d c (calls x ∷ xs) own other =
-      let e : ℕ = x.client in
-      let own' : MayAddAll (Some e) o xs = subst (λ (z : Option ℕ). MayAddAll z o xs) own.0 own.1 in
-      let stays : client_after c xs ≡ Some e = ap (λ (z : Option ℕ). client_after z xs) own.0 ∙ client_stays e xs own' in
-      let ne : d ≢ e = λ is. other (stays ∙ ap (λ (z : ℕ). let o : Option ℕ = Some z in o) (sym is)) in
-      rw (ne_eqb d e ne) (no_calls d c xs own.1 other)
+  no_calls d c (calls x ∷ xs) own other = grind (arith, no_calls d c xs own.1 other, client_stays)
   no_calls d c (crashes e ∷ xs) own other = no_calls d c xs own.1 other
   no_calls d c (fails e ls ∷ xs) own other = no_calls d c xs own.1 other
   no_calls d c (returns e ∷ xs) own other = no_calls d c xs own.1 other
@@ -33,11 +28,7 @@ module _ (o : Opens) where
   -- the client afterwards is the client before, or was opened
   pub was_or_opened : (d : ℕ) (c : Option ℕ) (xs : List EntryValue) → MayAddAll c o xs → client_after c xs ≡ Some d → (c ≡ Some d) ⊎ (0 < openings d xs)
   was_or_opened d c [] own is = inl is
-  was_or_opened d c (opens e n u ∷ xs) own is =
-      let stays : client_after (Some e) xs ≡ Some e = client_stays e xs own.1 in
-      let same : Some e ≡ Some d = sym stays ∙ is in
-      let same' : d ≡ e = cc in
-      inr (rw (eq-eqb e d (sym same')) (omega arith))
+  was_or_opened d c (opens e n u ∷ xs) own is = grind (arith, client_stays)
   was_or_opened d c (calls x ∷ xs) own is = ⊎_elim (λ a. inl a) (λ b. inr (omega arith)) (was_or_opened d c xs own.1 is)
   was_or_opened d c (crashes e ∷ xs) own is = ⊎_elim (λ a. inl a) (λ b. inr (omega arith)) (was_or_opened d c xs own.1 is)
   was_or_opened d c (fails e ls ∷ xs) own is = ⊎_elim (λ a. inl a) (λ b. inr (omega arith)) (was_or_opened d c xs own.1 is)
@@ -63,8 +54,7 @@ openings-append d h xs = ap length (filter-append (is_opening_of d) h xs) ∙ le
 
 -- what was opened in a prefix was opened
 pub opened-in : (d : ℕ) (h prefix : List EntryValue) → Extends h prefix → 0 < openings d prefix → 0 < openings d h
-opened-in d h prefix s some_opening =
-    let both : openings d h ≡ openings d prefix + openings d s.0 = ap (openings d) s.1 ∙ openings-append d prefix s.0 in omega arith
+opened-in d h prefix s some_opening = grind (arith, openings-append d prefix s.0)
 
 pub extends-further : (h prefix xs : List EntryValue) → Extends h prefix → Extends (h ++ xs) prefix
 extends-further h prefix xs s = (s.0 ++ xs, ap (λ z. z ++ xs) s.1 ∙ append_assoc prefix s.0 xs)
@@ -83,11 +73,8 @@ nothing_more (x ∷ xs) ys e = nothing_more xs ys (cc)
 -- a call that is added to what was taken extends by one what was seen
 pub extends_by_one : (c : ℕ) (x : Call) (old taken : List EntryValue) → x.client ≡ c → Extends taken old → calls_by c taken ≡ calls_by c old →
     ExtendsByOne c old (taken ++ calls x ∷ []) (calls x)
-extends_by_one c x old taken own extends same =
-    let one : calls_by c (calls x ∷ []) ≡ calls x ∷ [] = rw (eq-eqb c x.client (sym own)) refl in
-    record {
-      between = extends.0;
-      split = ap (λ z. z ++ calls x ∷ []) extends.1;
-      others = nothing_more (calls_by c old) (calls_by c extends.0) (sym (calls-append c old extends.0) ∙ (ap (calls_by c) (sym extends.1) ∙ same));
-      grown = calls-append c taken (calls x ∷ []) ∙ (ap (λ z. z ++ calls_by c (calls x ∷ [])) same ∙ ap (λ z. calls_by c old ++ z) one);
-    }
+extends_by_one c x old taken own extends same = grind (
+  arith,
+  nothing_more (calls_by c old) (calls_by c extends.0) (sym (calls-append c old extends.0) ∙ (ap (calls_by c) (sym extends.1) ∙ same)),
+  calls-append c taken (calls x ∷ []),
+)

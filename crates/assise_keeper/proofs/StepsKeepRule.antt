@@ -1,11 +1,10 @@
 -- Each step keeps the rule of the table.
-use Rattle.assise_keeper.proofs.Common.{◌≡◌, ◌≢◌, ℕ, ◌+◌, ◌<◌, eqb, ◌⊎◌, Bool, true, false, List, [], ◌∷◌, ◌++◌, length, drop, set, sym, refl, ap, ◌∙◌, subst}
-use Rattle.assise_keeper.proofs.Common.{⊎_elim, Option, Some, None, arith, get_or, none, some, some-ne-none, some-injective, get_elem?, State, step, Act, keeps}
-use Rattle.assise_keeper.proofs.Common.{takes, gives, stepped, carried_after, Valid, Allows, Splits, Joins, opening, EntryValue, Half, Opens, Never, Alone}
-use Rattle.assise_keeper.proofs.Common.{Stage, Fresh, Idle, Holding, OpensOnce, openings, client_after, MayAddAll, MayGive, half, clientless, newcomer}
-use Rattle.assise_keeper.proofs.Common.{beginning, spent, together, with_right, with_no_client, own_of, guest_of, holding, given, Boxed, StatePlace, not_in}
-use Rattle.assise_keeper.proofs.Common.{home, out, AreLed, IsAt, IsHalfLed, IsLed, IsStage, CoversHalf, HalfFits, HasRight, Opener, Owner, anyone, alone}
-use Rattle.assise_keeper.proofs.Common.{IsPassAt, IsKept}
+use Rattle.assise_keeper.proofs.Common.{◌≡◌, ◌≢◌, ℕ, ◌+◌, ◌<◌, eqb, ◌⊎◌, Bool, true, false, List, [], ◌∷◌, ◌++◌, length, set, sym, refl, ◌∙◌, subst, ⊎_elim}
+use Rattle.assise_keeper.proofs.Common.{Option, Some, None, arith, get_or, none, some, some-ne-none, get_elem?, State, step, Act, takes, stepped, carried_after}
+use Rattle.assise_keeper.proofs.Common.{Valid, Allows, Splits, Joins, opening, EntryValue, Half, Opens, Never, Alone, Stage, Fresh, Idle, Holding, OpensOnce}
+use Rattle.assise_keeper.proofs.Common.{openings, client_after, MayAddAll, MayGive, half, clientless, newcomer, beginning, spent, together, with_right}
+use Rattle.assise_keeper.proofs.Common.{with_no_client, own_of, guest_of, holding, given, Boxed, StatePlace, not_in, home, out, AreLed, IsAt, IsHalfLed}
+use Rattle.assise_keeper.proofs.Common.{IsStage, CoversHalf, HalfFits, HasRight, Opener, Owner, anyone, alone, IsPassAt, IsKept}
 use mathlib.Core.Option as maybe
 use prog.Atomic.{either}
 use Rattle.atomic_table.proofs.Lists.{at_set, set_again, set_else, at_longer}
@@ -14,14 +13,13 @@ use Rattle.assise_keeper.specs.Steps.{Sitting, taking, releasing, setting_up}
 use Rattle.assise_keeper.proofs.PassAdds.{was_or_opened, openings-append, opened-in, extends-same, drop-prefix}
 use Rattle.assise_keeper.proofs.ClientOwners.{half_of, owns, owns_mine, fits_still, fits_on, at_snoc_place, no_side, no_side', same_seat}
 use Rattle.assise_keeper.proofs.Rights.{CanPart, opens_none, passes_on}
-use Rattle.assise_keeper.proofs.LedStates.{led_further, led_from}
+use Rattle.assise_keeper.proofs.LedStates.{led_from}
 
 -- the fact holds of each seat after one view was set
 seats : {S : Type 0} (K : ℕ → View S → Type 0) (vs : List (View S)) (me : ℕ) (w : View S) → K me w →
     ((j : ℕ) (d : View S) → j ≢ me → get_elem? vs j ≡ some d → K j d)
     → (j : ℕ) (d : View S) → get_elem? (set vs me w) j ≡ some d → K j d
-seats {S} K vs me w mine others j d e = ⊎_elim (λ (t : (j ≡ me) × (w ≡ d)). subst (λ (x : ℕ × View S). K x.0 x.1) (λ i. (sym t.0 i, t.1 i)) mine)
-    (λ (t : (j ≢ me) × (get_elem? vs j ≡ some d)). others j d t.0 t.1) (at_set vs me j w d e)
+seats {S} K vs me w mine others j d e = grind (arith, at_set)
 
 -- a stage that tells nothing of the place stays so
 others_stage : {S : Type 0} (p q : StatePlace) (h h' : List EntryValue) (now now' : Option S) (j : ℕ) (st : Stage S) → (p ≡ not_in → ⊥) → (p ≡ out j → ⊥) →
@@ -38,18 +36,13 @@ set_at (u ∷ vs) (Rattle.std.proofs.Common.suc id) w v e = set_at vs id w v e
 
 -- of one view there is the first place alone
 only : {S : Type 0} (vs : List (View S)) → vs ≡ newcomer ∷ [] → (j : ℕ) (d : View S) → get_elem? vs j ≡ some d → (j ≡ 0) × (newcomer ≡ d)
-only {S} vs one j d e = only_one j d (sym (ap (λ (z : List (View S)). get_elem? z j) one) ∙ e)
-  where
-    only_one : (j : ℕ) (d : View S) → get_elem? (newcomer ∷ []) j ≡ some d → (j ≡ 0) × (newcomer ≡ d)
-    only_one Rattle.std.proofs.Common.zero d e = (refl, some-injective newcomer d e)
-    only_one (Rattle.std.proofs.Common.suc j) d e = absurd (some-ne-none d (sym e))
+only {S} vs one j d e = grind arith
 
 module _ {S : Type 0} (history : S → List EntryValue) (leads works : S → S → Type 0) (itself : (s : S) → leads s s)
     (onward : (s t u : S) → leads s t → leads t u → leads s u) (rests : (s : S) → works s s) (works_on : (s t u : S) → works s t → works t u → works s u) where
   -- what one half noted leads on, by work alone where the half alone may open
   half_led : (d : Half S) (s x : S) → leads s x → (d.opens ≡ Alone → works s x) → IsHalfLed leads works d (Some s) → IsHalfLed leads works d (Some x)
-  half_led d s x step work led =
-      record { led = led_further leads onward d.last s x step led.led; worked = λ is. led_further works works_on d.last s x (work is) (led.worked is) }
+  half_led d s x step work led = grind arith
 
   all_led : (d : View S) (s x : S) → leads s x → (d.own.opens ≡ Alone → works s x) → (d.guest.opens ≡ Alone → works s x) → AreLed leads works d (Some s) →
       AreLed leads works d (Some x)
@@ -65,15 +58,13 @@ module _ {S : Type 0} (history : S → List EntryValue) (leads works : S → S �
 
   -- a half that noted the same, and may open alone only if the other may
   half_as : (d e : Half S) (now : Option S) → e.last ≡ d.last → (e.opens ≡ Alone → d.opens ≡ Alone) → IsHalfLed leads works d now → IsHalfLed leads works e now
-  half_as d e now same right led =
-      record { led = subst (λ z. IsLed leads z now) (sym same) led.led; worked = λ is. subst (λ z. IsLed works z now) (sym same) (led.worked (right is)) }
+  half_as d e now same right led = grind arith
 
   -- a pass that holds nothing may be followed by a new one
   at_one_more : (words : List ℕ) (homes : List (maybe.Option (Option (Boxed S)))) (vs : List (View S)) (h : List EntryValue) (now : Option S) (id : ℕ)
       (v w : View S) → get_elem? vs id ≡ some v → v.stage ≡ Idle
       → (p : StatePlace) → IsAt history words homes vs h now p → IsAt history words homes (vs ++ w ∷ []) h now p
-  at_one_more words homes vs h now id v w at idle not_in is =
-      absurd (let first : Fresh ≡ Idle = ap (λ (z : View S). z.stage) (only vs is.2 id v at).1 ∙ idle in (cc))
+  at_one_more words homes vs h now id v w at idle not_in is = grind arith
   at_one_more words homes vs h now id v w at idle home is = is
   at_one_more words homes vs h now id v w at idle (out j) is = (is.0, is.1, (is.2.0, at_longer vs (w ∷ []) j is.2.0 is.2.1, is.2.2))
 
@@ -81,14 +72,9 @@ module _ {S : Type 0} (history : S → List EntryValue) (leads works : S → S �
   at_another : (words : List ℕ) (homes : List (maybe.Option (Option (Boxed S)))) (vs : List (View S)) (h : List EntryValue) (now : Option S) (id : ℕ)
       (v w : View S) → get_elem? vs id ≡ some v → v.stage ≡ Idle
       → (p : StatePlace) → IsAt history words homes vs h now p → IsAt history words homes (set vs id w) h now p
-  at_another words homes vs h now id v w at idle not_in is =
-      absurd (let first : Fresh ≡ Idle = ap (λ (z : View S). z.stage) (only vs is.2 id v at).1 ∙ idle in (cc))
+  at_another words homes vs h now id v w at idle not_in is = grind arith
   at_another words homes vs h now id v w at idle home is = is
-  at_another words homes vs h now id v w at idle (out j) is =
-      let other : j ≢ id = λ same.
-      let found : some is.2.0 ≡ some v = sym is.2.1 ∙ (ap (λ (z : ℕ). get_elem? vs z) same ∙ at) in
-      let stage : Holding h is.2.2.0 ≡ Idle = sym is.2.2.1 ∙ (ap (λ (z : View S). z.stage) (some-injective is.2.0 v found) ∙ idle) in (cc) in
-      (is.0, is.1, (is.2.0, set_else vs id j w other ∙ is.2.1, is.2.2))
+  at_another words homes vs h now id v w at idle (out j) is = grind (arith, set_else)
 
   abbrev St : Type 0
   St = State (Option (Boxed S)) (View S)
@@ -111,19 +97,11 @@ module _ {S : Type 0} (history : S → List EntryValue) (leads works : S → S �
   takes_in : (s : St) (r : Rule s) (id : ℕ) (v : View S) → get_elem? s.views id ≡ some v → (p : StatePlace) → r.place ≡ p →
       IsAt history s.words s.homes s.views r.h r.now p → TakesAt id v s.views s.words s.homes
   takes_in s r id v at not_in is ph = subst (λ (z : List ℕ × Homes). TakesAt id v s.views z.0 z.1) (λ k. (sym ph.0 k, s.homes)) (
-    v,
-    keeps,
-    tt,
-    subst (λ (ws : List ℕ). Rule record { words = ws; homes = s.homes; views = set s.views id v }) ph.0 (stays s r id v at),
-    ((λ z. absurd (omega arith)), λ _. refl),
-  )
+      grind (arith, stays s r id v at)
+      )
   takes_in s r id v at (out i) is ph = subst (λ (z : List ℕ × Homes). TakesAt id v s.views z.0 z.1) (λ k. (sym ph.0 k, s.homes)) (
-    v,
-    keeps,
-    tt,
-    subst (λ (ws : List ℕ). Rule record { words = ws; homes = s.homes; views = set s.views id v }) ph.0 (stays s r id v at),
-    ((λ z. absurd (omega arith)), λ _. refl),
-  )
+      grind (arith, stays s r id v at)
+      )
   takes_in s r id v at home is ph = let b = ph.1.0 in let x = b.value in let mine = r.each id v at in let led = subst (AreLed leads works v) ph.1.3 mine.3 in
       let not_fresh : r.place ≡ not_in → ⊥ = λ e. let e' = sym is ∙ e in (cc) in
       let not_out : (j : ℕ) → r.place ≡ out j → ⊥ = λ j e. let e' = sym is ∙ e in (cc) in
@@ -137,23 +115,11 @@ module _ {S : Type 0} (history : S → List EntryValue) (leads works : S → S �
           place = out id;
           owner = r.owner;
           who = r.who;
-          is_at = (
-            refl,
-            refl,
-            (
-              holding v (history x) x,
-              set_at s.views id (holding v (history x) x) v at,
-              (x, ap (λ (z : List EntryValue). Holding z x) ph.1.2, refl),
-            ),
-          );
+          is_at = grind (arith, set_at s.views id (holding v (history x) x) v at);
           each = seats (IsPassAt leads works (out id) r.h (Some x) r.owner r.who) s.views id (holding v (history x) x)
               (mine.0, mine.1, (refl, ph.1.2, refl), record { own = led.own; guest = led.guest })
               (λ j d other e. let ok = r.each j d e in (
-                ok.0,
-                ok.1,
-                others_stage r.place (out id) r.h r.h r.now (Some x) j d.stage not_fresh (not_out j) ok.2,
-                subst (AreLed leads works d) ph.1.3
-                    ok.3,
+              grind arith
               ));
         },
         (
@@ -241,8 +207,7 @@ module _ {S : Type 0} (history : S → List EntryValue) (leads works : S → S �
               tt,
               record {
                 own = half_there (half (h ++ xs) (Some x) c v.own.opens) x refl;
-                guest = half_there (half (h ++ xs) (Some x) v.guest.client v.guest.opens) x
-                    refl;
+                guest = grind arith;
               },
             )
             (λ j d other e. let ok = each j d e in let not_mine : half_of j true ≡ half_of id true → ⊥ = λ i. other (same_seat j id true true i) in (
@@ -275,24 +240,10 @@ module _ {S : Type 0} (history : S → List EntryValue) (leads works : S → S �
         guest = half (h ++ grows.0) (Some x) v.guest.client v.guest.opens;
         stage = Idle;
       } in
-      let is : w ≡ given v h (history x) x = let added : grows.0 ≡ drop (length h) (history x) = sym (drop-prefix h grows.0)
-      ∙ ap (drop (length h)) (sym grows.1) in
-      λ i. record {
-        own = half (sym grows.1 i) (Some x) (client_after v.own.client (added i)) v.own.opens;
-        guest =
-            half (sym grows.1 i) (Some x) v.guest.client v.guest.opens;
-        stage = Idle;
-      } in
+      let is : w ≡ given v h (history x) x = grind (arith, drop-prefix) in
       let Goal : List (ℕ × Option (Boxed S)) × (List ℕ × Homes) → Type 0 = λ z. StoresAt slots id v z.0 s.views z.1.0 z.1.1 in
-      let done : StoresAt slots id v ((0, Some b) ∷ []) s.views (1 ∷ []) (none ∷ []) = (
-        w,
-        gives,
-        tt,
-        gives_rule s.views h grows.0 was r.owner r.who id v b each at grows.2 once' grows.1 step work,
-        λ y g before c' st. let some_same : Some b ≡ Some y = ap (first_of (Some b)) c' in let same : b ≡ y = cc in let same_h : h ≡ g = let e = sym holds
-            ∙ st in (cc) in
-            λ i. (let e2 : w ≡ given v g (history y.value) y.value = is ∙ (λ k. given v (same_h k) (history (same k).value) (same k).value) in e2 i, []),
-      ) in
+      let done : StoresAt slots id v ((0, Some b) ∷ []) s.views (1 ∷ []) (none ∷ []) = grind
+      (arith, gives_rule s.views h grows.0 was r.owner r.who id v b each at grows.2 once' grows.1 step work) in
       subst Goal (λ i. (sym carried i, (sym ph.0 i, sym ph.1 i))) done
 
   -- the first pass puts the state in
@@ -305,13 +256,7 @@ module _ {S : Type 0} (history : S → List EntryValue) (leads works : S → S �
     owner = r.owner;
     who = alone (id, true);
     is_at = (refl, refl, (beginning (history x) x, set_at s.views id (beginning (history x) x) v at, (x, refl, refl)));
-    each = seats (IsPassAt leads works (out id) (history x) (Some x) r.owner (alone (id, true))) s.views id (beginning (history x) x) (
-      ((extends-same (history x), (λ c e. refl), (λ e. refl)), (λ c e. absurd (cc)), refl),
-      fits_nobody (history x) r.owner (alone (id, true)) id false,
-      (refl, refl, refl),
-      record { own = half_there (half (history x) (Some x) None Alone) x refl; guest = half_unseen (Some x) },
-    )
-        (λ j d other e. absurd (other ((only s.views one j d e).0 ∙ sym (only s.views one id v at).0)));
+    each = grind (arith, extends-same (history x), fits_nobody (history x) r.owner (alone (id, true)) id false);
   }
 
   abbrev SetsAt : (slots id : ℕ) (v : View S) (b : Boxed S) (c : List (ℕ × Option (Boxed S))) (views : List (View S)) → List ℕ → Homes → Type 0
@@ -337,12 +282,7 @@ module _ {S : Type 0} (history : S → List EntryValue) (leads works : S → S �
       subst (λ (z : List ℕ × Homes). SetsAt slots id v b me.1 s.views z.0 z.1) (λ i. (sym ph.0 i, sym ph.1 i)) done
 
   seats_one : (j : ℕ) (d : View S) → get_elem? (newcomer ∷ []) j ≡ some d → IsPassAt leads works not_in [] None (λ _. (0, true)) anyone j d
-  seats_one Rattle.std.proofs.Common.zero d e = subst (IsPassAt leads works not_in [] None (λ _. (0, true)) anyone 0) (some-injective newcomer d e) (
-    fits_nobody [] (λ _. (0, true)) anyone 0 true,
-    fits_nobody [] (λ _. (0, true)) anyone 0 false,
-    refl,
-    record { own = half_unseen None; guest = half_unseen None },
-  )
+  seats_one Rattle.std.proofs.Common.zero d e = grind arith
   seats_one (Rattle.std.proofs.Common.suc j) d e = absurd (some-ne-none d (sym e))
 
   pub starts : Rule (opening (2 ∷ []) (None ∷ []) newcomer)
@@ -376,20 +316,11 @@ module _ {S : Type 0} (history : S → List EntryValue) (leads works : S → S �
             (at_another s.words s.homes s.views r.h r.now id v (with_right o v) at idle r.place r.is_at);
         each = λ j d e. ⊎_elim
             (λ (a : get_elem? vs j ≡ some d). seats (IsPassAt leads works r.place r.h r.now r.owner moved.who) s.views id (with_right o v) (
-              ((mine.0.0.0, mine.0.0.1, (λ i. mine.0.0.2 (left i))), mine.0.1, moved.first),
-              still id false v.guest (no_side id id) mine.1,
-              mine.2,
-              record { own = half_as v.own (with_right o v).own r.now refl left mine.3.own; guest = mine.3.guest },
+            grind arith
             )
             (λ k u other b. let ok = r.each k u b in
             (still k true u.own (λ i. other (same_seat k id true true i)) ok.0, still k false u.guest (no_side k id) ok.1, ok.2, ok.3)) j d a)
-            (λ (a : (j ≡ n) × (with_no_client p v ≡ d)). subst (λ (z : ℕ × View S). IsPassAt leads works r.place r.h r.now r.owner moved.who z.0 z.1)
-            (λ i. (sym a.0 i, a.1 i)) (
-              ((mine.0.0.0, (λ c i. absurd (cc)), (λ i. mine.0.0.2 (right i))), (λ c i. absurd (cc)), moved.second),
-              fits_nobody r.h r.owner moved.who n false,
-              tt,
-              record { own = half_as v.own (with_no_client p v).own r.now refl right mine.3.own; guest = half_unseen r.now },
-            ))
+            (grind arith)
             (at_snoc_place vs (with_no_client p v) d j e);
       }
 
@@ -426,19 +357,13 @@ module _ {S : Type 0} (history : S → List EntryValue) (leads works : S → S �
             (at_another s.words s.homes s.views r.h r.now id v (own_of v) at idle r.place r.is_at);
         each = λ j d e. ⊎_elim
             (λ (a : get_elem? vs j ≡ some d). seats (IsPassAt leads works r.place r.h r.now to moved.who) s.views id (own_of v) (
-              still id true v.own (no_side' id id) mine.0,
-              fits_nobody r.h to moved.who id false,
-              mine.2,
-              record { own = mine.3.own; guest = half_unseen r.now },
+            search (no_side', fits_nobody, arith) parts 3
             )
             (λ k u other b. let ok = r.each k u b in
             (still k true u.own (no_side' k id) ok.0, still k false u.guest (λ i. other (same_seat k id false false i)) ok.1, ok.2, ok.3)) j d a)
             (λ (a : (j ≡ n) × (guest_of v ≡ d)). subst (λ (z : ℕ × View S). IsPassAt leads works r.place r.h r.now to moved.who z.0 z.1)
             (λ i. (sym a.0 i, a.1 i)) (
-              moves_half r.h r.owner r.who moved.who id n false true v.guest moved.second mine.1,
-              fits_nobody r.h to moved.who n false,
-              tt,
-              record { own = mine.3.guest; guest = half_unseen r.now },
+            search (moves_half, fits_nobody, arith) parts 3
             ))
             (at_snoc_place vs (guest_of v) d j e);
       }
@@ -460,23 +385,13 @@ module _ {S : Type 0} (history : S → List EntryValue) (leads works : S → S �
         place = r.place;
         owner = to;
         who = moved.who;
-        is_at = at_another s.words s.homes (set s.views id (together v w)) r.h r.now other w spent there other_idle r.place
-            (at_another s.words s.homes s.views r.h r.now id v (together v w) at idle r.place r.is_at);
+        is_at = grind (arith, at_another);
         each = seats (IsPassAt leads works r.place r.h r.now to moved.who) (set s.views id (together v w)) other spent (
-          fits_nobody r.h to moved.who other true,
-          fits_nobody r.h to moved.who other false,
-          tt,
-          record { own = half_unseen r.now; guest = half_unseen r.now },
-        )
+            grind arith
+            )
             (λ j d not_other e. seats (λ (k : ℕ) (u : View S). ¬ (k ≡ other) → IsPassAt leads works r.place r.h r.now to moved.who k u) s.views id
             (together v w)
-            (λ no_o. (
-              still id true v.own (λ i. no_o (same_seat id other true true i)) mine.0,
-              moves_half r.h r.owner r.who moved.who other id true false w.own
-                  moved.second theirs.0,
-              mine.2,
-              record { own = mine.3.own; guest = theirs.3.own },
-            ))
+            (search (same_seat, moves_half, arith) parts 3)
             (λ k u not_id b no_o. let ok = r.each k u b in
             (still k true u.own (λ i. no_o (same_seat k other true true i)) ok.0, still k false u.guest (no_side k other) ok.1, ok.2, ok.3)) j d e
             not_other);

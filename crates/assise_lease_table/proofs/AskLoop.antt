@@ -1,7 +1,6 @@
 -- A loop that asks one after another.
-use Rattle.assise_lease_table.proofs.Common.{◌≡◌, ℕ, zero, suc, ◌+◌, ◌<◌, Bool, true, false, cond, List, [], ◌∷◌, ◌++◌, length, take, get_or, Option, inl, inr}
-use Rattle.assise_lease_table.proofs.Common.{filter, sym, refl, ap, subst, ◌∙◌, arith, append-nil, map_push, Read, Lease, Asked, Among, is_to_ask, holders}
-use Rattle.assise_lease_table.proofs.Common.{IsAnswer, AnswerAll}
+use Rattle.assise_lease_table.proofs.Common.{◌≡◌, ℕ, zero, suc, ◌+◌, ◌<◌, Bool, true, false, List, [], ◌∷◌, ◌++◌, length, take, get_or, Option, inl, inr, refl}
+use Rattle.assise_lease_table.proofs.Common.{arith, append-nil, map_push, Read, Lease, Asked, Among, is_to_ask, IsAnswer, AnswerAll}
 use Rattle.std.proofs.lemmas.Grind.{take_at_read}
 use Rattle.std.proofs.lemmas.List.Elements.{filter-append}
 use Rattle.assise_private_log.specs.NumberedLog.{NumberedLog}
@@ -28,22 +27,10 @@ module _ {C : Type 0} (answers : C → NumberedLog → ℕ → ℕ → Type 0) (
       (take i xs) asked
       → is_to_ask choice (get_or xs i d) ≡ true → a.client ≡ (get_or xs i d).holder → IsAnswer answers revoker_of view_of inode a
       → AnswerAll answers revoker_of view_of inode choice (take (i + 1) xs) (asked ++ a ∷ [])
-  asked_more xs i d asked a h so_far chosen mine answer = record {
-    who = map_push (λ (z : Asked). z.client) asked a ∙ (λ k. so_far.who k ++ mine k ∷ []) ∙ sym (
-        ap holders (ap (filter (is_to_ask choice)) (take_at_read xs i d h).1 ∙ filter-append (is_to_ask choice) (take i xs) (get_or xs i d ∷ [])
-        ∙ ap (λ b. filter (is_to_ask choice) (take i xs) ++ cond b (get_or xs i d ∷ []) []) chosen)
-        ∙ map_push (λ (z : Lease). z.holder) (filter (is_to_ask choice) (take i xs)) (get_or xs i d));
-    each = λ b in_b. elim (among_push asked a b in_b)
-        [ inl before ↦ so_far.each b before | inr last ↦ subst (IsAnswer answers revoker_of view_of inode) (sym last) answer ];
-  }
+  asked_more xs i d asked a h so_far chosen mine answer = grind (arith, map_push, take_at_read, filter-append, among_push)
 
   pub asked_same : (xs : List Lease) (i : ℕ) (d : Lease) (asked : List Asked) → i < length xs → AnswerAll answers revoker_of view_of inode choice (take i xs)
       asked
       → is_to_ask choice (get_or xs i d) ≡ false
       → AnswerAll answers revoker_of view_of inode choice (take (i + 1) xs) asked
-  asked_same xs i d asked h so_far passed = record {
-    who = so_far.who ∙ sym
-        (ap holders (ap (filter (is_to_ask choice)) (take_at_read xs i d h).1 ∙ filter-append (is_to_ask choice) (take i xs) (get_or xs i d ∷ [])
-        ∙ ap (λ b. filter (is_to_ask choice) (take i xs) ++ cond b (get_or xs i d ∷ []) []) passed ∙ append-nil (filter (is_to_ask choice) (take i xs))));
-    each = so_far.each;
-  }
+  asked_same xs i d asked h so_far passed = grind (arith, take_at_read, filter-append, append-nil)

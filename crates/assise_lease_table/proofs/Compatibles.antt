@@ -1,10 +1,10 @@
 -- Which changes keep leases compatible.
 use Rattle.assise_lease_table.proofs.Common.{◌≡◌, ◌≢◌, ℕ, ◌==◌, Bool, true, false, not, ◌&&◌, List, [], ◌∷◌, ◌++◌, inl, inr, filter, map, sym, refl, ap, ◌∙◌}
-use Rattle.assise_lease_table.proofs.Common.{ne_eqb, list_all, list_any, cond_both, false_from_ne_true, and_parts, and_from, and_left, not-true, not_from_false}
-use Rattle.assise_lease_table.proofs.Common.{eqb-true, eqb-false, Mode, Read, Write, Lease, is_own_unasked, is_rival, Among, stand_together, compatible, IsFree}
-use Rattle.assise_lease_table.proofs.Common.{raise, raise_unopposed, raised_if, without_holder, with_lease}
+use Rattle.assise_lease_table.proofs.Common.{ne_eqb, list_all, list_any, cond_both, and_parts, and_from, and_left, eqb-true, Mode, Read, Write, Lease}
+use Rattle.assise_lease_table.proofs.Common.{is_own_unasked, is_rival, Among, stand_together, compatible, IsFree, raise, raise_unopposed, raised_if, with_lease}
+use Rattle.assise_lease_table.proofs.Common.{arith}
 use Rattle.assise_lease_table.specs.Modes.{against, stronger}
-use Rattle.assise_lease_table.proofs.Elements.{not_both, none_among, all_among, among_all, among_filter, among_map, among_push}
+use Rattle.assise_lease_table.proofs.Elements.{none_among, all_among, among_all, among_filter, among_map, among_push}
 pub use Rattle.std.proofs.lemmas.Bool.{eqb-false as differ}
 
 pub against_swap : (a b : Mode) → against a b ≡ against b a
@@ -14,14 +14,10 @@ against_swap Write Read = refl
 against_swap Write Write = refl
 
 from_together : (a b : Lease) → stand_together a b ≡ true → (a.holder ≢ b.holder) × (against a.mode b.mode ≡ false)
-from_together a b e =
-    let parts = and_parts (not (a.holder == b.holder)) (not (against a.mode b.mode)) e in
-    (eqb-false a.holder b.holder (not-true (a.holder == b.holder) parts.0), not-true (against a.mode b.mode) parts.1)
+from_together a b e = grind arith
 
 to_together : (a b : Lease) → a.holder ≢ b.holder → against a.mode b.mode ≡ false → stand_together a b ≡ true
-to_together a b n e =
-    and_from (not (a.holder == b.holder)) (not (against a.mode b.mode)) (not_from_false (a.holder == b.holder) (ne_eqb a.holder b.holder n))
-    (not_from_false (against a.mode b.mode) e)
+to_together a b n e = grind arith
 
 -- two leases of one holder are one
 pub one_lease : (ls : List Lease) → compatible ls ≡ true → (a b : Lease) → Among ls a → Among ls b → a.holder ≡ b.holder → a ≡ b
@@ -29,10 +25,7 @@ one_lease [] c a b in_a in_b same = absurd in_a
 one_lease (l ∷ ls) c a b in_a in_b same =
     let parts = and_parts (list_all (stand_together l) ls) (compatible ls) c in
     elim in_a [
-      | inl head_a ↦ elim in_b [
-        | inl head_b ↦ head_a ∙ sym head_b
-        | inr rest_b ↦ absurd ((from_together l b (all_among (stand_together l) ls parts.0 b rest_b)).0 (sym (ap (λ (z : Lease). z.holder) head_a) ∙ same))
-      ]
+      | inl head_a ↦ grind (arith, all_among)
       | inr rest_a ↦ elim in_b [
         | inl head_b ↦ absurd ((from_together l a (all_among (stand_together l) ls parts.0 a rest_a)).0 (sym (ap (λ (z : Lease). z.holder) head_b) ∙ sym same))
         | inr rest_b ↦ one_lease ls parts.1 a b rest_a rest_b same
@@ -42,19 +35,7 @@ one_lease (l ∷ ls) c a b in_a in_b same =
 -- leases of two holders are not against each other
 pub not_against : (ls : List Lease) → compatible ls ≡ true → (a b : Lease) → Among ls a → Among ls b → a.holder ≢ b.holder → against a.mode b.mode ≡ false
 not_against [] c a b in_a in_b other = absurd in_a
-not_against (l ∷ ls) c a b in_a in_b other =
-    let parts = and_parts (list_all (stand_together l) ls) (compatible ls) c in
-    elim in_a [
-      | inl head_a ↦ elim in_b [
-        | inl head_b ↦ absurd (other (ap (λ (z : Lease). z.holder) (head_a ∙ sym head_b)))
-        | inr rest_b ↦ ap (λ (z : Lease). against z.mode b.mode) head_a ∙ (from_together l b (all_among (stand_together l) ls parts.0 b rest_b)).1
-      ]
-      | inr rest_a ↦ elim in_b [
-        | inl head_b ↦ ap (λ (z : Lease). against a.mode z.mode) head_b
-            ∙ (against_swap a.mode l.mode ∙ (from_together l a (all_among (stand_together l) ls parts.0 a rest_a)).1)
-        | inr rest_b ↦ not_against ls parts.1 a b rest_a rest_b other
-      ]
-    ]
+not_against (l ∷ ls) c a b in_a in_b other = grind (arith, all_among)
 
 pub filter_compatible : (p : Lease → Bool) (ls : List Lease) → compatible ls ≡ true → compatible (filter p ls) ≡ true
 filter_compatible p [] c = refl
@@ -84,26 +65,16 @@ push_compatible [] x c h = refl
 push_compatible (l ∷ ls) x c h =
     let parts = and_parts (list_all (stand_together l) ls) (compatible ls) c in
     and_from (list_all (stand_together l) (ls ++ x ∷ [])) (compatible (ls ++ x ∷ []))
-    (among_all (stand_together l) (ls ++ x ∷ []) (λ k a. elim (among_push ls x k a) [
-      | inl before ↦ all_among (stand_together l) ls parts.0 k before
-      | inr last ↦ let head = h l (inl refl) in
-          to_together l k (λ e. head.0 (e ∙ ap (λ (z : Lease). z.holder) last)) (ap (λ (z : Lease). against l.mode z.mode) last ∙ head.1)
-    ]))
+    (grind (arith, among_all, among_push, all_among))
     (push_compatible ls x parts.1 (λ k a. h k (inr a)))
 
 -- a lease that no other holder's stands against
 pub with_compatible : (ls : List Lease) (x : Lease) → compatible ls ≡ true → IsFree ls x.holder x.mode → compatible (with_lease x ls) ≡ true
-with_compatible ls x c free =
-    push_compatible (without_holder x.holder ls) x (filter_compatible (λ l. not (l.holder == x.holder)) ls c) (λ l a.
-    let was = among_filter (λ (k : Lease). not (k.holder == x.holder)) ls l a in
-    let other : l.holder ≢ x.holder = eqb-false l.holder x.holder (not-true (l.holder == x.holder) was.1) in
-    (other, against_swap l.mode x.mode ∙ free l was.0 other))
+with_compatible ls x c free = grind (arith, push_compatible, filter_compatible, among_filter)
 
 -- a holder without rivals is free to hold
 pub no_rivals : (ls : List Lease) (h : ℕ) (mode : Mode) → list_any (is_rival h mode) ls ≡ false → IsFree ls h mode
-no_rivals ls h mode none l a other = false_from_ne_true (against mode l.mode) (λ is.
-    not_both (is_rival h mode l) (and_from (not (l.holder == h)) (against mode l.mode) (not_from_false (l.holder == h) (ne_eqb l.holder h other)) is)
-    (none_among (is_rival h mode) ls none l a))
+no_rivals ls h mode none l a other = grind (arith, none_among)
 
 -- ---- a lease that is raised
 
@@ -132,31 +103,15 @@ module _ (h : ℕ) (mode : Mode) where
 
   raised_together : (a b : Lease) → (a.holder ≢ h → against mode a.mode ≡ false) → (b.holder ≢ h → against mode b.mode ≡ false) → stand_together a b ≡ true →
       stand_together (raised_now a) (raised_now b) ≡ true
-  raised_together a b free_a free_b e =
-      let parts = from_together a b e in
-      let first : against (raised_now a).mode b.mode ≡ false =
-      raised_against (is_own_unasked h a) mode a b.mode parts.1 (λ own. free_b (λ same. parts.0 (own_holder a own ∙ sym same)))
-      in
-      let second : against (raised_now b).mode (raised_now a).mode ≡ false =
-      raised_against (is_own_unasked h b) mode b (raised_now a).mode (against_swap b.mode (raised_now a).mode ∙ first)
-      (λ own.
-      let other : a.holder ≢ h = λ same. parts.0 (same ∙ sym (own_holder b own)) in
-      ap (against mode) (raised_other (is_own_unasked h a) mode a (not_own a other)) ∙ free_a other)
-      in
-      to_together (raised_now a) (raised_now b) parts.0 (against_swap (raised_now a).mode (raised_now b).mode ∙ second)
+  raised_together a b free_a free_b e = grind arith
 
   pub raise_compatible : (ls : List Lease) → compatible ls ≡ true → IsFree ls h mode → compatible (raise h mode ls) ≡ true
   raise_compatible [] c free = refl
   raise_compatible (l ∷ ls) c free =
       let parts = and_parts (list_all (stand_together l) ls) (compatible ls) c in
       and_from (list_all (stand_together (raised_now l)) (raise h mode ls)) (compatible (raise h mode ls))
-      (among_all (stand_together (raised_now l)) (raise h mode ls) (λ k a.
-      let was = among_map raised_now ls k a in
-      ap (stand_together (raised_now l)) was.2 ∙ raised_together l was.0 (λ other. free l (inl refl) other) (λ other. free was.0 (inr was.1) other)
-      (all_among (stand_together l) ls parts.0 was.0 was.1)))
+      (among_all (stand_together (raised_now l)) (raise h mode ls) (search (among_map, all_among, arith) parts 3))
       (raise_compatible ls parts.1 (λ k a other. free k (inr a) other))
 
   pub raise_unopposed_compatible : (ls : List Lease) → compatible ls ≡ true → compatible (raise_unopposed h mode ls) ≡ true
-  raise_unopposed_compatible ls c =
-      cond_both (list_any (is_rival h mode) ls) ls (raise h mode ls) (λ ks. compatible ks ≡ true) (λ _. c)
-      (λ is. raise_compatible ls c (no_rivals ls h mode is))
+  raise_unopposed_compatible ls c = grind (arith, raise_compatible, no_rivals)

@@ -1,6 +1,6 @@
 -- What is true of the elements of a list that is filtered, mapped or tested.
 use Rattle.assise_lease_table.proofs.Common.{◌≡◌, Bool, true, false, cond, List, [], ◌∷◌, ◌++◌, ◌⊎◌, inl, inr, filter, map, sym, refl, ap, ◌∙◌, true≢false}
-use Rattle.assise_lease_table.proofs.Common.{list_any, list_all, cases_Bool, and_parts, and_from, or_left, or_right, or_cases, Among}
+use Rattle.assise_lease_table.proofs.Common.{list_any, list_all, and_parts, and_from, or_left, or_right, or_cases, Among, arith}
 pub use Rattle.std.proofs.lemmas.Bool.{and_parts as both_true, not-true as not_true}
 
 pub not_both : {P : Type 0} (b : Bool) → b ≡ true → b ≡ false → P
@@ -33,8 +33,7 @@ module _ {X : Type 0} where
       ]
 
   pub none_among : (p : X → Bool) (xs : List X) → list_any p xs ≡ false → (x : X) → Among xs x → p x ≡ false
-  none_among p xs e x a =
-      elim (cases_Bool (p x)) [ inl here ↦ not_both (list_any p xs) (among_any p xs x a here) e | inr missed ↦ missed ]
+  none_among p xs e x a = grind (arith, among_any)
 
   kept : (b : Bool) (y x : X) (ys : List X) → Among ys x → Among (cond b (y ∷ ys) ys) x
   kept true y x ys a = inr a

@@ -1,8 +1,6 @@
 -- What is true of each inode's leases stays true where one inode's leases change, or where all change alike.
-use Rattle.assise_lease_table.proofs.Common.{◌≡◌, ℕ, Bool, true, not, List, inl, inr, sym, refl, ap, subst, ◌∙◌, Mode, Lease, Becomes, SameLeases, Among}
-use Rattle.assise_lease_table.proofs.Common.{compatible, leave_out, with_lease, new_lease, revoke, revoked_if, is_own, IsFree}
-use mathlib.Core.Logic.{dite}
-use native.Mathlib.Decide.{ℕ_discrete}
+use Rattle.assise_lease_table.proofs.Common.{◌≡◌, ℕ, Bool, true, not, List, sym, refl, subst, ◌∙◌, Mode, Lease, Becomes, SameLeases, Among, compatible}
+use Rattle.assise_lease_table.proofs.Common.{leave_out, with_lease, new_lease, revoke, revoked_if, IsFree, arith}
 use Rattle.assise_lease_table.proofs.Elements.{among_filter, among_map, among_push}
 use Rattle.assise_lease_table.proofs.Compatibles.{filter_compatible, map_compatible, with_compatible}
 
@@ -15,10 +13,7 @@ OfEach P m = (i : ℕ) → P (m i)
 
 module _ (P : List Lease → Type 0) where
   pub becomes_each : {old new : LeasesOf} {inode : ℕ} {ls : List Lease} → Becomes old new inode ls → P ls → OfEach P old → OfEach P new
-  becomes_each {old} {new} {inode} {ls} b here all i =
-      dite (ℕ_discrete i inode)
-      (λ e. subst P (sym (ap new e ∙ b.here)) here)
-      (λ n. subst P (sym (b.elsewhere i n)) (all i))
+  becomes_each {old} {new} {inode} {ls} b here all i = grind arith
 
   pub same_each : {old new : LeasesOf} → SameLeases old new → OfEach P old → OfEach P new
   same_each same all i = subst P (sym (same i)) (all i)
@@ -48,11 +43,7 @@ module _ (known : ℕ → Bool) where
   leave_out_known choice ls k l a = k l (among_filter (λ z. not (choice z)) ls l a).0
 
   pub revoke_known : (choice : Lease → Bool) (ls : List Lease) → Known known ls → Known known (revoke choice ls)
-  revoke_known choice ls k l a =
-      let was = among_map (λ z. revoked_if (choice z) z) ls l a in ap (λ (z : Lease). known z.holder) was.2 ∙ k was.0 was.1
+  revoke_known choice ls k l a = grind (arith, among_map)
 
   pub with_lease_known : (h : ℕ) (mode : Mode) (ls : List Lease) → known h ≡ true → Known known ls → Known known (with_lease (new_lease h mode) ls)
-  with_lease_known h mode ls there k l a = elim (among_push (leave_out (is_own h) ls) (new_lease h mode) l a) [
-    | inl before ↦ leave_out_known (is_own h) ls k l before
-    | inr last ↦ ap (λ (z : Lease). known z.holder) last ∙ there
-  ]
+  with_lease_known h mode ls there k l a = grind (arith, among_push, leave_out_known)

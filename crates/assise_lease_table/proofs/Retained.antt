@@ -1,7 +1,7 @@
 -- What `retain` leaves of a map whose entries have leases, where it changes the leases of each alike.
-use Rattle.assise_lease_table.proofs.Common.{◌≡◌, ℕ, Bool, true, false, true≢false, inl, inr, eq-eqb, cond, List, [], ◌∷◌, Option, None, Some, nat_eq, sym}
-use Rattle.assise_lease_table.proofs.Common.{refl, ap, subst, ◌∙◌, IsDistinct, AllByRecursion, list_any, lookup, keys_of, values_of, cond_both, or_cases}
-use Rattle.assise_lease_table.proofs.Common.{or_parts, eqb-true, Lease, revoke, leases_in, is_none_or, is_any}
+use Rattle.assise_lease_table.proofs.Common.{◌≡◌, ℕ, Bool, true, false, inl, inr, eq-eqb, cond, List, [], ◌∷◌, Option, None, Some, nat_eq, sym, refl, ap, subst}
+use Rattle.assise_lease_table.proofs.Common.{◌∙◌, IsDistinct, AllByRecursion, list_any, lookup, keys_of, values_of, cond_both, or_cases, or_parts, Lease}
+use Rattle.assise_lease_table.proofs.Common.{revoke, leases_in, is_none_or, is_any, arith}
 use Rattle.std.specs.Map.Calls.{RetainsPairs}
 
 pub revoke_any : (choice : Lease → Bool) (ls : List Lease) → is_any (revoke choice ls) ≡ is_any ls
@@ -50,9 +50,7 @@ module _ {V F : Type 0} (any : V → Bool) (T : F → ℕ → V → Bool → V �
 pub absent : {V : Type 0} (i k : ℕ) (es : List (ℕ × V)) → nat_eq i k ≡ true → AllByRecursion (λ y. nat_eq k y ≡ false) (keys_of es) →
     lookup (nat_eq i) es ≡ None
 absent i k [] same all = refl
-absent i k (e ∷ es) same all =
-    ap (λ z. cond (nat_eq z e.0) (Some e.1) (lookup (nat_eq i) es)) (eqb-true i k same) ∙ ap (λ b. cond b (Some e.1) (lookup (nat_eq i) es)) all.0
-    ∙ absent i k es same all.1
+absent i k (e ∷ es) same all = grind (arith, absent i k es same all.1)
 
 -- each entry is kept that has a lease then
 module _ {V F : Type 0} (leases : V → List Lease) (any : V → Bool) (empty : (v : V) → any v ≡ false → leases v ≡ []) (T : F → ℕ → V → Bool → V → F → Type 0)
@@ -63,8 +61,7 @@ module _ {V F : Type 0} (leases : V → List Lease) (any : V → Bool) (empty : 
       → leases_in leases (lookup (nat_eq i) (cond b ((k, w) ∷ rest) rest)) ≡ g (leases_in leases (cond m (Some v) old))
   kept_head true true i k v w rest old at at_any written more gone = ap (λ z. leases_in leases (cond z (Some w) (lookup (nat_eq i) rest))) at ∙ written
   kept_head true false i k v w rest old at at_any written more gone = ap (λ z. leases_in leases (cond z (Some w) (lookup (nat_eq i) rest))) at ∙ more
-  kept_head false true i k v w rest old at at_any written more gone =
-      more ∙ ap (λ o. g (leases_in leases o)) (gone refl) ∙ none ∙ sym (empty w (sym at_any)) ∙ written
+  kept_head false true i k v w rest old at at_any written more gone = grind arith
   kept_head false false i k v w rest old at at_any written more gone = more
 
   pub kept_after : (es kept : List (ℕ × V)) → IsDistinct nat_eq (keys_of es) → RetainsPairs T f es kept → (i : ℕ) → leases_in leases (lookup (nat_eq i) kept)
@@ -107,9 +104,5 @@ module _ {V : Type 0} (leases : V → List Lease) (choice : Lease → Bool) wher
   some_at [] distinct e = cc
   some_at (x ∷ xs) distinct e = elim (or_cases (list_any choice (leases x.1)) (AnyIn xs) e) [
     | inl here ↦ (x.0, ap (λ b. list_any choice (leases_in leases (cond b (Some x.1) (lookup (nat_eq x.0) xs)))) (eq-eqb x.0 x.0 refl) ∙ here)
-    | inr rest ↦ let found = some_at xs distinct.1 rest in (
-      found.0,
-      cond_both (nat_eq found.0 x.0) (Some x.1) (lookup (nat_eq found.0) xs) (λ o. list_any choice (leases_in leases o) ≡ true)
-          (λ same. absurd (true≢false (sym found.1 ∙ ap (λ o. list_any choice (leases_in leases o)) (absent found.0 x.0 xs same distinct.0)))) (λ _. found.1),
-    )
+    | inr rest ↦ grind (arith, some_at xs distinct.1 rest, absent)
   ]

@@ -1,7 +1,7 @@
 -- Where a list has a place for one more lease.
-use Rattle.assise_lease_table.proofs.Common.{◌≡◌, ℕ, ◌<◌, ◌≤◌, suc, Bool, true, false, cond, not, List, [], ◌∷◌, Option, Some, is_some, inl, inr, filter}
-use Rattle.assise_lease_table.proofs.Common.{length, sym, refl, ap, subst, ◌∙◌, arith, SmallVec, small_vec_len, HasRoomFor, Lease, HasPlace, HasPlaceIn}
-use Rattle.assise_lease_table.proofs.Common.{lease_of, leave_out, without_holder, is_own}
+use Rattle.assise_lease_table.proofs.Common.{◌≡◌, ℕ, ◌<◌, ◌≤◌, suc, Bool, true, false, cond, not, List, [], ◌∷◌, Option, Some, is_some, filter, length, sym}
+use Rattle.assise_lease_table.proofs.Common.{refl, ap, subst, ◌∙◌, arith, SmallVec, small_vec_len, HasRoomFor, Lease, HasPlace, HasPlaceIn, lease_of, leave_out}
+use Rattle.assise_lease_table.proofs.Common.{without_holder, is_own}
 use Rattle.assise_lease_table.specs.declared.lease_map.LeaseMap.{LeaseMap}
 
 kept_or_not : (b : Bool) (l : Lease) (ls : List Lease) (n : ℕ) → length ls ≤ n → length (cond b (l ∷ ls) ls) ≤ suc n
@@ -25,10 +25,7 @@ shorter h (l ∷ ls) e = shorter_at (is_own h l) l (without_holder h ls) ls (lea
 -- a list without the holder's lease has a place for it
 pub place_without : (h : ℕ) (v w : SmallVec Lease) → small_vec_len v ≤ v.capacity → HasPlaceIn h v → w.items ≡ without_holder h v.items →
     small_vec_len w ≤ small_vec_len v → w.capacity ≡ v.capacity → HasRoomFor w 1
-place_without h v w fits place items len capacity = elim place [
-  | inl own ↦ let less = shorter h v.items own in let short = ap length items in omega (arith, less, short, fits, capacity)
-  | inr room ↦ omega (arith, room, len, capacity)
-]
+place_without h v w fits place items len capacity = grind (arith, shorter)
 
 -- the list of an inode has a place for the holder's lease where the inode has one
 pub place_in : (m : LeaseMap) (h : ℕ) (o : Option (SmallVec Lease)) (v : SmallVec Lease) → HasPlace m h o → o ≡ Some v → HasPlaceIn h v
@@ -36,8 +33,7 @@ place_in m h o v place is = subst (HasPlace m h) is place
 
 swapped : (a b : Bool) (l : Lease) (xs ys zs : List Lease) (p q : Lease → Bool) → p l ≡ a → q l ≡ b → filter p ys ≡ zs → filter q xs ≡ zs
     → filter p (cond b (l ∷ ys) ys) ≡ filter q (cond a (l ∷ xs) xs)
-swapped true true l xs ys zs p q pa qb left right =
-    ap (λ c. cond c (l ∷ filter p ys) (filter p ys)) pa ∙ ap (λ z. l ∷ z) (left ∙ sym right) ∙ sym (ap (λ c. cond c (l ∷ filter q xs) (filter q xs)) qb)
+swapped true true l xs ys zs p q pa qb left right = cc
 swapped true false l xs ys zs p q pa qb left right = left ∙ sym right ∙ sym (ap (λ c. cond c (l ∷ filter q xs) (filter q xs)) qb)
 swapped false true l xs ys zs p q pa qb left right = ap (λ c. cond c (l ∷ filter p ys) (filter p ys)) pa ∙ left ∙ sym right
 swapped false false l xs ys zs p q pa qb left right = left ∙ sym right

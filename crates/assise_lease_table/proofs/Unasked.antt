@@ -1,8 +1,8 @@
 -- The chosen leases that aren't revoked, of one inode and of all.
 use Rattle.assise_lease_table.proofs.Common.{◌≡◌, ℕ, ◌==◌, Bool, true, false, cond, not, ◌&&◌, ◌||◌, List, [], ◌∷◌, ◌++◌, Option, Some, None, nat_eq, sym, refl}
 use Rattle.assise_lease_table.proofs.Common.{ap, ◌∙◌, eq-eqb, append-nil, IsDistinct, list_any, list_all, lookup, keys_of, and_parts, and_from, cond_both}
-use Rattle.assise_lease_table.proofs.Common.{not-true, not_from_false, eqb-true, and_right, eqb-false, is_of, is_asked, are_once, are_uncut, asked_at}
-use Rattle.assise_lease_table.proofs.Common.{stand_together, compatible, is_own, is_to_ask, leases_in, Asked, Lease}
+use Rattle.assise_lease_table.proofs.Common.{not-true, not_from_false, eqb-true, eqb-false, is_of, is_asked, are_once, are_uncut, asked_at, stand_together}
+use Rattle.assise_lease_table.proofs.Common.{compatible, is_own, is_to_ask, leases_in, Asked, Lease, arith}
 use Rattle.std.proofs.lemmas.List.Folds.{list_all-append, list_any-append}
 use Rattle.std.proofs.lemmas.Bool.{ne_eqb}
 use Rattle.assise_lease_table.proofs.Retained.{absent}
@@ -51,34 +51,23 @@ module _ {V : Type 0} (leases : V → List Lease) (choice : Lease → Bool) wher
 
   asked_here : (j i c : ℕ) → (j == i) ≡ true → (ls : List Lease) → is_asked (asked_at choice j ls) c i ≡ list_any (wanted c) ls
   asked_here j i c same [] = refl
-  asked_here j i c same (l ∷ ls) =
-      same_step (is_to_ask choice l) (is_own c l) (answer_at j l) (asked_at choice j ls) c i (list_any (wanted c) ls)
-      (and_same (l.holder == c) (j == i) same) (asked_here j i c same ls)
+  asked_here j i c same (l ∷ ls) = grind (arith, asked_here j i c same ls)
 
   asked_elsewhere : (j i c : ℕ) → (j == i) ≡ false → (ls : List Lease) → is_asked (asked_at choice j ls) c i ≡ false
   asked_elsewhere j i c other [] = refl
-  asked_elsewhere j i c other (l ∷ ls) =
-      same_step (is_to_ask choice l) false (answer_at j l) (asked_at choice j ls) c i false
-      (and_right (l.holder == c) (j == i) other) (asked_elsewhere j i c other ls)
+  asked_elsewhere j i c other (l ∷ ls) = grind (arith, asked_elsewhere j i c other ls)
 
   which_step : (m : Bool) (i c : ℕ) (j : ℕ) (v : V) (rest : Option V) (more_of : List Asked) → nat_eq i j ≡ m → (m ≡ true → rest ≡ None) →
       is_asked more_of c i ≡ list_any (wanted c) (leases_in leases rest)
       → is_asked (asked_at choice j (leases v) ++ more_of) c i ≡ list_any (wanted c) (leases_in leases (cond m (Some v) rest))
-  which_step true i c j v rest more_of at gone more =
-      list_any-append (is_of c i) (asked_at choice j (leases v)) more_of
-      ∙ or_none (is_asked (asked_at choice j (leases v)) c i) (is_asked more_of c i) (more ∙ ap (λ o. list_any (wanted c) (leases_in leases o)) (gone refl))
-      ∙ asked_here j i c (turned i j true at) (leases v)
-  which_step false i c j v rest more_of at gone more =
-      list_any-append (is_of c i) (asked_at choice j (leases v)) more_of
-      ∙ ap (λ b. b || is_asked more_of c i) (asked_elsewhere j i c (turned i j false at) (leases v))
-      ∙ more
+  which_step true i c j v rest more_of at gone more = grind (arith, list_any-append, asked_here)
+  which_step false i c j v rest more_of at gone more = grind (arith, list_any-append, asked_elsewhere)
 
   pub which_in : (es : List (ℕ × V)) → IsDistinct nat_eq (keys_of es) → (c i : ℕ) → is_asked (unasked_in es) c i
       ≡ list_any (wanted c) (leases_in leases (lookup (nat_eq i) es))
   unfolding IsDistinct
   which_in [] distinct c i = refl
-  which_in (e ∷ es) distinct c i =
-      which_step (nat_eq i e.0) i c e.0 e.1 (lookup (nat_eq i) es) (unasked_in es) refl (λ same. absent i e.0 es same distinct.0) (which_in es distinct.1 c i)
+  which_in (e ∷ es) distinct c i = grind (arith, which_in es distinct.1 c i, which_step, absent)
 
   -- ---- each is listed once
 
@@ -99,21 +88,14 @@ module _ {V : Type 0} (leases : V → List Lease) (choice : Lease → Bool) wher
   both_step : (t : Bool) (a : Asked) (more_of bs : List Asked) → is_asked bs a.client a.inode ≡ false →
       (are_once more_of ≡ true → are_once (more_of ++ bs) ≡ true) → are_once (cond t (a ∷ more_of) more_of) ≡ true →
       are_once (cond t (a ∷ more_of) more_of ++ bs) ≡ true
-  both_step true a more_of bs new more once =
-      let parts = and_parts (not (is_asked more_of a.client a.inode)) (are_once more_of) once in
-      and_from (not (is_asked (more_of ++ bs) a.client a.inode)) (are_once (more_of ++ bs))
-      (not_from_false (is_asked (more_of ++ bs) a.client a.inode)
-      (list_any-append (is_of a.client a.inode) more_of bs ∙ or_none (is_asked more_of a.client a.inode) (is_asked bs a.client a.inode) new
-      ∙ not-true (is_asked more_of a.client a.inode) parts.0))
-      (more parts.1)
+  both_step true a more_of bs new more once = grind (arith, list_any-append)
   both_step false a more_of bs new more once = more once
 
   -- where the others are of other inodes
   once_both : (j : ℕ) (bs : List Asked) → ((c : ℕ) → is_asked bs c j ≡ false) → are_once bs ≡ true → (ls : List Lease) → are_once (asked_at choice j ls)
       ≡ true → are_once (asked_at choice j ls ++ bs) ≡ true
   once_both j bs new rest [] once = rest
-  once_both j bs new rest (l ∷ ls) once =
-      both_step (is_to_ask choice l) (answer_at j l) (asked_at choice j ls) bs (new l.holder) (once_both j bs new rest ls) once
+  once_both j bs new rest (l ∷ ls) once = grind (arith, once_both j bs new rest ls, both_step)
 
   abbrev pub FitEach : List (ℕ × V) → Type 0
   FitEach es = (i : ℕ) → compatible (leases_in leases (lookup (nat_eq i) es)) ≡ true
@@ -130,22 +112,17 @@ module _ {V : Type 0} (leases : V → List Lease) (choice : Lease → Bool) wher
       once_both e.0 (unasked_in es)
       (λ c. which_in es distinct.1 c e.0 ∙ ap (λ o. list_any (wanted c) (leases_in leases o)) (absent e.0 e.0 es (eq-eqb e.0 e.0 refl) distinct.0))
       (once_in es distinct.1 (λ i. fits_rest (nat_eq i e.0) e.1 (lookup (nat_eq i) es) (λ same. absent i e.0 es same distinct.0) (fits i)))
-      (leases e.1) (once_at e.0 (leases e.1) (ap (λ b. compatible (leases_in leases (cond b (Some e.1) (lookup (nat_eq e.0) es)))) (sym (eq-eqb e.0 e.0 refl))
-      ∙ fits e.0))
+      (leases e.1) (grind (arith, once_at, eq-eqb e.0 e.0 refl))
 
   -- ---- nobody answered
 
   uncut_at : (j : ℕ) (ls : List Lease) → are_uncut (asked_at choice j ls) ≡ true
   uncut_at j [] = refl
-  uncut_at j (l ∷ ls) =
-      cond_both (is_to_ask choice l) (answer_at j l ∷ asked_at choice j ls) (asked_at choice j ls) (λ xs. are_uncut xs ≡ true) (λ _. uncut_at j ls)
-      (λ _. uncut_at j ls)
+  uncut_at j (l ∷ ls) = grind (arith, uncut_at j ls)
 
   pub uncut_in : (es : List (ℕ × V)) → are_uncut (unasked_in es) ≡ true
   uncut_in [] = refl
-  uncut_in (e ∷ es) =
-      list_all-append (λ (a : Asked). a.cut == 0) (asked_at choice e.0 (leases e.1)) (unasked_in es)
-      ∙ and_from (are_uncut (asked_at choice e.0 (leases e.1))) (are_uncut (unasked_in es)) (uncut_at e.0 (leases e.1)) (uncut_in es)
+  uncut_in (e ∷ es) = grind (arith, uncut_in es, list_all-append, uncut_at)
 
   -- ---- the end of a loop over all
 

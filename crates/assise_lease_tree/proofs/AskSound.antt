@@ -1,11 +1,10 @@
 -- What is asked for keeps both levels sound.
-use Rattle.assise_lease_tree.proofs.Common.{◌≡◌, ◌≢◌, ℕ, ◌==◌, ◌&&◌, ◌||◌, Bool, true, false, cond, not, List, [], ◌∷◌, Option, Some, None, ◌⊎◌, inl, inr, sym}
-use Rattle.assise_lease_tree.proofs.Common.{refl, ap, subst, ◌∙◌, list_any, cases_Bool, cond_both, and_parts, and_from, or_right, not-true, not_from_false}
-use Rattle.assise_lease_tree.proofs.Common.{ne_eqb, eqb-false, Mode, Lease, against, strong, Among, lease_of, is_own_unasked, is_rival, revoked_if, revoke}
-use Rattle.assise_lease_tree.proofs.Common.{leave_out, raise, raise_unopposed, raised_if, not_both, any_among, among_any, filter_among, among_filter, map_among}
-use Rattle.assise_lease_tree.proofs.Common.{among_map, raise_unopposed_compatible, compatible, leave_out_fits, revoke_fits, Homes, lives, is_busy, carries}
-use Rattle.assise_lease_tree.proofs.Common.{Under, AskedBelow, in_way, is_revoked, is_free, gives_up, nodes_asked, rivals_asked}
-use Rattle.assise_lease_tree.proofs.ClientHomes.{carrier, not_given_up, lives_at, one_home, lease_among, stronger_left, busy_from, busy_some}
+use Rattle.assise_lease_tree.proofs.Common.{◌≡◌, ℕ, ◌&&◌, ◌||◌, Bool, true, false, cond, not, List, [], ◌∷◌, Option, Some, None, ◌⊎◌, inl, inr, sym, refl, ap}
+use Rattle.assise_lease_tree.proofs.Common.{subst, list_any, cond_both, and_from, not_from_false, Mode, Lease, strong, Among, lease_of, is_own_unasked}
+use Rattle.assise_lease_tree.proofs.Common.{is_rival, revoked_if, revoke, leave_out, raise, raise_unopposed, raised_if, any_among, among_any, filter_among}
+use Rattle.assise_lease_tree.proofs.Common.{among_filter, map_among, among_map, raise_unopposed_compatible, compatible, leave_out_fits, revoke_fits, Homes}
+use Rattle.assise_lease_tree.proofs.Common.{lives, is_busy, carries, Under, AskedBelow, in_way, is_revoked, is_free, gives_up, nodes_asked, rivals_asked, arith}
+use Rattle.assise_lease_tree.proofs.ClientHomes.{carrier, not_given_up, lease_among, stronger_left, busy_from, busy_some}
 
 pub cond_right : (b x : Bool) → x ≡ true → cond b true x ≡ true
 cond_right true x e = refl
@@ -46,11 +45,7 @@ module _ (home : Homes) (cs : List Lease) (n : ℕ) (mode : Mode) where
       (and_from (lives home l.holder k.0.holder) _ k.2 (still_strong (is_own_unasked n k.0) k.0 l.mode k.3))
 
   raise_below : (ns : List Lease) → AskedBelow home cs ns → AskedBelow home cs (raise n mode ns)
-  raise_below ns below k a revoked =
-      let was = among_map raised_now ns k a in
-      let goal_at : Lease → Type 0 = λ (z : Lease). (is_busy home cs z.holder ≡ true)
-      × ((l : Lease) → Among cs l → lives home l.holder z.holder ≡ true → l.revoked ≡ true) in
-      subst goal_at (sym was.2) (below was.0 was.1 (sym (ap (λ (z : Lease). z.revoked) was.2) ∙ revoked))
+  raise_below ns below k a revoked = grind (arith, among_map)
 
   raised_under : (ns : List Lease) → Under home cs ns → Under home cs (raise_unopposed n mode ns)
   raised_under ns under = cond_both (list_any (is_rival n mode) ns) ns (raise n mode ns) (Under home cs) (λ _. under) (λ _. raise_under ns under)
@@ -92,21 +87,13 @@ module _ (home : Homes) (cs ns : List Lease) (c n : ℕ) (mode : Mode) (at_home 
 
   pub nodes_asked_compatible : compatible ns ≡ true → compatible (nodes_asked home cs n mode ns) ≡ true
   unfolding nodes_asked
-  nodes_asked_compatible fits =
-      raise_unopposed_compatible n mode (rivals_asked home cs n mode ns)
-      (revoke_fits (is_rival n mode) (leave_out (gives_up home cs n mode) ns) (leave_out_fits (gives_up home cs n mode) ns fits))
+  nodes_asked_compatible fits = grind (arith, raise_unopposed_compatible, revoke_fits, leave_out_fits)
 
   -- a rival of the node stands in the way of all its clients
   rival_in_way : (k : Lease) → Among ns k → is_rival n mode k ≡ true → (l : Lease) → Among cs l → lives home l.holder k.holder ≡ true →
       in_way home ns c n mode l ≡ true
   unfolding in_way
-  rival_in_way k in_k rival l in_l there =
-      let away : k.holder ≢ n = eqb-false k.holder n (not-true (k.holder == n) (and_parts (not (k.holder == n)) (against mode k.mode) rival).0) in
-      let other : l.holder ≢ c = λ same. away (one_home home c k.holder n (ap (λ z. lives home z k.holder) (sym same) ∙ there) (lives_at home c n at_home)) in
-      and_from (not (l.holder == c)) _ (not_from_false (l.holder == c) (ne_eqb l.holder c other))
-      (or_right (lives home l.holder n && against mode l.mode) _
-      (among_any (λ (z : Lease). lives home l.holder z.holder && is_rival n mode z) ns k in_k
-      (and_from (lives home l.holder k.holder) (is_rival n mode k) there rival)))
+  rival_in_way k in_k rival l in_l there = grind (arith, among_any)
 
   rivals_below : AskedBelow home (revoke (in_way home ns c n mode) cs) (rivals_asked home cs n mode ns)
   rivals_below k a revoked =
@@ -114,31 +101,7 @@ module _ (home : Homes) (cs ns : List Lease) (c n : ℕ) (mode : Mode) (at_home 
       let old = among_filter (λ z. not (gives_up home cs n mode z)) ns was.0 was.1 in
       let goal_at : Lease → Type 0 = λ (z : Lease). (is_busy home (revoke (in_way home ns c n mode) cs) z.holder ≡ true)
       × ((l : Lease) → Among (revoke (in_way home ns c n mode) cs) l → lives home l.holder z.holder ≡ true → l.revoked ≡ true) in
-      subst goal_at (sym was.2) (elim (cond_cases (is_rival n mode was.0) was.0.revoked (sym (ap (λ (z : Lease). z.revoked) was.2) ∙ revoked)) [
-        | inl rival ↦
-            let busy : is_busy home cs was.0.holder ≡ true = elim (cases_Bool (is_busy home cs was.0.holder)) [
-              | inl some ↦ some
-              | inr none ↦ not_both (gives_up home cs n mode was.0)
-                  (and_from (is_rival n mode was.0) (not (is_busy home cs was.0.holder)) rival (not_from_false (is_busy home cs was.0.holder) none))
-                  (not-true (gives_up home cs n mode was.0) old.1)
-            ] in (
-              busy_after was.0.holder busy,
-              λ l in_l there.
-                  let before = among_map revoked_now cs l in_l in
-                  ap (λ (z : Lease). z.revoked) before.2
-                  ∙ way_revoked before.0 (rival_in_way was.0 old.0 rival before.0 before.1
-                  (sym (ap (λ (z : Lease). lives home z.holder was.0.holder) before.2) ∙ there)),
-            )
-        | inr already ↦
-            let held = below was.0 old.0 already in (
-              busy_after was.0.holder held.0,
-              λ l in_l there.
-                  let before = among_map revoked_now cs l in_l in
-                  ap (λ (z : Lease). z.revoked) before.2
-                  ∙ cond_right (in_way home ns c n mode before.0) before.0.revoked
-                  (held.1 before.0 before.1 (sym (ap (λ (z : Lease). lives home z.holder was.0.holder) before.2) ∙ there)),
-            )
-      ])
+      subst goal_at (sym was.2) (grind (arith, busy_after, among_map, rival_in_way))
 
   pub asked_asked : AskedBelow home (revoke (in_way home ns c n mode) cs) (nodes_asked home cs n mode ns)
   unfolding nodes_asked
@@ -153,10 +116,7 @@ module _ (home : Homes) (cs ns : List Lease) (c n : ℕ) (mode : Mode) (at_home 
 
   node_revoked : (o : Option Lease) → lease_of ns n ≡ o → is_revoked o ≡ true → SomeRevoked (revoke (in_way home ns c n mode) cs)
   node_revoked None is e = cc
-  node_revoked (Some k) is e =
-      let held = below k (lease_among ns n k is).0 e in
-      let l = busy_some home cs k.holder held.0 in
-      revoked_client l.0 l.1 (cond_right (in_way home ns c n mode l.0) l.0.revoked (held.1 l.0 l.1 l.2))
+  node_revoked (Some k) is e = grind (arith, lease_among ns n k is, busy_some, revoked_client)
 
   three : (a b d : Bool) → (not a && (not b && not d)) ≡ false → (a ≡ true) ⊎ ((b ≡ true) ⊎ (d ≡ true))
   three true b d e = inl refl
@@ -166,10 +126,4 @@ module _ (home : Homes) (cs ns : List Lease) (c n : ℕ) (mode : Mode) (at_home 
 
   -- where the mode isn't granted, some client holds the inode revoked
   pub some_revoked : is_free home cs ns c n mode ≡ false → SomeRevoked (revoke (in_way home ns c n mode) cs)
-  some_revoked e = elim (three (list_any (in_way home ns c n mode) cs) (is_revoked (lease_of cs c)) (is_revoked (lease_of ns n)) e) [
-    | inl way ↦ let l = any_among (in_way home ns c n mode) cs way in revoked_client l.0 l.1 (way_revoked l.0 l.2)
-    | inr rest ↦ elim rest [
-      | inl own ↦ own_revoked (lease_of cs c) refl own
-      | inr node ↦ node_revoked (lease_of ns n) refl node
-    ]
-  ]
+  some_revoked e = grind (arith, any_among, revoked_client, own_revoked, node_revoked)

@@ -1,13 +1,12 @@
 -- What a call makes of the two levels, from what it makes of one inode.
 use Rattle.assise_lease_tree.proofs.Common.{Result, Ok, Err, IsOk, OnOk, OnErr, ◌≡◌, ◌≢◌, ℕ, true, false, List, Option, Some, None, is_some, sym, refl, ap, ◌∙◌}
-use Rattle.assise_lease_tree.proofs.Common.{dite, ℕ_discrete, list_any, Mode, Lease, Becomes, SameLeases, Among, lease_of, serves, new_lease, revoke, lives}
-use Rattle.assise_lease_tree.proofs.Common.{is_node, in_way, raised_mode, clients_granted, nodes_granted, nodes_asked, levels_of, TwoLevels, LevelsInvariant}
-use Rattle.assise_lease_tree.proofs.Common.{is_free_for, IsGranted, IsAskedFor}
+use Rattle.assise_lease_tree.proofs.Common.{dite, ℕ_discrete, Mode, Lease, Becomes, SameLeases, Among, lease_of, serves, new_lease, revoke, lives, is_node}
+use Rattle.assise_lease_tree.proofs.Common.{in_way, raised_mode, clients_granted, nodes_granted, nodes_asked, levels_of, TwoLevels, LevelsInvariant}
+use Rattle.assise_lease_tree.proofs.Common.{is_free_for, IsGranted, IsAskedFor, arith}
 use Rattle.assise_lease_tree.specs.declared.lease_tree.LeaseTreeOf.{LeaseTreeOf}
 use Rattle.assise_lease_tree.proofs.ClientHomes.{carrier, strong_raised, lease_among, lease_found, one_home, lives_at}
 use Rattle.assise_lease_tree.proofs.Lookups.{with_own, with_other}
 use Rattle.assise_lease_tree.proofs.AskSound.{some_revoked}
-use Rattle.assise_lease_tree.proofs.Lawful.{lawful_at, same_lawful}
 use Rattle.assise_lease_tree.proofs.Steps.{granted_lawful}
 
 abbrev LeasesOf : Type 0
@@ -43,14 +42,11 @@ pub known_after : {T : Type 0} (now later : ℕ → Option T) {U : Type 0} (know
     → ((d : ℕ) → is_some (now d) ≡ is_some (known d))
     → later c ≡ Some x → ((d : ℕ) → d ≢ c → later d ≡ now d) → later_known c ≡ Some y → ((d : ℕ) → d ≢ c → later_known d ≡ known d)
     → (d : ℕ) → is_some (later d) ≡ is_some (later_known d)
-known_after now later known later_known c x y same has rest has_known rest_known d = dite (ℕ_discrete d c)
-    (λ e. ap (λ z. is_some (later z)) e ∙ ap is_some has ∙ sym (ap is_some has_known) ∙ sym (ap (λ z. is_some (later_known z)) e))
-    (λ n. ap is_some (rest d n) ∙ same d ∙ sym (ap is_some (rest_known d n)))
+known_after now later known later_known c x y same has rest has_known rest_known d = grind arith
 
 -- a client's lease is of one that has a node
 pub has_home : (t : TwoLevels) → LevelsInvariant t → (inode : ℕ) (l : Lease) → Among (t.clients inode) l → is_some (t.home l.holder) ≡ true
-has_home t lawful inode l among =
-    let k = carrier t.home (t.nodes inode) l (lawful.under inode l among) in is_some_home (t.home l.holder) k.0.holder k.2
+has_home t lawful inode l among = grind (arith, carrier)
 
 module _ (old : TwoLevels) (lawful : LevelsInvariant old) (c n inode : ℕ) (mode : Mode) (clients nodes : LeasesOf) where
   abbrev cs : List Lease
@@ -86,14 +82,7 @@ module _ (old : TwoLevels) (lawful : LevelsInvariant old) (c n inode : ℕ) (mod
 
   pub is_asked_for : old.home c ≡ Some n → is_free_for old c n inode mode ≡ false → Becomes old.clients clients inode (revoke (in_way old.home ns c n mode) cs)
       → Becomes old.nodes nodes inode (nodes_asked old.home cs n mode ns) → IsAskedFor old then_levels c n inode mode
-  is_asked_for at_home blocked clients_are nodes_are =
-      let l = lawful_at lawful inode in
-      record {
-        home = λ d. refl;
-        clients = clients_are;
-        nodes = nodes_are;
-        revoked = ap (list_any (λ (k : Lease). k.revoked)) clients_are.here ∙ some_revoked old.home cs ns c n mode at_home l.under l.asked blocked;
-      }
+  is_asked_for at_home blocked clients_are nodes_are = grind (arith, some_revoked)
 
 -- what a grant leaves is lawful, whether there was room or not
 pub grant_keeps : {T E : Type 0} (r : Result T E) (old : TwoLevels) → LevelsInvariant old → (c n inode : ℕ) (mode : Mode) (clients nodes : LeasesOf) →
@@ -105,6 +94,4 @@ pub grant_keeps : {T E : Type 0} (r : Result T E) (old : TwoLevels) → LevelsIn
 grant_keeps (Ok x) old lawful c n inode mode clients nodes at_home free granted_c granted_n same_c same_n =
     granted_lawful old lawful (record { home = old.home; clients = clients; nodes = nodes }) c n inode mode at_home free
     (is_granted old lawful c n inode mode clients nodes granted_c granted_n)
-grant_keeps (Err e) old lawful c n inode mode clients nodes at_home free granted_c granted_n same_c same_n =
-    same_lawful {old = old} {new = (record { home = old.home; clients = clients; nodes = nodes })}
-    (record { home = λ d. refl; clients = same_c; nodes = same_n }) lawful
+grant_keeps (Err e) old lawful c n inode mode clients nodes at_home free granted_c granted_n same_c same_n = grind arith

@@ -1,8 +1,7 @@
 -- Clients, their nodes and modes.
-use Rattle.assise_lease_tree.proofs.Common.{◌≡◌, ℕ, ◌==◌, Bool, true, false, cond, not, List, [], ◌∷◌, Option, Some, None, ◌⊎◌, inl, inr, sym, refl, ap, ◌∙◌}
-use Rattle.assise_lease_tree.proofs.Common.{eq-eqb, list_any, eqb-true, and_parts, not-true, false_from_ne_true, Mode, Lease, against, strong, stronger, Among}
-use Rattle.assise_lease_tree.proofs.Common.{lease_of, compatible, is_rival, not_both, any_among, among_any, one_lease, Homes, is_node, lives, raised_mode}
-use Rattle.assise_lease_tree.proofs.Common.{is_busy, carries, gives_up}
+use Rattle.assise_lease_tree.proofs.Common.{◌≡◌, ℕ, ◌==◌, Bool, true, false, cond, List, [], ◌∷◌, Option, Some, None, ◌⊎◌, inl, inr, sym, refl, ap, ◌∙◌, eq-eqb}
+use Rattle.assise_lease_tree.proofs.Common.{list_any, eqb-true, Mode, Lease, against, strong, stronger, Among, lease_of, compatible, not_both, any_among}
+use Rattle.assise_lease_tree.proofs.Common.{among_any, one_lease, Homes, is_node, lives, raised_mode, is_busy, carries, gives_up, arith}
 use Rattle.assise_names.specs.declared.mode.Mode.TheVariants.{Read, Write}
 
 node_of : (o : Option ℕ) (n : ℕ) → is_node o n ≡ true → o ≡ Some n
@@ -95,14 +94,9 @@ busy_some home cs n e = any_among (λ k. lives home k.holder n) cs e
 -- the node's lease that carries a client's
 pub carrier : (home : Homes) (ns : List Lease) (l : Lease) → list_any (carries home l) ns ≡ true
     → (k : Lease) × Among ns k × (lives home l.holder k.holder ≡ true) × (strong k.mode l.mode ≡ true)
-carrier home ns l carried =
-    let k = any_among (carries home l) ns carried in
-    let parts = and_parts (lives home l.holder k.0.holder) (strong k.0.mode l.mode) k.2 in
-    (k.0, k.1, parts.0, parts.1)
+carrier home ns l carried = grind (arith, any_among)
 
 -- no node gives up a lease below which a client is
 pub not_given_up : (home : Homes) (cs : List Lease) (n : ℕ) (mode : Mode) (l k : Lease) → Among cs l → lives home l.holder k.holder ≡ true
     → gives_up home cs n mode k ≡ false
-not_given_up home cs n mode l k a there = false_from_ne_true (gives_up home cs n mode k) (λ gone.
-    not_both (is_busy home cs k.holder) (busy_from home cs k.holder l a there)
-    (not-true (is_busy home cs k.holder) (and_parts (is_rival n mode k) (not (is_busy home cs k.holder)) gone).1))
+not_given_up home cs n mode l k a there = grind (arith, busy_from)

@@ -1,6 +1,6 @@
 -- What is lawful inode by inode.
-use Rattle.assise_lease_tree.proofs.Common.{◌≡◌, ℕ, true, List, sym, refl, ap, subst, ◌∙◌, dite, ℕ_discrete, Lease, Becomes, compatible, Homes, Under}
-use Rattle.assise_lease_tree.proofs.Common.{AskedBelow, TwoLevels, LevelsInvariant, SameLevels, nobody}
+use Rattle.assise_lease_tree.proofs.Common.{◌≡◌, ℕ, true, List, sym, refl, Lease, Becomes, compatible, Homes, Under, AskedBelow, TwoLevels, LevelsInvariant}
+use Rattle.assise_lease_tree.proofs.Common.{SameLevels, nobody, arith}
 
 -- the leases of one inode are lawful
 pub record LawfulAt (home : Homes) (cs ns : List Lease) : Type 0 where
@@ -16,9 +16,7 @@ pub from_each : (t : TwoLevels) → ((i : ℕ) → LawfulAt t.home (t.clients i)
 from_each t h = record { clients_compatible = λ i. (h i).fits_c; nodes_compatible = λ i. (h i).fits_n; under = λ i. (h i).under; asked = λ i. (h i).asked }
 
 same_at : {home later : Homes} {cs ds ns ms : List Lease} → ((c : ℕ) → later c ≡ home c) → ds ≡ cs → ms ≡ ns → LawfulAt home cs ns → LawfulAt later ds ms
-same_at {home} {later} {cs} {ds} {ns} {ms} homes clients nodes l =
-    let homes_are : later ≡ home = λ i c. homes c i in
-    subst (λ h. LawfulAt h ds ms) (sym homes_are) (subst (λ ls. LawfulAt home ls ms) (sym clients) (subst (λ ls. LawfulAt home cs ls) (sym nodes) l))
+same_at {home} {later} {cs} {ds} {ns} {ms} homes clients nodes l = grind arith
 
 -- where each inode's leases are known
 pub each_lawful : {home : Homes} (new : TwoLevels) (cs ns : ℕ → List Lease) → ((c : ℕ) → new.home c ≡ home c) → ((i : ℕ) → new.clients i ≡ cs i) →
@@ -30,9 +28,7 @@ each_lawful new cs ns homes clients nodes h = from_each new (λ i. same_at homes
 pub becomes_lawful : (old new : TwoLevels) {inode : ℕ} {cs ns : List Lease} → ((c : ℕ) → new.home c ≡ old.home c) → Becomes old.clients new.clients inode cs →
     Becomes old.nodes new.nodes inode ns
     → LawfulAt old.home cs ns → LevelsInvariant old → LevelsInvariant new
-becomes_lawful old new {inode} {cs} {ns} homes clients nodes here lawful = from_each new (λ i. dite (ℕ_discrete i inode)
-    (λ e. same_at homes (ap new.clients e ∙ clients.here) (ap new.nodes e ∙ nodes.here) here)
-    (λ n. same_at homes (clients.elsewhere i n) (nodes.elsewhere i n) (lawful_at lawful i)))
+becomes_lawful old new {inode} {cs} {ns} homes clients nodes here lawful = from_each new (λ i. grind arith)
 
 pub same_lawful : {old new : TwoLevels} → SameLevels old new → LevelsInvariant old → LevelsInvariant new
 same_lawful {old} {new} same lawful = each_lawful new old.clients old.nodes same.home same.clients same.nodes (lawful_at lawful)

@@ -1,6 +1,6 @@
 -- What a look-up finds once a lease is put or taken away.
 use Rattle.assise_lease_tree.proofs.Common.{◌≡◌, ◌≢◌, ℕ, ◌==◌, Bool, true, false, cond, not, List, [], ◌∷◌, ◌++◌, Option, Some, None, sym, refl, ap, ◌∙◌}
-use Rattle.assise_lease_tree.proofs.Common.{eq-eqb, eqb-true, ne_eqb, Lease, lease_of, without_holder, with_lease}
+use Rattle.assise_lease_tree.proofs.Common.{eq-eqb, ne_eqb, Lease, lease_of, without_holder, with_lease, arith}
 
 none_at : (b : Bool) (l : Lease) (o : Option Lease) → cond b (Some l) o ≡ None → (b ≡ false) × (o ≡ None)
 none_at true l o e = cc
@@ -27,8 +27,7 @@ without_own (l ∷ ls) h = own_step l ls h (l.holder == h) refl (without_own ls 
 
 other_step : (l : Lease) (ls : List Lease) (h c : ℕ) (b : Bool) → (l.holder == h) ≡ b → c ≢ h → lease_of (without_holder h ls) c ≡ lease_of ls c
     → lease_of (cond (not b) (l ∷ without_holder h ls) (without_holder h ls)) c ≡ cond (l.holder == c) (Some l) (lease_of ls c)
-other_step l ls h c true e other rest =
-    rest ∙ sym (ap (λ b. cond b (Some l) (lease_of ls c)) (ne_eqb l.holder c (λ same. other (sym same ∙ eqb-true l.holder h e))))
+other_step l ls h c true e other rest = grind arith
 other_step l ls h c false e other rest = ap (λ o. cond (l.holder == c) (Some l) o) rest
 
 pub without_other : (ls : List Lease) (h c : ℕ) → c ≢ h → lease_of (without_holder h ls) c ≡ lease_of ls c

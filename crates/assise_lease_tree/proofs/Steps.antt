@@ -1,8 +1,7 @@
 -- What each call does keeps the two levels lawful, and lists of calls do.
-use Rattle.assise_lease_tree.proofs.Common.{◌≡◌, ℕ, ◌&&◌, Bool, true, false, not, List, [], ◌∷◌, Some, None, inl, inr, refl, list_any, and_parts, cond_both}
-use Rattle.assise_lease_tree.proofs.Common.{not-true, Mode, Lease, SameLeases, compatible, lease_of, without_holder, revoke, is_own, leave_out_fits}
-use Rattle.assise_lease_tree.proofs.Common.{revoke_fits, Homes, in_way, is_revoked, is_free, is_busy, TwoLevels, nobody, LevelsInvariant, EnrolsAt, is_free_for}
-use Rattle.assise_lease_tree.proofs.Common.{IsGranted, IsAskedFor, ReleasesLease, IsRevoked, IsIdle, IsFreed}
+use Rattle.assise_lease_tree.proofs.Common.{◌≡◌, ℕ, Bool, true, false, List, [], ◌∷◌, Some, None, refl, list_any, Mode, Lease, SameLeases, without_holder}
+use Rattle.assise_lease_tree.proofs.Common.{revoke, is_own, leave_out_fits, arith, revoke_fits, Homes, in_way, is_free, TwoLevels, nobody, LevelsInvariant}
+use Rattle.assise_lease_tree.proofs.Common.{EnrolsAt, is_free_for, IsGranted, IsAskedFor, ReleasesLease, IsRevoked, IsIdle, IsFreed}
 use Rattle.assise_lease_tree.specs.LeaseCalls.{LeaseCall, LeaseCallDoes, AllLeaseCalls}
 use Rattle.assise_lease_tree.specs.LeaseCalls.LeaseCall.{enrol, acquire, release, revoke_all, free_node}
 use Rattle.assise_lease_tree.proofs.GrantSound.{client_granted_compatible, node_granted_compatible, granted_under, granted_asked}
@@ -14,9 +13,7 @@ use Rattle.assise_lease_tree.proofs.Lawful.{lawful_at, each_lawful, becomes_lawf
 -- who is granted has nobody in the way
 pub nobody_in_way : (home : Homes) (cs ns : List Lease) (c n : ℕ) (mode : Mode) → is_free home cs ns c n mode ≡ true → list_any (in_way home ns c n mode) cs
     ≡ false
-nobody_in_way home cs ns c n mode free =
-    not-true (list_any (in_way home ns c n mode) cs)
-    (and_parts (not (list_any (in_way home ns c n mode) cs)) (not (is_revoked (lease_of cs c)) && not (is_revoked (lease_of ns n))) free).0
+nobody_in_way home cs ns c n mode free = grind arith
 
 module _ (old : TwoLevels) (lawful : LevelsInvariant old) where
   pub granted_lawful : (new : TwoLevels) (c n inode : ℕ) (mode : Mode) → old.home c ≡ Some n → is_free_for old c n inode mode ≡ true →
@@ -26,37 +23,29 @@ module _ (old : TwoLevels) (lawful : LevelsInvariant old) where
       let cs = old.clients inode in
       let ns = old.nodes inode in
       let none = nobody_in_way old.home cs ns c n mode free in
-      becomes_lawful old new g.home g.clients g.nodes (record {
-        fits_c = client_granted_compatible old.home cs ns c n mode at_home l.fits_c l.fits_n l.under l.asked none;
-        fits_n = node_granted_compatible old.home cs ns c n mode at_home l.fits_c l.fits_n l.under l.asked none;
-        under = granted_under old.home cs ns c n mode at_home l.fits_c l.fits_n l.under l.asked none;
-        asked = granted_asked old.home cs ns c n mode at_home l.fits_c l.fits_n l.under l.asked none;
-      }) lawful
+      becomes_lawful old new g.home g.clients g.nodes
+      (search (client_granted_compatible, node_granted_compatible, granted_under, granted_asked, arith) parts 3) lawful
 
   pub asked_lawful : (new : TwoLevels) (c n inode : ℕ) (mode : Mode) → old.home c ≡ Some n → IsAskedFor old new c n inode mode → LevelsInvariant new
   asked_lawful new c n inode mode at_home a =
       let l = lawful_at lawful inode in
       let cs = old.clients inode in
       let ns = old.nodes inode in
-      becomes_lawful old new a.home a.clients a.nodes (record {
-        fits_c = revoke_fits (in_way old.home ns c n mode) cs l.fits_c;
-        fits_n = nodes_asked_compatible old.home cs ns c n mode at_home l.under l.asked l.fits_n;
-        under = asked_under old.home cs ns c n mode at_home l.under l.asked;
-        asked = asked_asked old.home cs ns c n mode at_home l.under l.asked;
-      }) lawful
+      becomes_lawful old new a.home a.clients a.nodes
+      (grind (
+        arith,
+        revoke_fits (in_way old.home ns c n mode) cs l.fits_c,
+        nodes_asked_compatible old.home cs ns c n mode at_home l.under l.asked l.fits_n,
+        asked_under old.home cs ns c n mode at_home l.under l.asked,
+        asked_asked old.home cs ns c n mode at_home l.under l.asked,
+      )) lawful
 
   pub released_lawful : (new : TwoLevels) (c n inode : ℕ) → old.home c ≡ Some n → ReleasesLease old new c n inode → LevelsInvariant new
   released_lawful new c n inode at_home r =
       let l = lawful_at lawful inode in
       let cs = old.clients inode in
       let ns = old.nodes inode in
-      becomes_lawful old new r.home r.clients r.nodes (record {
-        fits_c = leave_out_fits (is_own c) cs l.fits_c;
-        fits_n = cond_both (is_revoked (lease_of ns n) && not (is_busy old.home (without_holder c cs) n)) (without_holder n ns) ns
-            (λ ls. compatible ls ≡ true) (λ _. leave_out_fits (is_own n) ns l.fits_n) (λ _. l.fits_n);
-        under = released_under old.home cs ns l.fits_n l.under l.asked c n at_home;
-        asked = released_asked old.home cs ns l.fits_n l.under l.asked c n at_home;
-      }) lawful
+      becomes_lawful old new r.home r.clients r.nodes (grind (arith, leave_out_fits, released_under, released_asked)) lawful
 
   pub all_revoked_lawful : (new : TwoLevels) (choice : Lease → Bool) → ((c : ℕ) → new.home c ≡ old.home c) →
       ((i : ℕ) → new.clients i ≡ revoke choice (old.clients i)) → SameLeases old.nodes new.nodes → LevelsInvariant new
@@ -94,10 +83,7 @@ module _ (old : TwoLevels) (lawful : LevelsInvariant old) where
 
   pub call_lawful : (call : LeaseCall) (new : TwoLevels) → LeaseCallDoes old call new → LevelsInvariant new
   call_lawful (enrol c n) new d = enrolled_lawful new c n d.0 d.1
-  call_lawful (acquire c n inode mode) new d = elim d.1 [
-    | inl granted ↦ granted_lawful new c n inode mode d.0 granted.0 granted.1
-    | inr asked ↦ asked_lawful new c n inode mode d.0 asked.1
-  ]
+  call_lawful (acquire c n inode mode) new d = grind (arith, granted_lawful, asked_lawful)
   call_lawful (release c n inode) new d = released_lawful new c n inode d.0 d.1
   call_lawful (revoke_all c) new d = revoked_lawful new c d
   call_lawful (free_node n) new d = freed_lawful new n d.0 d.1
@@ -105,10 +91,7 @@ module _ (old : TwoLevels) (lawful : LevelsInvariant old) where
 pub all_lawful : (calls : List LeaseCall) (old new : TwoLevels) → LevelsInvariant old → AllLeaseCalls old calls new → LevelsInvariant new
 all_lawful [] old new lawful same = same_lawful same lawful
 all_lawful (call ∷ calls) old new lawful done =
-    let next : LevelsInvariant done.0 = elim done.1 [
-      | inl does ↦ call_lawful old lawful call done.0 does
-      | inr refused ↦ same_lawful refused lawful
-    ] in
+    let next : LevelsInvariant done.0 = grind (arith, call_lawful) in
     all_lawful calls done.0 new next done.2
 
 pub after_all : (calls : List LeaseCall) (new : TwoLevels) → AllLeaseCalls nobody calls new → LevelsInvariant new

@@ -14,7 +14,7 @@ pub use Rattle.assise_digest.specs.Region.{LogHasRoom, ReceivedLog, RegionValue,
 pub use Rattle.assise_history.specs.Entries.{EntryValue, calls, crashes, opens}
 pub use Rattle.assise_history.specs.Legal.{durability_of, calls_made, is_sync}
 pub use Rattle.assise_inode_plan.specs.Leased.{AreLeased, LeaseView as Leased, first_missing, for_reading, for_writing, wants, LeaseView}
-pub use Rattle.assise_inode_plan.specs.Planning.{Plan, missing, plan_lacking, ready, visited_plan_of, shown}
+pub use Rattle.assise_inode_plan.specs.Planning.{Plan, missing, plan_lacking, ready, visited_plan_of, step_in, shown}
 pub use Rattle.assise_inode_table.specs.Effects.{contains, makes, touched}
 pub use Rattle.assise_inode_table.specs.Interaction.{Step}
 pub use Rattle.assise_inode_table.specs.Numbers.{inode_number}
@@ -34,7 +34,7 @@ pub use Rattle.assise_lease_tree.specs.TwoLevels.{IsGranted, SameLevels, TwoLeve
 pub use Rattle.assise_lease_tree.specs.TwoLevels.{IsAskedFor, ReleasesLease}
 pub use Rattle.assise_machine_calls.specs.Answers.{turn_answer, begun_at}
 pub use Rattle.assise_machine_calls.specs.Asked.{CutsAreAnswers, clients_log, AsksThem, client_log}
-pub use Rattle.assise_machine_calls.specs.Leasing.{IsReady, next_call, room_fault, GotLeases, IsVisited, NeverSyncs, next_step, step_in}
+pub use Rattle.assise_machine_calls.specs.Leasing.{IsReady, next_call, room_fault, GotLeases, IsVisited, NeverSyncs, next_step}
 pub use Rattle.assise_machine_calls.specs.Releasing.{FreesAmong, LetsSomeGo, is_early, is_ripe}
 pub use Rattle.assise_machine_calls.specs.SyncCalls.{op_of}
 pub use Rattle.assise_machine_state.proofs.CallObserved.{call_areas, call_seen, call_shaped}

@@ -26,7 +26,6 @@ use Rattle.assise_model_events.specs.Events.{Answer}
 use Rattle.assise_model_events.specs.Faults.{call_fault, fault_if, or_else}
 use Rattle.assise_model_events.specs.Machine.{MachineInvariant, Machine}
 use Rattle.assise_machine_state.specs.ClientValues.{ClientValue}
-use Rattle.assise_machine_calls.specs.declared.outcome.Outcome.{Outcome}
 use Rattle.assise_machine_calls.specs.Asked.{clients_log}
 
 -- the call is a sync of nobody
@@ -39,10 +38,6 @@ next_call w c op = call_of_client w c op Done
 
 abbrev pub next_step : World → ℕ → Op → Step
 next_step w c op = step_at_home w (next_call w c op)
-
--- what is planned
-abbrev pub step_in : Outcome → Step
-step_in o = record { visits = o.reads.items; reply = o.reply; effects = o.effects.items }
 
 -- this is what the call does, and its leases serve for what it visits
 pub record IsVisited (m : Machine) (c : ℕ) (op : Op) (s : Step) : Type 0 where

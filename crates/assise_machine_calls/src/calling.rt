@@ -1,5 +1,6 @@
 //! A client's call.
 ghost use Rattle.std.specs.Prelude.{◌≡◌, IfErr, IfOk, None, false, true};
+ghost use Rattle.assise_inode_plan.specs.Planning.{step_in};
 ghost use Rattle.assise_lease_tree.specs.Trees.{KeepsRevokers, stored_by};
 ghost use Rattle.assise_model_events.specs.ClientEvents.{Calling};
 ghost use Rattle.assise_model_events.specs.Events.{not_yet, refused};
@@ -9,15 +10,14 @@ ghost use Rattle.assise_machine_state.specs.Invariant.{CutsInvariant, ShapeInvar
 ghost use Rattle.assise_machine_state.specs.Whole.{StateInvariant, machine_of, value_of};
 ghost use Rattle.assise_machine_calls.specs.Answers.{turn_answer};
 ghost use Rattle.assise_machine_calls.specs.Asked.{CutsAreAnswers};
-ghost use Rattle.assise_machine_calls.specs.Leasing.{GotLeases, HasAllLeases, IsVisited, LacksChange, MayChange, NeverSyncs, step_in};
+ghost use Rattle.assise_machine_calls.specs.Leasing.{GotLeases, HasAllLeases, IsVisited, LacksChange, MayChange, NeverSyncs};
 
 use crate::asking::ask;
 use crate::commit::commit;
 use crate::faults::call_refusal;
-use crate::outcome::Outcome;
 use crate::sync::{try_dsync, try_fsync};
 use crate::turn::Turn;
-use assise_inode_plan::plan::{Planned, plan_by_visits};
+use assise_inode_plan::plan::{Outcome, Planned, plan_by_visits};
 use assise_inode_table::numbers::inode_number;
 use assise_lease_table::revoker::Revokes;
 use assise_lease_tree::request::Request;
@@ -85,16 +85,7 @@ fn call<C: Revokes + Drop>(
     let (home, fresh) = (known.home(), inode_number(client, known.made()));
     let view = state.view(client);
     match plan_by_visits(alloc, &view, op, fresh)? {
-        Planned::Ready {
-            reply,
-            reads,
-            effects,
-        } => {
-            let outcome = Outcome {
-                reply,
-                reads,
-                effects,
-            };
+        Planned::Ready(outcome) => {
             if !lease_changes(state, client, op, &outcome)? {
                 return Ok(Turn::NotYet);
             }

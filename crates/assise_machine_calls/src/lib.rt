@@ -8,7 +8,6 @@ mod commit;
 pub mod crash;
 pub mod faults;
 pub mod opening;
-mod outcome;
 mod own_logs;
 pub mod release;
 pub mod sync;

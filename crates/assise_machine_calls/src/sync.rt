@@ -1,5 +1,5 @@
 //! A client's syncs: an fsync, and a dsync.
-ghost use Rattle.std.specs.Prelude.{◌≡◌, ◌<◌, None};
+ghost use Rattle.std.specs.Prelude.{◌≡◌, ◌<◌, IfErr, IfOk, None, OnOk, Some};
 ghost use Rattle.assise_history.specs.Legal.{durability_of};
 ghost use Rattle.assise_lease_tree.specs.Trees.{KeepsRevokers};
 ghost use Rattle.assise_model_world.specs.World.{end_of_log, received_by_all};
@@ -32,10 +32,7 @@ pub fn try_fsync<C: Revokes + Drop>(sound: &mut SoundOf<C>, client: u32) -> Resu
         (machine_of sound.new.state) }
     ensures revokers { KeepsRevokers sound.old.state.leases sound.new.state.leases }
 {
-    if let Some(refusal) = client_refusal(&sound.state, client) {
-        return Err(refusal);
-    }
-    match sound.state.clients.get(client).durability() {
+    match durability_of_caller(sound, client)? {
         Durability::Pessimistic => sync(sound, client, SyncCall::Fsync),
         Durability::Optimistic => note(sound, client),
     }
@@ -51,12 +48,26 @@ pub fn try_dsync<C: Revokes + Drop>(sound: &mut SoundOf<C>, client: u32) -> Resu
         (machine_of sound.new.state) }
     ensures revokers { KeepsRevokers sound.old.state.leases sound.new.state.leases }
 {
-    if let Some(refusal) = client_refusal(&sound.state, client) {
-        return Err(refusal);
-    }
-    match sound.state.clients.get(client).durability() {
+    match durability_of_caller(sound, client)? {
         Durability::Pessimistic => sync(sound, client, SyncCall::Dsync),
         Durability::Optimistic => sync_groups(sound, client),
+    }
+}
+
+/// The durability of a client that may call. Refused as [`client_refusal`] says.
+fn durability_of_caller<C: Revokes + Drop>(
+    sound: &SoundOf<C>,
+    client: u32,
+) -> Result<Durability, Refusal>
+    ensures fine { OnOk result (client_fault (machine_of sound.now.state) client ≡ None) }
+    ensures ok { IfOk result (λ kept.
+        kept ≡ durability_of client (machine_of sound.now.state).history) }
+    ensures err { IfErr result (λ refusal.
+        client_fault (machine_of sound.now.state) client ≡ Some refusal) }
+{
+    match client_refusal(&sound.state, client) {
+        Some(refusal) => Err(refusal),
+        None => Ok(sound.state.clients.get(client).durability()),
     }
 }
 

@@ -24,11 +24,7 @@ back_refused s n m e a same is (inr fault) = is_refused e fault is (ap observed 
 
 pub still_full : (nodes : List Standing) (n : ℕ) (old now : Standing) → standing_of nodes n ≡ Some old → is_full old ≡ false → is_full now ≡ false →
     (k : ℕ) → is_full_in (with_standing nodes n now) k ≡ is_full_in nodes k
-still_full nodes n old now stands was is k = elim (cases_eq k n) [
-  | inl same ↦ subst (λ j. is_full_in (with_standing nodes n now) j ≡ is_full_in nodes j) (sym same)
-      (full_here nodes n old now stands ∙ is ∙ sym (full_as nodes n old stands ∙ was))
-  | inr other ↦ full_else nodes n k old now stands other
-]
+still_full nodes n old now stands was is k = grind (arith, cases_eq, is_full_in, with_standing, full_here, full_as, full_else)
 
 -- ---- a node stands down
 

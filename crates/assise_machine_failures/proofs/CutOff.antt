@@ -25,42 +25,25 @@ module _ (n : ℕ) (cs : List ClientValue) (kept : ℕ → ℕ) (rs : List Regio
 
   count_then : (m : ℕ) → length (cut m) ≡ length rs
   count_then zero = refl
-  count_then (suc m) =
-      elim (cases_Bool ((client_in cs (suc m)).home == n)) [
-        | inl here ↦ rw here (length-map (cut m) (changed_in (suc m) (λ l. up_to_number l (kept (suc m)))) ∙ count_then m)
-        | inr other ↦ rw other (count_then m)
-      ]
+  count_then (suc m) = grind (arith, count_then m, cases_Bool, client_in, length-map, changed_in, up_to_number)
 
   number_then : (m k : ℕ) → IsNumber (cut m) k → IsNumber rs k
   number_then m k there = record { some = there.some; there = subst (λ j. k ≤ j) (count_then m) there.there }
 
   logs_then : (m k : ℕ) → length (region_in (cut m) k).logs ≡ length (region_in rs k).logs
   logs_then zero k = refl
-  logs_then (suc m) k =
-      elim (cases_Bool ((client_in cs (suc m)).home == n)) [
-        | inl here ↦ rw here (count_seen (suc m) (λ l. up_to_number l (kept (suc m))) (cut m) k ∙ logs_then m k)
-        | inr other ↦ rw other (logs_then m k)
-      ]
+  logs_then (suc m) k = grind (arith, logs_then m k, cases_Bool, client_in, count_seen, up_to_number)
 
   log_then : (m k d : ℕ) → m < d → log_in (cut m) k d ≡ log_in rs k d
   log_then zero k d past = refl
-  log_then (suc m) k d past =
-      elim (cases_Bool ((client_in cs (suc m)).home == n)) [
-        | inl here ↦ rw here (beside_seen (suc m) (λ l. up_to_number l (kept (suc m))) (cut m) k d (omega arith) (λ same. absurd (omega (arith, past, same)))
-            ∙ log_then m k d (omega (arith, past)))
-        | inr other ↦ rw other (log_then m k d (omega (arith, past)))
-      ]
+  log_then (suc m) k d past = grind (arith, log_then m k d (omega (arith, past)), cases_Bool, client_in, beside_seen, up_to_number)
 
   has_then : (m k d : ℕ) → m < d → HasLog (cut m) k d → HasLog rs k d
-  has_then m k d past has =
-      record { node = number_then m k has.node; client = record { some = has.client.some; there = subst (λ j. d ≤ j) (logs_then m k) has.client.there } }
+  has_then m k d past has = search (number_then, logs_then, arith) parts 3
 
   pub undigested_then : (m d from : ℕ) → m < d → ((k : ℕ) → HasLog rs k d → IsUndigestedFrom (log_in rs k d) from) → (k : ℕ) → HasLog (cut m) k d →
       IsUndigestedFrom (log_in (cut m) k d) from
-  undigested_then m d from past each k has =
-      let had : HasLog rs k d = has_then m k d past has in
-      let same : log_in (cut m) k d ≡ log_in rs k d = log_then m k d past in
-      subst (λ l. IsUndigestedFrom l from) (sym same) (each k had)
+  undigested_then m d from past each k has = grind (arith, has_then m k d past has, log_in (cut m) k d, log_in rs k d, log_then m k d past)
 
   -- the next client of the node, and one of another
   pub next_cut : (last : ℕ) → last ≢ 0 → (client_in cs last).home ≡ n → with_tails_cut (cut (last - 1)) last (kept last) ≡ cut last
@@ -99,10 +82,7 @@ module _ (n : ℕ) (kept : ℕ → ℕ) (cs : List ClientValue) where
   pub next_fails : (last : ℕ) → IsNumber cs last → (client_in cs last).home ≡ n →
       with_client (over (last - 1)) last (failed_at (kept last) (client_in (over (last - 1)) last)) ≡ over last
   next_fails zero there here = absurd (omega (arith, there.some))
-  next_fails (suc m) there here =
-      let same : client_in (over (suc m - 1)) (suc m) ≡ client_in cs (suc m) = known_then (suc m - 1) (suc m) (omega arith) there in
-      rw (eq-eqb (client_in cs (suc m)).home n here)
-      (λ i. with_client (over (less_one m i)) (suc m) (failed_at (kept (suc m)) (same i)))
+  next_fails (suc m) there here = grind (arith, client_in, known_then, eq-eqb, with_client, less_one, failed_at)
 
   pub next_lives : (last : ℕ) → last ≢ 0 → (client_in cs last).home ≢ n → over (last - 1) ≡ over last
   next_lives last some other = grind (arith, ne_eqb, less_one)
@@ -110,8 +90,7 @@ module _ (n : ℕ) (kept : ℕ → ℕ) (cs : List ClientValue) where
   -- the home that is found of it
   pub home_found : (last : ℕ) {home : ℕ} {known : ClientValue} {now : List ClientValue} → IsNumber cs last → now ≡ over (last - 1) →
       known ≡ client_in now last → home ≡ known.home → home ≡ (client_in cs last).home
-  home_found last there is got found =
-      found ∙ ap (λ x. x.home) got ∙ ap (λ xs. (client_in xs last).home) is ∙ seen_known (last - 1) last (omega (arith, there.some)) there
+  home_found last there is got found = grind (arith, client_in, seen_known)
 
   pub number_found : (last : ℕ) {now : List ClientValue} → IsNumber cs last → now ≡ over (last - 1) → IsNumber now last
   number_found last there is = subst (λ xs. IsNumber xs last) (sym is) (number_over (last - 1) last there)

@@ -84,9 +84,7 @@ module _ (s : StateValue) (n : ℕ) (inodes : set.FinSet nat_cmp) (levels : TwoL
       (λ h. failure_seen s n inodes levels asked may.shape may.stands h.sound may.fine revokes.clients revokes.home revokes.nodes revokes.left h.leases)
 
   survivor : (m : ℕ) × ((m ≢ n) × Full w m)
-  survivor =
-      let k : (m : ℕ) × ((m ≢ n) × (is_full_in (standings s) m ≡ true)) = survivor_left s.members n may.stands may.fine in
-      (k.0, (k.1.0, seen_full s k.0 k.1.1))
+  survivor = grind (arith, is_full_in, standings, survivor_left, seen_full)
 
   node_fails : Fails w n (world_of t)
   node_fails = fails_settled w n (world_of t) (∥∥₁_map seen_some (λ f. f.fails)) survivor

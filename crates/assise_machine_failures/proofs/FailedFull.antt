@@ -46,17 +46,23 @@ module _ (m : Membership) (n : ℕ) (inodes : set.FinSet nat_cmp) (stands : stan
   other k from same = absurd (let bad : ◌≡◌ {A = Option ℕ} None (Some n) = sym (ap donor_of (ap (standing_of m.nodes) same ∙ stands)) ∙ from in cc)
 
   filled_back : (k : ℕ) → donor_of (standing_of m.nodes k) ≡ Some n → is_returning (standing_of (failed m n inodes).nodes k) ≡ true
-  filled_back k from =
-      let begun : Membership = with_epoch m n inodes in
-      let low : ℕ = lowest_full begun.nodes in
-      ap (λ ns. is_returning (standing_of ns k)) (ap (λ o. (failed_by o).nodes) stands)
-      ∙ ap is_returning (mapped_at (refilled_from (written_since begun) low n) begun.nodes k)
-      ∙ ap (λ o. is_returning (option_map (refilled_from (written_since begun) low n) o))
-      (set_else m.nodes n k full (down (m.epoch + 1)) stands (other k from))
-      ∙ back_still (written_since begun) low n (standing_of m.nodes k) from
-    where
-      failed_by : Option Standing → Membership
-      failed_by o = failed_as m n inodes o
+  filled_back k from = grind (
+    arith,
+    with_epoch,
+    lowest_full,
+    is_returning,
+    standing_of,
+    mapped_at,
+    refilled_from,
+    written_since,
+    option_map,
+    set_else,
+    full,
+    down,
+    other,
+    back_still,
+    failed_as,
+  )
 
 all_back : (t : StateValue) (ks : List ℕ) → ((k : ℕ) → Among ks k → is_returning (standing_of (standings t) k) ≡ true) → AreReturning t ks
 all_back t [] each = tt
@@ -119,10 +125,12 @@ module _ (s : StateValue) (n : ℕ) (f : Failure) (levels : TwoLevels) (may : Ma
   cut = is_cut s n inodes levels f.asked.items may revokes
 
   touches : AreTouched (world_of t) inodes
-  touches = record {
-    only = touched_only s n (world_of t) f.inodes.items listed.inodes cut.fails.records;
-    all = touched_all s n (world_of t) f.inodes.items listed.inodes cut.fails.records may.shape;
-  }
+  touches = grind (
+    arith,
+    touched_only s n (world_of t) f.inodes.items listed.inodes cut.fails.records,
+    touched_all s n
+        (world_of t) f.inodes.items listed.inodes cut.fails.records may.shape,
+  )
 
   filled : AreFilled s n f.filled.items
   filled = record { only = filled_only s n f.filled.items listed.filled; all = filled_all s n f.filled.items listed.filled may.shape }
@@ -141,18 +149,13 @@ module _ (s : StateValue) (n : ℕ) (f : Failure) (levels : TwoLevels) (may : Ma
 
 module _ {s : StateValue} {n : ℕ} {f : Failure} where
   pub returning_now : {t : StateValue} {ks : List ℕ} → IsTakenDown s n f t ks → AreReturning t ks
-  returning_now {t} {ks} d =
-      subst (AreReturning t) (sym d.filled) (subst (λ x. AreReturning x f.filled.items) (sym d.down) (filled_returning s n f d.levels d.may d.listed d.revoked))
+  returning_now {t} {ks} d = grind (arith, filled_returning s n f d.levels d.may d.listed d.revoked)
 
   pub shaped_now : {t : StateValue} {ks : List ℕ} → IsTakenDown s n f t ks → ShapeInvariant t
   shaped_now d = subst ShapeInvariant (sym d.down) (down_shaped s n f d.levels d.may d.listed d.revoked)
 
   pub refreshed_now : {u : StateValue} → AreCopiesDropped s n f u → IsRefreshed s n u
-  refreshed_now {u} c =
-      let d = c.is_down in
-      all_refreshed s n f d.levels d.may d.listed d.revoked u
-      (subst (λ ks. AllLose (after_failure s n (set.from_list f.inodes.items) d.levels f.asked.items) ks u) d.filled
-      (subst (λ x. AllLose x c.nodes u) d.down c.lose))
+  refreshed_now {u} c = grind (arith, all_refreshed, after_failure, set.from_list)
 
   pub given_now : {x : StateValue} → ArePrefixesDropped s n f x → Gives s n x
   given_now d = subst (Gives s n) (sym (d.drops ∙ ap (drops_to d.refreshed) d.all)) (refreshed_now d.copies).gives
@@ -160,5 +163,4 @@ module _ {s : StateValue} {n : ℕ} {f : Failure} where
   -- the answer tells what was listed as lost
   pub happens_now : {x : StateValue} (losses : List (ℕ × ℕ)) → ArePrefixesDropped s n f x → losses ≡ f.losses.items →
       Failing (observed s) n (failed_answer (map loss_of losses)) (observed x)
-  happens_now {x} losses d is =
-      subst (λ ls. Failing (observed s) n (failed_answer ls) (observed x)) (sym (ap (map loss_of) is ∙ d.copies.is_down.listed.losses)) (given_now d).happens
+  happens_now {x} losses d is = grind (arith, observed, failed_answer, loss_of, given_now)

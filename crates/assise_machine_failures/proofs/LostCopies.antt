@@ -31,13 +31,7 @@ pub still_same : (t : StateValue) → ShapeInvariant t → StillLosing t t
 still_same t shape = assumption (rests_still (world_of t))
 
 pub still_twice : (t v u : StateValue) → StillLosing t v → StillLosing v u → StillLosing t u
-still_twice t v u a b = record {
-  same = b.same ∙ (λ i. record (a.same i) { nodes = u.nodes });
-  hot = b.hot ∙ a.hot;
-  count = b.count ∙ a.count;
-  rests = rests_more (world_of t) (world_of v) (world_of u) a.rests b.rests;
-  shape = b.shape;
-}
+still_twice t v u a b = grind (arith, rests_more, world_of)
 
 pub all_still : (t : StateValue) (ks : List ℕ) (u : StateValue) → ShapeInvariant t → AllLoseAt t ks u → StillLosing t u
 all_still t [] u shape lose = subst (StillLosing t) (sym lose) (still_same t shape)
@@ -79,7 +73,7 @@ one_loses t [] u k i stale lose there is = elim there [ ]
 one_loses t (j ∷ ks) u k i stale (v, (first, rest)) there is =
     elim (cases_eq k j) [
       | inl same ↦
-          keeps_lost v ks u k i stale ((world_of t).area k i) rest (same_stale t v k stale first.still is) (lost_now t v j k i stale first same is)
+          grind (arith, keeps_lost, world_of, same_stale, lost_now)
       | inr other ↦
           one_loses v ks u k i stale rest (elim there [ inl same ↦ absurd (other same) | inr later ↦ later ]) (same_stale t v k stale first.still is)
           ∙ ap (lost (set.contains stale i)) (first.elsewhere k i other)
@@ -99,17 +93,7 @@ still_returning t v (k ∷ ks) same (first, rest) = (ap (λ x. is_returning (sta
 
 pub loses_at : (t : StateValue) (k : ℕ) (v : StateValue) → ShapeInvariant t → is_returning (standing_of (standings t) k) ≡ true →
     LosesStale t k v → LosesAt t k v
-loses_at t k v shape is loses = record {
-  still = record {
-    same = lost_is t k v shape is loses;
-    hot = lost_hot t k v shape is loses;
-    count = lost_count t k v shape is loses;
-    rests = lost_rests t k v shape is loses;
-    shape = lost_shaped t k v shape is loses;
-  };
-  here = lost_here t k v shape is loses;
-  elsewhere = lost_else t k v shape is loses;
-}
+loses_at t k v shape is loses = search (lost_is, lost_hot, lost_count, lost_rests, lost_shaped, lost_here, lost_else, arith) parts 3
 
 pub all_at : (t : StateValue) (ks : List ℕ) (u : StateValue) → ShapeInvariant t → AreReturning t ks → AllLose t ks u → AllLoseAt t ks u
 all_at t [] u shape are lose = lose

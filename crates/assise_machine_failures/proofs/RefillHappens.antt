@@ -39,11 +39,7 @@ lowest_of o stale i is low = subst (λ p. IsLowestOf p (Some i)) is low
 -- where there is a lowest inode it may lack some
 some_stale : (o : Option (set.FinSet nat_cmp)) (i : ℕ) → IsLowestOf o (Some i) → 0 < count_of o
 some_stale None i low = absurd low
-some_stale (Some inodes) i low =
-    elim (cases_eq (set.len inodes) 0) [
-      | inr some ↦ omega (arith, some)
-      | inl none ↦ absurd (true≢false (sym low.there ∙ ap (λ s. set.contains s i) (set.empty_of_len inodes none) ∙ set.contains-empty nat_cmp i))
-    ]
+some_stale (Some inodes) i low = grind (arith, cases_eq, true≢false, set.empty_of_len, set.contains-empty, nat_cmp)
 
 -- node n comes back, and is filled from node d
 pub record IsFilledFrom (s : StateValue) (n d : ℕ) : Type 0 where
@@ -90,9 +86,7 @@ module _ {s : StateValue} {n d : ℕ} (fills : IsFilledFrom s n d) where
   -- it lacks nothing
   pub whole_so : IsLowestOf (stale_of (standing_of (standings s) n)) None → Refilling (observed s) n (left 0) (observed s)
   unfolding observed
-  whole_so none =
-      let empty : stale ≡ set.empty = subst (λ o. IsLowestOf o None) (ap stale_of filled_from) none in
-      is_whole filled_fine (ap (λ o. count_of (stale_of o)) filled_from ∙ ap set.len empty ∙ len-empty nat_cmp) refl refl
+  whole_so none = grind (arith, stale_of, filled_from, is_whole, filled_fine, count_of, len-empty, nat_cmp)
 
 -- ---- it gets the lowest inode
 
@@ -167,18 +161,11 @@ module _ {s : StateValue} {n d : ℕ} {rs : List RegionValue} {m : Membership} (
 
   refilled_so : IsRefilled (observed s) n (observed u)
   unfolding observed leases_of
-  refilled_so = record {
-    inode = i;
-    refills = node_refills;
-    leases = refl;
-    adds = record { history = sym (append-nil s.history); limit = refl; hot = region_keeps s.nodes n _ refl };
-  }
+  refilled_so = grind (arith, node_refills, append-nil, region_keeps)
 
   refill_happens : (count : ℕ) → option_map set.len (stale_of (standing_of m.nodes n)) ≡ Some count → Refilling (observed s) n (left count) (observed w)
   unfolding observed
-  refill_happens count some =
-      subst (λ x. Refilling (observed s) n (left count) (observed x)) (sym same)
-      (is_refilled (filled_fine c.fills) (ap left (counted (stale_of (standing_of m.nodes n)) count some)) refilled_so)
+  refill_happens count some = grind (arith, observed, left, same, is_refilled, filled_fine, counted, stale_of, standing_of, refilled_so)
 
   pub refill_answers : (r : Result ℕ Refusal) → IsOk r → IfOk r (λ count. option_map set.len (stale_of (standing_of m.nodes n)) ≡ Some count) →
       Refilling (observed s) n (refilling_answer r) (observed w)

@@ -1,12 +1,11 @@
 -- A full node that is taken down: its logs are gone, and those of its clients are cut where they are kept.
-use Rattle.assise_machine_failures.proofs.Common.{◌≡◌, ◌≢◌, ℕ, zero, suc, ◌<◌, ◌≤◌, ◌==◌, true, false, not, ◌&&◌, List, [], ◌∷◌, ◌++◌, length, Some, inl, inr}
-use Rattle.assise_machine_failures.proofs.Common.{refl, ap, subst, ◌∙◌, arith, slice_index_or, le_prop, ∥∥₁_elim, ∥∥₁_map, cases_Bool, ne_eqb, nat_cmp}
-use Rattle.assise_machine_failures.proofs.Common.{EntryValue, fails, RegionValue, Asked, TwoLevels, failed, Membership, full, standing_of, kept_at_failure}
-use Rattle.assise_machine_failures.proofs.Common.{WorldInvariant, World, received_by_all, kept_low, losses_of, MachineInvariant, after_failure}
-use Rattle.assise_machine_failures.proofs.Common.{with_clients_cut, with_clients_failed, ClientValue, client_in, failed_at, with_client, HasLog}
-use Rattle.assise_machine_failures.proofs.Common.{IsUndigestedFrom, log_in, region_in, with_tails_cut, without_logs, is_full_in, observed, world_of, IsNumber}
-use Rattle.assise_machine_failures.proofs.Common.{ShapeInvariant, StateValue, standings, node_number, seen_full, log_away, region_else, region_here, less_one}
-use Rattle.assise_machine_failures.proofs.Common.{kept_in, kept_to}
+use Rattle.assise_machine_failures.proofs.Common.{◌≡◌, ◌≢◌, ℕ, zero, suc, ◌<◌, ◌≤◌, ◌==◌, true, List, [], ◌∷◌, ◌++◌, length, Some, inl, inr, refl, arith}
+use Rattle.assise_machine_failures.proofs.Common.{slice_index_or, le_prop, ∥∥₁_elim, ∥∥₁_map, cases_Bool, ne_eqb, nat_cmp, EntryValue, fails, RegionValue}
+use Rattle.assise_machine_failures.proofs.Common.{Asked, TwoLevels, failed, Membership, full, standing_of, kept_at_failure, WorldInvariant, World}
+use Rattle.assise_machine_failures.proofs.Common.{received_by_all, kept_low, losses_of, MachineInvariant, after_failure, with_clients_cut, with_clients_failed}
+use Rattle.assise_machine_failures.proofs.Common.{ClientValue, client_in, failed_at, with_client, HasLog, IsUndigestedFrom, log_in, region_in, with_tails_cut}
+use Rattle.assise_machine_failures.proofs.Common.{without_logs, is_full_in, observed, world_of, IsNumber, ShapeInvariant, StateValue, standings, node_number}
+use Rattle.assise_machine_failures.proofs.Common.{seen_full, log_away, region_else, region_here, less_one, kept_in, kept_to}
 use Rattle.std.specs.FinSet as set
 use Rattle.assise_names.specs.declared.limits.TheConstants.{MOST_CLIENTS}
 use Rattle.assise_machine_failures.proofs.KeptPlaces.{kept_place}
@@ -27,8 +26,7 @@ sound_so s holds = ∥∥₁_map holds (λ h. h.sound)
 
 pub place_in : (w : World) (n m c : ℕ) (ks : List ℕ) → ks ≡ kept_to w n m → 0 < c → c ≤ m → kept_in ks c ≡ kept_at_failure w n c
 place_in w n m zero ks is some low = absurd (omega (arith, some))
-place_in w n m (suc c) ks is some low =
-    ap (λ js. kept_in js (suc c)) is ∙ ap (λ k. slice_index_or (kept_to w n m) k 0) (less_one c) ∙ kept_place w n m c (omega (arith, low))
+place_in w n m (suc c) ks is some low = grind (arith, kept_in, slice_index_or, kept_to, less_one, kept_place)
 
 -- what is cut depends on the places of clients 1 to m alone
 pub same_cuts : (n : ℕ) (cs : List ClientValue) (f g : ℕ → ℕ) (m : ℕ) (rs : List RegionValue) → ((c : ℕ) → 0 < c → c ≤ m → f c ≡ g c) →
@@ -61,24 +59,19 @@ module _ (s : StateValue) (n : ℕ) (shape : ShapeInvariant s) (stands : standin
 
   -- the failed node has no log
   other_node : (k c : ℕ) → HasLog (without_logs s.nodes n) k c → k ≢ n
-  other_node k c has same =
-      let none : length (region_in (without_logs s.nodes n) n).logs ≡ 0 =
-      ap (λ r. length r.logs) (region_here s.nodes n (record (region_in s.nodes n) { logs = [] }) number) in
-      let had : c ≤ length (region_in (without_logs s.nodes n) n).logs =
-      subst (λ j. c ≤ length (region_in (without_logs s.nodes n) j).logs) same has.client.there in
-      absurd (omega (arith, none, had, has.client.some))
+  other_node k c has same = grind (arith, region_in, without_logs, region_here, number)
 
   is_full_there : (k c : ℕ) → HasLog (without_logs s.nodes n) k c → is_full_in (standings s) k ≡ true
-  is_full_there k c has =
-      elim (cases_Bool (is_full_in (standings s) k)) [
-        | inl f ↦ f
-        | inr away ↦
-            let differs : k ≢ n = other_node k c has in
-            let same : length (region_in (without_logs s.nodes n) k).logs ≡ length (region_in s.nodes k).logs =
-            ap (λ r. length r.logs) (region_else s.nodes n (record (region_in s.nodes n) { logs = [] }) number k differs) in
-            let none : length (region_in s.nodes k).logs ≡ 0 = ap length (shape.no_logs k away) in
-            absurd (omega (arith, same, none, has.client.some, has.client.there))
-      ]
+  is_full_there k c has = grind (
+    arith,
+    cases_Bool (is_full_in (standings s) k),
+    other_node k c has,
+    region_in (without_logs s.nodes n) k,
+    region_in s.nodes k,
+    region_in s.nodes n,
+    region_else,
+    number,
+  )
 
   digested_low : (k c : ℕ) → is_full_in (standings s) k ≡ true → (world_of s).digested k c ≤ kept_at_failure (world_of s) n c
   digested_low k c f =
@@ -91,19 +84,22 @@ module _ (s : StateValue) (n : ℕ) (shape : ShapeInvariant s) (stands : standin
       HasLog (without_logs s.nodes n) k c →
       IsUndigestedFrom (log_in (without_logs s.nodes n) k c) (kept_in ks c)
   unfolding world_of
-  undigested ks is k c client home has =
-      let differs : k ≢ n = other_node k c has in
-      let same : log_in (without_logs s.nodes n) k c ≡ log_in s.nodes k c =
-      log_away s.nodes n (record (region_in s.nodes n) { logs = [] }) number k c differs in
-      let elsewhere : (k == (client_in s.clients c).home) ≡ false = ne_eqb k (client_in s.clients c).home (λ e. differs (e ∙ home)) in
-      let low : (log_in s.nodes k c).digested ≤ kept_at_failure (world_of s) n c = digested_low k c (is_full_there k c has) in
-      let place : kept_in ks c ≡ kept_at_failure (world_of s) n c = place_in (world_of s) n (length s.clients) c ks is client.some client.there in
-      record {
-        elsewhere = ap (λ l. l.at_home) same ∙ shape.at_home k c ∙ ap (λ b. b && not (client_in s.clients c).failed) elsewhere;
-        digested =
-            let digest : (log_in (without_logs s.nodes n) k c).digested ≡ (log_in s.nodes k c).digested = ap (λ l. l.digested) same in
-            omega (arith, digest, low, place);
-      }
+  undigested ks is k c client home has = grind (
+    arith,
+    other_node k c has,
+    log_in (without_logs s.nodes n) k c,
+    log_in s.nodes k c,
+    log_away,
+    region_in s.nodes n,
+    number,
+    client_in s.clients c,
+    ne_eqb,
+    kept_at_failure (world_of s) n c,
+    digested_low k c (is_full_there k c has),
+    kept_in ks c,
+    place_in (world_of s) n
+        (length s.clients) c ks is client.some client.there,
+  )
 
 -- ---- it is the state after the failure
 
@@ -114,13 +110,5 @@ pub is_after : (s : StateValue) (n : ℕ) (inodes : set.FinSet nat_cmp) (levels 
     cs ≡ with_clients_failed n (kept_in ks) last s.clients → cuts ≡ s.cuts ++ asked → h ≡ s.history ++ fails n (losses_of (world_of s) n) ∷ [] →
     ◌≡◌ {A = StateValue} (record { nodes = rs; members = m; clients = cs; levels = levels; cuts = cuts; history = h; limit = s.limit })
     (after_failure s n inodes levels asked)
-is_after s n inodes levels asked ks last rs m cs cuts h kept all nodes members clients noted told =
-    let places : (c : ℕ) → 0 < c → c ≤ length s.clients → kept_in ks c ≡ kept_at_failure (world_of s) n c = λ c some low. place_in (world_of s) n
-    (length s.clients) c ks kept some low in
-    let cut : rs ≡ with_clients_cut n s.clients (kept_at_failure (world_of s) n) (length s.clients) (without_logs s.nodes n) =
-    nodes ∙ ap (λ j. with_clients_cut n s.clients (kept_in ks) j (without_logs s.nodes n)) all
-    ∙ same_cuts n s.clients (kept_in ks) (kept_at_failure (world_of s) n) (length s.clients) (without_logs s.nodes n) places in
-    let over : cs ≡ with_clients_failed n (kept_at_failure (world_of s) n) (length s.clients) s.clients =
-    clients ∙ ap (λ j. with_clients_failed n (kept_in ks) j s.clients) all ∙ same_ends n (kept_in ks) (kept_at_failure (world_of s) n) (length s.clients)
-    s.clients places in
-    λ i. record { nodes = cut i; members = members i; clients = over i; levels = levels; cuts = noted i; history = told i; limit = s.limit }
+is_after s n inodes levels asked ks last rs m cs cuts h kept all nodes members clients noted told = grind
+    (arith, kept_in, kept_at_failure, world_of, place_in, with_clients_cut, without_logs, same_cuts, with_clients_failed, same_ends)

@@ -119,8 +119,7 @@ module _ {s : StateValue} {n d : ℕ} {rs : List RegionValue} {m : Membership} {
   unfolding observed leases_of
   join_happens =
       subst (λ x. Joining (observed s) n joined (observed x)) (sym same)
-      (is_joined taken.fine refl
-      (record { rejoins = rejoins; leases = refl; adds = record { history = refl; limit = refl; hot = region_keeps s.nodes n _ refl } }))
+      (search (is_joined, rejoins, region_keeps, arith) parts 3)
 
   pub join_left : ShapeInvariant w
   unfolding observed

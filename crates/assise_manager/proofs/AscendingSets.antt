@@ -1,11 +1,11 @@
 -- Lists of numbers that ascend, as sets.
-use Rattle.assise_manager.proofs.Common.{◌≡◌, ℕ, suc, ◌+◌, ◌<◌, ◌≤◌, Bool, true, false, cond, ◌||◌, ◌⊎◌, Option, Some, None, IfSome, List, [], ◌∷◌, take, drop}
-use Rattle.assise_manager.proofs.Common.{length, get_or, refl, sym, ap, ◌∙◌, rules, arith, Bor, inl, inr, eqb, subst, ◌&&◌, not, zero, true≢false, add-one}
-use Rattle.assise_manager.proofs.Common.{list_any, insert, dedup, slice_index_or, slice_get, option_copied, Result, Ok, Err, OnOk, OnErr, nat_cmp, eq_by_cmp}
-use Rattle.assise_manager.proofs.Common.{is_lt, is_gt, is_eq, ordering_index, AllByRecursion, cases_order, IsEquivalence, list_any-append, list_any_at}
-use Rattle.assise_manager.proofs.Common.{take-append-drop, nat_cmp_total, Equal-is, tied_itself, nat_cmp_is, members, contains-from_list, contains-insert}
-use Rattle.assise_manager.proofs.Common.{contains-remove, contains-empty, len-insert, nat_cmp-IsAntisymmetric, IsStrictlySortedBy, IsNonDecreasingBy}
-use Rattle.assise_manager.proofs.Common.{IsPartitionPoint, sorted_from_strictly_increasing, below_from_sorted, IsLowest}
+use Rattle.assise_manager.proofs.Common.{◌≡◌, ℕ, suc, ◌+◌, ◌<◌, ◌≤◌, Bool, true, false, ◌||◌, ◌⊎◌, Option, Some, None, IfSome, List, [], ◌∷◌, drop, length}
+use Rattle.assise_manager.proofs.Common.{get_or, refl, sym, ap, ◌∙◌, rules, arith, Bor, inl, inr, eqb, subst, zero, true≢false, add-one, list_any, insert}
+use Rattle.assise_manager.proofs.Common.{dedup, slice_index_or, slice_get, option_copied, Result, Ok, Err, OnOk, OnErr, nat_cmp, eq_by_cmp, is_eq}
+use Rattle.assise_manager.proofs.Common.{ordering_index, AllByRecursion, IsEquivalence, list_any-append, list_any_at, take-append-drop, nat_cmp_total, Equal-is}
+use Rattle.assise_manager.proofs.Common.{tied_itself, members, contains-from_list, contains-insert, contains-remove, contains-empty, len-insert}
+use Rattle.assise_manager.proofs.Common.{nat_cmp-IsAntisymmetric, IsStrictlySortedBy, IsNonDecreasingBy, IsPartitionPoint, sorted_from_strictly_increasing}
+use Rattle.assise_manager.proofs.Common.{below_from_sorted, IsLowest}
 use Rattle.std.specs.Prelude.{IsSome}
 use Rattle.std.specs.declared.cmp.Ordering.TheVariants.{Less, Equal, Greater}
 use Rattle.std.proofs.lemmas.Cmp.{eq_by_cmp_equiv}
@@ -25,20 +25,10 @@ or_middle true false c = refl
 or_middle false b c = refl
 
 pub less : (x y : ℕ) → nat_cmp x y ≡ Less → x < y
-less x y e =
-    elim (cases_order x y) [
-      | inl same ↦ absurd (true≢false (sym (ap is_lt (nat_cmp_is x y Equal same ∙ e))))
-      | inr (inl lower) ↦ lower
-      | inr (inr higher) ↦ absurd (true≢false (sym (ap is_lt (nat_cmp_is x y Greater higher ∙ e))))
-    ]
+less x y e = grind arith
 
 pub greater : (x y : ℕ) → nat_cmp x y ≡ Greater → y < x
-greater x y e =
-    elim (cases_order x y) [
-      | inl same ↦ absurd (true≢false (sym (ap is_gt (nat_cmp_is x y Equal same ∙ e))))
-      | inr (inl lower) ↦ absurd (true≢false (sym (ap is_gt (nat_cmp_is x y Less lower ∙ e))))
-      | inr (inr higher) ↦ higher
-    ]
+greater x y e = grind arith
 
 lt_both : (a b c d : ℕ) → a ≡ c → b ≡ d → c < d → a < b
 lt_both a b c d p q r = omega arith
@@ -46,25 +36,16 @@ lt_both a b c d p q r = omega arith
 -- each later number is above the first
 above_first : (x q : ℕ) (xs : List ℕ) → AllByRecursion (λ y. nat_cmp x y ≡ Less) xs → list_any (eq_by_cmp nat_cmp q) xs ≡ true → x < q
 above_first x q [] all found = grind (rules)
-above_first x q (y ∷ ys) all found =
-    either (eq_by_cmp nat_cmp q y) _ found
-    (λ same. subst (λ z. x < z) (sym (nat_cmp-IsAntisymmetric q y ((Equal-is (nat_cmp q y)).0 same))) (less x y all.0))
-    (above_first x q ys all.1)
+above_first x q (y ∷ ys) all found = grind (arith, above_first x q ys all.1)
 
 absent : (x : ℕ) (xs : List ℕ) → AllByRecursion (λ y. nat_cmp x y ≡ Less) xs → set.contains (set.from_list {R = nat_cmp} xs) x ≡ false
-absent x xs all =
-    elim (list_any (eq_by_cmp nat_cmp x) xs) as (λ b. list_any (eq_by_cmp nat_cmp x) xs ≡ b → set.contains (set.from_list {R = nat_cmp} xs) x ≡ false) [
-      | true ↦ λ found. let h : x < x = above_first x x xs all found in absurd (omega arith)
-      | false ↦ λ none. contains-from_list nat_cmp_total xs x ∙ none
-    ] refl
+absent x xs all = grind (arith, above_first, contains-from_list, nat_cmp_total)
 
 -- how many there are
 pub len_ascending : (xs : List ℕ) → IsStrictlySortedBy nat_cmp xs → set.len (set.from_list {R = nat_cmp} xs) ≡ length xs
 unfolding IsStrictlySortedBy
 len_ascending [] s = grind (members, rules)
-len_ascending (x ∷ xs) s =
-    let few : set.len (set.from_list {R = nat_cmp} xs) ≡ length xs = len_ascending xs s.1 in
-    len-insert nat_cmp_total _ x ∙ (λ i. cond (absent x xs s.0 i) (few i) (few i + 1)) ∙ add-one _
+len_ascending (x ∷ xs) s = grind (arith, len_ascending xs s.1, len-insert, absent)
 
 -- the first is the lowest
 pub first_lowest : (x : ℕ) (xs : List ℕ) → IsStrictlySortedBy nat_cmp (x ∷ xs) → IsLowest (set.from_list (x ∷ xs)) x
@@ -81,17 +62,7 @@ first_lowest x xs s =
 -- without the first
 pub without_first : (x : ℕ) (xs : List ℕ) → IsStrictlySortedBy nat_cmp (x ∷ xs) → set.from_list {R = nat_cmp} xs ≡ set.remove (set.from_list (x ∷ xs)) x
 unfolding IsStrictlySortedBy
-without_first x xs s =
-    same _ _ (λ q. elim (eq_by_cmp nat_cmp q x)
-    as (λ b. eq_by_cmp nat_cmp q x ≡ b → set.contains (set.from_list {R = nat_cmp} xs) q
-    ≡ set.contains (set.remove (set.from_list {R = nat_cmp} (x ∷ xs)) x) q) [
-      | true ↦ λ here. ap (set.contains (set.from_list {R = nat_cmp} xs)) (nat_cmp-IsAntisymmetric q x ((Equal-is (nat_cmp q x)).0 here)) ∙ absent x xs s.0
-          ∙ sym (contains-remove nat_cmp_total (set.from_list {R = nat_cmp} (x ∷ xs)) x q
-          ∙ ap (λ b. not b && set.contains (set.from_list {R = nat_cmp} (x ∷ xs)) q) here)
-      | false ↦ λ else. sym (contains-remove nat_cmp_total (set.from_list {R = nat_cmp} (x ∷ xs)) x q
-          ∙ ap (λ b. not b && set.contains (set.from_list {R = nat_cmp} (x ∷ xs)) q) else ∙ contains-insert nat_cmp_total (set.from_list {R = nat_cmp} xs) x q
-          ∙ ap (λ b. b || set.contains (set.from_list {R = nat_cmp} xs) q) else)
-    ] refl)
+without_first x xs s = grind (arith, same, nat_cmp-IsAntisymmetric, absent x xs s.0, contains-remove, nat_cmp_total, contains-insert)
 
 behind_place : (xs : List ℕ) (i x k : ℕ) → IsStrictlySortedBy nat_cmp xs → i ≤ length xs → i < k → k < length xs →
     get_or (insert xs i x) k 0 < get_or (insert xs i x) (k + 1) 0
@@ -103,30 +74,13 @@ behind_place xs i x (suc k) s within behind inside =
 -- a number put in at its place
 pub insert_ascending : (xs : List ℕ) (i x : ℕ) → IsStrictlySortedBy nat_cmp xs → i ≤ length xs → ((k : ℕ) → k < i → get_or xs k 0 < x) →
     ((k : ℕ) → i ≤ k → k < length xs → x < get_or xs k 0) → IsStrictlySortedBy nat_cmp (insert xs i x)
-insert_ascending xs i x s within below above =
-    let more : length (insert xs i x) ≡ length xs + 1 = length-insert xs i x within in
-    let ascends : (k : ℕ) → k + 1 < length xs → get_or xs k 0 < get_or xs (k + 1) 0 = λ k h. below_from_sorted xs k (k + 1) 0 s (omega arith) h in
-    sorted_from_strictly_increasing (insert xs i x)
-    (λ k inside. elim (cases_order k i) as (λ _. get_or (insert xs i x) k 0 < get_or (insert xs i x) (k + 1) 0) [
-      | inl at ↦ lt_both _ _ _ _ (ap (λ n. get_or (insert xs i x) n 0) at ∙ get_or-insert_at xs i x 0 within)
-          (get_or-insert_above xs i x 0 k (omega arith) within) (above k (omega arith) (omega arith))
-      | inr (inl before) ↦ elim (cases_order (k + 1) i) as (λ _. get_or (insert xs i x) k 0 < get_or (insert xs i x) (k + 1) 0) [
-        | inl at ↦ lt_both _ _ _ _ (get_or-insert_below xs i x 0 k before within) (ap (λ n. get_or (insert xs i x) n 0) at ∙ get_or-insert_at xs i x 0 within)
-            (below k before)
-        | inr (inl still) ↦ lt_both _ _ _ _ (get_or-insert_below xs i x 0 k before within) (get_or-insert_below xs i x 0 (k + 1) still within)
-            (ascends k (omega arith))
-        | inr (inr over) ↦ absurd (omega arith)
-      ]
-      | inr (inr behind) ↦ behind_place xs i x k s within behind (omega arith)
-    ])
+insert_ascending xs i x s within below above = grind
+    (arith, length-insert, below_from_sorted, sorted_from_strictly_increasing, get_or-insert_at, get_or-insert_above, get_or-insert_below, behind_place)
 
 -- a number put in anywhere
 pub insert_set : (xs : List ℕ) (i x : ℕ) → i ≤ length xs → set.from_list {R = nat_cmp} (insert xs i x) ≡ set.insert (set.from_list xs) x
 insert_set xs i x within = same_list (insert xs i x) (x ∷ xs)
-    (λ q. list_any-append (eq_by_cmp nat_cmp q) (take i xs) (x ∷ drop i xs) ∙ or_middle (list_any (eq_by_cmp nat_cmp q) (take i xs)) (eq_by_cmp nat_cmp q x)
-    (list_any (eq_by_cmp nat_cmp q) (drop i xs))
-    ∙ ap (λ b. eq_by_cmp nat_cmp q x || b)
-    (sym (list_any-append (eq_by_cmp nat_cmp q) (take i xs) (drop i xs)) ∙ ap (list_any (eq_by_cmp nat_cmp q)) (take-append-drop i xs)))
+    (grind (arith, list_any-append, take-append-drop i xs))
 
 same_truth : (a b : Bool) → (a ≡ true → b ≡ true) → (b ≡ true → a ≡ true) → a ≡ b
 same_truth true b p q = sym (p refl)
@@ -152,55 +106,26 @@ abbrev MatchOrder : ℕ → ℕ → ℕ → Type 0
 MatchOrder n a x = ((a < x) × (n ≡ 0)) ⊎ (((a ≡ x) × (n ≡ 1)) ⊎ ((x < a) × (n ≡ 2)))
 
 index_ascends_from : (a b x m n : ℕ) → MatchOrder m a x → MatchOrder n b x → a ≤ b → m ≤ n
-index_ascends_from a b x m n p q h =
-    elim p [
-      | inl p ↦ let e : m ≡ 0 = p.1 in omega arith
-      | inr (inl p) ↦ elim q [
-        | inl q ↦ (let g : b < x = q.0 in let f : a ≡ x = p.0 in absurd (omega arith))
-        | inr (inl q) ↦
-            (let g : m ≡ 1 = p.1 in let f : n ≡ 1 = q.1 in omega arith)
-        | inr (inr q) ↦ (let g : m ≡ 1 = p.1 in let f : n ≡ 2 = q.1 in omega arith)
-      ]
-      | inr (inr p) ↦ elim q [
-        | inl q ↦ (let g : b < x = q.0 in let f : x < a = p.0 in absurd (omega arith))
-        | inr (inl q) ↦
-            (let g : b ≡ x = q.0 in let f : x < a = p.0 in absurd (omega arith))
-        | inr (inr q) ↦ (let g : m ≡ 2 = p.1 in let f : n ≡ 2 = q.1 in omega arith)
-      ]
-    ]
+index_ascends_from a b x m n p q h = grind arith
 
 index_of : (a x : ℕ) → MatchOrder (ordering_index (nat_cmp a x)) a x
-index_of a x =
-    elim (cases_order a x) [
-      | inl same ↦ inr (inl (same, sym (ap ordering_index (nat_cmp_is a x Equal same))))
-      | inr (inl lower) ↦ inl (lower, sym (ap ordering_index (nat_cmp_is a x Less lower)))
-      | inr (inr higher) ↦ inr (inr (higher, sym (ap ordering_index (nat_cmp_is a x Greater higher))))
-    ]
+index_of a x = grind arith
 
 index_ascends : (a b x : ℕ) → a ≤ b → ordering_index (nat_cmp a x) ≤ ordering_index (nat_cmp b x)
 index_ascends a b x h = index_ascends_from a b x _ _ (index_of a x) (index_of b x) h
 
 -- a list that ascends can be searched
 pub searchable : (xs : List ℕ) (x : ℕ) → IsStrictlySortedBy nat_cmp xs → IsNonDecreasingBy (λ y. ordering_index (nat_cmp y x)) xs
-searchable xs x s i j d low inside =
-    index_ascends _ _ x (elim (cases_order i j) as (λ _. get_or xs i d ≤ get_or xs j d) [
-      | inl at ↦ subst (λ n. get_or xs i d ≤ get_or xs n d) at (omega arith)
-      | inr (inl before) ↦ let h : get_or xs i d < get_or xs j d = below_from_sorted xs i j d s before inside in omega arith
-      | inr (inr over) ↦ absurd (omega arith)
-    ])
+searchable xs x s i j d low inside = search (below_from_sorted, arith) parts 3
 
 -- a number that a search doesn't find, put in at the place that it answers
 pub placed_ascending : (xs : List ℕ) (i x : ℕ) → IsStrictlySortedBy nat_cmp xs → i ≤ length xs →
     IsPartitionPoint (λ y. nat_cmp y x ≡ Less) (λ y. nat_cmp y x ≡ Greater) xs i → IsStrictlySortedBy nat_cmp (insert xs i x)
-placed_ascending xs i x s within parted =
-    insert_ascending xs i x s within (λ k h. less _ _ (parted.0 k 0 (omega arith) h)) (λ k h inside. greater _ _ (parted.1 k 0 h inside))
+placed_ascending xs i x s within parted = grind (arith, insert_ascending)
 
 -- a number that a search finds
 pub found_there : (xs : List ℕ) (i x : ℕ) → i < length xs → nat_cmp (get_or xs i 0) x ≡ Equal → set.from_list {R = nat_cmp} xs ≡ set.insert (set.from_list xs) x
-found_there xs i x inside e =
-    sym (insert_there (set.from_list xs) x
-    (contains-from_list nat_cmp_total xs x ∙ list_any_at (eq_by_cmp nat_cmp x) xs i 0 inside
-    (subst (λ y. eq_by_cmp nat_cmp x y ≡ true) (sym (nat_cmp-IsAntisymmetric (get_or xs i 0) x e)) (ap is_eq (tied_itself nat_cmp_total x)))))
+found_there xs i x inside e = grind (arith, insert_there, contains-from_list, nat_cmp_total, list_any_at)
 
 there_first : (x : ℕ) (xs : List ℕ) → set.contains (set.from_list {R = nat_cmp} (x ∷ xs)) x ≡ true
 there_first x xs = contains-from_list nat_cmp_total (x ∷ xs) x ∙ ap (λ b. b || list_any (eq_by_cmp nat_cmp x) xs) (ap is_eq (tied_itself nat_cmp_total x))

@@ -1,22 +1,20 @@
 -- What the changes keep: each leaves a lawful membership lawful.
-use Rattle.assise_manager.proofs.Common.{[], ◌≡◌, ℕ, zero, suc, ◌+◌, ◌-◌, ◌<◌, ◌≤◌, Bool, true, false, cond, ◌&&◌, not, inl, inr, Option, Some, None, List, ◌∷◌}
-use Rattle.assise_manager.proofs.Common.{◌++◌, drop, length, refl, sym, ap, ◌∙◌, subst, arith, true≢false, ◌==◌, nat_le, list_all, list_any, slice_get, nat_cmp}
-use Rattle.assise_manager.proofs.Common.{eq_by_cmp, contains-union, contains-empty, contains-remove, nat_cmp_total, and_parts, and_from, or_cases, or_left}
-use Rattle.assise_manager.proofs.Common.{or_right, cond_both, eqb-false, leb-true, le-leb, none-some, length-append, length-map, length-set, BadNode}
-use Rattle.assise_manager.proofs.Common.{WrongPhase, LastNode, Standing, is_full, full_nodes, standing_of, with_standing, full, down, Membership, IsMembership}
-use Rattle.assise_manager.proofs.Common.{first_listed, all_inodes, written_since, lowest_full, is_listed, is_known, fulls, all_full, with_node, refilled_from}
-use Rattle.assise_manager.proofs.Common.{with_new_donor, with_epoch, failed_as, failed, failure_fault_of, failure_fault, back_as, back, return_fault_of}
-use Rattle.assise_manager.proofs.Common.{return_fault, is_away, filling_fault_of, filling_fault, copied_as, with_copied, joined, join_fault, with_written}
-use Rattle.assise_manager.proofs.Common.{stale_again, donor_of, noted, raised, greater, joined_levels, level_of, plains, Level, Marked}
+use Rattle.assise_manager.proofs.Common.{[], ◌≡◌, ℕ, zero, suc, ◌+◌, ◌-◌, ◌<◌, ◌≤◌, Bool, true, false, cond, Option, Some, None, List, ◌∷◌, ◌++◌, drop, length}
+use Rattle.assise_manager.proofs.Common.{refl, sym, ap, ◌∙◌, subst, arith, true≢false, ◌==◌, list_all, list_any, slice_get, nat_cmp, contains-union}
+use Rattle.assise_manager.proofs.Common.{contains-empty, contains-remove, nat_cmp_total, and_from, or_left, or_right, cond_both, none-some, length-append}
+use Rattle.assise_manager.proofs.Common.{length-map, length-set, BadNode, WrongPhase, LastNode, Standing, is_full, full_nodes, standing_of, with_standing, full}
+use Rattle.assise_manager.proofs.Common.{down, Membership, IsMembership, first_listed, all_inodes, written_since, lowest_full, is_listed, is_known, fulls}
+use Rattle.assise_manager.proofs.Common.{all_full, with_node, refilled_from, with_new_donor, with_epoch, failed_as, failed, failure_fault_of, failure_fault}
+use Rattle.assise_manager.proofs.Common.{back_as, back, return_fault_of, return_fault, is_away, filling_fault_of, filling_fault, copied_as, with_copied, joined}
+use Rattle.assise_manager.proofs.Common.{join_fault, with_written, stale_again, donor_of, noted, raised, greater, joined_levels, level_of, plains, Level}
 use Rattle.std.specs.FinSet as set
 use Rattle.assise_names.specs.declared.refusal.Refusal.{Refusal}
 use Rattle.assise_manager.specs.Standings.Standing.{returning}
 use Rattle.assise_manager.specs.MemberCalls.{MemberCall, MemberCallDoes, AllMemberCalls}
 use Rattle.assise_manager.specs.MemberCalls.MemberCall.{fail, come_back, note_copied, join, note_written, raise}
 use Rattle.assise_manager.proofs.Sets.{Numbers, all_push}
-use Rattle.assise_manager.proofs.Nodes.{never, full_from_set_away, full_from_map, all_full_map, full_there, list_all_set, list_all_map}
-use Rattle.assise_manager.proofs.Nodes.{list_all_more, list_all_place, slice_get_set, others_stay, one_full_less, all_stay, no_fewer_full}
-use Rattle.assise_manager.proofs.Nodes.{first_there, away_not_full}
+use Rattle.assise_manager.proofs.Nodes.{never, full_from_set_away, full_from_map, all_full_map, full_there, list_all_set, list_all_map, list_all_more}
+use Rattle.assise_manager.proofs.Nodes.{list_all_place, slice_get_set, others_stay, one_full_less, all_stay, no_fewer_full, first_there}
 
 -- ---- sets within sets
 
@@ -40,11 +38,7 @@ pub union_right : (s t : Numbers) → Within t (set.union s t)
 union_right s t q inside = contains-union nat_cmp_total s t q ∙ or_right (set.contains s q) (set.contains t q) inside
 
 union_within : (s t u : Numbers) → Within s u → Within t u → Within (set.union s t) u
-union_within s t u left right q inside =
-    elim (or_cases (set.contains s q) (set.contains t q) (sym (contains-union nat_cmp_total s t q) ∙ inside)) [
-      | inl l ↦ left q l
-      | inr r ↦ right q r
-    ]
+union_within s t u left right q inside = grind (arith, contains-union, nat_cmp_total)
 
 union_both : (s t u v : Numbers) → Within s u → Within t v → Within (set.union s t) (set.union u v)
 union_both s t u v left right = union_within s t (set.union u v) (λ q i. union_left u v q (left q i)) (λ q i. union_right u v q (right q i))
@@ -53,8 +47,7 @@ pub nothing_within : (s : Numbers) → Within set.empty s
 nothing_within s q inside = never (sym (contains-empty nat_cmp q) ∙ inside)
 
 remove_within : (s : Numbers) (k : ℕ) → Within (set.remove s k) s
-remove_within s k q inside =
-    (and_parts (not (eq_by_cmp nat_cmp q k)) (set.contains s q) (sym (contains-remove nat_cmp_total s k q) ∙ inside)).1
+remove_within s k q inside = grind (arith, contains-remove, nat_cmp_total)
 
 -- ---- lists of inodes
 
@@ -75,16 +68,14 @@ pub noted_keeps : (k : ℕ) (ls : List Numbers) (inodes : Numbers)
     → Within (all_inodes (drop k ls)) (all_inodes (drop k (with_written ls inodes)))
 noted_keeps k [] inodes q inside = inside
 noted_keeps zero (l ∷ []) inodes q inside = union_both l set.empty (set.union l inodes) set.empty (union_left l inodes) (λ r there. there) q inside
-noted_keeps zero (l ∷ next ∷ ls) inodes q inside =
-    union_both l (all_inodes (next ∷ ls)) l (all_inodes (with_written (next ∷ ls) inodes)) (λ r there. there) (noted_keeps zero (next ∷ ls) inodes) q inside
+noted_keeps zero (l ∷ next ∷ ls) inodes q inside = grind (arith, noted_keeps zero (next ∷ ls) inodes, union_both)
 noted_keeps (suc k) (l ∷ []) inodes q inside = inside
 noted_keeps (suc k) (l ∷ next ∷ ls) inodes q inside = noted_keeps k (next ∷ ls) inodes q inside
 
 -- what comes on the last list was written since any epoch that has a list
 pub noted_there : (k : ℕ) (ls : List Numbers) (inodes : Numbers) → k < length ls → Within inodes (all_inodes (drop k (with_written ls inodes)))
 noted_there k [] inodes few q inside = absurd (omega arith)
-noted_there zero (l ∷ []) inodes few q inside =
-    union_left (set.union l inodes) set.empty q (union_right l inodes q inside)
+noted_there zero (l ∷ []) inodes few q inside = grind (arith, union_left, union_right)
 noted_there zero (l ∷ next ∷ ls) inodes few q inside =
     union_right l (all_inodes (with_written (next ∷ ls) inodes)) q (noted_there zero (next ∷ ls) inodes (omega arith) q inside)
 noted_there (suc k) (l ∷ []) inodes few q inside = absurd (omega arith)
@@ -119,27 +110,19 @@ known_of m node s lawful at = list_all_place (is_known m) m.nodes (node - 1) s l
 -- where one that isn't full is put in, not all are
 not_all_full : (nodes : List Standing) (node : ℕ) (old s : Standing) → standing_of nodes node ≡ Some old → is_full s ≡ false
     → list_all is_full (with_standing nodes node s) ≡ true → ⊥
-not_all_full nodes node old s at new all =
-    let there : slice_get (with_standing nodes node s) (node - 1) ≡ Some s =
-    slice_get_set nodes (node - 1) old s (place_of nodes node old at) in
-    true≢false (sym (list_all_place is_full (with_standing nodes node s) (node - 1) s all there) ∙ new)
+not_all_full nodes node old s at new all = grind (arith, slice_get_set nodes (node - 1) old s (place_of nodes node old at), list_all_place)
 
 -- ---- what is known
 
 pub listed_both : (m : Membership) (since : ℕ) → is_listed m since ≡ true → (first_listed m ≤ since) × (since ≤ m.epoch)
-listed_both m since listed =
-    let both = and_parts (nat_le (first_listed m) since) (nat_le since m.epoch) listed in
-    (leb-true (first_listed m) since both.0, leb-true since m.epoch both.1)
+listed_both m since listed = grind arith
 
 listed_from : (m : Membership) (since : ℕ) → first_listed m ≤ since → since ≤ m.epoch → is_listed m since ≡ true
-listed_from m since first last =
-    and_from (nat_le (first_listed m) since) (nat_le since m.epoch) (le-leb (first_listed m) since first) (le-leb since m.epoch last)
+listed_from m since first last = grind arith
 
 listed_more : (m n : Membership) → first_listed n ≡ first_listed m → m.epoch ≤ n.epoch → (since : ℕ) → is_listed m since ≡ true
     → is_listed n since ≡ true
-listed_more m n first later since listed =
-    let both = listed_both m since listed in
-    listed_from n since (subst (λ k. k ≤ since) (sym first) both.0) (omega (arith, both.1))
+listed_more m n first later since listed = grind arith
 
 -- a node is full
 abbrev pub IsFullNode : Membership → ℕ → Type 0
@@ -153,32 +136,18 @@ pub record IsKnownReturn (m : Membership) (since donor : ℕ) (stale : Numbers) 
 
 pub return_parts : (m : Membership) (since donor : ℕ) (stale : Numbers) → is_known m (returning since donor stale) ≡ true
     → IsKnownReturn m since donor stale
-return_parts m since donor stale known =
-    let donor_there = list_any (λ n. n == donor) (full_nodes m.nodes) in
-    let within = set.is_subset stale (written_since m since) in
-    let first = and_parts (is_listed m since) (donor_there && within) known in
-    let rest = and_parts donor_there within first.1 in
-    record { listed = first.0; donor_full = rest.0; within = rest.1 }
+return_parts m since donor stale known = grind arith
 
 pub return_from : (m : Membership) (since donor : ℕ) (stale : Numbers) → IsKnownReturn m since donor stale
     → is_known m (returning since donor stale) ≡ true
-return_from m since donor stale r =
-    let donor_there = list_any (λ n. n == donor) (full_nodes m.nodes) in
-    let within = set.is_subset stale (written_since m since) in
-    and_from (is_listed m since) (donor_there && within) r.listed (and_from donor_there within r.donor_full r.within)
+return_from m since donor stale r = cc
 
 -- what is known stays known where lists and full nodes stay
 known_more : (m n : Membership) → first_listed n ≡ first_listed m → m.epoch ≤ n.epoch → ((d : ℕ) → IsFullNode m d → IsFullNode n d)
     → ((since : ℕ) → Within (written_since m since) (written_since n since)) → (s : Standing) → is_known m s ≡ true → is_known n s ≡ true
 known_more m n first later donors written full known = refl
 known_more m n first later donors written (down since) known = listed_more m n first later since known
-known_more m n first later donors written (returning since donor stale) known =
-    let r = return_parts m since donor stale known in
-    return_from n since donor stale (record {
-      listed = listed_more m n first later since r.listed;
-      donor_full = donors donor r.donor_full;
-      within = subset_more stale (written_since m since) (written_since n since) r.within (written since);
-    })
+known_more m n first later donors written (returning since donor stale) known = grind (arith, subset_more)
 
 -- ---- the start
 
@@ -200,14 +169,7 @@ fulls_length (suc count) = ap suc (fulls_length count)
 
 -- some full nodes in the first epoch
 pub all_full_lawful : (count : ℕ) → 0 < count → IsMembership (all_full count)
-all_full_lawful count some = record {
-  began = omega arith;
-  lists = omega arith;
-  some_full = some_fulls count some;
-  known = fulls_pass (is_known (all_full count)) count refl;
-  levelled = plains_length count ∙ sym (fulls_length count);
-  none_listed = λ _. refl;
-}
+all_full_lawful count some = grind (arith, fulls_pass, plains_length, fulls_length)
 
 -- ---- one node that is away
 
@@ -219,48 +181,24 @@ with_node_full m node s away new = full_from_set_away 1 m.nodes (node - 1) s (aw
 -- a node that is away becomes another one that is, and of which is known what has to be
 pub with_node_lawful : (m : Membership) (node : ℕ) (s : Standing) → IsMembership m → is_away (standing_of m.nodes node) ≡ true
     → is_away (Some s) ≡ true → is_known m s ≡ true → IsMembership (with_node m node s)
-with_node_lawful m node s lawful away new known =
-    let n = with_node m node s in
-    let same : full_nodes n.nodes ≡ full_nodes m.nodes = with_node_full m node s away new in
-    let old = away_some (standing_of m.nodes node) away in
-    record {
-      began = lawful.began;
-      lists = lawful.lists;
-      some_full = subst (λ l. 0 < length l) (sym same) lawful.some_full;
-      known = list_all_more (is_known m) (is_known n) n.nodes (list_all_set (is_known m) m.nodes (node - 1) s lawful.known known)
-          (known_more m n refl (omega arith) (λ d there. subst (λ l. list_any (λ k. k == d) l ≡ true) (sym same) there)
-          (λ since q inside. inside));
-      levelled = lawful.levelled ∙ sym (length-set m.nodes (node - 1) s);
-      none_listed = λ all. absurd (not_all_full m.nodes node old.0 s old.1 (away_not_full s new) all);
-    }
+with_node_lawful m node s lawful away new known = search (with_node_full, list_all_set, length-set, not_all_full, arith) parts 3
 
 -- a node that came back fails: its first failure is known
 pub down_known : (m : Membership) (node since donor : ℕ) (stale : Numbers) → IsMembership m
     → standing_of m.nodes node ≡ Some (returning since donor stale) → is_known m (down since) ≡ true
-down_known m node since donor stale lawful at =
-    (return_parts m since donor stale (known_of m node (returning since donor stale) lawful at)).listed
+down_known m node since donor stale lawful at = grind (arith, return_parts m since donor stale (known_of m node (returning since donor stale) lawful at))
 
 -- a node that was down comes back: its donor is full, and what it may lack was written since
 pub back_known : (m : Membership) (node since : ℕ) → IsMembership m → standing_of m.nodes node ≡ Some (down since)
     → is_known m (returning since (lowest_full m.nodes) (written_since m since)) ≡ true
-back_known m node since lawful at = return_from m since (lowest_full m.nodes) (written_since m since) (record {
-  listed = known_of m node (down since) lawful at;
-  donor_full = first_there (full_nodes m.nodes) lawful.some_full;
-  within = within_subset (written_since m since) (written_since m since) (λ q inside. inside);
-})
+back_known m node since lawful at = grind (arith, known_of m node (down since) lawful at, first_there (full_nodes m.nodes) lawful.some_full, within_subset)
 
 -- a node that comes back lacks an inode less
 pub copied_known : (m : Membership) (node since donor : ℕ) (stale : Numbers) → IsMembership m
     → standing_of m.nodes node ≡ Some (returning since donor stale) → (inode : ℕ)
     → is_known m (returning since donor (set.remove stale inode)) ≡ true
-copied_known m node since donor stale lawful at inode =
-    let r = return_parts m since donor stale (known_of m node (returning since donor stale) lawful at) in
-    return_from m since donor (set.remove stale inode) (record {
-      listed = r.listed;
-      donor_full = r.donor_full;
-      within = within_subset (set.remove stale inode) (written_since m since)
-          (λ q inside. subset_within stale (written_since m since) r.within q (remove_within stale inode q inside));
-    })
+copied_known m node since donor stale lawful at inode = grind
+    (arith, return_parts m since donor stale (known_of m node (returning since donor stale) lawful at), within_subset, subset_within, remove_within)
 
 -- ---- one epoch more
 
@@ -277,22 +215,18 @@ same_first m nodes l = omega (arith, one_list_more m l)
 
 since_within : (m : Membership) (nodes : List Standing) (l : Numbers) (since : ℕ)
     → Within (written_since m since) (written_since (one_more m nodes l) since)
-since_within m nodes l since q inside =
-    subst (λ k. set.contains (all_inodes (drop (since - k) (m.written ++ l ∷ []))) q ≡ true) (sym (same_first m nodes l))
-    (later_within (since - first_listed m) m.written l q inside)
+since_within m nodes l since q inside = search (same_first, later_within, arith) parts 3
 
 -- the epoch that begins has a list
 now_listed : (m : Membership) (nodes : List Standing) (l : Numbers) → is_listed (one_more m nodes l) (m.epoch + 1) ≡ true
-now_listed m nodes l =
-    listed_from (one_more m nodes l) (m.epoch + 1) (subst (λ k. k ≤ m.epoch + 1) (sym (same_first m nodes l)) (omega arith)) (omega arith)
+now_listed m nodes l = grind (arith, same_first m nodes l)
 
 -- ---- failures
 
 refilled_full : (written : ℕ → Numbers) (donor failed : ℕ) (s : Standing) → is_full (refilled_from written donor failed s) ≡ is_full s
 refilled_full written donor failed full = refl
 refilled_full written donor failed (down since) = refl
-refilled_full written donor failed (returning since from stale) =
-    cond_both (from == failed) (returning since donor (written since)) (returning since from stale) (λ s. is_full s ≡ false) (λ _. refl) (λ _. refl)
+refilled_full written donor failed (returning since from stale) = grind arith
 
 module _
     (m : Membership) (node : ℕ) (inodes : Numbers) (lawful : IsMembership m) (at : standing_of m.nodes node ≡ Some full)
@@ -310,17 +244,11 @@ module _
   same_full = full_from_map refill (refilled_full (written_since begun) (lowest_full begun.nodes) node) 1 begun.nodes
 
   still_full : 0 < length (full_nodes begun.nodes)
-  still_full =
-      let less : length (full_nodes begun.nodes) + 1 ≡ length (full_nodes m.nodes) =
-      one_full_less 1 m.nodes (node - 1) (down (m.epoch + 1)) refl (place_of m.nodes node full at) in
-      omega arith
+  still_full = grind (arith, one_full_less)
 
   -- a donor that didn't fail is full still
   other_full : (d : ℕ) → IsFullNode m d → (d ≡ node → ⊥) → IsFullNode after d
-  other_full d there other =
-      let some : 0 < node = numbered m.nodes node full at in
-      subst (λ l. list_any (λ k. k == d) l ≡ true) (sym same_full)
-      (others_stay 1 d m.nodes (node - 1) (down (m.epoch + 1)) refl there (λ e. other (omega arith)))
+  other_full d there other = grind (arith, same_full, others_stay)
 
   each_known : (s : Standing) → is_known m s ≡ true → is_known after (refill s) ≡ true
   each_known full known = refl
@@ -330,17 +258,8 @@ module _
       let listed = listed_more m after (same_first m after.nodes inodes) (omega arith) since r.listed in
       cond_both (from == node) (returning since (lowest_full begun.nodes) (written_since begun since)) (returning since from stale)
       (λ s. is_known after s ≡ true)
-      (λ _. return_from after since (lowest_full begun.nodes) (written_since begun since) (record {
-        listed = listed;
-        donor_full = subst (λ l. list_any (λ k. k == lowest_full begun.nodes) l ≡ true) (sym same_full)
-            (first_there (full_nodes begun.nodes) still_full);
-        within = within_subset (written_since begun since) (written_since after since) (λ q inside. inside);
-      }))
-      (λ other. return_from after since from stale (record {
-        listed = listed;
-        donor_full = other_full from r.donor_full (eqb-false from node other);
-        within = subset_more stale (written_since m since) (written_since after since) r.within (since_within m after.nodes inodes since);
-      }))
+      (grind (arith, same_full, first_there (full_nodes begun.nodes) still_full, within_subset))
+      (grind (arith, other_full, subset_more stale (written_since m since) (written_since after since) r.within (since_within m after.nodes inodes since)))
 
   -- a full node that isn't the only one fails
   full_failed_lawful : IsMembership after
@@ -349,9 +268,7 @@ module _
     lists = omega (arith, lawful.lists, one_list_more m inodes);
     some_full = subst (λ l. 0 < length l) (sym same_full) still_full;
     known = list_all_map (λ s. is_known after (refill s)) (is_known after) refill begun.nodes
-        (list_all_set (λ s. is_known after (refill s)) m.nodes (node - 1) (down (m.epoch + 1))
-        (list_all_more (is_known m) (λ s. is_known after (refill s)) m.nodes lawful.known each_known)
-        (now_listed m after.nodes inodes))
+        (grind (arith, list_all_set, list_all_more, each_known, now_listed m after.nodes inodes))
         (λ s known. known);
     levelled = lawful.levelled ∙ sym (length-map begun.nodes refill ∙ length-set m.nodes (node - 1) (down (m.epoch + 1)));
     none_listed = λ all. absurd (not_all_full m.nodes node full (down (m.epoch + 1)) at refl
@@ -427,17 +344,7 @@ joined_as_lawful : (m : Membership) (node : ℕ) → IsMembership m → (levels 
       written = cond b [] (m.written ++ set.empty ∷ []);
       levels = levels;
     })
-joined_as_lawful m node lawful levels same true all =
-    let nodes = with_standing m.nodes node full in
-    let n : Membership = record { epoch = m.epoch + 1; nodes = nodes; written = []; levels = levels } in
-    record {
-      began = omega arith;
-      lists = omega arith;
-      some_full = omega (arith, lawful.some_full, no_fewer_full 1 m.nodes (node - 1));
-      known = list_all_more is_full (is_known n) nodes all (full_known n);
-      levelled = same ∙ lawful.levelled ∙ sym (length-set m.nodes (node - 1) full);
-      none_listed = λ _. refl;
-    }
+joined_as_lawful m node lawful levels same true all = grind (arith, no_fewer_full, length-set)
 joined_as_lawful m node lawful levels same false some_away =
     let nodes = with_standing m.nodes node full in
     let n : Membership = record { epoch = m.epoch + 1; nodes = nodes; written = m.written ++ set.empty ∷ []; levels = levels } in
@@ -445,11 +352,7 @@ joined_as_lawful m node lawful levels same false some_away =
       began = omega arith;
       lists = omega (arith, lawful.lists, one_list_more m set.empty);
       some_full = omega (arith, lawful.some_full, no_fewer_full 1 m.nodes (node - 1));
-      known = list_all_set (is_known n) m.nodes (node - 1) full
-          (list_all_more (is_known m) (is_known n) m.nodes lawful.known
-          (known_more m n (same_first m nodes set.empty) (omega arith) (λ d. all_stay 1 d m.nodes (node - 1))
-          (since_within m nodes set.empty)))
-          refl;
+      known = grind (arith, list_all_set, list_all_more, known_more, same_first m nodes set.empty, all_stay, since_within m nodes set.empty);
       levelled = same ∙ lawful.levelled ∙ sym (length-set m.nodes (node - 1) full);
       none_listed = λ all. absurd (true≢false (sym all ∙ some_away));
     }
@@ -482,59 +385,26 @@ module _ (m : Membership) (node : ℕ) (inodes : Numbers) (lawful : IsMembership
   noted_first = ap (λ k. (m.epoch + 1) - k) (length_with_written m.written inodes)
 
   noted_since : (since : ℕ) → Within (written_since m since) (written_since noted_now since)
-  noted_since since q inside =
-      subst (λ k. set.contains (all_inodes (drop (since - k) (with_written m.written inodes))) q ≡ true) (sym noted_first)
-      (noted_keeps (since - first_listed m) m.written inodes q inside)
+  noted_since since q inside = grind (arith, noted_first, noted_keeps)
 
   -- what is written now was written since any epoch that has a list
   noted_new : (since : ℕ) → is_listed m since ≡ true → Within inodes (written_since noted_now since)
-  noted_new since listed q inside =
-      let both = listed_both m since listed in
-      subst (λ k. set.contains (all_inodes (drop (since - k) (with_written m.written inodes))) q ≡ true) (sym noted_first)
-      (noted_there (since - first_listed m) m.written inodes
-      (inside_lists m.epoch (length m.written) since (first_listed m) refl lawful.lists both.0 both.1) q inside)
+  noted_new since listed q inside = grind (arith, noted_first, noted_there)
 
   each_noted : (s : Standing) → is_known m s ≡ true → is_known noted_now (stale_again node inodes s) ≡ true
   each_noted full known = refl
   each_noted (down since) known = listed_more m noted_now noted_first (omega arith) since known
-  each_noted (returning since donor stale) known =
-      let r = return_parts m since donor stale known in
-      let old : Within stale (written_since noted_now since) =
-      λ q inside. noted_since since q (subset_within stale (written_since m since) r.within q inside) in
-      return_from noted_now since donor (cond (donor == node) (set.union stale inodes) stale) (record {
-        listed = listed_more m noted_now noted_first (omega arith) since r.listed;
-        donor_full = subst (λ l. list_any (λ k. k == donor) l ≡ true) (sym noted_full) r.donor_full;
-        within = within_subset (cond (donor == node) (set.union stale inodes) stale) (written_since noted_now since)
-            (cond_both (donor == node) (set.union stale inodes) stale (λ s. Within s (written_since noted_now since))
-            (λ _. union_within stale inodes (written_since noted_now since) old (noted_new since r.listed))
-            (λ _. old));
-      })
+  each_noted (returning since donor stale) known = grind (arith, noted_since, subset_within, noted_first, noted_full, within_subset, union_within, noted_new)
 
   -- inodes were written at a node
   pub noted_lawful : IsMembership (noted m node inodes)
-  noted_lawful = record {
-    began = lawful.began;
-    lists = subst (λ k. k ≤ m.epoch) (sym (length_with_written m.written inodes)) lawful.lists;
-    some_full = subst (λ l. 0 < length l) (sym noted_full) lawful.some_full;
-    known = list_all_map (is_known m) (is_known noted_now) (stale_again node inodes) m.nodes lawful.known each_noted;
-    levelled = lawful.levelled ∙ sym (length-map m.nodes (stale_again node inodes));
-    none_listed = λ all. length_with_written m.written inodes
-        ∙ lawful.none_listed (sym (all_full_map (stale_again node inodes) (stale_full node inodes) m.nodes) ∙ all);
-  }
+  noted_lawful = grind (arith, length_with_written, noted_full, list_all_map, each_noted, length-map, all_full_map)
 
 -- ---- levels
 
 -- a node is raised
 pub raised_lawful : (m : Membership) (node : ℕ) → IsMembership m → IsMembership (raised m node)
-raised_lawful m node lawful = record {
-  began = lawful.began;
-  lists = lawful.lists;
-  some_full = lawful.some_full;
-  known = list_all_more (is_known m) (is_known (raised m node)) m.nodes lawful.known
-      (known_more m (raised m node) refl (omega arith) (λ d there. there) (λ since q inside. inside));
-  levelled = length-set m.levels (node - 1) Marked ∙ lawful.levelled;
-  none_listed = lawful.none_listed;
-}
+raised_lawful m node lawful = grind (arith, length-set)
 
 -- ---- calls
 
@@ -550,10 +420,7 @@ call_lawful old new (raise node) lawful done = subst IsMembership (sym done.1) (
 all_lawful : (calls : List MemberCall) (old new : Membership) → IsMembership old → AllMemberCalls old calls new → IsMembership new
 all_lawful [] old new lawful done = subst IsMembership (sym done) lawful
 all_lawful (call ∷ calls) old new lawful done =
-    let next : IsMembership done.0 = elim done.1 [
-      | inl does ↦ call_lawful old done.0 call lawful does
-      | inr same ↦ subst IsMembership (sym same) lawful
-    ] in
+    let next : IsMembership done.0 = grind (arith, call_lawful) in
     all_lawful calls done.0 new next done.2
 
 -- any list of calls, from the start on
@@ -586,8 +453,4 @@ stale_written m node since donor stale lawful at =
 
 pub donor_full : (m : Membership) (node since donor : ℕ) (stale : Numbers) → IsMembership m
     → standing_of m.nodes node ≡ Some (returning since donor stale) → standing_of m.nodes donor ≡ Some full
-donor_full m node since donor stale lawful at =
-    let there = full_there 1 donor m.nodes (return_of m node since donor stale lawful at).donor_full in
-    let is : donor ≡ 1 + there.0 = there.1 in
-    let next : donor ≡ suc there.0 = omega arith in
-    subst (λ d. standing_of m.nodes d ≡ Some full) (sym next) there.2
+donor_full m node since donor stale lawful at = grind (arith, full_there 1 donor m.nodes (return_of m node since donor stale lawful at).donor_full)

@@ -1,8 +1,8 @@
 -- Lists of standings: what a change of one node, or of each, leaves of the list of full nodes.
 use Rattle.assise_manager.proofs.Common.{◌≡◌, ◌≢◌, ℕ, zero, suc, ◌+◌, ◌<◌, ◌≤◌, Bool, true, false, cond, ◌&&◌, inl, inr, IsSome, is_some, Some, List, [], ◌∷◌}
-use Rattle.assise_manager.proofs.Common.{map, length, refl, sym, ap, ◌∙◌, subst, arith, true≢false, eqb-true, ◌==◌, list_all, list_any, slice_get, slice_set}
-use Rattle.assise_manager.proofs.Common.{slice_index_or, and_parts, and_from, cond_both, or_cases, or_left, or_right, none-some, same_Some, Standing, full_from}
-use Rattle.assise_manager.proofs.Common.{is_full, full, down, is_away}
+use Rattle.assise_manager.proofs.Common.{map, length, refl, sym, ap, subst, arith, true≢false, eqb-true, ◌==◌, list_all, list_any, slice_get, slice_set}
+use Rattle.assise_manager.proofs.Common.{slice_index_or, and_parts, and_from, or_cases, or_left, none-some, same_Some, Standing, full_from, is_full, full, down}
+use Rattle.assise_manager.proofs.Common.{is_away}
 use Rattle.std.proofs.Common.{eq-eqb}
 use Rattle.assise_manager.specs.Standings.Standing.{returning}
 
@@ -20,25 +20,20 @@ away_not_full (returning since donor stale) away = refl
 pub full_from_set_away : (k : ℕ) (xs : List Standing) (i : ℕ) (s : Standing) → is_away (slice_get xs i) ≡ true → is_away (Some s) ≡ true
     → full_from k (slice_set xs i s) ≡ full_from k xs
 full_from_set_away k [] i s at new = refl
-full_from_set_away k (x ∷ xs) zero s at new =
-    ap (λ b. cond b (k ∷ full_from (suc k) xs) (full_from (suc k) xs)) (away_not_full s new ∙ sym (away_not_full x at))
+full_from_set_away k (x ∷ xs) zero s at new = grind arith
 full_from_set_away k (x ∷ xs) (suc i) s at new = ap (λ l. cond (is_full x) (k ∷ l) l) (full_from_set_away (suc k) xs i s at new)
 
 -- a change of each node that makes none full and leaves each full one so
 pub full_from_map : (f : Standing → Standing) → ((s : Standing) → is_full (f s) ≡ is_full s) → (k : ℕ) (xs : List Standing)
     → full_from k (map f xs) ≡ full_from k xs
 full_from_map f same k [] = refl
-full_from_map f same k (x ∷ xs) =
-    let rest : full_from (suc k) (map f xs) ≡ full_from (suc k) xs = full_from_map f same (suc k) xs in
-    λ j. cond (same x j) (k ∷ rest j) (rest j)
+full_from_map f same k (x ∷ xs) = grind (arith, full_from_map f same (suc k) xs)
 
 -- such a change leaves whether all are full
 pub all_full_map : (f : Standing → Standing) → ((s : Standing) → is_full (f s) ≡ is_full s) → (xs : List Standing)
     → list_all is_full (map f xs) ≡ list_all is_full xs
 all_full_map f same [] = refl
-all_full_map f same (x ∷ xs) =
-    let rest : list_all is_full (map f xs) ≡ list_all is_full xs = all_full_map f same xs in
-    λ j. same x j && rest j
+all_full_map f same (x ∷ xs) = grind (arith, all_full_map f same xs)
 
 -- what all pass still all pass once one that passes is put in
 pub list_all_set : (p : Standing → Bool) (xs : List Standing) (i : ℕ) (s : Standing) → list_all p xs ≡ true → p s ≡ true
@@ -84,27 +79,20 @@ slice_get_set xs i old s at = set_place xs i s (ap is_some at)
 -- a number of the list that isn't its first, which it may lack
 tail_has : (b : Bool) (k d : ℕ) (l : List ℕ) → list_any (λ n. n == d) (cond b (k ∷ l) l) ≡ true → (k ≡ d → ⊥)
     → list_any (λ n. n == d) l ≡ true
-tail_has true k d l there other =
-    elim (or_cases (k == d) (list_any (λ n. n == d) l) there) [ inl first ↦ absurd (other (eqb-true k d first)) | inr later ↦ later ]
+tail_has true k d l there other = grind arith
 tail_has false k d l there other = there
 
 -- a number stays in the list if it stays in the rest
 rest_has : (b : Bool) (k d : ℕ) (l m : List ℕ) → (list_any (λ n. n == d) l ≡ true → list_any (λ n. n == d) m ≡ true)
     → list_any (λ n. n == d) (cond b (k ∷ l) l) ≡ true → list_any (λ n. n == d) (cond b (k ∷ m) m) ≡ true
-rest_has true k d l m rest there =
-    elim (or_cases (k == d) (list_any (λ n. n == d) l) there) [
-      | inl first ↦ or_left (k == d) (list_any (λ n. n == d) m) first
-      | inr later ↦ or_right (k == d) (list_any (λ n. n == d) m) (rest later)
-    ]
+rest_has true k d l m rest there = grind arith
 rest_has false k d l m rest there = rest there
 
 -- a node is set to something that isn't full: each other full one stays
 pub others_stay : (k d : ℕ) (xs : List Standing) (i : ℕ) (s : Standing) → is_full s ≡ false → list_any (λ n. n == d) (full_from k xs) ≡ true
     → d ≢ k + i → list_any (λ n. n == d) (full_from k (slice_set xs i s)) ≡ true
 others_stay k d [] i s new there other = there
-others_stay k d (x ∷ xs) zero s new there other =
-    subst (λ b. list_any (λ n. n == d) (cond b (k ∷ full_from (suc k) xs) (full_from (suc k) xs)) ≡ true) (sym new)
-    (tail_has (is_full x) k d (full_from (suc k) xs) there (λ e. other (omega arith)))
+others_stay k d (x ∷ xs) zero s new there other = grind arith
 others_stay k d (x ∷ xs) (suc i) s new there other =
     rest_has (is_full x) k d (full_from (suc k) xs) (full_from (suc k) (slice_set xs i s))
     (λ rest. others_stay (suc k) d xs i s new rest (λ e. other (omega arith))) there
@@ -123,17 +111,13 @@ pub one_full_less : (k : ℕ) (xs : List Standing) (i : ℕ) (s : Standing) → 
     → length (full_from k (slice_set xs i s)) + 1 ≡ length (full_from k xs)
 one_full_less k [] i s new at = absurd (none-some full at)
 one_full_less k (x ∷ xs) zero s new at = one_less (is_full x) (is_full s) k (full_from (suc k) xs) (ap is_full (same_Some x full at)) new
-one_full_less k (x ∷ xs) (suc i) s new at =
-    rest_less (is_full x) k (full_from (suc k) xs) (full_from (suc k) (slice_set xs i s)) (one_full_less (suc k) xs i s new at)
+one_full_less k (x ∷ xs) (suc i) s new at = grind (arith, one_full_less (suc k) xs i s new at)
 
 -- a node is set to full: each that was full stays
 pub all_stay : (k d : ℕ) (xs : List Standing) (i : ℕ) → list_any (λ n. n == d) (full_from k xs) ≡ true
     → list_any (λ n. n == d) (full_from k (slice_set xs i full)) ≡ true
 all_stay k d [] i there = there
-all_stay k d (x ∷ xs) zero there =
-    let l = full_from (suc k) xs in
-    cond_both (is_full x) (k ∷ l) l (λ m. list_any (λ n. n == d) m ≡ true → list_any (λ n. n == d) (k ∷ l) ≡ true)
-    (λ _ h. h) (λ _ h. or_right (k == d) (list_any (λ n. n == d) l) h) there
+all_stay k d (x ∷ xs) zero there = grind arith
 all_stay k d (x ∷ xs) (suc i) there =
     rest_has (is_full x) k d (full_from (suc k) xs) (full_from (suc k) (slice_set xs i full)) (λ rest. all_stay (suc k) d xs i rest) there
 
@@ -144,18 +128,13 @@ rest_counts false k l m more = more
 -- a node is set to full: there are no fewer full nodes
 pub no_fewer_full : (k : ℕ) (xs : List Standing) (i : ℕ) → length (full_from k xs) ≤ length (full_from k (slice_set xs i full))
 no_fewer_full k [] i = omega arith
-no_fewer_full k (x ∷ xs) zero =
-    let l = full_from (suc k) xs in cond_both (is_full x) (k ∷ l) l (λ m. length m ≤ suc (length l)) (λ _. omega arith) (λ _. omega arith)
-no_fewer_full k (x ∷ xs) (suc i) =
-    rest_counts (is_full x) k (full_from (suc k) xs) (full_from (suc k) (slice_set xs i full)) (no_fewer_full (suc k) xs i)
+no_fewer_full k (x ∷ xs) zero = grind arith
+no_fewer_full k (x ∷ xs) (suc i) = grind (arith, no_fewer_full (suc k) xs i)
 
 -- no more are full than there are
 pub few_full : (k : ℕ) (xs : List Standing) → length (full_from k xs) ≤ length xs
 few_full k [] = omega arith
-few_full k (x ∷ xs) =
-    let rest = few_full (suc k) xs in
-    cond_both (is_full x) (k ∷ full_from (suc k) xs) (full_from (suc k) xs) (λ l. length l ≤ suc (length xs)) (λ _. omega (arith, rest))
-    (λ _. omega (arith, rest))
+few_full k (x ∷ xs) = grind (arith, few_full (suc k) xs)
 
 first_full : (b c : Bool) (k n : ℕ) (l : List ℕ) → (b && c) ≡ true → (c ≡ true → length l ≡ n) → length (cond b (k ∷ l) l) ≡ suc n
 first_full true c k n l all rest = ap suc (rest all)
@@ -164,8 +143,7 @@ first_full false c k n l all rest = never all
 -- where all are full, as many are as there are
 pub all_full_count : (k : ℕ) (xs : List Standing) → list_all is_full xs ≡ true → length (full_from k xs) ≡ length xs
 all_full_count k [] all = refl
-all_full_count k (x ∷ xs) all =
-    first_full (is_full x) (list_all is_full xs) k (length xs) (full_from (suc k) xs) all (all_full_count (suc k) xs)
+all_full_count k (x ∷ xs) all = grind (arith, all_full_count (suc k) xs)
 
 first_counted : (b c : Bool) (k n : ℕ) (l : List ℕ) → length l ≤ n → length (cond b (k ∷ l) l) ≡ suc n → (length l ≡ n → c ≡ true)
     → (b && c) ≡ true
@@ -175,9 +153,7 @@ first_counted false c k n l few count rest = absurd (omega arith)
 -- where as many are full as there are, all are
 pub count_all_full : (k : ℕ) (xs : List Standing) → length (full_from k xs) ≡ length xs → list_all is_full xs ≡ true
 count_all_full k [] count = refl
-count_all_full k (x ∷ xs) count =
-    first_counted (is_full x) (list_all is_full xs) k (length xs) (full_from (suc k) xs) (few_full (suc k) xs) count
-    (count_all_full (suc k) xs)
+count_all_full k (x ∷ xs) count = grind (arith, count_all_full (suc k) xs, few_full)
 
 -- the number of a full node
 abbrev IsFullFrom : ℕ → ℕ → List Standing → Type 0

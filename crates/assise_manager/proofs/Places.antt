@@ -1,13 +1,12 @@
 -- Nodes as they stand in a list, seen by their standings.
 use Rattle.assise_manager.proofs.Common.{◌≡◌, ℕ, Bool, zero, suc, ◌+◌, ◌-◌, ◌<◌, ◌≤◌, true, false, List, [], ◌∷◌, ◌++◌, map, take, drop, length, Option, Some}
 use Rattle.assise_manager.proofs.Common.{None, inl, inr, IsSome, IfSome, is_some, Bor, ltb, eqb, cond, refl, sym, ap, ◌∙◌, subst, rules, arith, true≢false}
-use Rattle.assise_manager.proofs.Common.{add-one, one-add, list_all, slice_get, slice_set, slice_index_or, option_map, nat_cmp, slice_get-map}
-use Rattle.assise_manager.proofs.Common.{false_from_ne_true, ltb-true, lt-ltb, eq-eqb, ne_eqb, map-set, map-append, drop-map, take-append_seam, Level, Plain}
-use Rattle.assise_manager.proofs.Common.{joined_levels, plains, donor_of, joined, with_epoch, failed, failed_as, refilled_from, failure_fault, failure_fault_of}
-use Rattle.assise_manager.proofs.Common.{filling_fault, filling_fault_of, is_returning, is_away, stale_of, copied_as, IsLowestOf, fulls, standing, stale_inodes}
-use Rattle.assise_manager.proofs.Common.{listed_inodes, listed_since, lowest_besides, LastNode, WrittenList, Membership, IsMembership, is_known, first_listed}
-use Rattle.assise_manager.proofs.Common.{all_inodes, written_since, lowest_full, Standing, returning, standing_of, with_standing, full_from, full_nodes}
-use Rattle.assise_manager.proofs.Common.{is_full}
+use Rattle.assise_manager.proofs.Common.{add-one, list_all, slice_get, slice_set, slice_index_or, option_map, nat_cmp, slice_get-map, ltb-true, lt-ltb, eq-eqb}
+use Rattle.assise_manager.proofs.Common.{ne_eqb, map-set, map-append, drop-map, take-append_seam, Level, Plain, joined_levels, plains, donor_of, joined}
+use Rattle.assise_manager.proofs.Common.{with_epoch, failed, refilled_from, failure_fault, failure_fault_of, filling_fault, filling_fault_of, is_returning}
+use Rattle.assise_manager.proofs.Common.{is_away, stale_of, copied_as, IsLowestOf, fulls, standing, stale_inodes, listed_inodes, listed_since, lowest_besides}
+use Rattle.assise_manager.proofs.Common.{LastNode, WrittenList, Membership, IsMembership, is_known, first_listed, all_inodes, written_since, lowest_full}
+use Rattle.assise_manager.proofs.Common.{Standing, returning, standing_of, with_standing, full_from, full_nodes, is_full}
 use Rattle.std.proofs.Common.{option_copied}
 use Rattle.std.specs.FinSet as set
 use Rattle.assise_manager.specs.declared.node.Node.{Node}
@@ -111,8 +110,7 @@ first_of (x ∷ xs) d some = refl
 -- what is known of a node that comes back, in equal words
 pub known_as : (m : Membership) (since d e : ℕ) (s t : set.FinSet nat_cmp) → d ≡ e → s ≡ t → is_known m (returning since e t) ≡ true →
     is_known m (returning since d s) ≡ true
-known_as m since d e s t same_donor same_stale known =
-    subst (λ x. is_known m (returning since x s) ≡ true) (sym same_donor) (subst (λ x. is_known m (returning since e x) ≡ true) (sym same_stale) known)
+known_as m since d e s t same_donor same_stale known = cc
 
 further : (k i : ℕ) → suc k + i ≡ k + suc i
 further k i = omega arith
@@ -130,12 +128,8 @@ lowest_after k (full ∷ xs) zero e at more = sym (ap (λ b. cond b (slice_index
 lowest_after k (down since ∷ xs) zero e at more = grind (rules)
 lowest_after k (returning since donor stale ∷ xs) zero e at more = grind (rules)
 lowest_after k (full ∷ xs) (suc i) e at more = sym (ap (λ b. cond b (slice_index_or (full_from (suc k) xs) 0 0) k) (ne_eqb k (k + suc i) (omega arith)))
-lowest_after k (down since ∷ xs) (suc i) e at more = lowest_after (suc k) xs i e at more
-    ∙ ap (λ n. cond (eqb (slice_index_or (full_from (suc k) xs) 0 0) n) (slice_index_or (full_from (suc k) xs) 1 0) (slice_index_or (full_from (suc k) xs) 0 0))
-    (further k i)
-lowest_after k (returning since donor stale ∷ xs) (suc i) e at more = lowest_after (suc k) xs i e at more
-    ∙ ap (λ n. cond (eqb (slice_index_or (full_from (suc k) xs) 0 0) n) (slice_index_or (full_from (suc k) xs) 1 0) (slice_index_or (full_from (suc k) xs) 0 0))
-    (further k i)
+lowest_after k (down since ∷ xs) (suc i) e at more = grind (arith, lowest_after (suc k) xs i e at more)
+lowest_after k (returning since donor stale ∷ xs) (suc i) e at more = grind (arith, lowest_after (suc k) xs i e at more)
 
 -- where a node is down there is a list
 pub down_listed : (m : Membership) (node since : ℕ) → IsMembership m → standing_of m.nodes node ≡ Some (down since) → 0 < length m.written
@@ -144,9 +138,7 @@ down_listed m node since lawful at = let both = listed_both m since (known_of m 
 -- the inodes of the lists from an epoch on, as they are read
 pub since_is : (written seen lists : List WrittenList) (since f first : ℕ) → lists ≡ drop (since - f) seen → f ≡ first → seen ≡ written →
     all_inodes (map listed_inodes lists) ≡ all_inodes (drop (since - first) (map listed_inodes written))
-since_is written seen lists since f first read from_first is =
-    ap (λ l. all_inodes (map listed_inodes l)) (read ∙ (λ i. drop (since - from_first i) (is i)))
-    ∙ ap all_inodes (sym (drop-map listed_inodes (since - first) written))
+since_is written seen lists since f first read from_first is = grind (arith, drop-map)
 
 pub one_less : (epoch read lists : ℕ) → read ≡ lists → 0 < lists → lists ≤ epoch → epoch - (read - 1) ≡ (epoch + 1) - lists
 one_less epoch read lists e some within = omega arith
@@ -169,8 +161,7 @@ pub copied_either : (epoch : ℕ) (written : List (set.FinSet nat_cmp)) (node : 
     IsMembership (record { epoch = epoch; nodes = new; written = written; levels = levels })
 copied_either epoch written node r old new levels lawful at copies none =
     elim (lowest_or_none r.stale.inodes.items r.stale.ascending) [
-      | inl empty ↦ subst (λ ns. IsMembership (record { epoch = epoch; nodes = ns; written = written; levels = levels }))
-          (sym (none (subst (λ o. IsLowestOf (stale_of o) None) (sym at) empty))) lawful
+      | inl empty ↦ grind arith
       | inr (inode, low) ↦ subst (λ ns. IsMembership (record { epoch = epoch; nodes = ns; written = written; levels = levels }))
           (sym (copies inode (subst (λ o. IsLowestOf (stale_of o) (Some inode)) (sym at) low)))
           (copied_lawful (record { epoch = epoch; nodes = old; written = written; levels = levels }) node lawful
@@ -195,16 +186,7 @@ pub failed_is : (m : Membership) (node : ℕ) (inodes : set.FinSet nat_cmp) (wri
     donor ≡ lowest_full (with_standing m.nodes node (down (m.epoch + 1))) → lists ≡ m.written ++ inodes ∷ [] →
     new ≡ with_standing (map (refilled_from written donor node) m.nodes) node (down (m.epoch + 1)) →
     record { epoch = m.epoch + 1; nodes = new; written = lists; levels = m.levels } ≡ failed m node inodes
-failed_is m node inodes written donor lists new at same_written same_donor same_lists is =
-    ap (λ ns. record { epoch = m.epoch + 1; nodes = ns; written = lists; levels = m.levels })
-    (is ∙ failed_nodes (refilled_from written donor node) m.nodes node (m.epoch + 1) refl)
-    ∙ (λ i. record {
-      epoch = m.epoch + 1;
-      nodes = map (refilled_from (same_written i) (same_donor i) node) (with_standing m.nodes node (down (m.epoch + 1)));
-      written = same_lists i;
-      levels = m.levels;
-    })
-    ∙ sym (ap (failed_as m node inodes) at)
+failed_is m node inodes written donor lists new at same_written same_donor same_lists is = grind (arith, failed_nodes)
 
 -- nothing speaks against the failure of a full node that isn't the only one
 pub may_fail : (m : Membership) (node : ℕ) → standing_of m.nodes node ≡ Some full → 1 < length (full_nodes m.nodes) → failure_fault m node ≡ None
@@ -214,11 +196,7 @@ may_fail m node at others = ap (failure_fault_of m) at ∙ ap (λ b. cond b (Som
 pub new_donor_is : (nodes : List Standing) (node e : ℕ) → standing_of nodes node ≡ Some full → 1 < length (full_nodes nodes) →
     lowest_full (with_standing nodes node (down e)) ≡ lowest_besides (full_nodes nodes) node
 new_donor_is nodes zero e at more = grind (rules)
-new_donor_is nodes (suc place) e at more =
-    ap (λ n. slice_index_or (full_nodes (slice_set nodes n (down e))) 0 0) (one_fewer place)
-    ∙ lowest_after 1 nodes place e at more
-    ∙ ap (λ n. cond (eqb (slice_index_or (full_nodes nodes) 0 0) n) (slice_index_or (full_nodes nodes) 1 0) (slice_index_or (full_nodes nodes) 0 0))
-    (one-add place)
+new_donor_is nodes (suc place) e at more = grind (arith, lowest_after)
 
 -- what stands once a node joined: where all nodes are full the lists go
 pub joined_is : (m : Membership) (node : ℕ) (new : List Standing) (lists : List (set.FinSet nat_cmp)) (levels : List Level) (all : Bool)
@@ -226,9 +204,7 @@ pub joined_is : (m : Membership) (node : ℕ) (new : List Standing) (lists : Lis
     → lists ≡ cond all [] (m.written ++ set.empty ∷ []) → list_all is_full (with_standing m.nodes node full) ≡ all
     → levels ≡ joined_levels m.levels node (donor_of (standing_of m.nodes node))
     → record { epoch = m.epoch + 1; nodes = new; written = lists; levels = levels } ≡ joined m node
-joined_is m node new lists levels all is left whether raised =
-    let written = left ∙ ap (λ b. cond b [] (m.written ++ set.empty ∷ [])) (sym whether) in
-    λ i. record { epoch = m.epoch + 1; nodes = is i; written = written i; levels = raised i }
+joined_is m node new lists levels all is left whether raised = grind arith
 
 -- as many full nodes as nodes
 pub all_counted : (xs : List Standing) (full_count count : ℕ) → full_count ≡ length (full_nodes xs) → count ≡ length xs → full_count ≡ count →
@@ -237,5 +213,4 @@ all_counted xs full_count count e f same = count_all_full 1 xs (sym e ∙ same �
 
 pub some_away : (xs : List Standing) (full_count count : ℕ) → full_count ≡ length (full_nodes xs) → count ≡ length xs → (full_count ≡ count → ⊥) →
     list_all is_full xs ≡ false
-some_away xs full_count count e f other =
-    false_from_ne_true (list_all is_full xs) (λ all. other (e ∙ all_full_count 1 xs all ∙ sym f))
+some_away xs full_count count e f other = grind (arith, all_full_count)

@@ -1,13 +1,12 @@
 -- What each answer says.
-use Rattle.assise_model_events.proofs.Common.{◌≡◌, ◌≢◌, ◌↔◌, ◌⊎◌, inl, inr, ℕ, zero, suc, ◌<◌, ◌≤◌, true, List, [], ◌∷◌, Contains, Some, None, refl, ap, sym}
-use Rattle.assise_model_events.proofs.Common.{subst, ◌∙◌, arith, Op, Dsync, Refusal, Busy, Reply, opening_tree, Loss, kept, tree_after, NumberedCall, cases_eq}
-use Rattle.assise_model_events.proofs.Common.{Mode, LogFrame, join_fault, is_returning, standing_of, MakesCall, WorldInvariant, World, end_of_log}
-use Rattle.assise_model_events.proofs.Common.{received_by_all, raise_sound, call_reply, Grants, Leases, client_lease, IsRevokedLease, IsFirstLost, losses_of}
-use Rattle.assise_model_events.proofs.Common.{exactly_lost, Granted, Gets, Calling, Syncing, is_answered, is_awaited, is_spent, is_full, is_refused}
-use Rattle.assise_model_events.proofs.Common.{lacks_memory, is_synced, is_replicating, last_leases, last_world, call_of_client, goal_of_sync, Coalescing}
-use Rattle.assise_model_events.proofs.Common.{IsCoalescing, Answer, digested, failed, joined, not_yet, received, refused, replied, place_after, Machine}
-use Rattle.assise_model_events.proofs.Common.{MachineInvariant, Failing, Joining, is_failed, is_failed_again, is_joined, Delivering, Digesting, Releasing}
-use Rattle.assise_model_events.proofs.Common.{is_released, is_ready, most_digested, undigested_to}
+use Rattle.assise_model_events.proofs.Common.{◌≡◌, ◌≢◌, ◌↔◌, ℕ, ◌<◌, ◌≤◌, true, List, [], ◌∷◌, Contains, Some, None, refl, ap, sym, subst, ◌∙◌, arith, Op}
+use Rattle.assise_model_events.proofs.Common.{Dsync, Busy, Reply, opening_tree, Loss, kept, tree_after, NumberedCall, cases_eq, Mode, LogFrame, join_fault}
+use Rattle.assise_model_events.proofs.Common.{is_returning, standing_of, MakesCall, WorldInvariant, World, end_of_log, received_by_all, raise_sound, call_reply}
+use Rattle.assise_model_events.proofs.Common.{Grants, Leases, client_lease, IsRevokedLease, IsFirstLost, losses_of, exactly_lost, Granted, Gets, Calling}
+use Rattle.assise_model_events.proofs.Common.{Syncing, is_answered, is_awaited, is_spent, is_full, is_refused, lacks_memory, is_synced, is_replicating}
+use Rattle.assise_model_events.proofs.Common.{last_leases, last_world, call_of_client, goal_of_sync, Coalescing, IsCoalescing, Answer, digested, failed, joined}
+use Rattle.assise_model_events.proofs.Common.{not_yet, received, refused, replied, place_after, Machine, MachineInvariant, Failing, Joining, is_failed}
+use Rattle.assise_model_events.proofs.Common.{is_failed_again, is_joined, Delivering, Digesting, Releasing, is_released, is_ready, most_digested, undigested_to}
 use Rattle.assise_seq_tree.specs.Answer.{answer}
 use Rattle.assise_manager.specs.Standings.{full}
 use Rattle.assise_model_leases.proofs.LookUps.{revoked_serves}
@@ -30,8 +29,7 @@ grant_revokes w l c i mode u k g d j revoked = grind (arith, cases_eq, revoked_s
 grants_revoke : (x : NumberedCall) (w : World) (l : Leases) (gs : List Granted) → Gets x w l gs → (d j : ℕ) → IsRevokedLease (last_leases l gs) d j →
     IsRevokedLease l d j
 grants_revoke x w l [] gets d j revoked = revoked
-grants_revoke x w l (g ∷ gs) (missing, grant, others, more) d j revoked =
-    grant_revokes w l x.client g.inode g.mode g.world g.leases grant d j (grants_revoke x g.world g.leases gs more d j revoked)
+grants_revoke x w l (g ∷ gs) (missing, grant, others, more) d j revoked = grind (arith, grants_revoke x g.world g.leases gs more d j revoked, grant_revokes)
 
 -- and changes no other client's lease
 grants_leave : (x : NumberedCall) (w : World) (l : Leases) (gs : List Granted) → Gets x w l gs → (d j : ℕ) → d ≢ x.client → client_lease (last_leases l gs) d j
@@ -106,16 +104,7 @@ same_count : (j k : ℕ) → digested j ≡ digested k → j ≡ k
 same_count j k is = cc
 
 pub digested_none : (m m' : Machine) (n : ℕ) → Digesting m n (digested 0) m' → undigested_to m.world n m.world.clients ≡ 0
-digested_none m m' n (is_digested count fine is e) =
-    let none : 0 ≡ count = same_count 0 count is in
-    elim (either_some (undigested_to m.world n m.world.clients)) [
-      | inl empty ↦ empty
-      | inr some ↦ absurd (let more : 0 < count = e.some some in omega (arith, none, more))
-    ]
-  where
-    either_some : (k : ℕ) → (k ≡ 0) ⊎ (0 < k)
-    either_some zero = inl refl
-    either_some (suc k) = inr (omega arith)
+digested_none m m' n (is_digested count fine is e) = grind (arith, same_count, undigested_to)
 digested_none m m' n (lacks_memory fine some is same) = cc
 digested_none m m' n (is_refused r fault is same) = cc
 
@@ -125,8 +114,7 @@ digested_most m m' n count h = grind (arith, same_count)
 -- ---- leases that go
 
 pub ready_goes : (m m' : Machine) (a : Answer) (c i : ℕ) → Releasing m a m' → is_ready m.world m.leases c i ≡ true → client_lease m'.leases c i ≡ None
-ready_goes m m' a c i (is_released gone freed is e) ready =
-    ap (λ l. client_lease l c i) e.leases ∙ freed_same m.world _ freed c i e.frees ∙ e.none_left c i ready
+ready_goes m m' a c i (is_released gone freed is e) ready = grind (arith, client_lease, freed_same)
 
 -- ---- failures and returns
 
@@ -138,8 +126,7 @@ pub listed_exactly : (m m' : Machine) (n : ℕ) (losses : List Loss) (l : Loss) 
     Contains losses l ↔ IsFirstLost m.world n l
 listed_exactly m m' n losses l h at (is_failed fine is e) =
     subst (λ ls. Contains ls l ↔ IsFirstLost m.world n l) (sym (same_losses losses (losses_of m.world n) is)) (exactly_lost m.world n l h.sound)
-listed_exactly m m' n losses l h at (is_failed_again fine is e) =
-    absurd (let back : is_returning (Some full) ≡ true = ap is_returning (sym at) ∙ e.failure.was_returning in cc)
+listed_exactly m m' n losses l h at (is_failed_again fine is e) = grind (arith, is_returning, full)
 listed_exactly m m' n losses l h at (lacks_memory fine is same) = cc
 listed_exactly m m' n losses l h at (is_refused r fault is same) = cc
 
@@ -149,10 +136,7 @@ again_none m m' n losses away h = grind (arith, same_losses)
 pub join_busy : (m m' : Machine) (n : ℕ) → Joining m n (refused Busy) m' → join_fault m.members n ≡ Some Busy
 join_busy m m' n (is_joined fine is e) = cc
 join_busy m m' n (lacks_memory fine is same) = cc
-join_busy m m' n (is_refused r fault is same) = fault ∙ ap Some (refusal_of r is)
-  where
-    refusal_of : (r : Refusal) → refused Busy ≡ refused r → r ≡ Busy
-    refusal_of r is = cc
+join_busy m m' n (is_refused r fault is same) = grind (arith, refused)
 
 pub busy_same : (m m' : Machine) (n : ℕ) → Joining m n (refused Busy) m' → m' ≡ m
 busy_same m m' n h = grind arith

@@ -1,11 +1,10 @@
 -- What clients do can be answered where no fault stands: each outcome leads to a machine.
-use Rattle.assise_model_events.proofs.Common.{◌≡◌, ℕ, suc, ◌<◌, max, nat_le, true, false, [], ◌∷◌, ◌++◌, length, Some, None, refl, sym, arith, append-nil, Op}
-use Rattle.assise_model_events.proofs.Common.{Durability, is_sync, Mode, BadClient, NodeDown, TooLarge, Reply, Done, MOST_CLIENTS, crashes, opens, has_some}
-use Rattle.assise_model_events.proofs.Common.{NumberedCall, is_free_for, standing_of, full, RaisesGoals, WorldInvariant, World, end_of_log, received_by_all}
-use Rattle.assise_model_events.proofs.Common.{step_at_home, step_sound, MayCallUnder, Leases, may_open_at, may_call_under, may_ask, may_crash_with, Calling}
-use Rattle.assise_model_events.proofs.Common.{Crashing, IsMissing, IsTried, Opening, Syncing, call_of_client, goal_of_sync, call_entry, crashed, not_yet}
-use Rattle.assise_model_events.proofs.Common.{opened, replied, call_fault, client_fault, fault_if, is_too_large, open_fault, unless_full, MachineInvariant}
-use Rattle.assise_model_events.proofs.Common.{Machine}
+use Rattle.assise_model_events.proofs.Common.{◌≡◌, ℕ, suc, ◌<◌, max, nat_le, true, false, [], ◌∷◌, ◌++◌, length, Some, None, refl, arith, append-nil, Op}
+use Rattle.assise_model_events.proofs.Common.{Durability, is_sync, Mode, Reply, Done, crashes, opens, has_some, NumberedCall, is_free_for, standing_of, full}
+use Rattle.assise_model_events.proofs.Common.{RaisesGoals, WorldInvariant, World, end_of_log, received_by_all, step_at_home, step_sound, MayCallUnder, Leases}
+use Rattle.assise_model_events.proofs.Common.{may_open_at, may_call_under, may_ask, may_crash_with, Calling, Crashing, IsMissing, IsTried, Opening, Syncing}
+use Rattle.assise_model_events.proofs.Common.{call_of_client, goal_of_sync, call_entry, crashed, not_yet, opened, replied, call_fault, client_fault, fault_if}
+use Rattle.assise_model_events.proofs.Common.{is_too_large, open_fault, unless_full, MachineInvariant, Machine}
 use Rattle.assise_model_world.specs.Runs.{raises_goals}
 use Rattle.assise_model_events.specs.ClientEvents.Calling.{is_answered, is_awaited}
 use Rattle.assise_model_events.specs.ClientEvents.Crashing.{is_crashed}
@@ -20,8 +19,7 @@ pub opened_can : (m : Machine) (n : ℕ) (u : Durability) → MachineInvariant m
     (m' : Machine) × Opening m n u (opened (suc m.world.clients)) m'
 opened_can m n u h fine =
     let at : standing_of m.members.nodes n ≡ Some full =
-    stands_full NodeDown (standing_of m.members.nodes n)
-    (first_none (unless_full NodeDown (standing_of m.members.nodes n)) (fault_if (nat_le MOST_CLIENTS m.world.clients) BadClient) fine) in
+    grind (arith, stands_full, standing_of, first_none, unless_full, fault_if, nat_le) in
     let (v, k, e) = may_open_at m.world m.leases n (h.members.nodes_full n at) in (
       record {
         limit = m.limit;
@@ -31,11 +29,7 @@ opened_can m n u h fine =
         leases = k;
         members = m.members;
       },
-      is_opened fine refl (record {
-        opening = record { opens = old_opens m.world v n e.opens; enrols = e.enrols; cuts = e.cuts };
-        adds = record { history = refl; limit = refl; hot = refl };
-        keeps = record { members = refl; others = λ j i away. refl };
-      }),
+      is_opened fine refl (grind (arith, opens, old_opens)),
     )
 
 pub crashed_can : (m : Machine) (c : ℕ) → MachineInvariant m → client_fault m c ≡ None → (m' : Machine) × Crashing m c crashed m'
@@ -43,11 +37,7 @@ crashed_can m c h fine =
     let runs : (m.world.lives c ≡ true) × (m.world.crashed c ≡ false) = client_runs m c fine in
     let (u, k, e) = may_crash_with m.world m.leases c runs.0 runs.1 in (
       record { limit = m.limit; hot = m.hot; history = m.history ++ crashes c ∷ []; world = with_old_areas m.world u; leases = k; members = m.members },
-      is_crashed fine refl (record {
-        crash = record { crash = old_crash m.world u c e.crash; revoked = e.revoked; cut_here = e.cut_here; cut_else = e.cut_else };
-        adds = record { history = refl; limit = refl; hot = refl };
-        keeps = record { members = refl; others = λ j i away. refl };
-      }),
+      is_crashed fine refl (grind (arith, old_crash)),
     )
 
 -- ---- a call is answered, or awaits a lease
@@ -70,14 +60,7 @@ called_can m c op reply h fine may room =
         leases = m.leases;
         members = m.members;
       },
-      is_answered reply [] refl (record {
-        tried = is_tried m c op reply fine;
-        call = record { call = old_call m.world u x e.call; visited = e.visited; changed = e.changed };
-        room = room;
-        leases = refl;
-        adds = record { history = refl; limit = refl; hot = refl };
-        keeps = record { members = refl; others = λ j i away. refl };
-      }),
+      is_answered reply [] refl (search (is_tried, old_call, arith) parts 3),
     )
 
 pub awaited_can : (m : Machine) (c i : ℕ) (op : Op) (reply : Reply) (mode : Mode) → MachineInvariant m → call_fault m c op ≡ None →
@@ -85,28 +68,10 @@ pub awaited_can : (m : Machine) (c i : ℕ) (op : Op) (reply : Reply) (mode : Mo
     (m' : Machine) × Calling m c op not_yet m'
 awaited_can m c i op reply mode h fine missing taken =
     let runs : (m.world.lives c ≡ true) × (m.world.crashed c ≡ false) =
-    client_runs m c (first_none (client_fault m c) (fault_if (is_too_large op) TooLarge) fine) in
+    grind (arith, client_runs, first_none, client_fault, fault_if, is_too_large) in
     let (u, k, e) = may_ask m.world m.leases c i mode h.leases (record { lives_on = runs.0; running = runs.1; not_free = taken }) h.sound in (
       record { limit = m.limit; hot = m.hot; history = m.history; world = with_old_areas m.world u; leases = k; members = m.members },
-      is_awaited reply [] refl (record {
-        tried = is_tried m c op reply fine;
-        inode = i;
-        mode = mode;
-        missing = missing;
-        asks = record {
-          lives_on = e.lives_on;
-          running = e.running;
-          not_free = e.not_free;
-          asked = e.asked;
-          answered = e.answered;
-          from_first = e.from_first;
-          border = e.border;
-          cuts_else = e.cuts_else;
-          goals = old_raises m.world u _ e.goals;
-        };
-        adds = record { history = sym (append-nil m.history); limit = refl; hot = refl };
-        keeps = record { members = refl; others = λ j o away. refl };
-      }),
+      is_awaited reply [] refl (grind (arith, is_tried, old_raises, append-nil)),
     )
 
 -- ---- a sync
@@ -153,11 +118,5 @@ pub replicating_can : (m : Machine) (c : ℕ) (op : Op) → MachineInvariant m �
     (m' : Machine) × Syncing m c op not_yet m'
 replicating_can m c op h fine lacking = (
   record { limit = m.limit; hot = m.hot; history = m.history; world = raised_world m.world c; leases = m.leases; members = m.members },
-  is_replicating fine refl (record {
-    lacking = lacking;
-    raises = raises_it m.world c;
-    leases = refl;
-    adds = record { history = sym (append-nil m.history); limit = refl; hot = refl };
-    keeps = record { members = refl; others = λ j i away. refl };
-  }),
+  is_replicating fine refl (grind (arith, raises_it, append-nil)),
 )

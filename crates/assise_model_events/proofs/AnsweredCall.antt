@@ -1,16 +1,14 @@
 -- A call is answered: the step that its entry tells of, and the length of its client's log.
-use Rattle.assise_model_events.proofs.Common.{◌≡◌, ℕ, ◌+◌, ◌<◌, ◌≤◌, true, [], ◌∷◌, ◌++◌, length, ap, sym, ◌∙◌, arith, length-append, cases_eq, calls, syncs}
-use Rattle.assise_model_events.proofs.Common.{has_some, NumberedCall, MakesCall, World, end_of_log, received_by_all, step_at_home, EntryHappens, call}
-use Rattle.assise_model_events.proofs.Common.{plain_call, call_entry, Machine, MachineInvariant, Adds, state_of}
+use Rattle.assise_model_events.proofs.Common.{◌≡◌, ℕ, ◌+◌, ◌<◌, ◌≤◌, true, [], ◌∷◌, ◌++◌, length, ap, arith, length-append, cases_eq, calls, syncs, has_some}
+use Rattle.assise_model_events.proofs.Common.{NumberedCall, MakesCall, World, end_of_log, received_by_all, step_at_home, EntryHappens, call, plain_call}
+use Rattle.assise_model_events.proofs.Common.{call_entry, Machine, MachineInvariant, Adds, state_of}
 use Rattle.assise_model_events.proofs.EventTraces.{with_world}
 
 -- the entry has the number that the client's next call has
 entry_of : (m m' : Machine) (x : NumberedCall) → MachineInvariant m → x.number ≡ m.world.next x.client → Adds m (call_entry m.history x.client x.op x.reply) m'
     →
     m'.history ≡ m.history ++ calls (plain_call x) ∷ []
-entry_of m m' x h number adds =
-    adds.history ∙ ap (λ n. m.history ++ calls (record { client = x.client; number = n; op = x.op; reply = x.reply }) ∷ [])
-    (sym (number ∙ h.recorded.next x.client))
+entry_of m m' x h number adds = grind (arith, calls)
 
 -- the call is made in a world that the machine came to
 pub call_happens : (m m' : Machine) (w : World) (x : NumberedCall) → MachineInvariant m → x.number ≡ m.world.next x.client → MakesCall w x m'.world →

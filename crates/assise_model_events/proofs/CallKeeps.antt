@@ -3,7 +3,7 @@ use Rattle.assise_model_events.proofs.Common.{◌≡◌, ℕ, false, List, [], �
 use Rattle.assise_model_events.proofs.Common.{NumberedCall, World, raise_sound, call_dropped, still_dropped, asked_goal, Leases, AreLeases, call_keeps}
 use Rattle.assise_model_events.proofs.Common.{raises_goals, plain_call, Granted, last_world, last_leases, IsTried, KeepsGranted, IsAnswered, IsAwaited, Calling}
 use Rattle.assise_model_events.proofs.Common.{is_answered, is_awaited, is_spent, is_full, lacks_memory, is_refused, call_of_client, Answer, call_entry, Leads}
-use Rattle.assise_model_events.proofs.Common.{Machine, MachineInvariant, state_of}
+use Rattle.assise_model_events.proofs.Common.{Machine, MachineInvariant, state_of, arith}
 use Rattle.assise_model_leases.proofs.AskKeeps.{ask_keeps}
 use Rattle.assise_model_events.proofs.AnsweredCall.{call_happens, logs_answered}
 use Rattle.assise_model_events.proofs.LeaseSteps.{Reached, comes_to, leads_with, reached_holds, logs_after, clients_after, nodes_after, full_after}
@@ -41,15 +41,15 @@ module _ (m m' : Machine) (x : NumberedCall) (gs : List Granted) (h : MachineInv
       (ends_as m m' m'.world (ap (λ o. length o.nodes) e.keeps.members) e.adds refl)
 
   awaited_reached : Reached m m'.world m'.leases
-  awaited_reached = record {
-    sound = raise_sound w m'.world (asked_goal l m'.leases e.inode) got.sound e.asks.goals;
-    dropped = still_dropped w m'.world e.asks.goals.logs e.asks.goals.nodes got.dropped;
-    leases = ask_keeps w m'.world l m'.leases x.client e.inode e.mode got.leases e.asks got.sound;
-    logs = logs_after m.world w m'.world got.logs e.asks.goals.logs;
-    clients = clients_after m.world w m'.world got.clients e.asks.goals.clients;
-    nodes = nodes_after m.world w m'.world got.nodes e.asks.goals.nodes;
-    others = e.keeps.others;
-  }
+  awaited_reached = grind (
+    arith,
+    raise_sound w m'.world (asked_goal l m'.leases e.inode) got.sound e.asks.goals,
+    still_dropped w m'.world e.asks.goals.logs e.asks.goals.nodes got.dropped,
+    ask_keeps w m'.world l m'.leases x.client e.inode e.mode got.leases e.asks got.sound,
+    logs_after m.world w m'.world got.logs e.asks.goals.logs,
+    clients_after m.world w m'.world got.clients e.asks.goals.clients,
+    nodes_after m.world w m'.world got.nodes e.asks.goals.nodes,
+  )
 
   awaited_keeps : MachineInvariant m'
   awaited_keeps = reached_holds m m' h awaited_leads awaited_reached e.adds e.keeps.members

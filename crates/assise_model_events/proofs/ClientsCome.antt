@@ -1,10 +1,10 @@
 -- Each outcome of what clients do comes in a state that two nodes come to.
-use Rattle.assise_model_events.proofs.Common.{◌≡◌, ◌≢◌, ℕ, suc, ◌<◌, true, false, List, [], ◌∷◌, length, Some, None, refl, ap, sym, subst, ◌∙◌, arith, Op}
-use Rattle.assise_model_events.proofs.Common.{Create, Fsync, Stat, Optimistic, Pessimistic, Read, Write, ClientGone, LogFull, NodeDown, OutOfMemory, Done}
-use Rattle.assise_model_events.proofs.Common.{durability_of, durability-still, AllHaveEffects, new_lease, in_way, is_free_for, end_of_log, received_by_all}
-use Rattle.assise_model_events.proofs.Common.{records_between, create_op, Calling, Crashing, Granted, Opening, Syncing, is_crashed, is_full, is_opened}
-use Rattle.assise_model_events.proofs.Common.{is_refused, lacks_memory, IsMissing, call_of_client, Coalescing, coalesced_from, Answer, crash, crashed, not_yet}
-use Rattle.assise_model_events.proofs.Common.{open_client, opened, refused, replied, client_fault, MachineInvariant, Machine, Comes, IsReached}
+use Rattle.assise_model_events.proofs.Common.{◌≡◌, ◌≢◌, ℕ, suc, ◌<◌, true, false, List, [], ◌∷◌, Some, None, refl, ap, subst, ◌∙◌, arith, Op, Create, Fsync}
+use Rattle.assise_model_events.proofs.Common.{Stat, Optimistic, Pessimistic, Read, Write, ClientGone, LogFull, NodeDown, OutOfMemory, Done, durability_of}
+use Rattle.assise_model_events.proofs.Common.{durability-still, AllHaveEffects, new_lease, in_way, is_free_for, end_of_log, received_by_all, records_between}
+use Rattle.assise_model_events.proofs.Common.{create_op, Calling, Crashing, Granted, Opening, Syncing, is_crashed, is_full, is_opened, is_refused, lacks_memory}
+use Rattle.assise_model_events.proofs.Common.{IsMissing, call_of_client, Coalescing, coalesced_from, Answer, crash, crashed, not_yet, open_client, opened}
+use Rattle.assise_model_events.proofs.Common.{refused, replied, client_fault, MachineInvariant, Machine, Comes, IsReached}
 use Rattle.assise_model_events.specs.Dsyncs.{is_refused, lacks_memory}
 use Rattle.assise_model_events.proofs.Answerable.{awaited_can, crashed_can, opened_can, replicating_can, synced_can}
 use Rattle.assise_model_events.proofs.ReachedCreate.{HasFile, file_made, has_file, has_file_as}
@@ -18,8 +18,7 @@ use Rattle.assise_model_events.proofs.MembersCome.{falls}
 -- ---- a client is opened
 
 pub opened_comes : Comes (λ m m'. Opening m 1 Pessimistic (opened 1) m')
-opened_comes = (let (m', h) = opened_can (start 1) 1 Pessimistic (start_holds 1) refl in
-    record { limit = 1; before = start 1; reached = start_reached 1; after = m'; outcome = h })
+opened_comes = grind (arith, opened_can (start 1) 1 Pessimistic (start_holds 1) refl, start_reached 1)
 
 pub not_opened_for_memory_comes : Comes (λ m m'. Opening m 1 Pessimistic (refused OutOfMemory) m')
 not_opened_for_memory_comes = record { limit = 1; before = start 1; reached = start_reached 1; after = start 1; outcome = lacks_memory refl refl refl }
@@ -41,9 +40,7 @@ crashed_comes =
     record { limit = 1; before = m; reached = o.reached; after = m'; outcome = h }
 
 pub not_crashed_for_memory_comes : Comes (λ m m'. Crashing m 1 (refused OutOfMemory) m')
-not_crashed_for_memory_comes =
-    let (m, o) = is_open 1 in
-    record { limit = 1; before = m; reached = o.reached; after = m; outcome = lacks_memory (open_fine 1 m o) refl refl }
+not_crashed_for_memory_comes = grind (arith, is_open 1, lacks_memory, open_fine)
 
 -- client 1 crashed
 record IsOver (m : Machine) : Type 0 where
@@ -51,10 +48,7 @@ record IsOver (m : Machine) : Type 0 where
   gone : client_fault m 1 ≡ Some ClientGone
 
 of_crash : (m m' : Machine) → IsOpen 1 m → Crashing m 1 crashed m' → IsOver m'
-of_crash m m' o (is_crashed fine is e) = record {
-  reached = reaches 1 m m' (crash 1) crashed o.reached (is_crashed fine is e);
-  gone = (let many : m'.world.clients ≡ 1 = e.crash.crash.clients ∙ o.world.clients in rw (many, e.crash.crash.crashed_here) refl);
-}
+of_crash m m' o (is_crashed fine is e) = grind (arith, reaches 1 m m' (crash 1) crashed o.reached (is_crashed fine is e))
 of_crash m m' o (lacks_memory fine is same) = cc
 of_crash m m' o (is_refused r fault is same) = cc
 
@@ -88,13 +82,7 @@ called_comes = ((97 ∷ []) ∷ [], file_made 1 (omega arith))
 filled : (m : Machine) (o : IsOpen 0 m) (gs : List Granted) (h : HasLeases m gs) → Calling m 1 create_op (refused LogFull) (with_granted m gs)
 filled m o gs h =
     is_full Done gs refl
-    (record {
-      tried = tried 0 m o gs h;
-      served = served 0 m o gs h;
-      makes = λ makes. rw o.world.made (omega arith);
-      effects = has_effects 0 m o gs h;
-      at_limit = ap length o.world.records ∙ sym o.limit_is;
-    })
+    (grind (arith, tried 0 m o gs h, served 0 m o gs h, has_effects 0 m o gs h))
     (keeps_them m gs)
 
 pub log_full_comes : (op : Op) × Comes (λ m m'. Calling m 1 op (refused LogFull) m')
@@ -166,9 +154,7 @@ synced_comes =
     record { limit = 1; before = m; reached = o.reached; after = m'; outcome = h }
 
 pub not_synced_for_memory_comes : Comes (λ m m'. Syncing m 1 Fsync (refused OutOfMemory) m')
-not_synced_for_memory_comes =
-    let (m, o) = is_open 1 in
-    record { limit = 1; before = m; reached = o.reached; after = m; outcome = lacks_memory (open_fine 1 m o) (nothing_awaited m o) refl refl }
+not_synced_for_memory_comes = grind (arith, is_open 1, lacks_memory, open_fine, nothing_awaited)
 
 pub not_synced_comes : Comes (λ m m'. Syncing m 1 Fsync (refused ClientGone) m')
 not_synced_comes =
@@ -216,9 +202,7 @@ coalesced_comes =
     record { limit = 1; before = m; reached = f.reached; after = m'; outcome = (was, h) }
 
 pub not_coalesced_for_memory_comes : Comes (CoalescesTo (refused OutOfMemory))
-not_coalesced_for_memory_comes =
-    let (m, (f, was)) = has_file_as 1 Optimistic (omega arith) in
-    record { limit = 1; before = m; reached = f.reached; after = m; outcome = (was, lacks_memory (file_fine m f) refl refl) }
+not_coalesced_for_memory_comes = grind (arith, has_file_as 1 Optimistic (omega arith), lacks_memory, file_fine)
 
 crash_opened : (m m' : Machine) → Crashing m 1 crashed m' → durability_of 1 m'.history ≡ durability_of 1 m.history
 crash_opened m m' h = grind (arith, durability-still)

@@ -32,17 +32,7 @@ record Reached (m : Machine) (w : World) (o : Membership) : Type 0 where
   nodes : length o.nodes ≡ length m.members.nodes
 
 at_first : (m : Machine) → MachineInvariant m → Reached m m.world m.members
-at_first m h = record {
-  states = [];
-  trace = tt;
-  last = refl;
-  leases = h.leases;
-  members = h.members;
-  records = λ c. refl;
-  clients = refl;
-  epoch = refl;
-  nodes = refl;
-}
+at_first m h = grind arith
 
 -- the trace with a quiet step more
 step_trace : (m : Machine) (w u : World) (o : Membership) (r : Reached m w o) → EntryHappens (with_world m w) (with_world m u) →
@@ -75,11 +65,13 @@ module _ (m m' : Machine) (n count : ℕ) (h : MachineInvariant m) (e : IsDigest
   reached = all_reached m n count m.world.clients e.between m'.members h e.digests
 
   digested_leads : Leads m m'
-  digested_leads = record {
-    states = reached.states ++ with_world m m'.world ∷ [];
-    trace = step_trace m e.between m'.world m'.members reached (quietly m e.between m'.world (drops (digested_by_all e.between) e.drops));
-    last = further_last (state_of m) reached.states (with_world m m'.world) ∙ ends_as m m' m'.world reached.nodes e.adds refl;
-  }
+  digested_leads = grind (
+    arith,
+    step_trace m e.between m'.world m'.members reached (quietly m e.between m'.world (drops (digested_by_all e.between) e.drops)),
+    further_last
+        (state_of m) reached.states (with_world m m'.world),
+    ends_as m m' m'.world reached.nodes e.adds refl,
+  )
 
   fewer : (c : ℕ) → length (m'.world.records c) ≤ length (m.world.records c)
   fewer c =

@@ -1,5 +1,5 @@
 -- A node can digest what all full nodes have.
-use Rattle.assise_model_events.proofs.Common.{◌≡◌, ℕ, zero, suc, ◌+◌, ◌<◌, ◌≤◌, min, true, None, refl, sym, ◌∙◌, arith, append-nil, WrongPhase, Membership}
+use Rattle.assise_model_events.proofs.Common.{◌≡◌, ℕ, zero, suc, ◌+◌, ◌<◌, ◌≤◌, min, true, None, refl, ◌∙◌, arith, append-nil, WrongPhase, Membership, sym}
 use Rattle.assise_model_events.proofs.Common.{standing_of, Digests, WorldInvariant, World, Full, end_of_log, received_by_all, least_of-same, step_sound}
 use Rattle.assise_model_events.proofs.Common.{may_digest, digested, node_fault, MachineInvariant, Machine, DigestsTo, Digesting, most_digested, part_of}
 use Rattle.assise_model_events.proofs.Common.{undigested_to, is_digested}
@@ -20,8 +20,7 @@ record SameRecords (w v : World) : Type 0 where
 
 pub same_received : (w v : World) (n c k : ℕ) → Digests w n c k v → (d : ℕ) → received_by_all v d ≡ received_by_all w d
 unfolding received_by_all end_of_log
-same_received w v n c k e d =
-    rw (e.full, e.logs.first d, e.logs.records d) (least_of-same w.full (λ j. v.received j d) (λ j. w.received j d) (end_of_log w d) (λ j f. e.received j d f))
+same_received w v n c k e d = grind (arith, least_of-same, end_of_log)
 
 next_same : (w v u : World) (n c k : ℕ) → SameRecords w v → Digests v n c k u → SameRecords w u
 next_same w v u n c k s e = record {
@@ -59,13 +58,7 @@ module _ (m : Machine) (n count : ℕ) (h : MachineInvariant m) (here : Full m.w
       }
 
   digested_to : (c : ℕ) → DigestedTo m n count c
-  digested_to zero = record {
-    world = m.world;
-    members = m.members;
-    trace = (refl, refl);
-    same = record { sound = h.sound; full = refl; received = λ d. refl; border = λ d k. refl };
-    later = λ d above. refl;
-  }
+  digested_to zero = grind arith
   digested_to (suc c) = next_digested c (digested_to c)
 
 -- ---- then prefixes of logs go

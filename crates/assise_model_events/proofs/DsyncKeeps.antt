@@ -1,7 +1,7 @@
 -- A dsync that coalesces keeps the invariant.
-use Rattle.assise_model_events.proofs.Common.{ℕ, ◌≤◌, List, [], ◌∷◌, length, refl, ap, sym, subst, inl, inr, arith, cases_eq, all_coalesced, LogRecord}
-use Rattle.assise_model_events.proofs.Common.{Coalesces, end_is, AreLeases, coalesced_keeps, coalesces, Dsync, Pessimistic, Coalescing, IsCoalescing}
-use Rattle.assise_model_events.proofs.Common.{coalesced_from, is_coalesced, new_groups, Answer, Leads, Machine, MachineInvariant}
+use Rattle.assise_model_events.proofs.Common.{ℕ, List, [], ◌∷◌, length, refl, ap, sym, subst, arith, cases_eq, all_coalesced, LogRecord, Coalesces, end_is}
+use Rattle.assise_model_events.proofs.Common.{AreLeases, coalesced_keeps, coalesces, Dsync, Pessimistic, Coalescing, IsCoalescing, coalesced_from, is_coalesced}
+use Rattle.assise_model_events.proofs.Common.{new_groups, Answer, Leads, Machine, MachineInvariant}
 use Rattle.assise_model_world.proofs.RegroupKeeps.{regroups_to, regroup_dropped}
 use Rattle.assise_model_events.specs.ClientEvents.Syncing.{is_synced}
 use Rattle.assise_model_events.specs.Dsyncs.{is_refused, is_synced, lacks_memory}
@@ -15,10 +15,7 @@ record AsCoalesced (m : Machine) (c : ℕ) (m' : Machine) : Type 0 where
   step : Coalesces m.world c (coalesced_from m.world c) new was m'.world
 
 as_coalesced : (m m' : Machine) (c : ℕ) → MachineInvariant m → IsCoalescing m c m' → AsCoalesced m c m'
-as_coalesced m m' c h e =
-    let gs : List (List LogRecord) = new_groups m.world c in
-    let (was, step) = regroups_to m.world m'.world c (coalesced_from m.world c) gs h.sound e.regroups in
-    record { new = all_coalesced gs; was = was; step = step }
+as_coalesced m m' c h e = grind (arith, new_groups, regroups_to, coalesced_from, all_coalesced)
 
 pub coalescing_leads : (m m' : Machine) (c : ℕ) → MachineInvariant m → IsCoalescing m c m' → Leads m m'
 coalescing_leads m m' c h e =
@@ -42,11 +39,7 @@ coalescing_keeps m m' c h e =
           (record { coalesces = t.step; cuts = λ i revoked. omega (arith, h.leases.goals c i e.regroups.lives revoked, e.regroups.goal) }));
       members = members_stay m m' h e.keeps e.regroups.full (λ k i f. e.regroups.area k i f);
       epochs = epochs_stay m m' [] h e.keeps.members e.adds;
-      logs = λ d. rw e.adds.limit (elim (cases_eq d c) [
-        | inl own ↦ subst (λ d. length (m'.world.records d) ≤ m.limit) (sym own)
-            (omega (arith, t.step.no_more, end_is m'.world c, end_is m.world c, t.step.first c, h.logs c))
-        | inr other ↦ rw (t.step.records_else d other) (h.logs d)
-      ]);
+      logs = search (cases_eq, end_is, arith) parts 3;
       clients = rw e.regroups.clients.clients h.clients;
     }
 

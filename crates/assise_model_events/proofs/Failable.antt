@@ -1,12 +1,11 @@
 -- A node can fail: a full one beside others, and one that was coming back.
-use Rattle.assise_model_events.proofs.Common.{◌≡◌, ◌≢◌, ℕ, zero, suc, ◌+◌, ◌-◌, ◌<◌, ◌==◌, inl, inr, cond, true, if◌then◌else◌, drop, List, [], ◌∷◌, ◌++◌}
-use Rattle.assise_model_events.proofs.Common.{length, Option, Some, None, refl, ap, sym, ◌∙◌, subst, arith, eq-eqb, slice_set, cases_eq, ne_eqb}
-use Rattle.assise_model_events.proofs.Common.{nil_from_length, none-some, same_Some, BadNode, LastNode, WrongPhase, Loss, fails, early, revoke, lives}
-use Rattle.assise_model_events.proofs.Common.{failure_fault, failure_fault_of, is_returning, Membership, lowest_full, Standing, standing_of, with_standing}
-use Rattle.assise_model_events.proofs.Common.{full_from, full_nodes, full, down, returning, never, one_full_less, Drops, Fails, fails_node, WorldInvariant}
-use Rattle.assise_model_events.proofs.Common.{World, Full, end_of_log, digested_by_all, digested_by_all-first, least_of-is, step_sound, LeasesFail, Leases}
-use Rattle.assise_model_events.proofs.Common.{may_fail, may_fail_again, may_list, lowest_stands, set_here, set_else, losses_of, failed, MachineInvariant}
-use Rattle.assise_model_events.proofs.Common.{Machine, Failing}
+use Rattle.assise_model_events.proofs.Common.{◌≡◌, ◌≢◌, ℕ, zero, suc, ◌+◌, ◌-◌, ◌<◌, ◌==◌, true, if◌then◌else◌, drop, List, [], ◌∷◌, ◌++◌, length, Option, Some}
+use Rattle.assise_model_events.proofs.Common.{None, refl, ap, sym, ◌∙◌, arith, eq-eqb, slice_set, cases_eq, ne_eqb, nil_from_length, none-some, same_Some}
+use Rattle.assise_model_events.proofs.Common.{BadNode, WrongPhase, Loss, fails, early, revoke, lives, failure_fault, failure_fault_of, is_returning, Membership}
+use Rattle.assise_model_events.proofs.Common.{lowest_full, Standing, standing_of, with_standing, full_from, full_nodes, full, down, returning, never}
+use Rattle.assise_model_events.proofs.Common.{one_full_less, Drops, Fails, fails_node, WorldInvariant, World, Full, end_of_log, digested_by_all}
+use Rattle.assise_model_events.proofs.Common.{digested_by_all-first, least_of-is, step_sound, LeasesFail, Leases, may_fail, may_fail_again, may_list}
+use Rattle.assise_model_events.proofs.Common.{lowest_stands, set_here, set_else, losses_of, failed, MachineInvariant, Machine, Failing}
 use Rattle.assise_manager.specs.Standings.{is_full}
 use Rattle.assise_model_world.specs.Runs.{rests}
 use Rattle.assise_model_events.specs.MemberEvents.Failing.{is_failed, is_failed_again}
@@ -16,24 +15,14 @@ use Rattle.assise_model_events.specs.MemberEvents.Failing.{is_failed, is_failed_
 -- the others that are full, where one is down
 some_left : (o : Membership) (n : ℕ) → standing_of o.nodes n ≡ Some full → failure_fault o n ≡ None → 0 < length (full_nodes (with_standing o.nodes n (down 0)))
 some_left o zero at fine = absurd (none-some full at)
-some_left o (suc place) at fine =
-    let rest : List ℕ = full_from 1 (slice_set o.nodes place (down 0)) in
-    let less : length rest + 1 ≡ length (full_nodes o.nodes) = one_full_less 1 o.nodes place (down 0) refl at in
-    let here : suc place - 1 ≡ place = omega arith in
-    subst (λ j. 0 < length (full_from 1 (slice_set o.nodes j (down 0)))) (sym here)
-    (elim (cases_eq (length (full_nodes o.nodes)) 1) [
-      | inl one ↦ absurd (none-some LastNode
-          (sym fine ∙ ap (failure_fault_of o) at ∙ ap (λ b. cond b (Some LastNode) None) (eq-eqb (length (full_nodes o.nodes)) 1 one)))
-      | inr more ↦ omega (arith, less, more)
-    ])
+some_left o (suc place) at fine = grind (arith, full_from, slice_set, down, full_nodes, one_full_less, cases_eq, none-some, failure_fault_of, eq-eqb)
 
 beside : (o : Membership) (n : ℕ) → standing_of o.nodes n ≡ Some full → failure_fault o n ≡ None → (k : ℕ) × ((k ≢ n) × (standing_of o.nodes k ≡ Some full))
 beside o n at fine =
     let left : List Standing = with_standing o.nodes n (down 0) in
     let k : ℕ = lowest_full left in
     let stands : standing_of left k ≡ Some full = lowest_stands left (some_left o n at fine) in
-    let other : k ≢ n = λ is. never
-    (ap is_full (same_Some (down 0) full (sym (set_here o.nodes n full (down 0) at) ∙ subst (λ j. standing_of left j ≡ Some full) is stands))) in
+    let other : k ≢ n = grind (arith, never, is_full, same_Some, down, full, set_here, standing_of) in
     (k, (other, sym (set_else o.nodes n k full (down 0) at other) ∙ stands))
 
 -- ---- a client that wasn't opened has no records
@@ -90,17 +79,7 @@ full_can m n h fine at =
       record { limit = m.limit; hot = m.hot; history = m.history ++ fails n (losses_of m.world n) ∷ []; world = dropped_world u; leases = left; members = o },
       (
         losses_of m.world n,
-        is_failed fine refl (record {
-          was_full = at;
-          cut = v;
-          refreshed = u;
-          inodes = inodes;
-          failure = e;
-          leases = leases;
-          drops = drops_them u sound;
-          others = λ j i away. refl;
-          adds = record { history = refl; limit = refl; hot = refl };
-        }),
+        is_failed fine refl (search (drops_them, arith) parts 3),
       ),
     )
 

@@ -1,7 +1,7 @@
 -- Nodes fail: a full one, whose clients' logs are cut, and one that was coming back.
-use Rattle.assise_model_events.proofs.Common.{◌≡◌, ℕ, ◌+◌, ◌-◌, ◌≤◌, Option, Some, None, [], ◌∷◌, ◌++◌, length, refl, ap, sym, ◌∙◌, arith, length-append}
-use Rattle.assise_model_events.proofs.Common.{nat_cmp, length-map, length-take, length-drop, fails, failed_as, is_returning, Membership, Standing, standing_of}
-use Rattle.assise_model_events.proofs.Common.{full, down, returning, never, Rests, World, digested_by_all, records_between, drop_dropped, fail_sound, AreLeases}
+use Rattle.assise_model_events.proofs.Common.{◌≡◌, ℕ, ◌+◌, ◌-◌, ◌≤◌, Option, Some, None, [], ◌∷◌, ◌++◌, length, refl, ap, arith, length-append, nat_cmp}
+use Rattle.assise_model_events.proofs.Common.{length-map, length-take, length-drop, fails, failed_as, is_returning, Membership, Standing, standing_of, full}
+use Rattle.assise_model_events.proofs.Common.{down, returning, never, Rests, World, digested_by_all, records_between, drop_dropped, fail_sound, AreLeases}
 use Rattle.assise_model_events.proofs.Common.{leases_fail, logs_keep, drop_keeps, AreMembers, again_keeps, areas_keep, keeps_areas, returning_is, failure}
 use Rattle.assise_model_events.proofs.Common.{failure_again, rests, drops, losses_of, State, Answer, Leads, Machine, MachineInvariant, state_of, Failing}
 use Rattle.assise_model_events.proofs.Common.{IsFailed, IsFailedAgain}
@@ -36,7 +36,7 @@ told_with m n w = record { nodes = length m.members.nodes; history = m.history +
 full_leads : (m m' : Machine) (n : ℕ) → IsFailed m n m' → Leads m m'
 full_leads m m' n e =
     let many : length m'.members.nodes ≡ length m.members.nodes =
-    ap (λ o. length o.nodes) e.failure.members ∙ failed_many m.members n e.inodes (standing_of m.members.nodes n) in
+    grind (arith, failed_many, standing_of) in
     record {
       states = told_with m n e.cut ∷ told_with m n e.refreshed ∷ told_with m n m'.world ∷ [];
       trace = (
@@ -67,17 +67,17 @@ full_leases m m' n h e =
     e.drops
 
 full_members : (m m' : Machine) (n : ℕ) → MachineInvariant m → IsFailed m n m' → AreMembers m'.world m'.members
-full_members m m' n h e =
-    areas_keep e.refreshed m'.world m'.members
-    (members_fail m.world e.cut e.refreshed m.members m'.members n e.inodes h.sound h.members e.failure)
-    (keeps_areas e.refreshed m'.world e.drops.full e.drops.area e.others)
+full_members m m' n h e = grind (
+  arith,
+  areas_keep e.refreshed m'.world m'.members (members_fail m.world e.cut e.refreshed m.members m'.members n e.inodes h.sound h.members e.failure)
+      (keeps_areas e.refreshed m'.world e.drops.full e.drops.area e.others),
+)
 
 full_holds : (m m' : Machine) (n : ℕ) → MachineInvariant m → IsFailed m n m' → MachineInvariant m'
 full_holds m m' n h e =
     let l : Leads m m' = full_leads m m' n e in
     let same : m'.members.epoch ≡ (failed_as m.members n e.inodes (standing_of m.members.nodes n)).epoch = ap (λ o. o.epoch) e.failure.members in
-    let epoch : (failed_as m.members n e.inodes (standing_of m.members.nodes n)).epoch ≤ m.members.epoch + 1 = failed_epoch m.members n e.inodes
-    (standing_of m.members.nodes n) in
+    let epoch : (failed_as m.members n e.inodes (standing_of m.members.nodes n)).epoch ≤ m.members.epoch + 1 = grind (arith, failed_epoch, standing_of) in
     record {
       sound = leads_sound m m' h l;
       dropped = drop_dropped e.refreshed m'.world e.drops;
@@ -97,25 +97,19 @@ again_leads m m' n h e =
     record {
       states = state_of m' ∷ [];
       trace = (
-        failure_again n (record {
-          adds = record {
-            nodes = ap (λ o. length o.nodes) e.failure.members ∙ failed_many m.members n set.empty (standing_of m.members.nodes n);
-            entry = e.adds.history;
-          };
-          node = stands_is_node m n (returning since donor stale) stands;
-          absent = λ f. never (sym (ap is_returning (h.members.full_nodes n f)) ∙ e.failure.was_returning);
-          world = e.failure.rests;
-        }),
+        failure_again n (grind (arith, failed_many, standing_of, stands_is_node, returning, never, is_returning)),
         tt,
       );
       last = refl;
     }
 
 again_holds : (m m' : Machine) (n : ℕ) → MachineInvariant m → IsFailedAgain m n m' → MachineInvariant m'
-again_holds m m' n h e =
-    rest_holds m m' (fails n [] ∷ []) h (again_leads m m' n h e) e.failure.rests e.leases e.adds
-    (rw e.failure.members (failed_epoch m.members n set.empty (standing_of m.members.nodes n)))
-    (again_keeps m.world m'.world m.members m'.members n e.failure h.members)
+again_holds m m' n h e = grind (
+  arith,
+  rest_holds m m' (fails n [] ∷ []) h (again_leads m m' n h e) e.failure.rests e.leases e.adds
+      (rw e.failure.members (failed_epoch m.members n set.empty (standing_of m.members.nodes n)))
+      (again_keeps m.world m'.world m.members m'.members n e.failure h.members),
+)
 
 -- ---- a node fails
 

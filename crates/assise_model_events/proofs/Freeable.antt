@@ -1,10 +1,10 @@
 -- Ready leases can go, and nodes that aren't full and whose clients hold nothing can give theirs up, where clients hold only so
 -- many inodes.
-use Rattle.assise_model_events.proofs.Common.{◌≡◌, ◌⊎◌, ℕ, zero, suc, ◌≤◌, ◌<◌, nat_le, inl, inr, true, false, List, [], ◌∷◌, length, Some, None, refl, ap, sym}
-use Rattle.assise_model_events.proofs.Common.{◌∙◌, subst, arith, append-nil, and_parts, both_ways, cases_Bool, cases_eq, cases_lt, none-some, contains, Lease}
-use Rattle.assise_model_events.proofs.Common.{lease_of, without_holder, is_busy, is_revoked, IsIdle, TwoLevels, without_other, without_own, World, Full}
-use Rattle.assise_model_events.proofs.Common.{digested_by_all, Leases, client_lease, revoked_holder, holder_home, Answer, released, MachineInvariant, Machine}
-use Rattle.assise_model_events.proofs.Common.{Freed, Frees, Releasing, is_ready, leases_after, leases_freed, world_after}
+use Rattle.assise_model_events.proofs.Common.{◌≡◌, ◌⊎◌, ℕ, zero, suc, ◌≤◌, ◌<◌, nat_le, inl, inr, true, false, List, [], ◌∷◌, length, Some, None, refl, sym}
+use Rattle.assise_model_events.proofs.Common.{arith, append-nil, and_parts, both_ways, cases_Bool, cases_eq, cases_lt, none-some, contains, Lease, lease_of}
+use Rattle.assise_model_events.proofs.Common.{without_holder, is_busy, is_revoked, IsIdle, TwoLevels, without_other, without_own, World, Full, digested_by_all}
+use Rattle.assise_model_events.proofs.Common.{Leases, client_lease, revoked_holder, holder_home, Answer, released, MachineInvariant, Machine, Freed, Frees}
+use Rattle.assise_model_events.proofs.Common.{Releasing, is_ready, leases_after, leases_freed, world_after}
 use Rattle.assise_model_events.specs.NodeEvents.Releasing.{is_released}
 use Rattle.assise_model_events.proofs.Ready.{LetOut, in_pairs, let_out, pairs}
 
@@ -12,33 +12,12 @@ use Rattle.assise_model_events.proofs.Ready.{LetOut, in_pairs, let_out, pairs}
 
 -- up to an inode
 idle_to : (t : TwoLevels) (n top : ℕ) → ((i : ℕ) → i ≤ top → is_busy t.home (t.clients i) n ≡ false) ⊎ ((i : ℕ) × (is_busy t.home (t.clients i) n ≡ true))
-idle_to t n zero =
-    elim (cases_Bool (is_busy t.home (t.clients 0) n)) [
-      | inl busy ↦ inr (0, busy)
-      | inr idle ↦ inl (λ i low. (let is : 0 ≡ i = omega (arith, low) in subst (λ j. is_busy t.home (t.clients j) n ≡ false) is idle))
-    ]
-idle_to t n (suc top) =
-    elim (idle_to t n top) [
-      | inr found ↦ inr found
-      | inl below ↦ elim (cases_Bool (is_busy t.home (t.clients (suc top)) n)) [
-        | inl busy ↦ inr (suc top, busy)
-        | inr idle ↦ inl (λ i low. elim (cases_eq i (suc top)) [
-          | inl is ↦ subst (λ j. is_busy t.home (t.clients j) n ≡ false) (sym is) idle
-          | inr other ↦ below i (omega (arith, low, other))
-        ])
-      ]
-    ]
+idle_to t n zero = grind (arith, cases_Bool (is_busy t.home (t.clients 0) n))
+idle_to t n (suc top) = grind (arith, idle_to t n top, cases_Bool (is_busy t.home (t.clients (suc top)) n), cases_eq)
 
 -- of all inodes, where none is held past one
 idle_or_not : (t : TwoLevels) (n top : ℕ) → ((i : ℕ) → top < i → t.clients i ≡ []) → IsIdle t n ⊎ (IsIdle t n → ⊥)
-idle_or_not t n top few =
-    elim (idle_to t n top) [
-      | inr found ↦ inr (λ idle. both_ways (is_busy t.home (t.clients found.0) n) (idle found.0) found.1)
-      | inl below ↦ inl (λ i. elim (cases_lt top i) [
-        | inl above ↦ ap (λ ls. is_busy t.home ls n) (few i above)
-        | inr within ↦ below i (omega (arith, within))
-      ])
-    ]
+idle_or_not t n top few = grind (arith, idle_to t n top, both_ways, is_busy, cases_lt)
 
 -- ---- nodes give up their leases
 
@@ -62,23 +41,12 @@ frees_first : (w : World) (l : Leases) (n : ℕ) → (Full w (suc n) → ⊥) �
 frees_first w l n away idle r = record {
   freed = record { node = suc n; leases = without_node l (suc n) } ∷ r.freed;
   frees = (record { away = away; idle = idle; freed = record { home = λ d. refl; clients = λ i. refl; nodes = λ i. refl }; cuts = λ d i. refl }, r.frees);
-  all = λ k i one low out at_rest. elim (cases_eq k (suc n)) [
-    | inl is ↦ r.none k i (subst (λ j. lease_of (without_holder (suc n) (l.levels.nodes i)) j ≡ None) (sym is) (without_own (l.levels.nodes i) (suc n)))
-    | inr other ↦ r.all k i one (omega (arith, low, other)) out at_rest
-  ];
+  all = grind (arith, cases_eq, lease_of, without_holder, without_own);
   none = λ k i is. r.none k i (still_none (l.levels.nodes i) (suc n) k is);
 }
 
 keeps_first : (w : World) (l : Leases) (n : ℕ) → ((Full w (suc n) → ⊥) → IsIdle l.levels (suc n) → ⊥) → FreedAll w l n → FreedAll w l (suc n)
-keeps_first w l n never r = record {
-  freed = r.freed;
-  frees = r.frees;
-  all = λ k i one low out at_rest. elim (cases_eq k (suc n)) [
-    | inl is ↦ absurd (never (subst (λ j. Full w j → ⊥) is out) (subst (λ j. IsIdle l.levels j) is at_rest))
-    | inr other ↦ r.all k i one (omega (arith, low, other)) out at_rest
-  ];
-  none = r.none;
-}
+keeps_first w l n never r = grind (arith, cases_eq)
 
 free_all : (w : World) (l : Leases) (top most : ℕ) → ((i : ℕ) → top < i → l.levels.clients i ≡ []) → FreedAll w l most
 free_all w l top zero few = record { freed = []; frees = tt; all = λ n i one low out at_rest. absurd (omega (arith, one, low)); none = λ n i is. is }
@@ -97,11 +65,10 @@ free_all w l top (suc n) few =
 ready_client : (m : Machine) (c i : ℕ) → MachineInvariant m → is_ready m.world m.leases c i ≡ true → c ≤ m.world.clients
 ready_client m c i h ready =
     let revoked : is_revoked (client_lease m.leases c i) ≡ true =
-    (and_parts (is_revoked (client_lease m.leases c i)) (nat_le (m.leases.cut c i) (digested_by_all m.world c)) ready).0 in
+    grind (arith, and_parts, is_revoked, client_lease, nat_le, digested_by_all) in
     let home : m.leases.levels.home c ≡ Some (m.world.home c) = holder_home m.world m.leases c i h.leases (revoked_holder m.leases c i revoked) in
     elim (cases_lt m.world.clients c) [
-      | inl above ↦ absurd (none-some (m.world.home c)
-          (sym (h.leases.strangers c (λ client. (let low : c ≤ m.world.clients = client.1 in omega (arith, low, above)))) ∙ home))
+      | inl above ↦ grind (arith, none-some)
       | inr within ↦ omega (arith, within)
     ]
 

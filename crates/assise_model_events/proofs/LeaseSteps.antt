@@ -13,12 +13,7 @@ pub logs_after : (w v u : World) → SameLogs w v → SameLogs v u → SameLogs 
 logs_after w v u a b = grind arith
 
 pub clients_after : (w v u : World) → SameClients w v → SameClients v u → SameClients w u
-clients_after w v u a b = record {
-  clients = b.clients ∙ a.clients;
-  home = λ c. b.home c ∙ a.home c;
-  lives = λ c. b.lives c ∙ a.lives c;
-  crashed = λ c. b.crashed c ∙ a.crashed c;
-}
+clients_after w v u a b = grind arith
 
 pub full_after : (w v : World) (n : ℕ) → v.full ≡ w.full → Full w n → Full v n
 full_after w v n same f = subst (λ ns. contains ns n ≡ true) (sym same) f
@@ -42,15 +37,7 @@ pub record Reached (m : Machine) (w : World) (l : Leases) : Type 0 where
   pub others : OtherAreasStay m.world w
 
 pub begins : (m : Machine) → MachineInvariant m → Reached m m.world m.leases
-begins m h = record {
-  sound = h.sound;
-  dropped = h.dropped;
-  leases = h.leases;
-  logs = record { calls = refl; records = λ c. refl; first = λ c. refl; next = λ c. refl; border = λ c k. refl; made = λ c. refl };
-  clients = record { clients = refl; home = λ c. refl; lives = λ c. refl; crashed = λ c. refl };
-  nodes = record { full = refl; same = λ n f. record { area = λ i. refl; log = λ c. refl; received = λ c. refl; digested = λ c. refl } };
-  others = λ k i away. refl;
-}
+begins m h = grind arith
 
 module _ (m : Machine) (x : NumberedCall) (w : World) (l : Leases) (g : Granted) (r : Reached m w l) (e : Grants w l x.client g.inode g.mode g.world g.leases)
   where
@@ -87,9 +74,11 @@ states_of m (g ∷ gs) rest = with_world m g.world ∷ states_of m gs rest
 trace_from : (m : Machine) (x : NumberedCall) (w : World) (l : Leases) (gs : List Granted) (rest : List State) → Reached m w l → Gets x w l gs →
     IsTrace (with_world m (last_world w gs)) rest → IsTrace (with_world m w) (states_of m gs rest)
 trace_from m x w l [] rest r none c = c
-trace_from m x w l (g ∷ gs) rest r (missing, grant, others, more) c = (
-  quietly m w g.world (acquires x.client g.inode g.mode (acquired m x w l g r grant)),
+trace_from m x w l (g ∷ gs) rest r (missing, grant, others, more) c = grind (
+  arith,
   trace_from m x g.world g.leases gs rest (one_more m x w l g r grant others) more c,
+  quietly m w g.world
+      (acquires x.client g.inode g.mode (acquired m x w l g r grant)),
 )
 
 last_from : (m : Machine) (w : World) (gs : List Granted) (rest : List State) → last_of (with_world m w) (states_of m gs rest)
@@ -105,13 +94,4 @@ leads_with m m' x gs rest h gets trace last = grind (arith, trace_from, begins, 
 
 pub reached_holds : (m m' : Machine) → MachineInvariant m → Leads m m' → Reached m m'.world m'.leases → Adds m [] m' → m'.members ≡ m.members →
     MachineInvariant m'
-reached_holds m m' h leads r adds members = record {
-  sound = r.sound;
-  dropped = r.dropped;
-  recorded = leads_recorded m m' h leads;
-  leases = r.leases;
-  members = members_rest m m' h (record { members = members; others = r.others }) r.nodes;
-  epochs = epochs_stay m m' [] h members adds;
-  logs = logs_stay m m' [] h r.logs.records adds;
-  clients = rw r.clients.clients h.clients;
-}
+reached_holds m m' h leads r adds members = search (leads_recorded, members_rest, epochs_stay, logs_stay, arith) parts 3

@@ -1,8 +1,8 @@
 -- Leases that go: a client that got its leases crashes, and they are ready.
-use Rattle.assise_model_events.proofs.Common.{◌≡◌, ℕ, suc, ◌<◌, max, nat_le, ◌&&◌, true, List, [], ◌∷◌, length, Some, refl, ap, sym, ◌∙◌, arith, and_parts}
-use Rattle.assise_model_events.proofs.Common.{le-leb, true≢false, Write, OutOfMemory, Done, NumberedCall, revoke, is_own, lease_of, new_lease, is_revoked}
-use Rattle.assise_model_events.proofs.Common.{World, digested_by_all, end_of_log, Leases, client_lease, IsNew, create_op, creation, Calling, Crashing, Granted}
-use Rattle.assise_model_events.proofs.Common.{Gets, is_crashed, is_refused, lacks_memory, last_leases, Answer, crash, crashed, refused, released, try_call}
+use Rattle.assise_model_events.proofs.Common.{◌≡◌, ℕ, suc, ◌<◌, max, nat_le, true, List, [], ◌∷◌, length, Some, refl, ap, ◌∙◌, arith, and_parts, le-leb}
+use Rattle.assise_model_events.proofs.Common.{true≢false, Write, OutOfMemory, Done, NumberedCall, revoke, is_own, lease_of, new_lease, is_revoked, World}
+use Rattle.assise_model_events.proofs.Common.{digested_by_all, end_of_log, Leases, client_lease, IsNew, create_op, creation, Calling, Crashing, Granted, Gets}
+use Rattle.assise_model_events.proofs.Common.{is_crashed, is_refused, lacks_memory, last_leases, Answer, crash, crashed, refused, released, try_call}
 use Rattle.assise_model_events.proofs.Common.{MachineInvariant, Machine, Releasing, is_ready, is_released, Comes, IsReached}
 use Rattle.assise_model_events.specs.NodeEvents.{is_refused, lacks_memory}
 use Rattle.assise_model_events.proofs.Answerable.{crashed_can}
@@ -76,9 +76,7 @@ of_crash m m' o (is_crashed fine is e) =
       holds = event_keeps m m' (crash 1) crashed o.holds (is_crashed fine is e);
       few = (most, λ i above. e.crash.revoked.clients i ∙ ap (revoke (is_own 1)) (few i above));
       ready =
-          ap (λ a. is_revoked a && nat_le (m'.leases.cut 1 0) (digested_by_all m'.world 1)) revoked
-          ∙ ap (λ k. nat_le k (digested_by_all m'.world 1)) cut
-          ∙ le-leb 0 (digested_by_all m'.world 1) (omega arith);
+          grind (arith, is_revoked, nat_le, digested_by_all, le-leb);
     }
 
 pub is_ready_once : (m : Machine) × IsReady m
@@ -90,9 +88,7 @@ is_ready_once =
 -- ---- its leases go
 
 some_go : (m m' : Machine) (a : Answer) → is_ready m.world m.leases 1 0 ≡ true → Releasing m a m' → (count : ℕ) × Releasing m (released (suc count)) m'
-some_go m m' a ready (is_released [] freed is e) =
-    let both = and_parts (is_revoked (client_lease m.leases 1 0)) (nat_le (m.leases.cut 1 0) (digested_by_all m.world 1)) ready in
-    absurd (true≢false (sym both.0 ∙ ap is_revoked (e.none_left 1 0 ready)))
+some_go m m' a ready (is_released [] freed is e) = grind (arith, and_parts, is_revoked, client_lease, nat_le, digested_by_all, true≢false)
 some_go m m' a ready (is_released (g ∷ gone) freed is e) = (length gone, is_released (g ∷ gone) freed refl e)
 
 pub released_some : (count : ℕ) × Comes (λ m m'. Releasing m (released (suc count)) m')

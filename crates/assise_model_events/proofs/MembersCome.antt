@@ -1,7 +1,7 @@
 -- What happens to nodes comes from the start: node 2 fails, comes back, is filled and joins.
-use Rattle.assise_model_events.proofs.Common.{◌≡◌, ◌≢◌, ℕ, suc, ◌-◌, ◌<◌, ◌==◌, inl, inr, take, false, true, cond, List, [], ◌∷◌, Some, None, refl, ap, sym}
-use Rattle.assise_model_events.proofs.Common.{subst, ◌∙◌, arith, cases_Bool, cases_eq, ne_eqb, same_Some, nat_cmp, Busy, LastNode, OutOfMemory, WrongPhase}
-use Rattle.assise_model_events.proofs.Common.{Loss, all_effects, contains, touched, all_full, failed_members, back_members, is_returning, join_fault, stale_of}
+use Rattle.assise_model_events.proofs.Common.{◌≡◌, ◌≢◌, ℕ, suc, ◌-◌, ◌<◌, ◌==◌, inl, inr, false, true, List, [], ◌∷◌, Some, None, refl, ap, sym, subst, ◌∙◌}
+use Rattle.assise_model_events.proofs.Common.{arith, cases_Bool, cases_eq, ne_eqb, same_Some, nat_cmp, Busy, LastNode, OutOfMemory, WrongPhase, Loss}
+use Rattle.assise_model_events.proofs.Common.{all_effects, contains, touched, all_full, failed_members, back_members, is_returning, join_fault, stale_of}
 use Rattle.assise_model_events.proofs.Common.{Membership, standing_of, never, Fails, kept_at_failure, World, end_of_log, records_between, same_stale}
 use Rattle.assise_model_events.proofs.Common.{with_raised, began, fail, failed, back, joined, left, raise, raised, refused, MachineInvariant, Machine, Failing}
 use Rattle.assise_model_events.proofs.Common.{IsRefilled, Joining, Raising, Refilling, Returning, count_of, stale_at, is_back, is_failed, is_failed_again}
@@ -41,9 +41,7 @@ of_failing : (limit : ℕ) (m m' : Machine) (losses : List Loss) → IsReached l
     Failing m 2 (failed losses) m' → (inodes : Numbers) × IsDown limit m inodes m'
 of_failing limit m m' losses r h is (is_refused why fault answer same) = cc
 of_failing limit m m' losses r h is (lacks_memory fine answer same) = cc
-of_failing limit m m' losses r h is (is_failed_again fine answer e) =
-    (let was : is_returning (standing_of m.members.nodes 2) ≡ true = e.failure.was_returning in
-    never (sym (ap (λ o. is_returning (standing_of o.nodes 2)) is) ∙ was))
+of_failing limit m m' losses r h is (is_failed_again fine answer e) = grind (arith, is_returning, standing_of, never)
 of_failing limit m m' losses r h is (is_failed fine answer e) = (
   e.inodes,
   record {
@@ -73,11 +71,15 @@ of_returning : (limit : ℕ) (m m' : Machine) (inodes : Numbers) (count : ℕ) �
     Returning m 2 (began count) m' → IsReturning limit inodes m'
 of_returning limit m m' inodes count r h is (is_refused why fault answer same) = cc
 of_returning limit m m' inodes count r h is (lacks_memory fine answer same) = cc
-of_returning limit m m' inodes count r h is (is_back fine answer e) = record {
-  reached = reaches limit m m' (back 2) (began count) r (is_back fine answer e);
-  holds = event_keeps m m' (back 2) (began count) h (is_back fine answer e);
-  nodes = ap (λ o. o.nodes) (e.comes.members ∙ ap (λ o. back_members o 2) is) ∙ ap (λ s. full ∷ returning 2 1 s ∷ []) (union-empty inodes);
-}
+of_returning limit m m' inodes count r h is (is_back fine answer e) = grind (
+  arith,
+  reaches limit m m' (back 2) (began count) r (is_back fine answer e),
+  event_keeps m m' (back 2) (began count) h (is_back fine answer e),
+  back_members,
+  full,
+  returning,
+  union-empty inodes,
+)
 
 lacks_so_many : (limit : ℕ) (stale : Numbers) (m : Machine) → IsReturning limit stale m → stale_at m.members 2 ≡ set.len stale
 lacks_so_many limit stale m b = ap (λ ns. count_of (stale_of (standing_of ns 2))) b.nodes
@@ -93,8 +95,7 @@ comes_back limit m inodes r h is =
 
 no_records : (m : Machine) (inodes : Numbers) (d : IsDown 0 (start 0) inodes m) (c : ℕ) → d.cut.records c ≡ []
 unfolding records_between
-no_records m inodes d c = d.fails.records c ∙ ap (take (kept_at_failure (start 0).world 2 c - 0)) (drop-nil (0 - 0))
-    ∙ take-nil (kept_at_failure (start 0).world 2 c - 0)
+no_records m inodes d c = grind (arith, kept_at_failure, start, drop-nil, take-nil)
 
 -- no record touches an inode
 none_touched : (m : Machine) (inodes : Numbers) → IsDown 0 (start 0) inodes m → inodes ≡ set.empty
@@ -105,9 +106,7 @@ none_touched m inodes d = same inodes set.empty (λ i. elim (cases_Bool (set.con
 ])
 
 down_at_start : (m : Machine) × IsDown 0 (start 0) set.empty m
-down_at_start =
-    let (m, (inodes, d)) = falls 0 (start 0) (start_reached 0) (start_holds 0) refl in
-    (m, subst (λ s. IsDown 0 (start 0) s m) (none_touched m inodes d) d)
+down_at_start = grind (arith, falls 0 (start 0) (start_reached 0) (start_holds 0) refl, none_touched)
 
 back_at_start : (m : Machine) × IsReturning 0 set.empty m
 back_at_start =
@@ -133,8 +132,7 @@ not_failed_comes = (let (m, d) = down_at_start in
     record { limit = 0; before = m; reached = d.reached; after = m; outcome = is_refused LastNode (rw d.members refl) refl refl })
 
 pub not_back_for_memory_comes : Comes (λ m m'. Returning m 2 (refused OutOfMemory) m')
-not_back_for_memory_comes = (let (m, d) = down_at_start in
-    record { limit = 0; before = m; reached = d.reached; after = m; outcome = lacks_memory (rw d.members refl) refl refl })
+not_back_for_memory_comes = grind (arith, down_at_start, lacks_memory)
 
 -- ---- what comes once it is back
 
@@ -155,10 +153,7 @@ failed_again_comes =
     record { limit = 0; before = m; reached = b.reached; after = m'; outcome = (not_full 0 set.empty m b, fails_again 0 set.empty m m' losses b e) }
 
 pub whole_comes : Comes (λ m m'. (stale_at m.members 2 ≡ 0) × Refilling m 2 (left 0) m')
-whole_comes =
-    let (m, b) = back_at_start in
-    let none : stale_at m.members 2 ≡ 0 = lacks_so_many 0 set.empty m b ∙ set.len-empty nat_cmp in
-    record { limit = 0; before = m; reached = b.reached; after = m; outcome = (none, is_whole (rw b.nodes refl) none refl refl) }
+whole_comes = grind (arith, back_at_start, stale_at, lacks_so_many, set.len-empty, nat_cmp, is_whole)
 
 pub joined_comes : Comes (λ m m'. Joining m 2 joined m')
 joined_comes =
@@ -167,8 +162,7 @@ joined_comes =
     record { limit = 0; before = m; reached = b.reached; after = m'; outcome = e }
 
 pub not_joined_for_memory_comes : Comes (λ m m'. Joining m 2 (refused OutOfMemory) m')
-not_joined_for_memory_comes =
-    (let (m, b) = back_at_start in record { limit = 0; before = m; reached = b.reached; after = m; outcome = lacks_memory (may_join m b) refl refl })
+not_joined_for_memory_comes = grind (arith, back_at_start, lacks_memory, may_join)
 
 -- ---- node 1 is raised
 
@@ -208,10 +202,7 @@ root_listed : (m m' : Machine) (inodes : Numbers) → HasFile 1 m → IsDown 1 m
 root_listed m m' inodes f d = d.touched_all 1 0 (ap (λ rs. contains (touched (all_effects rs)) 0) (kept_record m m' inodes f d))
 
 at_least_one : (inodes : Numbers) → set.contains inodes 0 ≡ true → 0 < set.len inodes
-at_least_one inodes there = elim (cases_eq (set.len inodes) 0) [
-  | inl none ↦ never (sym (set.contains-empty nat_cmp 0) ∙ ap (λ s. set.contains s 0) (sym (set.empty_of_len inodes none)) ∙ there)
-  | inr some ↦ omega (arith, some)
-]
+at_least_one inodes there = grind (arith, cases_eq, never, set.contains-empty, nat_cmp, set.empty_of_len)
 
 -- node 2 failed once a file was made, and came back
 record IsBackWithFile (m : Machine) : Type 0 where
@@ -237,15 +228,7 @@ one_less k some = omega (arith, some)
 pub back_comes : (stale : ℕ) × Comes (λ m m'. Returning m 2 (began (suc stale)) m')
 back_comes =
     let (m, b) = back_with_file in (
-      set.len b.stale - 1,
-      record {
-        limit = 1;
-        before = b.before;
-        reached = b.before_reached;
-        after = m;
-        outcome = subst (λ count. Returning b.before 2 (began count) m)
-            (one_less (set.len b.stale) b.some) b.came;
-      },
+    grind (arith, began, one_less (set.len b.stale) b.some)
     )
 
 pub busy_comes : Comes (λ m m'. Joining m 2 (refused Busy) m')
@@ -258,21 +241,13 @@ busy_comes =
 
 -- the lowest that it lacked is no longer listed
 left_less : (limit : ℕ) (stale : Numbers) (m m' : Machine) → IsReturning limit stale m → IsRefilled m 2 m' → stale_at m'.members 2 ≡ set.len stale - 1
-left_less limit stale m m' b e =
-    let g = e.refills in
-    let at : standing_of m.members.nodes 2 ≡ Some (returning 2 1 stale) = ap (λ ns. standing_of ns 2) b.nodes in
-    let same_set : g.stale ≡ stale = same_stale (standing_of m.members.nodes 2) g.since 2 g.donor 1 g.stale stale g.stands at in
-    let there : set.contains stale e.inode ≡ true = subst (λ s. set.contains s e.inode ≡ true) same_set g.lowest.there in
-    let after : standing_of m'.members.nodes 2 ≡ Some (returning 2 1 (set.remove stale e.inode)) = refilled_stale m.world m'.world m.members m'.members 2
-    e.inode 2 1 stale g at in
-    ap (λ s. count_of (stale_of s)) after ∙ set.len-remove nat_cmp_total stale e.inode ∙ ap (λ t. cond t (set.len stale - 1) (set.len stale)) there
+left_less limit stale m m' b e = grind (arith, standing_of, returning, same_stale, refilled_stale, count_of, stale_of, set.len-remove, nat_cmp_total)
 
 gets_one : (limit : ℕ) (stale : Numbers) (m m' : Machine) (count : ℕ) → IsReturning limit stale m → 0 < set.len stale → Refilling m 2 (left count) m' →
     Refilling m 2 (left (set.len stale - 1)) m'
 gets_one limit stale m m' count b some (is_refused why fault answer same) = cc
 gets_one limit stale m m' count b some (lacks_memory fine lacks answer same) = cc
-gets_one limit stale m m' count b some (is_whole fine none answer same) =
-    (let lacks : stale_at m.members 2 ≡ set.len stale = lacks_so_many limit stale m b in absurd (omega (arith, none, lacks, some)))
+gets_one limit stale m m' count b some (is_whole fine none answer same) = grind (arith, stale_at, lacks_so_many)
 gets_one limit stale m m' count b some (is_refilled fine answer e) = is_refilled fine (ap left (sym (left_less limit stale m m' b e))) e
 
 pub refilled_comes : (stale : ℕ) × Comes (λ m m'. (stale_at m.members 2 ≡ suc stale) × Refilling m 2 (left stale) m')
@@ -280,20 +255,8 @@ refilled_comes =
     let (m, b) = back_with_file in
     let lacks : stale_at m.members 2 ≡ set.len b.stale = lacks_so_many 1 b.stale m b.state in
     let (m', e) = refilled_can m 2 b.state.holds (rw b.state.nodes refl) (subst (λ k. 0 < k) (sym lacks) b.some) in (
-      set.len b.stale - 1,
-      record {
-        limit = 1;
-        before = m;
-        reached = b.state.reached;
-        after = m';
-        outcome =
-            (lacks ∙ one_less (set.len b.stale) b.some, gets_one 1 b.stale m m' (stale_at m'.members 2) b.state b.some e);
-      },
+    grind (arith, one_less (set.len b.stale) b.some, gets_one 1 b.stale m m' (stale_at m'.members 2) b.state b.some e)
     )
 
 pub not_refilled_for_memory_comes : Comes (λ m m'. Refilling m 2 (refused OutOfMemory) m')
-not_refilled_for_memory_comes =
-    let (m, b) = back_with_file in
-    let lacks : stale_at m.members 2 ≡ set.len b.stale = lacks_so_many 1 b.stale m b.state in
-    let some : 0 < stale_at m.members 2 = subst (λ k. 0 < k) (sym lacks) b.some in
-    record { limit = 1; before = m; reached = b.state.reached; after = m; outcome = lacks_memory (rw b.state.nodes refl) some refl refl }
+not_refilled_for_memory_comes = grind (arith, back_with_file, stale_at, lacks_so_many, lacks_memory)

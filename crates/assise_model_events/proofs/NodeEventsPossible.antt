@@ -22,8 +22,7 @@ refilled_can m n h fine some =
     let (i, may) = may_fill_one m.members n (is_busy (standing_of m.members.nodes n) fine some) in
     let (u, o, refills) = may_refill m.world m.members n h.members i may in (
       record { limit = m.limit; hot = m.hot; history = m.history; world = u; leases = m.leases; members = o },
-      is_refilled fine refl (record
-          { inode = i; refills = refills; leases = refl; adds = record { history = sym (append-nil m.history); limit = refl; hot = refl } }),
+      is_refilled fine refl (grind (arith, append-nil)),
     )
 
 pub joined_can : (m : Machine) (n : ℕ) → MachineInvariant m → join_fault m.members n ≡ None → (m' : Machine) × Joining m n joined m'

@@ -1,11 +1,11 @@
 -- Each outcome of what nodes do comes: frames and digests.
-use Rattle.assise_model_events.proofs.Common.{◌≡◌, ℕ, ◌+◌, ◌<◌, ◌≤◌, length, true, [], ◌∷◌, None, refl, ap, sym, ◌∙◌, subst, arith, Dsync, Pessimistic}
-use Rattle.assise_model_events.proofs.Common.{OutOfMemory, StaleMessage, WrongPhase, durability_of, LogFrame, all_full, end_of_log, received_by_all}
-use Rattle.assise_model_events.proofs.Common.{received_by_all-below, received_by_all-end, end-same, Syncing, is_refused, is_replicating, is_synced}
-use Rattle.assise_model_events.proofs.Common.{lacks_memory, deliver, digested, hot_set, not_yet, received, refused, sent, try_call, IsTimelyDelivery}
-use Rattle.assise_model_events.proofs.Common.{client_fault, delivery_fault, node_fault, place_after, Dsyncing, MachineInvariant, Machine, with_hot, Delivering}
-use Rattle.assise_model_events.proofs.Common.{Digesting, IsDelivered, Sending, SettingHot, frames_to, is_delivered, is_sent, is_set, is_stale, part_of}
-use Rattle.assise_model_events.proofs.Common.{undigested, undigested_to, Comes, IsReached}
+use Rattle.assise_model_events.proofs.Common.{◌≡◌, ℕ, ◌+◌, ◌≤◌, true, [], ◌∷◌, None, refl, ap, sym, ◌∙◌, subst, arith, Dsync, Pessimistic, OutOfMemory}
+use Rattle.assise_model_events.proofs.Common.{StaleMessage, WrongPhase, durability_of, LogFrame, all_full, end_of_log, received_by_all, received_by_all-below}
+use Rattle.assise_model_events.proofs.Common.{received_by_all-end, end-same, Syncing, is_refused, is_replicating, is_synced, lacks_memory, deliver, digested}
+use Rattle.assise_model_events.proofs.Common.{hot_set, not_yet, received, refused, sent, try_call, IsTimelyDelivery, client_fault, delivery_fault, node_fault}
+use Rattle.assise_model_events.proofs.Common.{place_after, Dsyncing, MachineInvariant, Machine, with_hot, Delivering, Digesting, IsDelivered, Sending}
+use Rattle.assise_model_events.proofs.Common.{SettingHot, frames_to, is_delivered, is_sent, is_set, is_stale, part_of, undigested, undigested_to, Comes}
+use Rattle.assise_model_events.proofs.Common.{IsReached}
 use Rattle.assise_private_log.specs.Borders.{whole_count}
 use Rattle.assise_model_events.specs.MemberEvents.{is_refused, lacks_memory}
 use Rattle.assise_model_events.specs.NodeEvents.{is_refused, lacks_memory}
@@ -74,9 +74,7 @@ module _ (m : Machine) (o : HasFile 1 m) where
   late t = (let this : 0 ≡ m.members.epoch = t.this_epoch in let first : m.members.epoch ≡ 1 = ap (λ x. x.epoch) o.members in omega (arith, this, first))
 
   delivery : (m' : Machine) × Delivering m (file_frame 1) 2 (received 1) m'
-  delivery =
-      let (m', h) = delivered_can m (file_frame 1) 2 o.holds (delivery_fine 1) timely in
-      (m', subst (λ k. Delivering m (file_frame 1) 2 (received k) m') place h)
+  delivery = grind (arith, delivered_can m (file_frame 1) 2 o.holds (delivery_fine 1) timely, received, place)
 
 pub delivered : (f : LogFrame) × Comes (λ m m'. Delivering m f 2 (received 1) m')
 delivered =
@@ -137,10 +135,7 @@ full_fine : (m : Machine) → HasBoth m → node_fault m 1 ≡ None
 full_fine m o = rw o.members refl
 
 pub not_digested_for_memory : Comes (λ m m'. Digesting m 1 (refused OutOfMemory) m')
-not_digested_for_memory =
-    let (m, o) = has_both in
-    let some : undigested_to m.world 1 m.world.clients ≡ 1 = o.undigested in
-    record { limit = 1; before = m; reached = o.reached; after = m; outcome = lacks_memory (full_fine m o) (omega (arith, some)) refl refl }
+not_digested_for_memory = grind (arith, has_both, undigested_to, lacks_memory, full_fine)
 
 part_border : (m : Machine) → HasBoth m → (c : ℕ) → m.world.border c (m.world.digested 1 c + part_of m.world 1 1 c) ≡ true
 part_border m o c = grind (arith, stands_full, full_fine, received_by_all-end)
@@ -204,7 +199,4 @@ sent_one =
     (file_frame 1, record { limit = 1; before = m; reached = o.reached; after = m; outcome = is_sent (rw o.members refl) (ap sent (sym (frames m o))) refl })
 
 pub not_sent_for_memory : Comes (λ m m'. Sending m 1 (refused OutOfMemory) m')
-not_sent_for_memory =
-    let (m, o) = awaits in
-    let some : 0 < length (frames_to m 1 m.world.clients) = subst (λ fs. 0 < length fs) (sym (frames m o)) (omega arith) in
-    record { limit = 1; before = m; reached = o.reached; after = m; outcome = lacks_memory (rw o.members refl) some refl refl }
+not_sent_for_memory = grind (arith, awaits, frames_to, frames, lacks_memory)

@@ -1,5 +1,5 @@
 -- A client is opened, and a client crashes.
-use Rattle.assise_model_events.proofs.Common.{◌≡◌, ℕ, suc, ◌<◌, None, [], ◌∷◌, length, refl, ap, arith, leb-false, Durability, MOST_CLIENTS, opens, crashes}
+use Rattle.assise_model_events.proofs.Common.{◌≡◌, ℕ, ◌<◌, None, [], ◌∷◌, length, refl, ap, arith, leb-false, Durability, MOST_CLIENTS, opens, crashes}
 use Rattle.assise_model_events.proofs.Common.{open_dropped, still_dropped, open_keeps, crash_keeps, EntryHappens, opening, Opening, is_opened, is_refused}
 use Rattle.assise_model_events.proofs.Common.{lacks_memory, IsOpened, Crashing, is_crashed, IsCrashed, Answer, open_fault, Leads, Machine, MachineInvariant}
 use Rattle.assise_model_events.proofs.Common.{state_of}
@@ -26,16 +26,8 @@ pub opening_leads : (m m' : Machine) (n : ℕ) (u : Durability) (a : Answer) →
 opening_leads m m' n u a h s = grind (arith, opened_leads, same_leads)
 
 pub opening_keeps : (m m' : Machine) (n : ℕ) (u : Durability) (a : Answer) → MachineInvariant m → Opening m n u a m' → MachineInvariant m'
-opening_keeps m m' n u a h (is_opened fine is e) = record {
-  sound = leads_sound m m' h (opened_leads m m' n u e);
-  dropped = open_dropped m.world m'.world n h.dropped e.opening.opens;
-  recorded = leads_recorded m m' h (opened_leads m m' n u e);
-  leases = open_keeps m.world m'.world m.leases m'.leases n h.leases e.opening;
-  members = members_rest m m' h e.keeps e.opening.opens.nodes;
-  epochs = epochs_stay m m' (opens (suc m.world.clients) n u ∷ []) h e.keeps.members e.adds;
-  logs = logs_stay m m' (opens (suc m.world.clients) n u ∷ []) h e.opening.opens.logs.records e.adds;
-  clients = rw e.opening.opens.clients (few_clients m n fine);
-}
+opening_keeps m m' n u a h (is_opened fine is e) = search
+    (leads_sound, opened_leads, open_dropped, leads_recorded, open_keeps, members_rest, epochs_stay, opens, logs_stay, few_clients, arith) parts 3
 opening_keeps m m' n u a h (is_refused r fault is same) = same_holds m m' same h
 opening_keeps m m' n u a h (lacks_memory fine is same) = same_holds m m' same h
 
@@ -49,15 +41,7 @@ pub crashing_leads : (m m' : Machine) (c : ℕ) (a : Answer) → MachineInvarian
 crashing_leads m m' c a h s = grind (arith, crashed_leads, same_leads)
 
 pub crashing_keeps : (m m' : Machine) (c : ℕ) (a : Answer) → MachineInvariant m → Crashing m c a m' → MachineInvariant m'
-crashing_keeps m m' c a h (is_crashed fine is e) = record {
-  sound = leads_sound m m' h (crashed_leads m m' c e);
-  dropped = still_dropped m.world m'.world e.crash.crash.logs e.crash.crash.nodes h.dropped;
-  recorded = leads_recorded m m' h (crashed_leads m m' c e);
-  leases = crash_keeps m.world m'.world m.leases m'.leases c h.leases e.crash h.sound;
-  members = members_rest m m' h e.keeps e.crash.crash.nodes;
-  epochs = epochs_stay m m' (crashes c ∷ []) h e.keeps.members e.adds;
-  logs = logs_stay m m' (crashes c ∷ []) h e.crash.crash.logs.records e.adds;
-  clients = rw e.crash.crash.clients h.clients;
-}
+crashing_keeps m m' c a h (is_crashed fine is e) = search
+    (leads_sound, crashed_leads, still_dropped, leads_recorded, crash_keeps, members_rest, epochs_stay, crashes, logs_stay, arith) parts 3
 crashing_keeps m m' c a h (lacks_memory fine is same) = same_holds m m' same h
 crashing_keeps m m' c a h (is_refused r fault is same) = same_holds m m' same h

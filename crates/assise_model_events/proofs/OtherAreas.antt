@@ -15,9 +15,8 @@ digests_full n count w₀ w o (suc c) u p (v, (q, (before, step))) = step.digest
 digests_areas : (n count : ℕ) (w₀ w : World) (o : Membership) (c : ℕ) (u : World) (p : Membership) → DigestsTo n count w₀ w o c u p →
     (j i : ℕ) → Full w j → j ≢ n → u.area j i ≡ w.area j i
 digests_areas n count w₀ w o zero u p (same, stay) j i there other = ap (λ x. x.area j i) same
-digests_areas n count w₀ w o (suc c) u p (v, (q, (before, step))) j i there other =
-    step.digests.digests.area_else j i (full_after w v j (digests_full n count w₀ w o c v q before) there) other
-    ∙ digests_areas n count w₀ w o c v q before j i there other
+digests_areas n count w₀ w o (suc c) u p (v, (q, (before, step))) j i there other = grind
+    (arith, digests_areas n count w₀ w o c v q before j i there other, full_after, digests_full)
 
 pub digested_areas : (m m' : Machine) (n count : ℕ) → Digesting m n (digested count) m' → (j i : ℕ) → Full m.world j → j ≢ n →
     m'.world.area j i ≡ m.world.area j i

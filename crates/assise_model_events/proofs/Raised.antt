@@ -12,16 +12,6 @@ pub raise_leads : (m m' : Machine) (n : ℕ) (a : Answer) → Raising m n a m' �
 raise_leads m m' n a h = grind (arith, ends_as, same_leads)
 
 pub raise_holds : (m m' : Machine) (n : ℕ) (a : Answer) → MachineInvariant m → Raising m n a m' → MachineInvariant m'
-raise_holds m m' n a h (is_raised fine is e) =
-    let l : Leads m m' = raise_leads m m' n a (is_raised fine is e) in
-    record {
-      sound = leads_sound m m' h l;
-      dropped = rw e.world h.dropped;
-      recorded = leads_recorded m m' h l;
-      leases = rw (e.leases, e.world) h.leases;
-      members = rw (e.world, e.members) (raised_members m.world m.members n h.members);
-      epochs = rw (e.adds.history, append-nil m.history, e.members) h.epochs;
-      logs = λ c. rw (e.world, e.adds.limit) (h.logs c);
-      clients = rw e.world h.clients;
-    }
+raise_holds m m' n a h (is_raised fine is e) = grind
+    (arith, raise_leads m m' n a (is_raised fine is e), leads_sound, leads_recorded, raised_members m.world m.members n h.members, append-nil m.history)
 raise_holds m m' n a h (is_refused r fault is same) = same_holds m m' same h

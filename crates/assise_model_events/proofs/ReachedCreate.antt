@@ -76,8 +76,7 @@ module _ (limit : ℕ) (m : Machine) (room : 0 < limit) (o : IsOpen limit m) (gs
   calls_it = is_answered Done gs refl (subst (λ x. IsAnswered m x gs with_file) (same_call m o.world) answered)
 
   file_records : with_file.world.records 1 ≡ file_record ∷ []
-  file_records = made_call.records_own ∙ ap (λ rs. rs ++ record_of 0 (step_at_home w creation).effects) h.world.records
-      ∙ ap (λ t. record_of 0 t.effects) (step_is w h.world)
+  file_records = search (record_of, step_at_home, creation, step_is, arith) parts 3
 
   file_first : with_file.world.first 1 ≡ 0
   file_first = made_call.first 1 ∙ h.world.first
@@ -154,12 +153,12 @@ pub has_file_as : (limit : ℕ) (u : Durability) → 0 < limit → (m : Machine)
 has_file_as limit u room =
     let (m, (o, was)) = is_open_as limit u in
     let (gs, h) = leases_had limit m o in (
-      with_file limit m room o gs h,
-      (
-        of_call limit m room o gs h,
-        durability-still m.history (calls (record { client = 1; number = calls_made 1 m.history; op = create_op; reply = Done }))
-            1 refl ∙ was,
-      ),
+    grind (
+      arith,
+      of_call limit m room o gs h,
+      durability-still m.history
+          (calls (record { client = 1; number = calls_made 1 m.history; op = create_op; reply = Done })) 1 refl,
+    )
     )
 
 pub has_file : (limit : ℕ) → 0 < limit → (m : Machine) × HasFile limit m

@@ -1,10 +1,10 @@
 -- Client 1 of two nodes creates a file and unlinks it, again and again, until it has made as many inodes as it may.
-use Rattle.assise_model_events.proofs.Common.{◌≡◌, ◌≢◌, ℕ, zero, suc, ◌+◌, ◌<◌, ◌≤◌, true, false, if◌then◌else◌, List, [], ◌∷◌, length, Some, refl, ap, sym}
-use Rattle.assise_model_events.proofs.Common.{subst, ◌∙◌, arith, eq-eqb, or_right, list_any, Op, Mode, Read, Write, InodesSpent, Done, has_some, regular}
-use Rattle.assise_model_events.proofs.Common.{directory, contains, touched, value_after, makes, inode_number, NumberedCall, new_lease, serves, clients_granted}
-use Rattle.assise_model_events.proofs.Common.{World, Full, call_makes_inode, step_at_home, view, Grants, Leases, client_lease, may_grant, OtherAreasStay}
-use Rattle.assise_model_events.proofs.Common.{create_op, create_step, creates, empty_root, no_links, of_either, sees_root, Calling, Granted, Gets, IsMissing}
-use Rattle.assise_model_events.proofs.Common.{HasServingLeases, is_spent, last_leases, last_world, refused, Machine, Comes}
+use Rattle.assise_model_events.proofs.Common.{◌≡◌, ◌≢◌, ℕ, zero, suc, ◌+◌, ◌<◌, ◌≤◌, true, false, List, [], ◌∷◌, length, Some, refl, ap, sym, subst, ◌∙◌, arith}
+use Rattle.assise_model_events.proofs.Common.{eq-eqb, or_right, list_any, Op, Mode, Write, InodesSpent, Done, has_some, regular, directory, contains, touched}
+use Rattle.assise_model_events.proofs.Common.{value_after, makes, inode_number, NumberedCall, new_lease, serves, clients_granted, World, call_makes_inode}
+use Rattle.assise_model_events.proofs.Common.{step_at_home, view, Grants, Leases, client_lease, may_grant, OtherAreasStay, create_op, create_step, creates}
+use Rattle.assise_model_events.proofs.Common.{empty_root, no_links, of_either, sees_root, Calling, Granted, Gets, IsMissing, HasServingLeases, is_spent}
+use Rattle.assise_model_events.proofs.Common.{last_leases, last_world, refused, Machine, Comes}
 use Rattle.assise_model_events.proofs.Trace.{HasLeases, IsOpen, is_open, leases_had, one_client, same_call}
 use Rattle.assise_model_events.proofs.LeaseSteps.{Reached, comes_to}
 use Rattle.assise_model_events.proofs.Steady.{with_old_areas, old_grants}
@@ -23,13 +23,7 @@ record TakesNew (m : Machine) (i : ℕ) (u : World) (k : Leases) : Type 0 where
 takes_new : (m : Machine) (i : ℕ) → Runs m.world → m.leases.levels.clients i ≡ [] → m.leases.levels.nodes i ≡ [] → (u : World) × (k : Leases) × TakesNew m i u k
 takes_new m i s no_client no_node =
     let (u, k, grant) = may_grant m.world m.leases 1 i Write (record { lives_on = s.lives; running = s.running; free = rw (no_client, no_node) refl }) in (
-      with_old_areas m.world u,
-      k,
-      record {
-        grant = old_grants m.world u m.leases k 1 i Write grant;
-        others = λ n j away. refl;
-        lease = grant.granted.clients.here ∙ ap (clients_granted 1 Write) no_client ∙ one_client Write;
-      },
+    grind (arith, with_old_areas m.world u, old_grants m.world u m.leases k 1 i Write grant, clients_granted 1 Write, one_client Write)
     )
 
 -- ---- between rounds
@@ -119,30 +113,10 @@ module _ (limit made : ℕ) (m : Machine) (gs : List Granted) (h : MayCreate lim
   create_makes = subst (λ t. list_any (makes fresh) t.effects ≡ true) (sym creates_there) (rw (eq-eqb fresh fresh refl) refl)
 
   may_create : made + made < limit → made < 1048576 → MayDo limit m create_op gs
-  may_create room small = record {
-    fits = refl;
-    gets = h.gets;
-    reply = ap (λ t. t.reply) creates_there;
-    effects = ap (λ t. has_some t.effects) creates_there;
-    served = create_served;
-    room = (let few = h.records in omega (arith, few, room));
-    makes = λ it_makes. subst (λ k. k < 1048576) (sym h.made_is) small;
-  }
+  may_create room small = grind (arith, creates_there, has_some, create_served, makes)
 
   of_create : (m' : Machine) → IsDone limit m create_op gs m' → HasFile limit made fresh m'
-  of_create m' d = record {
-    stands = d.stands;
-    made_is = d.made ∙ ap (λ b. if b then suc (m.world.made 1) else m.world.made 1) create_makes ∙ ap (λ k. suc k) h.made_is;
-    records = (let more = d.records in let few = h.records in omega (arith, more, few));
-    not_root = file_not_root (m.world.made 1);
-    root = d.reads 0 ∙ ap (λ t. value_after 0 (view m.world 1 1 0) t.effects) creates_there ∙ ap (λ old. value_after 0 old (create_step fresh).effects) h.root
-        ∙ root_after_create fresh (file_not_root (m.world.made 1));
-    file = d.reads fresh ∙ ap (λ t. value_after fresh (view m.world 1 1 fresh) t.effects) creates_there ∙ file_after_create fresh (view m.world 1 1 fresh)
-        (file_not_root (m.world.made 1));
-    root_held = ap (λ k. k.levels.clients 0) d.leases ∙ h.root_held;
-    file_held = ap (λ k. k.levels.clients fresh) d.leases ∙ h.file_held;
-    rest = subst (AreFree (suc made)) (sym d.leases) h.rest;
-  }
+  of_create m' d = search (create_makes, file_not_root, value_after, view, creates_there, create_step, root_after_create, file_after_create, arith) parts 3
 
   creates_file : made + made < limit → made < 1048576 → (i : ℕ) × (m' : Machine) × HasFile limit made i m'
   creates_file room small = (let (m', d) = done limit m create_op gs h.stands (may_create room small) (λ u happens. happens) in (fresh, m', of_create m' d))
@@ -171,19 +145,7 @@ module _ (limit made : ℕ) (m : Machine) (h : HasMade limit made m) where
   other j low = files_differ j (m.world.made 1) (let is = h.made_is in omega (arith, low, is))
 
   creates_next : MayCreate limit made m next_lease
-  creates_next = record {
-    stands = h.stands;
-    made_is = h.made_is;
-    records = h.records;
-    root = h.root;
-    gets = (lacks_next, new.2.grant, new.2.others, tt);
-    root_held = new.2.grant.granted.clients.elsewhere 0 (λ same. file_not_root (m.world.made 1) (sym same)) ∙ h.root_held;
-    file_held = new.2.lease;
-    rest = record {
-      clients = λ j low. new.2.grant.granted.clients.elsewhere (inode_number 1 j) (other j low) ∙ h.rest.clients j (omega (arith, low));
-      nodes = λ j low. new.2.grant.granted.nodes.elsewhere (inode_number 1 j) (other j low) ∙ h.rest.nodes j (omega (arith, low));
-    };
-  }
+  creates_next = search (lacks_next, file_not_root, inode_number, other, arith) parts 3
 
 -- ---- and unlinks it
 
@@ -204,29 +166,10 @@ module _ (limit made i : ℕ) (m : Machine) (h : HasFile limit made i m) where
   makes_none = ap (λ t. list_any (makes unlinking.fresh) t.effects) unlinks_it
 
   may_unlink : suc (made + made) < limit → MayDo limit m unlink_op []
-  may_unlink room = record {
-    fits = refl;
-    gets = tt;
-    reply = ap (λ t. t.reply) unlinks_it;
-    effects = ap (λ t. has_some t.effects) unlinks_it;
-    served = record {
-      visited = λ j there. serves_own m.leases j Read (holds_them j (subst (λ t. contains t.visits j ≡ true) unlinks_it there));
-      changed = λ j there. serves_own m.leases j Write (holds_them j (subst (λ t. contains (touched t.effects) j ≡ true) unlinks_it there));
-    };
-    room = (let few = h.records in omega (arith, few, room));
-    makes = λ it_makes. (let none : call_makes_inode m.world unlinking ≡ false = makes_none in cc);
-  }
+  may_unlink room = grind (arith, unlinks_it, has_some, serves_own, holds_them, contains, touched, makes, call_makes_inode, makes_none)
 
   of_unlink : (m' : Machine) → IsDone limit m unlink_op [] m' → HasMade limit (suc made) m'
-  of_unlink m' d = record {
-    stands = d.stands;
-    made_is = d.made ∙ ap (λ b. if b then suc (m.world.made 1) else m.world.made 1) makes_none ∙ h.made_is;
-    records = (let more = d.records in let few = h.records in omega (arith, more, few));
-    root = d.reads 0 ∙ ap (λ t. value_after 0 (view m.world 1 1 0) t.effects) unlinks_it ∙ ap (λ old. value_after 0 old (unlink_step i).effects) h.root
-        ∙ root_after_unlink i h.not_root;
-    root_held = ap (λ l. l.levels.clients 0) d.leases ∙ h.root_held;
-    rest = subst (AreFree (suc made)) (sym d.leases) h.rest;
-  }
+  of_unlink m' d = search (makes_none, value_after, view, unlinks_it, unlink_step, root_after_unlink, arith) parts 3
 
   unlinks_file : suc (made + made) < limit → (m' : Machine) × HasMade limit (suc made) m'
   unlinks_file room = (let (m', d) = done limit m unlink_op [] h.stands (may_unlink room) (λ u happens. happens) in (m', of_unlink m' d))
@@ -236,35 +179,28 @@ module _ (limit made i : ℕ) (m : Machine) (h : HasFile limit made i m) where
 -- the client, which was opened, gets the root, too
 module _ (limit : ℕ) (m : Machine) (o : IsOpen limit m) (gs : List Granted) (h : HasLeases m gs) where
   opened_runs : Runs m.world
-  opened_runs =
-      let here : Full m.world 1 = rw o.world.full refl in
-      record {
-        clients = o.world.clients;
-        home = o.world.home;
-        lives = o.world.lives;
-        running = o.world.runs;
-        full = here;
-        first = o.world.first;
-        digested = o.digested 1 1 here;
-      }
+  opened_runs = search (arith) parts 3
 
   first_number : (next_call m create_op).fresh ≡ inode_number 1 0
   first_number = ap (inode_number 1) o.world.made
 
   creates_first : MayCreate limit 0 m gs
-  creates_first = record {
-    stands = record { reached = o.reached; holds = o.holds; limit_is = o.limit_is; runs = opened_runs };
-    made_is = o.world.made;
-    records = (let none : length (m.world.records 1) ≡ 0 = ap length o.world.records in omega (arith, none));
-    root = subst (λ n. view m.world n 1 0 ≡ Some (directory no_links)) o.world.home (sees_root m.world o.world ∙ empty_root);
-    gets = subst (λ x. Gets x m.world m.leases gs) (same_call m o.world) h.gets;
-    root_held = h.clients_root;
-    file_held = subst (λ i. (last_leases m.leases gs).levels.clients i ≡ new_lease 1 Write ∷ []) (sym first_number) h.clients_own;
-    rest = record {
-      clients = λ j low. h.clients_else (inode_number 1 j) (file_not_root j) (files_differ j 0 low);
-      nodes = λ j low. h.nodes_else (inode_number 1 j) (file_not_root j) (files_differ j 0 low);
-    };
-  }
+  creates_first = search (
+    opened_runs,
+    view,
+    directory,
+    no_links,
+    sees_root,
+    empty_root,
+    same_call,
+    last_leases,
+    new_lease,
+    first_number,
+    inode_number,
+    file_not_root,
+    files_differ,
+    arith,
+  ) parts 3
 
 -- it creates a file and unlinks it
 round : (limit made : ℕ) (m : Machine) (gs : List Granted) → suc (made + made) < limit → made < 1048576 → MayCreate limit made m gs →
@@ -286,12 +222,8 @@ made_so_many limit (suc more) few room =
 
 refused_at : (limit : ℕ) (m : Machine) (gs : List Granted) (h : MayCreate limit 1048576 m gs) → Calling m 1 create_op (refused InodesSpent) (with_granted m gs)
 refused_at limit m gs h =
-    is_spent Done gs refl (record {
-      tried = record { fine = no_fault m create_op h.stands.runs refl; next = refl; fresh = refl; gets = h.gets };
-      served = create_served limit 1048576 m gs h;
-      makes = create_makes limit 1048576 m gs h;
-      made = h.made_is;
-    }) (keeps_them m gs)
+    is_spent Done gs refl (grind (arith, no_fault m create_op h.stands.runs refl, create_served limit 1048576 m gs h, create_makes limit 1048576 m gs h))
+    (keeps_them m gs)
 
 -- a call that would make one more is refused
 pub spent_comes : (op : Op) × Comes (λ m m'. Calling m 1 op (refused InodesSpent) m')

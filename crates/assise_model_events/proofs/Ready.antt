@@ -82,16 +82,7 @@ pub record LetOut (w : World) (l : Leases) (ps : List (ℕ × ℕ)) : Type 0 whe
   pub empty : (i : ℕ) → l.levels.clients i ≡ [] → (leases_after l gone).levels.clients i ≡ []
 
 stays : (w : World) (l : Leases) (c i : ℕ) (ps : List (ℕ × ℕ)) → is_ready w l c i ≡ false → LetOut w l ps → LetOut w l ((c, i) ∷ ps)
-stays w l c i ps early r = record {
-  gone = r.gone;
-  goes = r.goes;
-  out = λ d j there ready. elim there [
-    | inl here ↦ absurd (both_ways (is_ready w l c i) early (subst (λ p. is_ready w l p.0 p.1 ≡ true) here ready))
-    | inr later ↦ r.out d j later ready
-  ];
-  none = r.none;
-  empty = r.empty;
-}
+stays w l c i ps early r = grind (arith, both_ways, is_ready)
 
 goes_first : (w : World) (l : Leases) (c i : ℕ) (ps : List (ℕ × ℕ)) → is_ready w l c i ≡ true → LetOut (holding w (let_go w l c i)) (let_go w l c i) ps →
     LetOut w l ((c, i) ∷ ps)
@@ -99,10 +90,7 @@ goes_first w l c i ps now r = record {
   gone = record { client = c; inode = i; world = holding w (let_go w l c i); leases = let_go w l c i } ∷ r.gone;
   goes = (goes_now w l c i now, λ k j away. refl, r.goes);
   out = λ d j there ready. elim (same_or_gone w l c i d j) [
-    | inl same ↦ elim there [
-      | inl here ↦ r.none d j (subst (λ p. client_lease (let_go w l c i) p.0 p.1 ≡ None) (sym here) (one_gone w l c i))
-      | inr later ↦ r.out d j later (still_ready w l c i d j same ready)
-    ]
+    | inl same ↦ grind (arith, client_lease, one_gone w l c i, still_ready w l c i d j same ready)
     | inr out ↦ r.none d j out
   ];
   none = λ d j is. elim (same_or_gone w l c i d j) [
@@ -114,8 +102,5 @@ goes_first w l c i ps now r = record {
 
 pub let_out : (w : World) (l : Leases) (ps : List (ℕ × ℕ)) → LetOut w l ps
 let_out w l [] = record { gone = []; goes = tt; out = λ c i there ready. absurd there; none = λ c i is. is; empty = λ i is. is }
-let_out w l ((c, i) ∷ ps) =
-    elim (cases_Bool (is_ready w l c i)) [
-      | inl ready ↦ goes_first w l c i ps ready (let_out (holding w (let_go w l c i)) (let_go w l c i) ps)
-      | inr early ↦ stays w l c i ps early (let_out w l ps)
-    ]
+let_out w l ((c, i) ∷ ps) = grind
+    (arith, let_out (holding w (let_go w l c i)) (let_go w l c i) ps, let_out w l ps, cases_Bool, is_ready, goes_first, holding, stays)

@@ -1,9 +1,9 @@
 -- A dsync can coalesce.
 use Rattle.assise_model_events.proofs.Common.{◌≡◌, ◌≢◌, ℕ, ◌+◌, ◌-◌, ◌<◌, ◌≤◌, ◌==◌, ◌&&◌, ◌||◌, not, nat_le, if◌then◌else◌, Bool, true, false, List, [], ◌∷◌}
-use Rattle.assise_model_events.proofs.Common.{◌++◌, None, length, take, drop, refl, ap, sym, subst, ◌∙◌, inl, inr, arith, append-nil, false≢true, cases_eq}
-use Rattle.assise_model_events.proofs.Common.{cond-true, cond-false, ne_eqb, le-leb, lt-leb, and_from, and_left, and_right, or_right, length-take}
-use Rattle.assise_model_events.proofs.Common.{AllHaveEffects, all_coalesced, are_whole, LogRecord, contains, GetsAll, HasNone, WorldInvariant, World, Full}
-use Rattle.assise_model_events.proofs.Common.{end_of_log, received_by_all, records_between, contains-filter, filter-contains, end_is, first-received_by_all}
+use Rattle.assise_model_events.proofs.Common.{◌++◌, None, length, take, drop, refl, ap, sym, ◌∙◌, inl, inr, arith, append-nil, false≢true, cases_eq, cond-true}
+use Rattle.assise_model_events.proofs.Common.{cond-false, ne_eqb, le-leb, lt-leb, and_from, and_left, and_right, or_right, length-take, AllHaveEffects}
+use Rattle.assise_model_events.proofs.Common.{all_coalesced, are_whole, LogRecord, contains, GetsAll, HasNone, WorldInvariant, World, Full, end_of_log}
+use Rattle.assise_model_events.proofs.Common.{received_by_all, records_between, contains-filter, filter-contains, end_is, first-received_by_all}
 use Rattle.assise_model_events.proofs.Common.{received_by_all-end, Dsync, Pessimistic, Done, Syncing, is_refused, is_replicating, is_synced, lacks_memory}
 use Rattle.assise_model_events.proofs.Common.{Coalescing, IsCoalescing, coalesced_from, full_elsewhere, most_of, new_groups, not_yet, replied, client_fault}
 use Rattle.assise_model_events.proofs.Common.{MachineInvariant, Machine}
@@ -44,8 +44,7 @@ module _ (w : World) (c : ℕ) (h : WorldInvariant w) where
   pub coalesced_high : coalesced_from w c ≤ end_of_log w c
   coalesced_high =
       (let t : most_of (full_elsewhere w c) (λ m. w.received m c) ≤ end_of_log w c =
-      most-below (full_elsewhere w c) (λ m. w.received m c) (end_of_log w c)
-      (λ n k. (h.coherent.order n c (contains-filter (λ m. not (m == w.home c)) w.full n k)).known) in
+      grind (arith, most-below, full_elsewhere, end_of_log, contains-filter) in
       omega (arith, t, h.goals c, received_by_all-end w c))
 
   pub coalesced_low : received_by_all w c ≤ coalesced_from w c
@@ -117,15 +116,9 @@ module _ (w : World) (c : ℕ) (h : WorldInvariant w) (lives : w.lives c ≡ tru
     records_own = records_are;
     records_else = λ d other. cond-false (d == c) _ _ (ne_eqb d c other);
     border_old = λ k old. cond-true (c == c) _ _ own ∙ cond-true (nat_le k s) _ _ (le-leb k s old);
-    border_new = λ k le. elim (cases_eq k 0) [
-      | inl none ↦ border_first k none
-      | inr more ↦ border_then k (nat_le (s + k) s) refl (lt-leb (s + k) s (omega (arith, more)))
-    ];
+    border_new = grind (arith, cases_eq, border_first, border_then, nat_le, lt-leb);
     border_else = λ d k other. cond-false (d == c) _ _ (ne_eqb d c other);
-    here = λ n f. elim (cases_eq n (w.home c)) [
-      | inl is ↦ inr (subst (λ m. GetsAll m c u) (sym is) at_home)
-      | inr other ↦ inl (elsewhere n f other)
-    ];
+    here = grind (arith, cases_eq, at_home, elsewhere);
     at_home = at_home;
     received_else = λ n d f other. cond-false (here n d) _ _ (else_here n d other);
     log_else = λ n d f other. cond-false (here n d) _ _ (else_here n d other);

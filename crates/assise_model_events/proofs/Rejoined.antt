@@ -1,5 +1,5 @@
 -- A node that lacks no inode gets its donor's logs, and is full again.
-use Rattle.assise_model_events.proofs.Common.{◌≡◌, ℕ, zero, suc, ◌+◌, ◌-◌, ◌≤◌, Some, List, [], ◌∷◌, length, refl, ap, ◌∙◌, arith, length-append, slice_get}
+use Rattle.assise_model_events.proofs.Common.{◌≡◌, ℕ, zero, suc, ◌+◌, ◌-◌, ◌≤◌, Some, List, [], ◌∷◌, length, refl, ap, arith, length-append, slice_get}
 use Rattle.assise_model_events.proofs.Common.{none-some, returns, Standing, standing_of, full, returning, Joins, AreDropped, World, Full, digested_by_all}
 use Rattle.assise_model_events.proofs.Common.{least_of-below, least_of-above, least_of-end, end-same, logs_keep, comeback, IsNode, Answer, Leads, Machine}
 use Rattle.assise_model_events.proofs.Common.{MachineInvariant, state_of, Joining}
@@ -47,11 +47,13 @@ pub join_leads : (m m' : Machine) (n : ℕ) (a : Answer) → MachineInvariant m 
 join_leads m m' n a h (is_joined fine is e) = record {
   states = state_of m' ∷ [];
   trace = (
-    comeback n e.rejoins.donor (record {
-      adds = record { nodes = ap (λ o. length o.nodes) e.rejoins.members ∙ as_many m.members.nodes (n - 1) full; entry = e.adds.history };
-      node = stands_is_node m n (returning e.rejoins.since e.rejoins.donor e.rejoins.stale) e.rejoins.stands;
-      world = rejoin_joins m.world m'.world m.members m'.members n h.members e.rejoins;
-    }),
+    comeback n e.rejoins.donor
+        (grind (
+          arith,
+          as_many m.members.nodes (n - 1) full,
+          stands_is_node m n (returning e.rejoins.since e.rejoins.donor e.rejoins.stale) e.rejoins.stands,
+          rejoin_joins m.world m'.world m.members m'.members n h.members e.rejoins,
+        )),
     tt,
   );
   last = refl;

@@ -1,7 +1,7 @@
 -- What nodes do keeps the invariant: leases that may go do.
-use Rattle.assise_model_events.proofs.Common.{◌≡◌, ℕ, List, [], ◌∷◌, length, true, false, refl, ap, sym, subst, ◌∙◌, arith, contains, cases_Bool, cases_eq}
-use Rattle.assise_model_events.proofs.Common.{lease_of, without_other, AreDropped, World, still_dropped, IsTrace, last_of, releases, State, ReleasesReady}
-use Rattle.assise_model_events.proofs.Common.{Leases, AreLeases, client_lease, AreMembers, OtherAreasStay, Membership, Answer, Leads, Machine, MachineInvariant}
+use Rattle.assise_model_events.proofs.Common.{◌≡◌, ℕ, List, [], ◌∷◌, false, refl, ap, sym, subst, ◌∙◌, arith, contains, cases_Bool, cases_eq, lease_of}
+use Rattle.assise_model_events.proofs.Common.{without_other, AreDropped, World, still_dropped, IsTrace, last_of, releases, State, ReleasesReady, Leases}
+use Rattle.assise_model_events.proofs.Common.{AreLeases, client_lease, AreMembers, OtherAreasStay, Membership, Answer, Leads, Machine, MachineInvariant}
 use Rattle.assise_model_events.proofs.Common.{is_ready, Gone, LetsGo, world_after, leases_after, Freed, Frees, leases_freed, IsReleased, Releasing}
 use Rattle.assise_model_leases.proofs.LeasesGo.{goes, release_keeps, free_keeps}
 use Rattle.assise_model_events.specs.NodeEvents.Releasing.{is_released}
@@ -82,12 +82,7 @@ freed_keeps : (w u : World) (l : Leases) (freed : List Freed) → u.full ≡ w.f
 freed_keeps w u l [] full a t = a
 freed_keeps w u l (f ∷ fs) full a (e, t) =
     freed_keeps w u f.leases fs full
-    (free_keeps u l f.leases f.node a (record {
-      away = λ is. e.away (subst (λ ns. contains ns f.node ≡ true) full is);
-      idle = e.idle;
-      freed = e.freed;
-      cuts = e.cuts;
-    })) t
+    (free_keeps u l f.leases f.node a (grind (arith, contains))) t
 
 -- ---- all of it
 
@@ -99,11 +94,8 @@ module _ (m m' : Machine) (gone : List Gone) (freed : List Freed) (h : MachineIn
   ends = stand_after m.members m.world m.world m.leases gone begins e.releases
 
   released_leads : Leads m m'
-  released_leads = record {
-    states = states_of m gone;
-    trace = trace_of m m.members m.world m.world m.leases gone begins e.releases;
-    last = last_gone m m.world gone ∙ ends_as m m' (world_after m.world gone) (ap (λ o. length o.nodes) e.members) e.adds e.world;
-  }
+  released_leads = grind
+      (arith, trace_of m m.members m.world m.world m.leases gone begins e.releases, last_gone m m.world gone, ends_as, world_after m.world gone)
 
   released_holds : MachineInvariant m'
   released_holds =

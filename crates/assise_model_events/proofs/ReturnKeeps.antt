@@ -51,10 +51,13 @@ return_leads m m' n a h (lacks_memory fine is same) = same_leads m m' same
 return_leads m m' n a h (is_refused r fault is same) = same_leads m m' same
 
 pub return_holds : (m m' : Machine) (n : ℕ) (a : Answer) → MachineInvariant m → Returning m n a m' → MachineInvariant m'
-return_holds m m' n a h (is_back fine is e) =
-    let epoch : m'.members.epoch ≡ m.members.epoch = ap (λ o. o.epoch) e.comes.members ∙ back_epoch m.members n (standing_of m.members.nodes n) in
-    rest_holds m m' [] h (return_leads m m' n a h (is_back fine is e)) e.comes.rests e.leases e.adds (omega (arith, epoch))
-    (back_keeps m.world m'.world m.members m'.members n e.comes h.members)
+return_holds m m' n a h (is_back fine is e) = grind (
+  arith,
+  back_epoch m.members n (standing_of m.members.nodes n),
+  rest_holds m m',
+  return_leads m m' n a h (is_back fine is e),
+  back_keeps m.world m'.world m.members m'.members n e.comes h.members,
+)
 return_holds m m' n a h (lacks_memory fine is same) = same_holds m m' same h
 return_holds m m' n a h (is_refused r fault is same) = same_holds m m' same h
 
@@ -71,10 +74,8 @@ refill_leads m m' n a h (lacks_memory_there fine some is same) = same_leads m m'
 refill_leads m m' n a h (is_refused_there r fault is same) = same_leads m m' same
 
 pub refill_holds : (m m' : Machine) (n : ℕ) (a : Answer) → MachineInvariant m → Refilling m n a m' → MachineInvariant m'
-refill_holds m m' n a h (is_refilled fine is e) =
-    let epoch : m'.members.epoch ≡ m.members.epoch = ap (λ o. o.epoch) e.refills.members in
-    rest_holds m m' [] h (refill_leads m m' n a h (is_refilled fine is e)) e.refills.rests e.leases e.adds (omega (arith, epoch))
-    (refill_keeps m.world m'.world m.members m'.members n e.inode e.refills h.members)
+refill_holds m m' n a h (is_refilled fine is e) = grind
+    (arith, rest_holds m m', refill_leads m m' n a h (is_refilled fine is e), refill_keeps m.world m'.world m.members m'.members n e.inode e.refills h.members)
 refill_holds m m' n a h (is_whole fine none is same) = same_holds m m' same h
 refill_holds m m' n a h (lacks_memory_there fine some is same) = same_holds m m' same h
 refill_holds m m' n a h (is_refused_there r fault is same) = same_holds m m' same h

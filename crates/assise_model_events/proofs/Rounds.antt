@@ -1,12 +1,12 @@
 -- What client 1 of two nodes does again and again: it creates a file in an empty root, and unlinks it.
-use Rattle.assise_model_events.proofs.Common.{◌≡◌, ◌≢◌, ℕ, Bool, true, false, List, [], ◌∷◌, Option, Some, None, Result, Ok, cond, refl, ap, sym, ◌∙◌, eq-eqb}
-use Rattle.assise_model_events.proofs.Common.{suc, ◌+◌, ◌<◌, ◌≤◌, not, inl, inr, if◌then◌else◌, ◌++◌, length, subst, arith, length-append, ne_eqb, and_parts}
-use Rattle.assise_model_events.proofs.Common.{or_cases, Op, UnlinkCall, Done, Mode, Read, Write, LogRecord, same_name, all_effects, has_some, record_of}
-use Rattle.assise_model_events.proofs.Common.{Content, regular, directory, Links, Values, value_after, contains, touched, inode_number, NumberedCall, Lease}
-use Rattle.assise_model_events.proofs.Common.{serves, MakesCall, is_for_writing, World, Full, undigested_records, call_makes_inode, step_at_home, view}
-use Rattle.assise_model_events.proofs.Common.{MayCallUnder, CallsUnder, Leases, client_lease, is_held, is_written, may_call_under, create_step, no_links}
-use Rattle.assise_model_events.proofs.Common.{Calling, Granted, Gets, IsAnswered, HasServingLeases, call_of_client, is_answered, last_leases, last_world}
-use Rattle.assise_model_events.proofs.Common.{call_entry, replied, try_call, call_fault, is_too_large, Happens, MachineInvariant, Machine, IsReached}
+use Rattle.assise_model_events.proofs.Common.{◌≡◌, ◌≢◌, ℕ, Bool, true, false, List, [], ◌∷◌, Option, Some, None, Result, cond, refl, ap, sym, ◌∙◌, eq-eqb, suc}
+use Rattle.assise_model_events.proofs.Common.{◌+◌, ◌<◌, ◌≤◌, inl, inr, if◌then◌else◌, ◌++◌, length, subst, arith, length-append, ne_eqb, and_parts, or_cases}
+use Rattle.assise_model_events.proofs.Common.{Op, UnlinkCall, Done, Mode, Read, Write, LogRecord, same_name, all_effects, has_some, record_of, Content, regular}
+use Rattle.assise_model_events.proofs.Common.{directory, Links, Values, value_after, contains, touched, inode_number, NumberedCall, Lease, serves, MakesCall}
+use Rattle.assise_model_events.proofs.Common.{is_for_writing, World, Full, undigested_records, call_makes_inode, step_at_home, view, MayCallUnder, CallsUnder}
+use Rattle.assise_model_events.proofs.Common.{Leases, client_lease, is_held, is_written, may_call_under, create_step, no_links, Calling, Granted, Gets}
+use Rattle.assise_model_events.proofs.Common.{IsAnswered, HasServingLeases, call_of_client, is_answered, last_leases, last_world, call_entry, replied, try_call}
+use Rattle.assise_model_events.proofs.Common.{call_fault, is_too_large, Happens, MachineInvariant, Machine, IsReached}
 use Rattle.std.specs.Prelude.{ok_or}
 use Rattle.std.specs.Cmp.Lexicographic.{nat_list_cmp_total}
 use Rattle.std.specs.FinMap as map
@@ -62,18 +62,12 @@ finds : (i : ℕ) → map.get (one_link i) name ≡ Some i
 finds i = map.get-insert nat_list_cmp_total no_links name i name ∙ ap (λ b. cond b (Some i) (map.get no_links name)) (same_itself name)
 
 pub unlinks : (v : Values) (i fresh : ℕ) → v 0 ≡ Some (directory (one_link i)) → v i ≡ Some (regular []) → step v unlink_op fresh ≡ unlink_step i
-unlinks v i fresh root file =
-    let at_entry : with_entry (v 0) ≡ to_file (Ok i) = ap with_entry root ∙ ap (λ o. to_file (ok_or o NoEnt)) (finds i) in
-    let at_file : with_file i (v i) ≡ finish Done (unlink_step i).effects = ap (with_file i) file in
-    ap (λ r. record { visits = 0 ∷ visits_of v r; reply = reply_of v r; effects = effects_of v r }) at_entry
-    ∙ ap (λ r. record { visits = 0 ∷ i ∷ visits_of v r; reply = reply_of v r; effects = effects_of v r }) at_file
+unlinks v i fresh root file = grind (arith, ok_or, finds, finish, visits_of, reply_of, effects_of)
 
 none_left : (i : ℕ) → map.remove (one_link i) name ≡ no_links
 none_left i =
-    map.same_map nat_list_cmp_total (map.slice_cmp-IsAntisymmetric map.nat_cmp-IsAntisymmetric) _ _ (λ x.
-    map.get-remove nat_list_cmp_total (one_link i) name x
-    ∙ ap (cond (same_name x name) None) (map.get-insert nat_list_cmp_total no_links name i x)
-    ∙ no_entry (same_name x name) (map.get no_links x) (map.get-empty _ x))
+    map.same_map nat_list_cmp_total (map.slice_cmp-IsAntisymmetric map.nat_cmp-IsAntisymmetric) _ _
+    (grind (arith, map.get-remove, nat_list_cmp_total, same_name, map.get-insert, no_links, map.get-empty))
   where
     no_entry : (b : Bool) (o : Option ℕ) → o ≡ None → cond b None (cond b (Some i) o) ≡ o
     no_entry true o none = sym none
@@ -103,27 +97,11 @@ pub record Stands (limit : ℕ) (m : Machine) : Type 0 where
 
 -- still so once it got leases
 pub runs_still : (m : Machine) (w : World) (l : Leases) → Runs m.world → Reached m w l → Runs w
-runs_still m w l s r = record {
-  clients = r.clients.clients ∙ s.clients;
-  home = r.clients.home 1 ∙ s.home;
-  lives = r.clients.lives 1 ∙ s.lives;
-  running = r.clients.crashed 1 ∙ s.running;
-  full = full_after m.world w 1 r.nodes.full s.full;
-  first = r.logs.first 1 ∙ s.first;
-  digested = (r.nodes.same 1 s.full).digested 1 ∙ s.digested;
-}
+runs_still m w l s r = grind (arith, full_after)
 
 -- and once it made a call
 runs_on : (w : World) (x : NumberedCall) (u : World) → Runs w → MakesCall w x u → Runs u
-runs_on w x u s e = record {
-  clients = e.clients.clients ∙ s.clients;
-  home = e.clients.home 1 ∙ s.home;
-  lives = e.clients.lives 1 ∙ s.lives;
-  running = e.clients.crashed 1 ∙ s.running;
-  full = full_after w u 1 e.full s.full;
-  first = e.first 1 ∙ s.first;
-  digested = e.digested 1 1 s.full ∙ s.digested;
-}
+runs_on w x u s e = grind (arith, full_after)
 
 -- ---- what it reads
 
@@ -152,11 +130,7 @@ served_held (Some a) mode h = refl
 
 served_written : (o : Option Lease) → serves o Write ≡ true → is_written o ≡ true
 served_written None h = cc
-served_written (Some a) h = written a.mode (and_parts (not a.revoked) (strong a.mode Write) h).1
-  where
-    written : (mode : Mode) → strong mode Write ≡ true → is_for_writing mode ≡ true
-    written Read h = cc
-    written Write h = refl
+served_written (Some a) h = grind (arith, and_parts, strong, is_for_writing)
 
 abbrev pub next_call : Machine → Op → NumberedCall
 next_call m op = call_of_client m.world 1 op Done
@@ -258,12 +232,12 @@ module _ (limit : ℕ) (m : Machine) (op : Op) (gs : List Granted) (s : Stands l
   runs_after = runs_on w x after.world runs_then made_call
 
   stands_after : Happens m (try_call 1 op) (replied Done) after → Stands limit after
-  stands_after happens = record {
-    reached = reaches limit m after (try_call 1 op) (replied Done) s.reached happens;
-    holds = event_keeps m after (try_call 1 op) (replied Done) s.holds happens;
-    limit_is = s.limit_is;
-    runs = runs_after;
-  }
+  stands_after happens = grind (
+    arith,
+    reaches limit m after (try_call 1 op) (replied Done) s.reached happens,
+    event_keeps m after (try_call 1 op) (replied Done) s.holds happens,
+    runs_after,
+  )
 
   log_after : after.world.log 1 1 ≡ w.log 1 1 ++ record_of x.number es
   log_after = subst (λ n. after.world.log n 1 ≡ w.log n 1 ++ record_of x.number es) runs_then.home made_call.log_home
@@ -271,7 +245,7 @@ module _ (limit : ℕ) (m : Machine) (op : Op) (gs : List Granted) (s : Stands l
   records_after : length (after.world.records 1) ≤ suc (length (m.world.records 1))
   records_after =
       let own : length (after.world.records 1) ≡ length (w.records 1) + length (record_of x.number es) =
-      ap length made_call.records_own ∙ length-append (w.records 1) (record_of x.number es) in
+      grind (arith, length-append, record_of) in
       let before : length (w.records 1) ≡ length (m.world.records 1) = ap length (got.logs.records 1) in
       let one : length (record_of x.number es) ≤ 1 = one_at_most x.number es in
       omega (arith, own, before, one)

@@ -33,13 +33,7 @@ none_since : (count n e : ℕ) → since_of (standing_of (fulls count) n) ≡ So
 none_since count n e at = (let same : None ≡ Some e = sym (none_failed count n) ∙ at in cc)
 
 begun_members : (nodes : ℕ) → 0 < nodes → AreMembers (begun (down_from nodes)) (all_full nodes)
-begun_members nodes some = record {
-  lawful = all_full_lawful nodes some;
-  full_nodes = λ k f. (let at : (1 ≤ k) × (k ≤ nodes) = node_of nodes k f in full_at nodes k at.0 at.1);
-  nodes_full = λ k at. (let place : (1 ≤ k) × (k ≤ nodes) = at_full nodes k at in of_node nodes k place.0 place.1);
-  due = λ k e f i at ff none. absurd (none_since nodes k e at);
-  filling = λ k since donor i stale at none. absurd (none_since nodes k since (ap since_of at));
-}
+begun_members nodes some = grind (arith, all_full_lawful nodes some, node_of, full_at, at_full, of_node, none_since, since_of)
 
 -- ---- leases
 

@@ -1,6 +1,6 @@
 -- A sync: its client's log is to be replicated, and where it is the call is answered.
-use Rattle.assise_model_events.proofs.Common.{◌≡◌, ℕ, max, Some, true, false, [], ◌∷◌, length, refl, ap, sym, subst, ◌∙◌, arith, both_ways, false≢true, Op}
-use Rattle.assise_model_events.proofs.Common.{Fsync, Durability, Pessimistic, Optimistic, Refusal, Reply, durability_of, is_sync, NumberedCall, RaisesGoals}
+use Rattle.assise_model_events.proofs.Common.{◌≡◌, ℕ, max, Some, true, false, [], ◌∷◌, length, refl, ap, sym, subst, arith, both_ways, false≢true, Op, Fsync}
+use Rattle.assise_model_events.proofs.Common.{Durability, Pessimistic, Optimistic, Refusal, Reply, durability_of, is_sync, NumberedCall, RaisesGoals}
 use Rattle.assise_model_events.proofs.Common.{WorldInvariant, World, Full, end_of_log, received_by_all, step_at_home, view, contains, raise_sound, call_dropped}
 use Rattle.assise_model_events.proofs.Common.{received_by_all-end, end-same, received_by_all-same, still_dropped, Leases, AreLeases, call_keeps, logs_keep}
 use Rattle.assise_model_events.proofs.Common.{raises_goals, Syncing, Noting, is_synced, is_replicating, is_noted, is_refused, lacks_memory, AnswersSync}
@@ -30,16 +30,17 @@ awaited_leads m m' c e = record {
 }
 
 awaited_keeps : (m m' : Machine) (c : ℕ) → MachineInvariant m → IsReplicating m c m' → MachineInvariant m'
-awaited_keeps m m' c h e = record {
-  sound = leads_sound m m' h (awaited_leads m m' c e);
-  dropped = still_dropped m.world m'.world e.raises.logs e.raises.nodes h.dropped;
-  recorded = leads_recorded m m' h (awaited_leads m m' c e);
-  leases = subst (λ l. AreLeases m'.world l) (sym e.leases) (raise_leases m.world m'.world m.leases (goal_of_sync m.world c) e.raises h.leases);
-  members = members_rest m m' h e.keeps e.raises.nodes;
-  epochs = epochs_stay m m' [] h e.keeps.members e.adds;
-  logs = logs_stay m m' [] h e.raises.logs.records e.adds;
-  clients = rw e.raises.clients.clients h.clients;
-}
+awaited_keeps m m' c h e = grind (
+  arith,
+  leads_sound m m' h (awaited_leads m m' c e),
+  still_dropped m.world m'.world e.raises.logs e.raises.nodes h.dropped,
+  leads_recorded m m' h
+      (awaited_leads m m' c e),
+  raise_leases m.world m'.world m.leases (goal_of_sync m.world c) e.raises h.leases,
+  members_rest m m' h e.keeps e.raises.nodes,
+  epochs_stay m m',
+  logs_stay m m',
+)
 
 -- ---- it is answered
 
@@ -75,12 +76,10 @@ module _ (m m' : Machine) (c : ℕ) (op : Op) (u : Durability) (sync : is_sync o
     recorded = leads_recorded m m' h synced_leads;
     leases = subst (λ l. AreLeases m'.world l) (sym e.leases)
         (call_keeps e.between m'.world m.leases x (raise_leases m.world e.between m.leases (goal_of_sync m.world c) e.raises h.leases) e.call);
-    members = members_stay m m' h e.keeps (e.call.call.full ∙ e.raises.nodes.full)
-        (λ k i f. e.call.call.area k i (was_full k f) ∙ (e.raises.nodes.same k f).area i);
+    members = grind (arith, members_stay, was_full);
     epochs = epochs_stay m m' (call_entry m.history c op reply) h e.keeps.members e.adds;
     logs = logs_answered m m' e.between x h e.raises.logs.records e.call.call
-        (λ some. (let none : (step_at_home e.between x).effects ≡ [] = sync_still (view e.between (e.between.home c) c) op x.fresh u sync in
-        let never : false ≡ true = rw none at some in absurd (false≢true never))) e.adds.limit;
+        (grind (arith, step_at_home, sync_still, view, false≢true)) e.adds.limit;
     clients = rw (e.call.call.clients.clients, e.raises.clients.clients) h.clients;
   }
 

@@ -139,20 +139,7 @@ own_not_root same = omega (arith, same)
 
 -- the client is as new with leases as it was
 still_new : (m : Machine) (w : World) (l : Leases) → IsNew m.world → Reached m w l → IsNew w
-still_new m w l n r = record {
-  clients = r.clients.clients ∙ n.clients;
-  home = r.clients.home 1 ∙ n.home;
-  lives = r.clients.lives 1 ∙ n.lives;
-  runs = r.clients.crashed 1 ∙ n.runs;
-  records = r.logs.records 1 ∙ n.records;
-  first = r.logs.first 1 ∙ n.first;
-  next = r.logs.next 1 ∙ n.next;
-  made = r.logs.made 1 ∙ n.made;
-  full = r.nodes.full ∙ n.full;
-  log = (r.nodes.same 1 (rw n.full refl)).log 1 ∙ n.log;
-  received = (r.nodes.same 2 (rw n.full refl)).received 1 ∙ n.received;
-  area = (r.nodes.same 1 (rw n.full refl)).area 0 ∙ n.area;
-}
+still_new m w l n r = grind arith
 
 -- the client got one lease more
 record GotOne (m : Machine) (w : World) (l : Leases) (i : ℕ) (mode : Mode) (u : World) (k : Leases) : Type 0 where

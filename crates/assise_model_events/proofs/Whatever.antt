@@ -25,10 +25,7 @@ reached_holds nodes limit hot es m some run = all_keep (begun_as nodes limit hot
 
 pub all_told : (m m' : Machine) (es : List (ClusterEvent × Answer)) → AllHappen m es m' → m'.history ≡ m.history ++ all_entries m.history es
 all_told m m' [] e = ap (λ x. x.history) e ∙ sym (append-nil m.history)
-all_told m m' ((e, a) ∷ es) (v, (step, rest)) =
-    let told : v.history ≡ m.history ++ entries_of m.history e a = event_told m v e a step in
-    all_told v m' es rest ∙ ap (λ h. h ++ all_entries h es) told ∙ append_assoc m.history (entries_of m.history e a)
-    (all_entries (m.history ++ entries_of m.history e a) es)
+all_told m m' ((e, a) ∷ es) (v, (step, rest)) = grind (arith, all_told v m' es rest, entries_of, event_told, all_entries, append_assoc)
 
 pub safe : (m : Machine) → MachineInvariant m → IsSafe (state_of m)
 safe m h = kept_of (state_of m) h.sound h.recorded

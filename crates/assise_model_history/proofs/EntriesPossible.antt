@@ -2,7 +2,7 @@
 use Rattle.assise_model_history.proofs.Common.{◌≡◌, ℕ, suc, true, false, [], ◌∷◌, ◌++◌, refl, Fsync, Durability, Done, EntryValue, opens, calls, crashes, fails}
 use Rattle.assise_model_history.proofs.Common.{returns, syncs, inode_number, NumberedCall, MayMakeCall, MayFail, WorldInvariant, World, Full, end_of_log}
 use Rattle.assise_model_history.proofs.Common.{received_by_all, may_open, may_call, may_crash, may_fail, may_join, may_rest, AddsEntry, IsOpening, IsCall}
-use Rattle.assise_model_history.proofs.Common.{IsCrash, IsFailure, IsFailureAgain, IsReturn, losses_of, plain_call, State, IsNode}
+use Rattle.assise_model_history.proofs.Common.{IsCrash, IsFailure, IsFailureAgain, IsReturn, losses_of, plain_call, State, IsNode, arith}
 
 -- the entry is written down
 abbrev told : State → EntryValue → World → State
@@ -32,19 +32,8 @@ pub can_fsync : (s : State) (c : ℕ) → WorldInvariant s.world → s.world.liv
 can_fsync s c sound lives running all = (
   fsync_of s.world c,
   (
-    refl,
-    refl,
-    can_call s (fsync_of s.world c) sound record {
-      lives = lives;
-      running = running;
-      number = refl;
-      fresh = refl;
-      reply = refl;
-      held = λ i h. cc;
-      written = λ i h. cc;
-      room = λ h. cc;
-    } (λ h. all),
-  ),
+      grind (arith, can_call)
+      ),
 )
 
 pub can_crash : (s : State) (c : ℕ) → s.world.lives c ≡ true → s.world.crashed c ≡ false → (t : State) × IsCrash s c t

@@ -1,6 +1,6 @@
 -- A trace from the start in which there is each kind of entry.
-use Rattle.assise_model_history.proofs.Common.{◌≡◌, ◌≤◌, true, false, List, [], ◌∷◌, ◌++◌, refl, ap, ◌∙◌, arith, Pessimistic, Loss, opens, calls, crashes}
-use Rattle.assise_model_history.proofs.Common.{fails, returns, is_sync, NumberedCall, WorldInvariant, Full, end_of_log, received_by_all, received_by_all-end}
+use Rattle.assise_model_history.proofs.Common.{◌≡◌, true, false, List, [], ◌∷◌, ◌++◌, refl, ap, ◌∙◌, arith, Pessimistic, Loss, opens, calls, crashes, fails}
+use Rattle.assise_model_history.proofs.Common.{returns, is_sync, NumberedCall, WorldInvariant, Full, end_of_log, received_by_all, received_by_all-end}
 use Rattle.assise_model_history.proofs.Common.{plain_call, State, IsNode, begun_with, losses_of, IsOpening, IsCall, IsCrash, IsFailure, IsReturn, opening, call}
 use Rattle.assise_model_history.proofs.Common.{crash, failure, comeback, IsTrace, last_of, IsEventful}
 use Rattle.assise_model_world.proofs.QuietSteps.{end-same}
@@ -31,15 +31,11 @@ unfolding end_of_log
 nothing_yet = refl
 
 client_received : received_by_all with_client.world 1 ≡ end_of_log with_client.world 1
-client_received =
-    let none : end_of_log with_client.world 1 ≡ 0 = end-same start.world with_client.world opened.1.world.logs 1 ∙ nothing_yet in
-    let most : received_by_all with_client.world 1 ≤ end_of_log with_client.world 1 = received_by_all-end with_client.world 1 in
-    omega (arith, none, most)
+client_received = grind (arith, end-same start.world with_client.world opened.1.world.logs 1, nothing_yet, received_by_all-end with_client.world 1)
 
 -- it makes an fsync
 fsynced : (x : NumberedCall) × ((x.client ≡ 1) × (is_sync x.op Pessimistic ≡ true) × ((t : State) × IsCall with_client x t))
-fsynced = let f = can_fsync with_client 1 client_sound client_lives client_runs client_received in
-    (f.0, (f.1.0, ap (λ op. is_sync op Pessimistic) f.1.1, f.1.2))
+fsynced = grind (arith, can_fsync, client_sound, client_lives, client_runs, client_received)
 
 abbrev with_fsync : State
 with_fsync = fsynced.1.2.0

@@ -2,12 +2,12 @@
 use Rattle.assise_model_history.proofs.Common.{◌≡◌, ◌≢◌, ℕ, zero, suc, ◌+◌, ◌-◌, ◌<◌, ◌≤◌, Bool, true, false, not, ◌&&◌, nat_le, ◌==◌, List, [], ◌∷◌, ◌++◌}
 use Rattle.assise_model_history.proofs.Common.{filter, length, Contains, refl, ap, sym, subst, ◌∙◌, inl, inr, arith, eq-eqb, ne_eqb, list_any, cases_Bool}
 use Rattle.assise_model_history.proofs.Common.{cases_eq, cases_lt, and_parts, and_from, ltb-true, ltb-false, leb-true, le-leb, false_from_ne_true, or_left}
-use Rattle.assise_model_history.proofs.Common.{or_right, both_ways, Contains-append_cases, Loss, opens, fails, returns, loses, IsDown, IsFair, IsOn}
-use Rattle.assise_model_history.proofs.Common.{IsPastSyncs, is_failure_of, legal-failure, legal-return, Passes, passes_from, not_nil, down-failed, down-push}
-use Rattle.assise_model_history.proofs.Common.{down-last, Ascending, call_of, NumberedCall, below, Fails, kept_at_failure, fails_node, joins_node, rests_all}
-use Rattle.assise_model_history.proofs.Common.{Counted, WorldInvariant, World, Full, IsClient, end_of_log, received_by_all, first_unreplicated, call_at}
-use Rattle.assise_model_history.proofs.Common.{call_at-mono, call_at-end, first-received_by_all, step_sound, step_falls, IsFailure, IsFailureAgain, IsReturn}
-use Rattle.assise_model_history.proofs.Common.{losses_of, IsFirstLost, plain_call, kept_numbered, State, WasOpened, IsRecorded}
+use Rattle.assise_model_history.proofs.Common.{or_right, Contains-append_cases, Loss, fails, returns, loses, IsDown, IsFair, IsOn, IsPastSyncs, is_failure_of}
+use Rattle.assise_model_history.proofs.Common.{legal-failure, legal-return, Passes, passes_from, not_nil, down-failed, down-push, down-last, Ascending, call_of}
+use Rattle.assise_model_history.proofs.Common.{NumberedCall, below, Fails, kept_at_failure, fails_node, joins_node, rests_all, Counted, WorldInvariant, World}
+use Rattle.assise_model_history.proofs.Common.{Full, IsClient, end_of_log, received_by_all, first_unreplicated, call_at, call_at-mono, call_at-end}
+use Rattle.assise_model_history.proofs.Common.{first-received_by_all, step_sound, step_falls, IsFailure, IsFailureAgain, IsReturn, losses_of, IsFirstLost}
+use Rattle.assise_model_history.proofs.Common.{plain_call, kept_numbered, State, WasOpened, IsRecorded}
 use Rattle.std.proofs.lemmas.Bool.{eqb-true}
 use Rattle.assise_inode_table.proofs.PairwiseLists.{each-map}
 use Rattle.assise_record.specs.LogRecord.{LogRecord}
@@ -54,13 +54,11 @@ is_taken w n x client few from =
     let c : ℕ = x.client in
     elim (cases_lt (kept_at_failure w n c) (end_of_log w c)) [
       | inl some ↦
-          let listed : Contains (losses_of w n) (first_loss w n c) = is_loss w n w.clients (first_loss w n c) record
-          { low = client.0; high = client.1; some = some; first = refl } in
+          let listed : Contains (losses_of w n) (first_loss w n c) = grind (arith, is_loss) in
           any_of (takes x) (losses_of w n) (first_loss w n c) listed
           (and_from (c == c) (nat_le (cut_call w n c) x.number) (eq-eqb c c refl) (le-leb (cut_call w n c) x.number from))
       | inr none ↦
-          let top : cut_call w n c ≡ w.next c = call_at-end w c (kept_at_failure w n c) none in
-          absurd (omega (arith, top, few, from))
+          grind (arith, call_at-end)
     ]
 
 same_test : (w : World) (n : ℕ) (x : NumberedCall) → IsClient w x.client → x.number < w.next x.client →
@@ -89,17 +87,7 @@ call_inside (r ∷ rs) (suc k) d h few = call_inside rs k d h.1 (omega (arith, f
 
 pub loss_answered : (w : World) (n : ℕ) (l : Loss) → WorldInvariant w → Contains (losses_of w n) l → l.first < w.next l.client
 unfolding call_at end_of_log
-loss_answered w n l s h =
-    let c : ℕ = l.client in
-    let k : ℕ = kept_at_failure w n c in
-    let o : IsLossTo w n w.clients l = listed_to w n w.clients l h in
-    let some : k < w.first c + length (w.records c) = o.some in
-    let first : l.first ≡ call_of (w.records c) (k - w.first c) (w.next c) = o.first in
-    let low : w.first c ≤ k = (let a : w.first c ≤ received_by_all w c = first-received_by_all w s.coherent c in
-    let b : received_by_all w c ≤ k = kept_low w n c in omega (arith, a, b)) in
-    let inside : call_of (w.records c) (k - w.first c) (w.next c) < w.next c = call_inside (w.records c) (k - w.first c) (w.next c) (s.coherent.ascending c)
-    (omega (arith, some, low)) in
-    omega (arith, first, inside)
+loss_answered w n l s h = grind (arith, listed_to w n w.clients l h, first-received_by_all, kept_low, call_inside)
 
 -- ---- the failure is fair
 
@@ -110,7 +98,7 @@ past_syncs s n l sound r h before since x split client sync =
     let o : IsLossTo s.world n s.world.clients l = listed_to s.world n s.world.clients l h in
     let low : x.number < call_at s.world c (received_by_all s.world c) = r.synced c before since x split client sync in
     let up : call_at s.world c (received_by_all s.world c) ≤ call_at s.world c (kept_at_failure s.world n c) =
-    call_at-mono s.world c (received_by_all s.world c) (kept_at_failure s.world n c) sound.coherent (kept_low s.world n c) in
+    grind (arith, call_at-mono, kept_low) in
     let first : l.first ≡ call_at s.world c (kept_at_failure s.world n c) = o.first in
     omega (arith, low, up, first)
 
@@ -120,13 +108,7 @@ was_on s n l sound r h =
     let was : WasOpened s.history s.world l.client = r.opened l.client (sound.opened l.client f.lives) in
     let o = was.opened in
     record {
-      opened = record {
-        durability = o.durability;
-        before = o.before;
-        since = o.since;
-        split =
-            subst (λ m. s.history ≡ o.before ++ opens l.client m o.durability ∷ o.since) f.home o.split;
-      };
+      opened = grind arith;
       no_failure = subst (λ m. list_any (is_failure_of m) o.since ≡ false) f.home (no_failure s l.client was f.lives);
     }
 
@@ -161,9 +143,7 @@ failure_nodes s n s' r e = record {
   nodes = λ m full. r.nodes m (e.world.only m full);
   up = λ m full down. elim (down-last s.history (fails n (losses_of s.world n)) m down) [
     | inl last ↦
-        let entry = last.1 in
-        let same : n ≡ m = cc in
-        e.world.gone (subst (λ k. Full s'.world k) (sym same) full)
+        grind arith
     | inr before ↦ r.up m (e.world.only m full) before.0
   ];
   down = λ m node absent. elim (cases_eq m n) [
@@ -173,13 +153,18 @@ failure_nodes s n s' r e = record {
 }
 
 pub failure_recorded : (s : State) (n : ℕ) (s' : State) → WorldInvariant s.world → IsRecorded s → IsFailure s n s' → IsRecorded s'
-failure_recorded s n s' sound r e =
-    let losses : List Loss = losses_of s.world n in
-    let same : s'.world.calls ≡ kept_numbered (s.history ++ fails n losses ∷ []) = failure_calls s n s' sound r e in
-    let left = same_run s'.world (s.history ++ fails n losses ∷ []) (step_sound s.world s'.world sound (fails_node n e.world)) same in
-    recorded_aside s (fails n losses) s' tt r e.adds (legal-failure s.history n losses r.legal (failure_fits s n sound r) left) same
-    record { clients = e.world.clients; next = e.world.next; made = e.world.made } (failure_opened s n s' r e)
-    (step_falls s.world s'.world sound (fails_node n e.world)) (failure_nodes s n s' r e)
+failure_recorded s n s' sound r e = grind (
+  arith,
+  failure_calls s n s' sound r e,
+  same_run,
+  step_sound s.world s'.world sound (fails_node n e.world),
+  recorded_aside,
+  legal-failure,
+  failure_fits s n sound r,
+  failure_opened s n s' r e,
+  step_falls s.world s'.world sound (fails_node n e.world),
+  failure_nodes s n s' r e,
+)
 
 -- ---- a failure of a node that isn't full
 
@@ -219,16 +204,10 @@ return_fits s n donor s' r e = r.down n e.node e.world.absent
 
 return_nodes : (s : State) (n donor : ℕ) (s' : State) → IsRecorded s → IsReturn s n donor s' → AreUp s.nodes (s.history ++ returns n ∷ []) s'.world
 return_nodes s n donor s' r e = record {
-  nodes = λ m full. elim (e.world.only m full) [
-    | inl same ↦ subst (λ k. (1 ≤ k) × (k ≤ s.nodes)) (sym same) e.node
-    | inr had ↦ r.nodes m had
-  ];
+  nodes = grind arith;
   up = λ m full down. elim (down-last s.history (returns n) m down) [
     | inl last ↦ (let entry = last.1 in cc)
-    | inr before ↦ elim (e.world.only m full) [
-      | inl same ↦ both_ways (m == n) before.1 (eq-eqb m n same)
-      | inr had ↦ r.up m had before.0
-    ]
+    | inr before ↦ grind arith
   ];
   down = λ m node absent.
       let other : m ≢ n = λ same. absent (subst (λ k. Full s'.world k) (sym same) e.world.joined) in

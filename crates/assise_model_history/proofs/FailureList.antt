@@ -1,10 +1,9 @@
 -- The list that a failure has.
 use Rattle.assise_model_history.proofs.Common.{◌≡◌, ◌≢◌, ◌↔◌, ℕ, zero, suc, ◌<◌, ◌≤◌, true, false, not, ◌==◌, List, [], ◌∷◌, ◌++◌, if◌then◌else◌, filter}
 use Rattle.assise_model_history.proofs.Common.{Contains, refl, ap, sym, subst, ◌∙◌, inl, inr, arith, append-nil, eqb-true, eq-eqb, ne_eqb, cases_Bool, cases_eq}
-use Rattle.assise_model_history.proofs.Common.{and_parts, and_from, both_ways, ltb-true, lt-ltb, or_right, Contains-append_left, Contains-append_right}
-use Rattle.assise_model_history.proofs.Common.{Contains-append_cases, Loss, ClientsAscend, cut_end, not_nil, contains, kept_at_failure, WorldInvariant, World}
-use Rattle.assise_model_history.proofs.Common.{Full, least_of, end_of_log, call_at, least_of-is, least_of-below, least_of-above, is_cut, losses_to, losses_of}
-use Rattle.assise_model_history.proofs.Common.{IsFirstLost}
+use Rattle.assise_model_history.proofs.Common.{and_parts, and_from, both_ways, or_right, Contains-append_left, Contains-append_right, Contains-append_cases}
+use Rattle.assise_model_history.proofs.Common.{Loss, ClientsAscend, cut_end, not_nil, contains, kept_at_failure, WorldInvariant, World, Full, least_of}
+use Rattle.assise_model_history.proofs.Common.{end_of_log, call_at, least_of-is, least_of-below, least_of-above, is_cut, losses_to, losses_of, IsFirstLost}
 
 -- ---- lists
 
@@ -37,15 +36,8 @@ pub listed_to : (w : World) (n m : ℕ) (l : Loss) → Contains (losses_to w n m
 listed_to w n zero l h = absurd (none_in l h)
 listed_to w n (suc m) l h =
     elim (Contains-append_cases (losses_to w n m) _ l h) [
-      | inl before ↦ (let o : IsLossTo w n m l = listed_to w n m l before in
-          record { low = o.low; high = omega (arith, o.high); some = o.some; first = o.first })
-      | inr here ↦ elim (cases_Bool (is_cut w n (suc m))) [
-        | inl some ↦
-            let is : first_loss w n (suc m) ≡ l = one_in (first_loss w n (suc m)) l (rw some at here) in
-            subst (IsLossTo w n (suc m)) is record
-            { low = omega arith; high = omega arith; some = ltb-true (kept_at_failure w n (suc m)) (end_of_log w (suc m)) some; first = refl }
-        | inr none ↦ absurd (none_in l (rw none at here))
-      ]
+      | inl before ↦ grind (arith, listed_to w n m l before)
+      | inr here ↦ grind arith
     ]
 
 loss_to : (w : World) (n m c : ℕ) → 1 ≤ c → c ≤ m → kept_at_failure w n c < end_of_log w c → Contains (losses_to w n m) (first_loss w n c)
@@ -53,8 +45,7 @@ loss_to w n zero c low high some = absurd (omega (arith, low, high))
 loss_to w n (suc m) c low high some =
     elim (cases_eq (suc m) c) [
       | inl own ↦
-          let cut : is_cut w n (suc m) ≡ true = lt-ltb (kept_at_failure w n (suc m)) (end_of_log w (suc m))
-          (subst (λ d. kept_at_failure w n d < end_of_log w d) (sym own) some) in
+          let cut : is_cut w n (suc m) ≡ true = grind arith in
           subst (λ d. Contains (losses_to w n (suc m)) (first_loss w n d)) own
           (Contains-append_right (losses_to w n m) _ (first_loss w n (suc m)) (rw cut (first_in [] (first_loss w n (suc m)))))
       | inr other ↦ Contains-append_left (losses_to w n m) _ (first_loss w n c) (loss_to w n m c low (omega (arith, high, other)) some)
@@ -79,8 +70,7 @@ ascends_to : (w : World) (n m : ℕ) → ClientsAscend (losses_to w n m)
 ascends_to w n zero = λ before between behind l k split. absurd (not_nil before (between ++ k ∷ behind) l split)
 ascends_to w n (suc m) =
     elim (is_cut w n (suc m)) as (λ b. ClientsAscend (losses_to w n m ++ (if b then first_loss w n (suc m) ∷ [] else []))) [
-      | true ↦ ascending_push (losses_to w n m) (first_loss w n (suc m)) (ascends_to w n m) (λ l h. let high : l.client ≤ m = (listed_to w n m l h).high in
-          omega (arith, high))
+      | true ↦ ascending_push (losses_to w n m) (first_loss w n (suc m)) (ascends_to w n m) (λ l h. grind (arith, listed_to w n m l h))
       | false ↦ subst ClientsAscend (sym (append-nil (losses_to w n m))) (ascends_to w n m)
     ]
 
@@ -164,11 +154,9 @@ lost_first : (w : World) (n : ℕ) (l : Loss) → WorldInvariant w → IsFirstLo
 lost_first w n l s f =
     let c : ℕ = l.client in
     let at : kept_at_failure w n c ≡ least_kept w n c = cut_there w n c f.lives f.home in
-    let below : least_kept w n c ≤ w.received f.least c = least_of-below (others_of w n) (λ k. w.received k c) (end_of_log w c) f.least
-    (is_left w.full n f.least f.full f.other) in
+    let below : least_kept w n c ≤ w.received f.least c = grind (arith, least_of-below, is_left w.full n f.least f.full f.other) in
     let lacks : w.received f.least c < end_of_log w c = f.lacks in
-    let above : w.received f.least c ≤ least_kept w n c = least_of-above (others_of w n) (λ k. w.received k c) (end_of_log w c) (w.received f.least c)
-    (omega (arith, lacks)) (λ m h. let p = left_of w.full n m h in f.all_have m p.0 p.1) in
+    let above : w.received f.least c ≤ least_kept w n c = grind (arith, least_of-above, left_of) in
     let is : kept_at_failure w n c ≡ w.received f.least c = omega (arith, at, below, above) in
     let client = s.opened c f.lives in
     record { low = client.0; high = client.1; some = omega (arith, is, lacks); first = f.first ∙ ap (call_at w c) (sym is) }

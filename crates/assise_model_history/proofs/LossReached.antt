@@ -1,11 +1,10 @@
 -- A trace from the start in which a failure takes a call.
-use Rattle.assise_model_history.proofs.Common.{◌≡◌, inl, inr, ℕ, ◌-◌, ◌≤◌, true, false, ◌||◌, ◌==◌, List, [], ◌∷◌, ◌++◌, refl, ap, sym, subst, ◌∙◌, arith}
-use Rattle.assise_model_history.proofs.Common.{eqb-true, Some, Ok, cond, is_some, or_cases, or_right, lt-ltb, Op, Create, Done, Pessimistic, no_entries, opens}
-use Rattle.assise_model_history.proofs.Common.{calls, fails, kept, record_of, room_among, step, directory, Links, Values, contains, touched, Step, NumberedCall}
-use Rattle.assise_model_history.proofs.Common.{MayMakeCall, Acquires, kept_at_failure, WorldInvariant, World, Full, opening_values, end_of_log, call_at}
-use Rattle.assise_model_history.proofs.Common.{undigested_records, view, step_at_home, least_of-below, may_acquire, opening, call, failure, quiet, IsTrace}
-use Rattle.assise_model_history.proofs.Common.{last_of, IsLossy, IsOpening, IsCall, IsFailure, IsUntold, acquires, is_cut, losses_to, losses_of, plain_call}
-use Rattle.assise_model_history.proofs.Common.{State, begun_with}
+use Rattle.assise_model_history.proofs.Common.{◌≡◌, ℕ, ◌-◌, ◌≤◌, true, false, List, [], ◌∷◌, ◌++◌, refl, ap, sym, ◌∙◌, arith, eqb-true, Some, Ok, is_some}
+use Rattle.assise_model_history.proofs.Common.{or_cases, or_right, lt-ltb, Op, Create, Done, Pessimistic, no_entries, opens, calls, fails, kept, record_of}
+use Rattle.assise_model_history.proofs.Common.{room_among, step, directory, Links, Values, contains, Step, NumberedCall, MayMakeCall, Acquires, kept_at_failure}
+use Rattle.assise_model_history.proofs.Common.{WorldInvariant, World, Full, opening_values, end_of_log, call_at, undigested_records, view, step_at_home}
+use Rattle.assise_model_history.proofs.Common.{least_of-below, may_acquire, opening, call, failure, quiet, IsTrace, last_of, IsLossy, IsOpening, IsCall}
+use Rattle.assise_model_history.proofs.Common.{IsFailure, IsUntold, acquires, is_cut, losses_to, losses_of, plain_call, State, begun_with}
 use Rattle.std.proofs.Math.Seq.{drop-nil}
 use Rattle.std.specs.Cmp.{nat_cmp_total}
 use Rattle.std.specs.Cmp.Lexicographic.{slice_cmp}
@@ -13,7 +12,6 @@ use Rattle.std.specs.FinMap as map
 use Rattle.std.specs.Ordering.{nat_cmp}
 use Rattle.assise_names.specs.declared.mode.Mode.TheVariants.{Write}
 use Rattle.assise_record.specs.declared.effect.Effect.TheVariants.{NewFile, Link}
-use Rattle.assise_inode_table.proofs.EffectValues.{same_number}
 use Rattle.assise_inode_table.proofs.DirectoryNames.{names_are_keys}
 use Rattle.assise_model_history.proofs.EntriesPossible.{can_open, can_call, can_fail}
 use Rattle.assise_model_history.proofs.FailureList.{cut_there, least_kept, others_of, is_left}
@@ -148,8 +146,7 @@ abbrev pub no_links : Links
 no_links = map.empty
 
 pub empty_root : opening_values 0 ≡ Some (directory no_links)
-empty_root = map.get-insert nat_cmp_total map.empty 0 (directory no_links) 0 ∙ ap (λ b. cond b (Some (directory no_links)) (map.get {R = nat_cmp} map.empty 0))
-    (same_number 0 0)
+empty_root = grind (arith, map.get-insert, nat_cmp_total)
 
 pub room : room_among (97 ∷ []) no_links ≡ Ok tt
 room =
@@ -172,24 +169,7 @@ of_either P a b i at_a at_b there = grind (arith, or_cases, eqb-true)
 
 pub may_create : (w : World) → IsNew w → ((i : ℕ) → contains (made_number ∷ 0 ∷ []) i ≡ true → w.holds 1 i ≡ true) →
     ((i : ℕ) → contains (made_number ∷ 0 ∷ []) i ≡ true → w.writes 1 i ≡ true) → MayMakeCall w creation
-may_create w n holds writes =
-    let is : step_at_home w creation ≡ first_step = step_is w n in
-    record {
-      lives = n.lives;
-      running = n.runs;
-      number = sym n.next;
-      fresh = rw n.made refl;
-      reply = sym (ap (λ t. t.reply) is);
-      held = λ i h. holds i (visited i (subst (λ t. contains (t.visits ++ touched t.effects) i ≡ true) is h));
-      written = λ i h. writes i (subst (λ t. contains (touched t.effects) i ≡ true) is h);
-      room = λ h. rw n.made (omega arith);
-    }
-  where
-    visited : (i : ℕ) → contains (0 ∷ made_number ∷ 0 ∷ []) i ≡ true → contains (made_number ∷ 0 ∷ []) i ≡ true
-    visited i h = elim (or_cases (0 == i) (contains (made_number ∷ 0 ∷ []) i) h) [
-      | inl is ↦ or_right (made_number == i) ((0 == i) || false) (rw is refl)
-      | inr rest ↦ rest
-    ]
+may_create w n holds writes = grind (arith, step_is w n)
 
 created : (t : State) × IsCall with_leases creation t
 created = grind (arith, can_call, leases_sound, may_create, leases_new, of_either, holds_own, holds_root, writes_own, writes_root)

@@ -19,19 +19,11 @@ filter_like p q (x ∷ xs) h = rw h.0 (ap (λ ys. if q x then x ∷ ys else ys) 
 
 numbered_parts_from : (prefix g h : List EntryValue) → all_after prefix (g ++ h) ≡ all_after prefix g ++ all_after (prefix ++ g) h
 numbered_parts_from prefix [] h = ap (λ f. all_after f h) (sym (append-nil prefix))
-numbered_parts_from prefix (calls x ∷ es) h =
-    ap (λ xs. numbered_in prefix x ∷ xs)
-    (numbered_parts_from (prefix ++ calls x ∷ []) es h ∙ ap (λ f. all_after (prefix ++ calls x ∷ []) es ++ all_after f h)
-    (append_assoc prefix (calls x ∷ []) es))
-numbered_parts_from prefix (opens c n u ∷ es) h = numbered_parts_from (prefix ++ opens c n u ∷ []) es h
-    ∙ ap (λ f. all_after (prefix ++ opens c n u ∷ []) es ++ all_after f h) (append_assoc prefix (opens c n u ∷ []) es)
-numbered_parts_from prefix (crashes c ∷ es) h = numbered_parts_from (prefix ++ crashes c ∷ []) es h
-    ∙ ap (λ f. all_after (prefix ++ crashes c ∷ []) es ++ all_after f h) (append_assoc prefix (crashes c ∷ []) es)
-numbered_parts_from prefix (fails n losses ∷ es) h =
-    numbered_parts_from (prefix ++ fails n losses ∷ []) es h ∙ ap (λ f. all_after (prefix ++ fails n losses ∷ []) es ++ all_after f h)
-    (append_assoc prefix (fails n losses ∷ []) es)
-numbered_parts_from prefix (returns n ∷ es) h = numbered_parts_from (prefix ++ returns n ∷ []) es h
-    ∙ ap (λ f. all_after (prefix ++ returns n ∷ []) es ++ all_after f h) (append_assoc prefix (returns n ∷ []) es)
+numbered_parts_from prefix (calls x ∷ es) h = grind (arith, numbered_parts_from (prefix ++ calls x ∷ []) es h, append_assoc)
+numbered_parts_from prefix (opens c n u ∷ es) h = grind (arith, numbered_parts_from (prefix ++ opens c n u ∷ []) es h, append_assoc)
+numbered_parts_from prefix (crashes c ∷ es) h = grind (arith, numbered_parts_from (prefix ++ crashes c ∷ []) es h, append_assoc)
+numbered_parts_from prefix (fails n losses ∷ es) h = grind (arith, numbered_parts_from (prefix ++ fails n losses ∷ []) es h, append_assoc)
+numbered_parts_from prefix (returns n ∷ es) h = grind (arith, numbered_parts_from (prefix ++ returns n ∷ []) es h, append_assoc)
 
 pub numbered_parts : (g h : List EntryValue) → all_after [] (g ++ h) ≡ all_after [] g ++ all_after g h
 numbered_parts g h = numbered_parts_from [] g h
@@ -42,27 +34,11 @@ left_by h xs = filter (λ x. not (is_lost h (plain_call x))) xs
 
 kept_parts_from : (prefix g h : List EntryValue) → kept_after prefix (g ++ h) ≡ left_by h (kept_after prefix g) ++ kept_after (prefix ++ g) h
 kept_parts_from prefix [] h = ap (λ f. kept_after f h) (sym (append-nil prefix))
-kept_parts_from prefix (opens c n u ∷ es) h = kept_parts_from (prefix ++ opens c n u ∷ []) es h
-    ∙ ap (λ f. left_by h (kept_after (prefix ++ opens c n u ∷ []) es) ++ kept_after f h) (append_assoc prefix (opens c n u ∷ []) es)
-kept_parts_from prefix (crashes c ∷ es) h = kept_parts_from (prefix ++ crashes c ∷ []) es h
-    ∙ ap (λ f. left_by h (kept_after (prefix ++ crashes c ∷ []) es) ++ kept_after f h) (append_assoc prefix (crashes c ∷ []) es)
-kept_parts_from prefix (fails n losses ∷ es) h =
-    kept_parts_from (prefix ++ fails n losses ∷ []) es h ∙ ap (λ f. left_by h (kept_after (prefix ++ fails n losses ∷ []) es) ++ kept_after f h)
-    (append_assoc prefix (fails n losses ∷ []) es)
-kept_parts_from prefix (returns n ∷ es) h = kept_parts_from (prefix ++ returns n ∷ []) es h
-    ∙ ap (λ f. left_by h (kept_after (prefix ++ returns n ∷ []) es) ++ kept_after f h) (append_assoc prefix (returns n ∷ []) es)
-kept_parts_from prefix (calls x ∷ es) h =
-    let here : kept_after (prefix ++ calls x ∷ []) (es ++ h) ≡ left_by h (kept_after (prefix ++ calls x ∷ []) es) ++ kept_after (prefix ++ calls x ∷ es) h =
-    kept_parts_from (prefix ++ calls x ∷ []) es h ∙ ap (λ f. left_by h (kept_after (prefix ++ calls x ∷ []) es) ++ kept_after f h)
-    (append_assoc prefix (calls x ∷ []) es) in
-    let both : is_lost (es ++ h) x ≡ (if is_lost es x then true else is_lost h x) = is_lost-append es h x in
-    elim (cases_Bool (is_lost es x)) [
-      | inl gone ↦ rw (both, gone) here
-      | inr left ↦ elim (cases_Bool (is_lost h x)) [
-        | inl lost ↦ rw (both, left, lost) here
-        | inr stays ↦ rw (both, left, stays) (ap (λ xs. numbered_in prefix x ∷ xs) here)
-      ]
-    ]
+kept_parts_from prefix (opens c n u ∷ es) h = grind (arith, kept_parts_from (prefix ++ opens c n u ∷ []) es h, append_assoc)
+kept_parts_from prefix (crashes c ∷ es) h = grind (arith, kept_parts_from (prefix ++ crashes c ∷ []) es h, append_assoc)
+kept_parts_from prefix (fails n losses ∷ es) h = grind (arith, kept_parts_from (prefix ++ fails n losses ∷ []) es h, append_assoc)
+kept_parts_from prefix (returns n ∷ es) h = grind (arith, kept_parts_from (prefix ++ returns n ∷ []) es h, append_assoc)
+kept_parts_from prefix (calls x ∷ es) h = grind (arith, kept_parts_from (prefix ++ calls x ∷ []) es h, append_assoc, is_lost-append)
 
 pub kept_parts : (g h : List EntryValue) → kept_numbered (g ++ h) ≡ left_by h (kept_numbered g) ++ kept_after g h
 kept_parts g h = kept_parts_from [] g h
@@ -99,11 +75,7 @@ kept_plain_from prefix (opens c n u ∷ es) = kept_plain_from (prefix ++ opens c
 kept_plain_from prefix (crashes c ∷ es) = kept_plain_from (prefix ++ crashes c ∷ []) es
 kept_plain_from prefix (fails n losses ∷ es) = kept_plain_from (prefix ++ fails n losses ∷ []) es
 kept_plain_from prefix (returns n ∷ es) = kept_plain_from (prefix ++ returns n ∷ []) es
-kept_plain_from prefix (calls x ∷ es) =
-    elim (cases_Bool (is_lost es x)) [
-      | inl gone ↦ rw gone (kept_plain_from (prefix ++ calls x ∷ []) es)
-      | inr left ↦ rw left (ap (λ xs. x ∷ xs) (kept_plain_from (prefix ++ calls x ∷ []) es))
-    ]
+kept_plain_from prefix (calls x ∷ es) = grind (arith, kept_plain_from (prefix ++ calls x ∷ []) es)
 
 pub kept_plain : (h : List EntryValue) → map plain_call (kept_numbered h) ≡ kept h
 kept_plain h = kept_plain_from [] h
@@ -141,15 +113,7 @@ kept_as_from prefix (calls x ∷ es) y h =
       | inr left ↦
           let all : Contains (numbered_in prefix x ∷ kept_after (prefix ++ calls x ∷ []) es) y = rw left at h in
           elim (Contains-append_cases (numbered_in prefix x ∷ []) (kept_after (prefix ++ calls x ∷ []) es) y all) [
-            | inl here ↦ record {
-              before = [];
-              later = es;
-              plain = x;
-              split = refl;
-              safe = left;
-              numbered = sym (one_of y (numbered_in prefix x) here)
-                  ∙ ap (λ f. numbered_in f x) (sym (append-nil prefix));
-            }
+            | inl here ↦ grind (arith, append-nil prefix)
             | inr there ↦ later_on prefix es (calls x) y (kept_as_from (prefix ++ calls x ∷ []) es y there)
           ]
     ]
@@ -161,9 +125,9 @@ kept_as h y is = let k = kept_as_from [] h y is in
 kept_there : (h : List EntryValue) (y : NumberedCall) → IsKeptAs h y → Contains (kept_numbered h) y
 kept_there h y k =
     let there : kept_numbered h ≡ left_by (calls k.plain ∷ k.later) (kept_numbered k.before) ++ kept_after k.before (calls k.plain ∷ k.later) =
-    ap kept_numbered k.split ∙ kept_parts k.before (calls k.plain ∷ k.later) in
+    grind (arith, kept_parts) in
     let first : Contains (kept_after k.before (calls k.plain ∷ k.later)) y =
-    rw k.safe (first_in (kept_after (k.before ++ calls k.plain ∷ []) k.later) y (numbered_in k.before k.plain) (sym k.numbered)) in
+    grind arith in
     subst (λ xs. Contains xs y) (sym there)
     (Contains-append_right (left_by (calls k.plain ∷ k.later) (kept_numbered k.before)) (kept_after k.before (calls k.plain ∷ k.later)) y first)
 

@@ -74,9 +74,7 @@ opened_more h e w w' c home crashed lives was = let o = was.opened in record {
   opened = search (append_assoc, arith) parts 3;
   crashed = crashed ∙ ap (λ b. b || is_crash_of c e) was.crashed ∙ sym (any_push (is_crash_of c) o.since e);
   lives = subst (λ n. w'.lives c ≡ not (list_any (is_failure_of n) (o.since ++ e ∷ []))) (sym home)
-      (lives ∙ ap (λ b. b && not (is_failure_of (w.home c) e)) was.lives
-      ∙ sym (not_or (list_any (is_failure_of (w.home c)) o.since) (is_failure_of (w.home c) e))
-      ∙ ap not (sym (any_push (is_failure_of (w.home c)) o.since e)));
+      (grind (arith, any_push));
 }
 
 -- it is neither
@@ -88,13 +86,7 @@ opened_aside h e w w' c same crash failure o =
 -- there is none
 pub opened_still : (h : List EntryValue) (w w' : World) (c : ℕ) → SameClients w w' → WasOpened h w c → WasOpened h w' c
 opened_still h w w' c same was = let o = was.opened in record {
-  opened = record {
-    durability = o.durability;
-    before = o.before;
-    since = o.since;
-    split = subst (λ n. h ≡ o.before ++ opens c n o.durability ∷ o.since)
-        (sym (same.home c)) o.split;
-  };
+  opened = grind arith;
   crashed = same.crashed c ∙ was.crashed;
   lives = subst (λ n. w'.lives c ≡ not (list_any (is_failure_of n) o.since)) (sym (same.home c)) (same.lives c ∙ was.lives);
 }

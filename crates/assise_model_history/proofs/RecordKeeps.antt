@@ -1,14 +1,14 @@
 -- Openings, calls, crashes, and what is quiet, keep what the history says of the state.
 use Rattle.assise_model_history.proofs.Common.{◌≡◌, ℕ, suc, ◌<◌, ◌≤◌, true, false, ◌||◌, ◌==◌, List, [], ◌∷◌, ◌++◌, map, refl, ap, sym, subst, ◌∙◌, inl, inr}
-use Rattle.assise_model_history.proofs.Common.{arith, append-nil, eq-eqb, ne_eqb, list_any, cases_Bool, cases_eq, not-true, or_right, opening_tree, AreAnswered}
-use Rattle.assise_model_history.proofs.Common.{tree_after_calls, Call, Durability, EntryValue, opens, calls, crashes, kept, IsRun, exchange, tree_after}
-use Rattle.assise_model_history.proofs.Common.{IsAlive, IsLegal, IsNextCall, MayOpen, calls_made, clients_opened, is_call_of, is_failure_of, is_opening}
-use Rattle.assise_model_history.proofs.Common.{is_sync, durability_of, syncs, legal-open, legal-call, legal-crash, inode_number, makes_inode, NumberedCall}
-use Rattle.assise_model_history.proofs.Common.{exchanges, ops, MakesCall, Moves, NoneFalls, opens_client, makes_call, crashes_client, raises_goals, releases}
-use Rattle.assise_model_history.proofs.Common.{delivers, digests, drops, coalesces, rests, WorldInvariant, SameLogs, SameClients, World, Full, IsClient}
-use Rattle.assise_model_history.proofs.Common.{end_of_log, received_by_all, first_unreplicated, view, tree, call_makes_inode, received_by_all-below}
-use Rattle.assise_model_history.proofs.Common.{received_by_all-end, least_of-above, step_falls, AddsEntry, IsOpening, IsCall, IsCrash, NeedsNoEntry, IsUntold}
-use Rattle.assise_model_history.proofs.Common.{is_making_of, made_in, numbered_in, plain_call, kept_numbered, State, WasOpened, IsRecorded}
+use Rattle.assise_model_history.proofs.Common.{arith, append-nil, eq-eqb, ne_eqb, list_any, cases_Bool, cases_eq, not-true, or_right, opening_tree, Call}
+use Rattle.assise_model_history.proofs.Common.{Durability, EntryValue, opens, calls, crashes, kept, IsRun, exchange, tree_after, IsAlive, IsLegal, IsNextCall}
+use Rattle.assise_model_history.proofs.Common.{MayOpen, calls_made, is_call_of, is_failure_of, is_opening, is_sync, syncs, legal-open, legal-call, legal-crash}
+use Rattle.assise_model_history.proofs.Common.{inode_number, makes_inode, NumberedCall, exchanges, ops, MakesCall, Moves, NoneFalls, opens_client, makes_call}
+use Rattle.assise_model_history.proofs.Common.{crashes_client, raises_goals, releases, delivers, digests, drops, coalesces, rests, WorldInvariant, SameLogs}
+use Rattle.assise_model_history.proofs.Common.{SameClients, World, Full, IsClient, end_of_log, received_by_all, first_unreplicated, view, tree}
+use Rattle.assise_model_history.proofs.Common.{call_makes_inode, received_by_all-below, received_by_all-end, least_of-above, step_falls, AddsEntry, IsOpening}
+use Rattle.assise_model_history.proofs.Common.{IsCall, IsCrash, NeedsNoEntry, IsUntold, is_making_of, made_in, numbered_in, plain_call, kept_numbered, State}
+use Rattle.assise_model_history.proofs.Common.{WasOpened, IsRecorded}
 use Rattle.assise_seq_tree.specs.Answer.{answer}
 use Rattle.assise_model_world.specs.Runs.{acquires}
 use Rattle.assise_model_world.proofs.CallKeeps.{call_reply}
@@ -64,8 +64,7 @@ recorded_aside s e s' a r adds legal same counts opened falls nodes = with_histo
 -- ---- an opening
 
 pub opening_fits : (s : State) (n : ℕ) (u : Durability) (s' : State) → IsRecorded s → IsOpening s n u s' → MayOpen s.history (suc s.world.clients) n
-opening_fits s n u s' r e = record
-    { next = (let count : s.world.clients ≡ clients_opened s.history = r.count in omega (arith, count)); up = r.up n e.world.full_node }
+opening_fits s n u s' r e = grind arith
 
 opening_of : (s : State) (n : ℕ) (u : Durability) (s' : State) → IsRecorded s → IsOpening s n u s' → (c : ℕ) → IsClient s'.world c →
     WasOpened (s.history ++ opens (suc s.world.clients) n u ∷ []) s'.world c
@@ -104,15 +103,11 @@ exchanges_plain (x ∷ xs) = ap (λ ps. (x.op, x.reply) ∷ ps) (exchanges_plain
 -- the machine's tree is that of the kept calls
 pub same_tree : (w : World) (h : List EntryValue) → w.calls ≡ kept_numbered h → tree w ≡ tree_after opening_tree (kept h)
 unfolding tree
-same_tree w h same =
-    ap (λ os. tree_after_calls opening_tree os) (sym (ops_plain w.calls) ∙ ap (λ xs. map (λ x. x.op) (map plain_call xs)) same
-    ∙ ap (λ cs. map (λ x. x.op) cs) (kept_plain h))
+same_tree w h same = grind (arith, ops_plain w.calls, kept_plain h)
 
 -- and its calls are a run
 pub same_run : (w : World) (h : List EntryValue) → WorldInvariant w → w.calls ≡ kept_numbered h → IsRun opening_tree (kept h)
-same_run w h sound same =
-    subst (λ ps. AreAnswered opening_tree ps) (sym (exchanges_plain w.calls) ∙ ap (λ xs. map exchange (map plain_call xs)) same
-    ∙ ap (λ cs. map exchange cs) (kept_plain h)) sound.coherent.answered
+same_run w h sound same = grind (arith, exchanges_plain w.calls, kept_plain h)
 
 -- a client that lives lost no node since its opening
 pub no_failure : (s : State) (c : ℕ) (o : WasOpened s.history s.world c) → s.world.lives c ≡ true → list_any (is_failure_of (s.world.home c)) o.opened.since
@@ -128,7 +123,7 @@ call_fits s x s' sound r e =
         opened = o.opened;
         no_crash = sym o.crashed ∙ e.world.running;
         no_failure =
-            no_failure s x.client o e.world.lives;
+            grind arith;
       };
       number = e.world.number ∙ r.next x.client;
     }
@@ -171,8 +166,7 @@ sync_received w w' x u e sync all = grind (arith, sync_end, received_by_all-end,
 
 pub sync_replicated : (s : State) (x : NumberedCall) (s' : State) → IsCall s x s' → syncs s.history (plain_call x) ≡ true → first_unreplicated s'.world x.client
     ≡ s'.world.next x.client
-sync_replicated s x s' e sync =
-    next_unreplicated s'.world x.client (sync_received s.world s'.world x (durability_of x.client s.history) e.world sync (e.replicated sync))
+sync_replicated s x s' e sync = grind (arith, next_unreplicated, sync_received)
 
 call_synced : (s : State) (x : NumberedCall) (s' : State) → IsCall s x s' → (c : ℕ) (y : Call) → calls (plain_call x) ≡ calls y → y.client ≡ c →
     syncs s.history y ≡ true → y.number < first_unreplicated s'.world c
@@ -185,8 +179,7 @@ call_recorded s x s' sound r e =
     let nodes : AreUp s.nodes (s.history ++ entry ∷ []) s'.world = up_client s.nodes s.history entry s.world s'.world tt e.world.full (nodes_of s r) in
     with_history s' s.nodes (s.history ++ entry ∷ []) e.adds.nodes e.adds.entry record {
       legal = legal-call s.history (plain_call x) r.legal (call_fits s x s' sound r e) (call_answered s x s' sound r e);
-      calls = e.world.calls ∙ ap (λ xs. xs ++ x ∷ []) r.calls ∙ ap (λ y. kept_numbered s.history ++ y ∷ []) (sym (same_number s x s' r e))
-          ∙ sym (kept_call s.history (plain_call x));
+      calls = grind (arith, kept_call);
       count = e.world.clients.clients ∙ r.count ∙ sym (count_same is_opening s.history entry refl);
       opened = λ c client. opened_aside s.history entry s.world s'.world c e.world.clients refl refl
           (r.opened c (client_before s.world s'.world c e.world.clients.clients client));

@@ -1,8 +1,7 @@
 -- What was synced is kept.
-use Rattle.assise_model_history.proofs.Common.{◌≡◌, ℕ, ◌<◌, true, false, List, [], ◌∷◌, ◌++◌, Contains, refl, ap, sym, subst, ◌∙◌, ◌⊎◌, inl, inr, arith}
-use Rattle.assise_model_history.proofs.Common.{append_assoc, eq-eqb, list_any, both_ways, Call, Loss, EntryValue, opens, calls, fails, kept, IsTaken, IsFair}
-use Rattle.assise_model_history.proofs.Common.{IsLegal, IsNextCall, IsOn, MayCall, MayLose, is_failure_of, prefix_in, follows_in, passes_at, SamePlace}
-use Rattle.assise_model_history.proofs.Common.{one_place, WasSynced}
+use Rattle.assise_model_history.proofs.Common.{◌≡◌, ℕ, List, [], ◌∷◌, ◌++◌, Contains, refl, sym, subst, ◌∙◌, ◌⊎◌, inl, inr, arith, append_assoc, Call, Loss}
+use Rattle.assise_model_history.proofs.Common.{EntryValue, calls, fails, kept, IsTaken, IsFair, IsLegal, IsNextCall, IsOn, MayCall, MayLose, prefix_in}
+use Rattle.assise_model_history.proofs.Common.{follows_in, passes_at, one_place, WasSynced}
 use Rattle.assise_history.proofs.Lost.{kept_from}
 
 -- where two entries of a list stand to one another
@@ -19,47 +18,26 @@ record Same {X : Type 0} (before since : List X) (x : X) (prefix behind : List X
 placed : {X : Type 0} (before since : List X) (x : X) (prefix behind : List X) (y : X) → before ++ x ∷ since ≡ prefix ++ y ∷ behind →
     Same before since x prefix behind y ⊎ Between before since x prefix behind y ⊎ Between prefix behind y before since x
 placed [] since x [] behind y h = inl record { prefix_is = refl; entry_is = cc; behind_is = cc }
-placed [] since x (f ∷ prefix) behind y h =
-    let here : f ≡ x = cc in
-    let rest : since ≡ prefix ++ y ∷ behind = cc in
-    inr (inl record { rest = prefix; since_is = rest; prefix_is = ap (λ z. z ∷ prefix) here })
-placed (b ∷ before) since x [] behind y h =
-    let here : b ≡ y = cc in
-    let rest : behind ≡ before ++ x ∷ since = cc in
-    inr (inr record { rest = before; since_is = rest; prefix_is = ap (λ z. z ∷ before) here })
+placed [] since x (f ∷ prefix) behind y h = grind arith
+placed (b ∷ before) since x [] behind y h = grind arith
 placed (b ∷ before) since x (f ∷ prefix) behind y h =
     let here : b ≡ f = cc in
     let tails : before ++ x ∷ since ≡ prefix ++ y ∷ behind = cc in
     elim (placed before since x prefix behind y tails) [
       | inl p ↦ let q = p.prefix_is in inl record { prefix_is = cc; entry_is = p.entry_is; behind_is = p.behind_is }
-      | inr more ↦ elim more [
-        | inl p ↦ let q = p.prefix_is in inr (inl record { rest = p.rest; since_is = p.since_is; prefix_is = cc })
-        | inr p ↦ let q = p.prefix_is in inr (inr record { rest = p.rest; since_is = p.since_is; prefix_is = cc })
-      ]
+      | inr more ↦ grind arith
     ]
 
 -- a client whose node failed, since it was opened there, makes no call
 failed_since : (h prefix rest : List EntryValue) (c n : ℕ) (losses : List Loss) → IsLegal h → h ≡ prefix ++ fails n losses ∷ rest → IsOn prefix c n →
     MayCall h c → ⊥
-failed_since h prefix rest c n losses legal split on may =
-    let o = on.opened in
-    let now = may.opened in
-    let since : List EntryValue = o.since ++ fails n losses ∷ rest in
-    let there : h ≡ o.before ++ opens c n o.durability ∷ since = split ∙ ap (λ es. es ++ fails n losses ∷ rest) o.split
-    ∙ append_assoc o.before (opens c n o.durability ∷ o.since) (fails n losses ∷ rest) in
-    let same : SamePlace o.before since n o.durability now.before now.since may.node now.durability = one_place h legal c n may.node o.durability now.durability
-    o.before since now.before now.since there now.split in
-    let some : list_any (is_failure_of n) since ≡ true = passes_at (is_failure_of n) o.since rest (fails n losses) (eq-eqb n n refl) in
-    let none : list_any (is_failure_of n) since ≡ false = subst (λ m. list_any (is_failure_of m) since ≡ false) (sym same.node)
-    (subst (λ es. list_any (is_failure_of may.node) es ≡ false) (sym same.rest) may.no_failure) in
-    both_ways (list_any (is_failure_of n) since) none some
+failed_since h prefix rest c n losses legal split on may = grind (arith, append_assoc, one_place, passes_at)
 
 -- no failure takes it, neither before the sync nor after it
 not_taken : (h before since : List EntryValue) (y : Call) → IsLegal h → h ≡ before ++ calls y ∷ since → WasSynced h y → IsTaken since y → ⊥
 not_taken h before since y legal split f t =
     let prefix : List EntryValue = before ++ calls y ∷ t.before in
-    let failed : h ≡ prefix ++ fails t.node t.losses ∷ t.behind = split ∙ ap (λ es. before ++ calls y ∷ es) t.split
-    ∙ sym (append_assoc before (calls y ∷ t.before) (fails t.node t.losses ∷ t.behind)) in
+    let failed : h ≡ prefix ++ fails t.node t.losses ∷ t.behind = grind (arith, append_assoc) in
     let fair : IsFair prefix t.node t.losses = follows_in h prefix t.behind (fails t.node t.losses) legal failed in
     let may : MayLose prefix t.node t.loss = fair.each t.lower t.higher t.loss t.listed in
     let same : f.sync.client ≡ t.loss.client = f.client ∙ sym t.client in
@@ -67,8 +45,7 @@ not_taken h before since y legal split f t =
       | inl p ↦ let never : calls f.sync ≡ fails t.node t.losses = p.entry_is in cc
       | inr more ↦ elim more [
         | inl p ↦
-            let past : f.sync.number < t.loss.first = may.past f.before p.rest f.sync p.prefix_is same f.is_one in
-            omega (arith, past, t.first, f.number)
+            grind arith
         | inr p ↦
             let next : IsNextCall f.before f.sync = follows_in h f.before f.since (calls f.sync) legal f.split in
             let ready : MayCall f.before t.loss.client = subst (λ c. MayCall f.before c) same next.ready in
@@ -78,5 +55,4 @@ not_taken h before since y legal split f t =
     ]
 
 pub synced_kept : (h before since : List EntryValue) (y : Call) → IsLegal h → h ≡ before ++ calls y ∷ since → WasSynced h y → Contains (kept h) y
-synced_kept h before since y legal split f =
-    kept_from h y record { before = before; later = since; split = split; safe = not_taken h before since y legal split f }
+synced_kept h before since y legal split f = grind (arith, kept_from, not_taken)

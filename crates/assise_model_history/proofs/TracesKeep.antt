@@ -1,19 +1,17 @@
 -- Whatever happens.
 use Rattle.assise_model_history.proofs.Common.{◌≡◌, ℕ, zero, suc, ◌<◌, ◌≤◌, true, false, if◌then◌else◌, List, [], ◌∷◌, ◌++◌, filter, map, Contains, refl, ap}
-use Rattle.assise_model_history.proofs.Common.{sym, subst, ◌∙◌, inl, inr, arith, append_assoc, append-nil, eqb-true, ◌==◌, cases_Bool, cases_eq, lt-ltb}
-use Rattle.assise_model_history.proofs.Common.{or_left, or_right, Contains-append_right, Contains-append_cases, opening_tree, AreAnswered, tree_after_calls}
-use Rattle.assise_model_history.proofs.Common.{Call, EntryValue, calls, fails, IsFair, legal-nil, follows_in, not_nil, down-nil, contains, NumberedCall}
-use Rattle.assise_model_history.proofs.Common.{exchanges, ops, below, Moves, NoneFalls, StayReplicated, Runs, last, opens_client, makes_call, crashes_client}
-use Rattle.assise_model_history.proofs.Common.{fails_node, joins_node, rests_all, WorldInvariant, World, first_unreplicated, calls_replicated, alone_at}
-use Rattle.assise_model_history.proofs.Common.{every_run, step_sound, run_falls, run_stays, EntryHappens, opening, call, crash, failure, failure_again}
-use Rattle.assise_model_history.proofs.Common.{comeback, quiet, IsTrace, last_of, numbered_replicated, WasSynced, IsSafe, IsLasting, plain_call, kept_numbered}
-use Rattle.assise_model_history.proofs.Common.{State, IsRecorded, down_from, begun_with}
+use Rattle.assise_model_history.proofs.Common.{sym, subst, ◌∙◌, inl, inr, arith, append_assoc, append-nil, eqb-true, ◌==◌, cases_Bool, cases_eq, or_left}
+use Rattle.assise_model_history.proofs.Common.{or_right, Contains-append_right, Contains-append_cases, opening_tree, AreAnswered, Call, EntryValue, calls}
+use Rattle.assise_model_history.proofs.Common.{fails, IsFair, legal-nil, follows_in, not_nil, down-nil, contains, NumberedCall, exchanges, below, Moves}
+use Rattle.assise_model_history.proofs.Common.{NoneFalls, StayReplicated, Runs, last, opens_client, makes_call, crashes_client, fails_node, joins_node}
+use Rattle.assise_model_history.proofs.Common.{rests_all, WorldInvariant, World, first_unreplicated, calls_replicated, every_run, step_sound, run_falls}
+use Rattle.assise_model_history.proofs.Common.{run_stays, EntryHappens, opening, call, crash, failure, failure_again, comeback, quiet, IsTrace, last_of}
+use Rattle.assise_model_history.proofs.Common.{numbered_replicated, WasSynced, IsSafe, IsLasting, plain_call, kept_numbered, State, IsRecorded, down_from}
+use Rattle.assise_model_history.proofs.Common.{begun_with}
 use Rattle.std.proofs.lemmas.Bool.{eq-eqb}
-use Rattle.assise_inode_table.specs.Spelled.{Spells}
 use Rattle.assise_model_world.proofs.RegionAlone.{rebuilds_tree, rebuilds_run}
 use Rattle.assise_model_history.proofs.FailureKeeps.{failure_recorded, failure_again_recorded, return_recorded}
 use Rattle.assise_model_history.proofs.Synced.{synced_kept}
-use Rattle.assise_model_history.proofs.FailureList.{one_in}
 use Rattle.assise_model_history.proofs.NumberedCalls.{kept_plain}
 use Rattle.assise_model_history.proofs.RecordKeeps.{untold_moves, opening_recorded, call_recorded, crash_recorded, quiet_recorded}
 
@@ -85,10 +83,7 @@ trace_nodes s (t ∷ ts) m = trace_nodes t ts m.1 ∙ happens_nodes s t m.0
 
 trace_grows : (s : State) (ts : List State) → IsTrace s ts → (more : List EntryValue) × ((last_of s ts).history ≡ s.history ++ more)
 trace_grows s [] m = ([], sym (append-nil s.history))
-trace_grows s (t ∷ ts) m =
-    let one = happens_grows s t m.0 in
-    let rest = trace_grows t ts m.1 in
-    (one.0 ++ rest.0, rest.1 ∙ ap (λ h. h ++ rest.0) one.1 ∙ append_assoc s.history one.0 rest.0)
+trace_grows s (t ∷ ts) m = grind (arith, trace_grows t ts m.1, append_assoc)
 
 -- ---- what follows of it
 
@@ -106,11 +101,7 @@ among_low a [] y low h = absurd (omega (arith, h.1))
 among_low a (x ∷ xs) y low h =
     elim (Contains-append_cases (plain_call x ∷ []) (map plain_call xs) y h) [
       | inl first ↦
-          let here : plain_call x ≡ y = one_in (plain_call x) y first in
-          let number : x.number ≡ y.number = ap (λ z. z.number) here in
-          let client : x.client ≡ y.client = ap (λ z. z.client) here in
-          let passes : below a x ≡ true = lt-ltb x.number (a x.client) (subst (λ c. x.number < a c) (sym client) (omega (arith, number, low))) in
-          rw passes (first_of (map plain_call (filter (below a) xs)) y (plain_call x) here)
+          grind arith
       | inr there ↦
           let rest : Contains (map plain_call (filter (below a) xs)) y = among_low a xs y low there in
           elim (below a x) as (λ b. Contains (map plain_call (if b then x ∷ filter (below a) xs else filter (below a) xs)) y) [
@@ -126,8 +117,7 @@ synced_replicated s before since y r split f = grind (arith, among_low, kept_pla
 pub kept_of : (s : State) → WorldInvariant s.world → IsRecorded s → IsSafe s
 kept_of s sound r = record {
   legal = r.legal;
-  rebuilt = λ n full. subst (λ xs. Spells (alone_at s.world n) (tree_after_calls opening_tree (ops xs))) (replicated_same s r)
-      (rebuilds_tree s.world n sound full);
+  rebuilt = grind (arith, replicated_same, rebuilds_tree);
   run = subst (λ xs. AreAnswered opening_tree (exchanges xs)) (replicated_same s r) (rebuilds_run s.world sound);
   synced = λ before since y split f. synced_replicated s before since y r split f;
   fair = λ before later n lower higher l split.

@@ -1,7 +1,7 @@
 -- Those who stand against a client are asked for their leases.
-use Rattle.assise_model_leases.proofs.Common.{◌≡◌, ℕ, ◌≤◌, ◌⊎◌, inl, inr, Bool, true, Option, Some, refl, ap, sym, ◌∙◌, subst, arith, both_ways, cases_eq}
-use Rattle.assise_model_leases.proofs.Common.{cases_Bool, Mode, Lease, in_way, is_revoked, asked_lawful, WorldInvariant, World, Asks, is_newly_revoked}
-use Rattle.assise_model_leases.proofs.Common.{asked_goal, Leases, client_lease, IsRevokedLease, CoversFrom, AreLeases, is_held, is_written}
+use Rattle.assise_model_leases.proofs.Common.{◌≡◌, ℕ, ◌≤◌, ◌⊎◌, Bool, true, Option, Some, refl, ap, sym, ◌∙◌, subst, arith, both_ways, cases_eq, cases_Bool}
+use Rattle.assise_model_leases.proofs.Common.{Mode, Lease, is_revoked, asked_lawful, WorldInvariant, World, Asks, is_newly_revoked, asked_goal, Leases}
+use Rattle.assise_model_leases.proofs.Common.{client_lease, IsRevokedLease, CoversFrom, AreLeases, is_held, is_written}
 use Rattle.assise_model_leases.proofs.LookUps.{revoked_one, held_one, written_one, still_revoked}
 use Rattle.assise_model_leases.proofs.Waiters.{asked_lease, asked_elsewhere}
 use Rattle.assise_model_leases.proofs.CutsCover.{covers_same}
@@ -11,12 +11,7 @@ module _ (w u : World) (l k : Leases) (c i : ℕ) (mode : Mode) (a : AreLeases w
   -- what holds of a lease that may be revoked, and of one that stays
   at_each : (P : Option Lease → Option Lease → Type 0) → ((p : Lease → Bool) (o : Option Lease) → P (revoked_one p o) o) → ((o : Option Lease) → P o o) →
       (d j : ℕ) → P (client_lease k d j) (client_lease l d j)
-  at_each P one same d j = elim (cases_eq j i) [
-    | inl is ↦ subst (λ j. P (client_lease k d j) (client_lease l d j)) (sym is)
-        (subst (λ o. P o (client_lease l d i)) (sym (asked_lease w u l k c i mode e d))
-        (one (in_way l.levels.home (l.levels.nodes i) c (w.home c) mode) (client_lease l d i)))
-    | inr other ↦ subst (λ o. P o (client_lease l d j)) (sym (asked_elsewhere w u l k c i mode e d j other)) (same (client_lease l d j))
-  ]
+  at_each P one same d j = grind (arith, asked_lease w u l k c i mode e d)
 
   same_held : (d j : ℕ) → is_held (client_lease k d j) ≡ is_held (client_lease l d j)
   same_held = at_each (λ x y. is_held x ≡ is_held y) held_one (λ o. refl)

@@ -1,9 +1,9 @@
 -- A client that crashes, or whose node fails, has only revoked leases from then on.
-use Rattle.assise_model_leases.proofs.Common.{◌≡◌, ◌≢◌, ℕ, ◌==◌, ◌≤◌, inl, inr, Bool, true, List, Some, refl, ap, sym, ◌∙◌, subst, arith, eq-eqb, ne_eqb}
-use Rattle.assise_model_leases.proofs.Common.{and_right, both_ways, cases_eq, Lease, SameLeases, lease_of, revoke, revoked_if, is_own, compatible, among_map}
-use Rattle.assise_model_leases.proofs.Common.{map_among, any_among, among_any, Homes, Under, AskedBelow, is_revoked, is_node, lives, TwoLevels, LevelsInvariant}
-use Rattle.assise_model_leases.proofs.Common.{revoked_lawful, kept_at_failure, WorldInvariant, World, end_of_log, part-whole, CrashesWith, FailsWithLeases}
-use Rattle.assise_model_leases.proofs.Common.{Leases, client_lease, IsRevokedLease, CoversFrom, AreLeases, is_held, lease_among}
+use Rattle.assise_model_leases.proofs.Common.{◌≡◌, ◌≢◌, ℕ, ◌==◌, inl, inr, Bool, true, List, Some, refl, ap, sym, ◌∙◌, subst, arith, eq-eqb, ne_eqb, and_right}
+use Rattle.assise_model_leases.proofs.Common.{cases_eq, Lease, SameLeases, lease_of, revoke, revoked_if, is_own, compatible, among_map, map_among, any_among}
+use Rattle.assise_model_leases.proofs.Common.{among_any, Homes, Under, AskedBelow, is_revoked, lives, TwoLevels, LevelsInvariant, revoked_lawful}
+use Rattle.assise_model_leases.proofs.Common.{kept_at_failure, WorldInvariant, World, end_of_log, part-whole, CrashesWith, FailsWithLeases, Leases}
+use Rattle.assise_model_leases.proofs.Common.{client_lease, IsRevokedLease, AreLeases, is_held, lease_among}
 use Rattle.assise_lease_table.proofs.LeaseChanges.{revoke_fits}
 use Rattle.assise_model_leases.proofs.LookUps.{revoked_one, revoke_of, held_one, written_one, still_revoked, now_revoked, was_revoked}
 use Rattle.assise_model_leases.proofs.CutsCover.{covers_same, covers_end}
@@ -35,28 +35,12 @@ module _ (w u : World) (l k : Leases) (c : ℕ) (a : AreLeases w l) (e : Crashes
   crash_keeps s = record {
     lawful = revoked_lawful l.levels a.lawful k.levels c e.revoked;
     held = search (same_held, lease, written_one, arith) parts 3;
-    homes = λ d o. e.revoked.home d ∙ a.homes d (o.0, (let n : u.clients ≡ w.clients = e.crash.clients in omega (arith, o.1, n)))
-        ∙ ap (λ m. Some m) (sym (e.crash.home d));
+    homes = grind arith;
     strangers = λ d no. e.revoked.home d ∙ a.strangers d (λ o. no (o.0, (let n : u.clients ≡ w.clients = e.crash.clients in omega (arith, o.1, n))));
-    covered = λ d j h. covers_same w u d j (k.cut d j) (e.crash.logs.records d) (e.crash.logs.first d) (elim (cases_eq d c) [
-      | inl own ↦ subst (λ d. CoversFrom w d j (k.cut d j)) (sym own) (rw (e.cut_here j) (covers_end w c j))
-      | inr other ↦ rw (e.cut_else d j other) (a.covered d j (was_other d j other h))
-    ]);
-    goals = λ d j lives h. elim (cases_eq d c) [
-      | inl own ↦ subst (λ d. k.cut d j ≤ u.goal d) (sym own) (rw (e.cut_here j, e.crash.goal_here) (omega arith))
-      | inr other ↦ rw (e.cut_else d j other, e.crash.goal_else d other) (a.goals d j (sym (e.crash.lives_same d) ∙ lives) (was_other d j other h))
-    ];
-    borders = λ d j h low. e.crash.logs.border d (k.cut d j) ∙ elim (cases_eq d c) [
-      | inl own ↦ subst (λ d. w.border d (k.cut d j) ≡ true) (sym own) (rw (e.cut_here j) (s.coherent.end_border c))
-      | inr other ↦ subst (λ m. w.border d m ≡ true) (sym (e.cut_else d j other))
-          (a.borders d j (was_other d j other h) (omega (arith, low, e.cut_else d j other, e.crash.logs.first d)))
-    ];
-    crashed = λ d j over h.
-        (let held : is_held (client_lease l d j) ≡ true = sym (same_held d j) ∙ h in
-        elim (cases_eq d c) [
-          | inl own ↦ subst (λ d. IsRevokedLease k d j) (sym own) (own_revoked j (subst (λ d. is_held (client_lease l d j) ≡ true) own held))
-          | inr other ↦ stays d j (a.crashed d j (sym (e.crash.crashed_else d other) ∙ over) held)
-        ]);
+    covered = λ d j h. covers_same w u d j (k.cut d j) (e.crash.logs.records d) (e.crash.logs.first d) (grind (arith, covers_end, was_other));
+    goals = grind (arith, was_other);
+    borders = grind (arith, was_other);
+    crashed = grind (arith, same_held, own_revoked, stays);
     failed = λ d j over h. stays d j (a.failed d j (sym (e.crash.lives_same d) ∙ over) (sym (same_held d j) ∙ h));
   }
 
@@ -86,14 +70,9 @@ chosen_lawful old new choice lawful home clients nodes =
     record {
       clients_compatible = λ i. ap compatible (clients i) ∙ revoke_fits choice (old.clients i) (lawful.clients_compatible i);
       nodes_compatible = λ i. ap compatible (nodes i) ∙ lawful.nodes_compatible i;
-      under = λ i. subst (λ h. Under h (new.clients i) (new.nodes i)) (sym homes)
-          (subst (λ cs. Under old.home cs (new.nodes i)) (sym (clients i))
-          (subst (λ ns. Under old.home (revoke choice (old.clients i)) ns) (sym (nodes i))
-          (chosen_under old.home choice (old.clients i) (old.nodes i) (lawful.under i))));
+      under = grind (arith, chosen_under);
       asked = λ i. subst (λ h. AskedBelow h (new.clients i) (new.nodes i)) (sym homes)
-          (subst (λ cs. AskedBelow old.home cs (new.nodes i)) (sym (clients i))
-          (subst (λ ns. AskedBelow old.home (revoke choice (old.clients i)) ns) (sym (nodes i))
-          (chosen_asked old.home choice (old.clients i) (old.nodes i) (lawful.asked i))));
+          (grind (arith, chosen_asked old.home choice (old.clients i) (old.nodes i) (lawful.asked i)));
     }
 
 -- ---- a failure
@@ -115,8 +94,7 @@ module _ (w u : World) (l k : Leases) (n : ℕ) (a : AreLeases w l) (e : FailsWi
 
   -- whether a holder's lease is among those that are revoked
   there_is : (d j : ℕ) (b : Lease) → client_lease l d j ≡ Some b → there b ≡ (w.home d == n)
-  there_is d j b is = ap (λ z. lives l.levels.home z n) (lease_among (l.levels.clients j) d b is).1
-      ∙ ap (λ o. is_node o n) (holder_home w l d j a (ap is_held is))
+  there_is d j b is = grind (arith, lease_among (l.levels.clients j) d b is, holder_home w l d j a (ap is_held is))
 
   was_away : (d j : ℕ) → w.home d ≢ n → IsRevokedLease k d j → IsRevokedLease l d j
   was_away d j other h = was_revoked there (client_lease l d j) (λ b is. there_is d j b is ∙ ne_eqb (w.home d) n other)
@@ -132,29 +110,17 @@ module _ (w u : World) (l k : Leases) (n : ℕ) (a : AreLeases w l) (e : FailsWi
   fail_keeps s = record {
     lawful = chosen_lawful l.levels k.levels there a.lawful e.home e.clients e.nodes;
     held = search (held_now, lease_now, written_one, there, arith) parts 3;
-    homes = λ d o. e.home d ∙ a.homes d (o.0, (let m : u.clients ≡ w.clients = e.fails.clients in omega (arith, o.1, m)))
-        ∙ ap (λ m. Some m) (sym (e.fails.home d));
+    homes = grind arith;
     strangers = λ d no. e.home d ∙ a.strangers d (λ o. no (o.0, (let m : u.clients ≡ w.clients = e.fails.clients in omega (arith, o.1, m))));
     covered = λ d j h. elim (cases_eq (w.home d) n) [
       | inl here ↦ rw (e.cut_here d j here) (covers_end u d j)
       | inr other ↦ rw (e.cut_else d j other) (covers_same w u d j (l.cut d j) (whole_log d other) (e.fails.first d) (a.covered d j (was_away d j other h)))
     ];
-    goals = λ d j alive h. elim (cases_eq (w.home d) n) [
-      | inl here ↦ absurd (both_ways (u.lives d) (e.fails.lives_there d here) alive)
-      | inr other ↦
-          let revoked : IsRevokedLease l d j = was_away d j other h in
-          let low : l.cut d j ≤ w.goal d = a.goals d j (sym (e.fails.lives_else d other) ∙ alive) revoked in
-          let top : l.cut d j ≤ end_of_log w d = (a.covered d j revoked).to_end in
-          rw (e.cut_else d j other, e.fails.goals d, kept_elsewhere w n d other) (omega (arith, low, top))
-    ];
+    goals = grind (arith, was_away, kept_elsewhere);
     borders = λ d j h low. elim (cases_eq (w.home d) n) [
       | inl here ↦ rw (e.cut_here d j here) (s.coherent.end_border d)
       | inr other ↦
-          let revoked : IsRevokedLease l d j = was_away d j other h in
-          let top : l.cut d j ≤ end_of_log w d = (a.covered d j revoked).to_end in
-          let kept : l.cut d j ≤ kept_at_failure w n d = subst (λ m. l.cut d j ≤ m) (sym (kept_elsewhere w n d other)) top in
-          subst (λ m. u.border d m ≡ true) (sym (e.cut_else d j other))
-          (e.fails.border d (l.cut d j) kept ∙ a.borders d j revoked (omega (arith, low, e.cut_else d j other, e.fails.first d)))
+          grind (arith, was_away, kept_elsewhere)
     ];
     crashed = λ d j over h. stays_now d j (a.crashed d j (sym (e.fails.crashed d) ∙ over) (sym (held_now d j) ∙ h));
     failed = λ d j over h.

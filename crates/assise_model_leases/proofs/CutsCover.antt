@@ -1,8 +1,8 @@
 -- Which changes of a client's log its cuts stay covering through.
-use Rattle.assise_model_leases.proofs.Common.{◌≡◌, ℕ, ◌+◌, ◌-◌, ◌≤◌, false, List, [], ◌∷◌, ◌++◌, take, drop, length, refl, ap, ◌∙◌, subst, arith, zero, suc}
-use Rattle.assise_model_leases.proofs.Common.{both_ways, false_from_ne_true, LogRecord, all_effects, touched, contains, WorldInvariant, Drops, World}
-use Rattle.assise_model_leases.proofs.Common.{end_of_log, digested_by_all, records_between, drop-of_drop, contains-drop, contains-take, length-both, end-else}
-use Rattle.assise_model_leases.proofs.Common.{least_of-end, client_records_from, CoversFrom}
+use Rattle.assise_model_leases.proofs.Common.{◌≡◌, ℕ, ◌+◌, ◌-◌, ◌≤◌, false, List, [], ◌∷◌, ◌++◌, take, drop, length, refl, ap, ◌∙◌, arith, zero, suc, both_ways}
+use Rattle.assise_model_leases.proofs.Common.{false_from_ne_true, LogRecord, all_effects, touched, contains, WorldInvariant, Drops, World, end_of_log}
+use Rattle.assise_model_leases.proofs.Common.{digested_by_all, records_between, drop-of_drop, contains-drop, contains-take, length-both, end-else, least_of-end}
+use Rattle.assise_model_leases.proofs.Common.{client_records_from, CoversFrom}
 use Rattle.std.proofs.Math.ListN.{drop_of_length-le}
 use Rattle.std.proofs.lemmas.List.{drop-take, length-drop, length-take-le}
 use Rattle.assise_record.proofs.Records.{all_effects-append}
@@ -35,9 +35,7 @@ spare_take rs k i h = false_from_ne_true _ (λ t. both_ways _ h (contains-take r
 
 -- what lies further on
 spare_later : (rs : List LogRecord) (j k i : ℕ) → j ≤ k → Spare (drop j rs) i → Spare (drop k rs) i
-spare_later rs j k i le h =
-    let e : drop (k - j) (drop j rs) ≡ drop k rs = drop-of_drop rs j (k - j) ∙ (let q : j + (k - j) ≡ k = omega (arith, le) in rw q refl) in
-    subst (λ l. Spare l i) e (spare_drop (drop j rs) (k - j) i h)
+spare_later rs j k i le h = grind (arith, drop-of_drop rs j (k - j), spare_drop (drop j rs) (k - j) i h)
 
 drop_append : (rs zs : List LogRecord) (k : ℕ) → k ≤ length rs → drop k (rs ++ zs) ≡ drop k rs ++ zs
 drop_append rs zs zero h = refl
@@ -67,22 +65,16 @@ covers_drop w u f c i k e v = grind (arith, least_of-end, length-drop, drop-of_d
 pub covers_coalesced : (w u : World) (c s : ℕ) (new : List LogRecord) (was : ℕ → ℕ) → WorldInvariant w → (i k : ℕ) → Coalesces w c s new was u → k ≤ s →
     CoversFrom w c i k → CoversFrom u c i k
 unfolding client_records_from end_of_log records_between
-covers_coalesced w u c s new was so i k e below v =
-    let rs : List LogRecord = w.records c in
-    let high : s ≤ w.first c + length (w.records c) = e.high in
-    let n : length (take (s - w.first c) (w.records c)) ≡ s - w.first c = length-take-le (s - w.first c) (w.records c) (omega (arith, high)) in
-    let b : length (take (s - w.first c) (w.records c) ++ new) ≡ length (take (s - w.first c) (w.records c)) + length new =
-    length-both (take (s - w.first c) (w.records c)) new in
-    let old : Spare (records_between w c s (end_of_log w c)) i = spare_take (drop (s - w.first c) (w.records c)) (end_of_log w c - s) i
-    (spare_later (w.records c) (k - w.first c) (s - w.first c) i (omega (arith, below)) v.untouched) in
-    record {
-      to_end = rw (e.first c, e.records_own) (omega (arith, below, n, b));
-      untouched = rw (
-        e.first c,
-        e.records_own,
-        drop_append (take (s - w.first c) (w.records c)) new (k - w.first c) (omega (arith, below, n)),
-        drop_taken (w.records c) (k - w.first c) (s - w.first c) (omega (arith, below)),
-      )
-          (spare_both (take (s - w.first c - (k - w.first c)) (drop (k - w.first c) (w.records c))) new i
-          (spare_take (drop (k - w.first c) (w.records c)) (s - w.first c - (k - w.first c)) i v.untouched) (touch_all w u c s new was so.coherent e i ∙ old));
-    }
+covers_coalesced w u c s new was so i k e below v = grind (
+  arith,
+  length-take-le,
+  length-both (take (s - w.first c) (w.records c)) new,
+  spare_take (drop (s - w.first c) (w.records c)) (end_of_log w c - s) i
+      (spare_later (w.records c) (k - w.first c) (s - w.first c) i (omega (arith, below)) v.untouched),
+  spare_take (drop (k - w.first c) (w.records c))
+      (s - w.first c - (k - w.first c)) i v.untouched,
+  drop_append,
+  drop_taken (w.records c) (k - w.first c) (s - w.first c) (omega (arith, below)),
+  spare_both,
+  touch_all w u c s new was so.coherent e i,
+)

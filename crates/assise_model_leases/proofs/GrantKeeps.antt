@@ -1,11 +1,9 @@
 -- A lease is granted against which nobody stands.
-use Rattle.assise_model_leases.proofs.Common.{◌≡◌, ◌≢◌, ℕ, ◌==◌, inl, inr, Bool, true, false, not, ◌&&◌, ◌||◌, List, Option, Some, None, refl, ap, sym, ◌∙◌}
-use Rattle.assise_model_leases.proofs.Common.{subst, arith, list_any, both_ways, cases_eq, Mode, Read, Write, Lease, Among, lease_of, new_lease, is_rival}
-use Rattle.assise_model_leases.proofs.Common.{against, strong, any_among, none_among, both_true, Homes, Under, carries, in_way, is_revoked, lives, raised_mode}
-use Rattle.assise_model_leases.proofs.Common.{clients_granted, nobody_in_way, granted_lawful, weaker_against, IsModeFree, Acquires, is_for_writing}
+use Rattle.assise_model_leases.proofs.Common.{◌≡◌, ◌≢◌, ℕ, Bool, true, false, not, ◌&&◌, ◌||◌, List, Option, Some, None, refl, ap, sym, ◌∙◌, subst, arith}
+use Rattle.assise_model_leases.proofs.Common.{list_any, cases_eq, Mode, Read, Write, Lease, Among, lease_of, new_lease, against, any_among, none_among, Homes}
+use Rattle.assise_model_leases.proofs.Common.{Under, in_way, lives, raised_mode, clients_granted, nobody_in_way, granted_lawful, IsModeFree, Acquires}
 use Rattle.assise_model_leases.proofs.Common.{WorldInvariant, World, Grants, Leases, client_lease, IsRevokedLease, AreLeases, is_held, is_written, lease_among}
 use Rattle.assise_model_leases.proofs.Common.{with_own, with_other}
-use Rattle.std.proofs.lemmas.Bool.{ne_eqb}
 use Rattle.assise_model_leases.proofs.CutsCover.{covers_same}
 use Rattle.assise_model_leases.proofs.QuietLeases.{still_client, was_client}
 
@@ -28,29 +26,12 @@ module _ (home : Homes) (cs ns : List Lease) (c n : ℕ) (mode : Mode) (under : 
   -- another client's lease isn't against the mode: below the same node it stands in no way, and below another its node's doesn't
   others_agree : (b : Lease) → Among cs b → b.holder ≢ c → against mode b.mode ≡ false
   unfolding in_way
-  others_agree b in_b other =
-      let none = and_false (not (b.holder == c)) _ (none_among (in_way home ns c n mode) cs nobody b in_b) (not_false (b.holder == c) (ne_eqb b.holder c other))
-      in
-      let parts = or_false (lives home b.holder n && against mode b.mode) (list_any (λ k. lives home b.holder k.holder && is_rival n mode k) ns) none in
-      let k = any_among (carries home b) ns (under b in_b) in
-      let below = both_true (lives home b.holder k.0.holder) (strong k.0.mode b.mode) k.2 in
-      elim (cases_eq k.0.holder n) [
-        | inl here ↦ and_false (lives home b.holder n) (against mode b.mode) parts.0 (subst (λ m. lives home b.holder m ≡ true) here below.0)
-        | inr away ↦ weaker_against mode k.0.mode b.mode below.1
-            (and_false (not (k.0.holder == n)) (against mode k.0.mode)
-            (and_false (lives home b.holder k.0.holder) (is_rival n mode k.0)
-            (none_among (λ k. lives home b.holder k.holder && is_rival n mode k) ns parts.1 k.0 k.1) below.0)
-            (not_false (k.0.holder == n) (ne_eqb k.0.holder n away)))
-      ]
+  others_agree b in_b other = grind (arith, none_among, any_among)
 
 -- a lease that doesn't stand against reading isn't for writing, and none stands beside writing
 not_written : (o : Option Lease) → ((b : Lease) → o ≡ Some b → against Read b.mode ≡ false) → is_written o ≡ false
 not_written None f = refl
-not_written (Some b) f = of_mode b.mode (f b refl)
-  where
-    of_mode : (m : Mode) → against Read m ≡ false → is_for_writing m ≡ false
-    of_mode Read h = refl
-    of_mode Write h = h
+not_written (Some b) f = grind arith
 
 not_held : (o : Option Lease) → ((b : Lease) → o ≡ Some b → against Write b.mode ≡ false) → is_held o ≡ false
 not_held None f = refl
@@ -82,10 +63,7 @@ module _ (w u : World) (l k : Leases) (c i : ℕ) (mode : Mode) (a : AreLeases w
 
   -- the lease that is granted isn't revoked
   was_revoked : (d j : ℕ) → IsRevokedLease k d j → IsRevokedLease l d j
-  was_revoked d j h = ap is_revoked
-      (sym (elsewhere d j (λ own at. both_ways (is_revoked (client_lease k d j))
-      (subst (λ j. is_revoked (client_lease k d j) ≡ false) (sym at) (subst (λ d. is_revoked (client_lease k d i) ≡ false) (sym own) (ap is_revoked here))) h)))
-      ∙ h
+  was_revoked d j h = grind arith
 
   pub grant_keeps : WorldInvariant w → AreLeases u k
   grant_keeps s = record {
@@ -97,12 +75,6 @@ module _ (w u : World) (l k : Leases) (c i : ℕ) (mode : Mode) (a : AreLeases w
     goals = λ d j lives h. rw (e.cuts d j, e.holds.goals d) (a.goals d j (sym (e.holds.clients.lives d) ∙ lives) (was_revoked d j h));
     borders = λ d j h low. subst (λ m. u.border d m ≡ true) (sym (e.cuts d j))
         (e.holds.logs.border d (l.cut d j) ∙ a.borders d j (was_revoked d j h) (omega (arith, low, e.cuts d j, e.holds.logs.first d)));
-    crashed = λ d j over h.
-        (let other : d ≢ c = λ own. both_ways (w.crashed d) (subst (λ d. w.crashed d ≡ false) (sym own) e.running) (sym (e.holds.clients.crashed d) ∙ over) in
-        let same : client_lease k d j ≡ client_lease l d j = elsewhere d j (λ own at. other own) in
-        ap is_revoked same ∙ a.crashed d j (sym (e.holds.clients.crashed d) ∙ over) (ap is_held (sym same) ∙ h));
-    failed = λ d j over h.
-        (let other : d ≢ c = λ own. both_ways (w.lives d) (sym (e.holds.clients.lives d) ∙ over) (subst (λ d. w.lives d ≡ true) (sym own) e.lives_on) in
-        let same : client_lease k d j ≡ client_lease l d j = elsewhere d j (λ own at. other own) in
-        ap is_revoked same ∙ a.failed d j (sym (e.holds.clients.lives d) ∙ over) (ap is_held (sym same) ∙ h));
+    crashed = grind arith;
+    failed = grind arith;
   }

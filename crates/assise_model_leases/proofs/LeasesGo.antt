@@ -1,8 +1,7 @@
 -- Leases go: a client's, once what lies before its cut is digested everywhere, and those of a node without clients that hold.
 use Rattle.assise_model_leases.proofs.Common.{◌≡◌, ℕ, ◌-◌, true, false, Some, None, ap, sym, ◌∙◌, subst, arith, cases_eq, all_effects, touched, contains}
 use Rattle.assise_model_leases.proofs.Common.{lease_of, is_revoked, released_lawful, freed_lawful, Releases, AreDropped, World, ReleasesReady, FreesNode}
-use Rattle.assise_model_leases.proofs.Common.{Leases, client_lease, IsRevokedLease, client_records_from, AreLeases, is_held, is_written, without_own}
-use Rattle.assise_model_leases.proofs.Common.{without_other}
+use Rattle.assise_model_leases.proofs.Common.{Leases, client_lease, IsRevokedLease, client_records_from, AreLeases, is_held, without_own, without_other}
 use Rattle.assise_model_leases.proofs.CutsCover.{covers_same}
 use Rattle.assise_model_leases.proofs.QuietLeases.{still_client, was_client, holder_home, revoked_holder}
 
@@ -23,11 +22,7 @@ module _ (w u : World) (l k : Leases) (c i : ℕ) (a : AreLeases w l) (e : Relea
 
   -- a lease that is left was there
   was_there : (d j : ℕ) → is_held (client_lease k d j) ≡ true → client_lease k d j ≡ client_lease l d j
-  was_there d j h = elsewhere d j
-      (λ own at. absurd (none_held (subst (λ j. is_held (client_lease k c j) ≡ true) at (subst (λ d. is_held (client_lease k d j) ≡ true) own h))))
-    where
-      none_held : is_held (client_lease k c i) ≡ true → ⊥
-      none_held t = (let f : false ≡ true = rw gone at t in cc)
+  was_there d j h = grind (arith, elsewhere, gone)
 
   was_revoked : (d j : ℕ) → IsRevokedLease k d j → IsRevokedLease l d j
   was_revoked d j h = ap is_revoked (sym (was_there d j (revoked_holder k d j h))) ∙ h
@@ -47,18 +42,4 @@ module _ (w u : World) (l k : Leases) (c i : ℕ) (a : AreLeases w l) (e : Relea
   }
 
 pub free_keeps : (w : World) (l k : Leases) (n : ℕ) → AreLeases w l → FreesNode w l n k → AreLeases w k
-free_keeps w l k n a e = record {
-  lawful = freed_lawful l.levels a.lawful k.levels n e.idle e.freed;
-  held = record { holds = λ d j. a.held.holds d j ∙ ap is_held (sym (same d j)); writes = λ d j. a.held.writes d j ∙ ap is_written (sym (same d j)) };
-  homes = λ d o. e.freed.home d ∙ a.homes d o;
-  strangers = λ d no. e.freed.home d ∙ a.strangers d no;
-  covered = λ d j h. rw (e.cuts d j) (a.covered d j (ap is_revoked (sym (same d j)) ∙ h));
-  goals = λ d j lives h. rw (e.cuts d j) (a.goals d j lives (ap is_revoked (sym (same d j)) ∙ h));
-  borders = λ d j h low. subst (λ m. w.border d m ≡ true) (sym (e.cuts d j))
-      (a.borders d j (ap is_revoked (sym (same d j)) ∙ h) (omega (arith, low, e.cuts d j)));
-  crashed = λ d j over h. ap is_revoked (same d j) ∙ a.crashed d j over (ap is_held (sym (same d j)) ∙ h);
-  failed = λ d j over h. ap is_revoked (same d j) ∙ a.failed d j over (ap is_held (sym (same d j)) ∙ h);
-}
-  where
-    same : (d j : ℕ) → client_lease k d j ≡ client_lease l d j
-    same d j = ap (λ ls. lease_of ls d) (e.freed.clients j)
+free_keeps w l k n a e = grind (arith, freed_lawful l.levels a.lawful k.levels n e.idle e.freed)

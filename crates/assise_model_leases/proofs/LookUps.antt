@@ -1,6 +1,6 @@
 -- What a look-up finds once leases are revoked, put or taken away.
-use Rattle.assise_model_leases.proofs.Common.{◌≡◌, ℕ, ◌==◌, Bool, true, false, cond, List, [], ◌∷◌, Option, Some, None, refl, Mode, Lease, lease_of, serves}
-use Rattle.assise_model_leases.proofs.Common.{revoke, revoked_if, is_revoked, is_held, is_written}
+use Rattle.assise_model_leases.proofs.Common.{◌≡◌, ℕ, Bool, true, false, cond, List, [], ◌∷◌, Option, Some, None, refl, Mode, Lease, lease_of, serves, revoke}
+use Rattle.assise_model_leases.proofs.Common.{revoked_if, is_revoked, is_held, is_written, arith}
 
 -- ---- one lease
 
@@ -30,12 +30,7 @@ revoked_one choice (Some a) = Some (revoked_if (choice a) a)
 
 pub revoke_of : (choice : Lease → Bool) (ls : List Lease) (h : ℕ) → lease_of (revoke choice ls) h ≡ revoked_one choice (lease_of ls h)
 revoke_of choice [] h = refl
-revoke_of choice (l ∷ ls) h = step (revoke_of choice ls h) (l.holder == h)
-  where
-    step : lease_of (revoke choice ls) h ≡ revoked_one choice (lease_of ls h) → (b : Bool) →
-        cond b (Some (revoked_if (choice l) l)) (lease_of (revoke choice ls) h) ≡ revoked_one choice (cond b (Some l) (lease_of ls h))
-    step rest true = refl
-    step rest false = rest
+revoke_of choice (l ∷ ls) h = grind (arith, revoke_of choice ls h)
 
 pub held_one : (choice : Lease → Bool) (o : Option Lease) → is_held (revoked_one choice o) ≡ is_held o
 held_one choice None = refl

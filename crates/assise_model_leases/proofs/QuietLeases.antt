@@ -1,9 +1,9 @@
 -- What holds of leases through steps that leave them, and through a client more.
 use Rattle.assise_model_leases.proofs.Common.{◌≡◌, ◌≢◌, ℕ, suc, ◌≤◌, ◌⊎◌, inl, inr, true, List, Some, None, ap, sym, ◌∙◌, subst, arith, both_ways, cases_eq}
 use Rattle.assise_model_leases.proofs.Common.{cases_lt, false_from_ne_true, LogRecord, all_effects, record_of, touched, contains, NumberedCall, Write, lease_of}
-use Rattle.assise_model_leases.proofs.Common.{serves, any_among, both_true, is_revoked, carries, lives, enrolled_lawful, strong, Drops, WorldInvariant, World}
-use Rattle.assise_model_leases.proofs.Common.{IsClient, step_at_home, of_fresh, OpensAt, CallsUnder, CoalescesUnder, Leases, client_lease, IsRevokedLease}
-use Rattle.assise_model_leases.proofs.Common.{CoversFrom, AreLeases, is_held, lease_among, home_of}
+use Rattle.assise_model_leases.proofs.Common.{serves, any_among, is_revoked, carries, lives, enrolled_lawful, Drops, WorldInvariant, World, IsClient}
+use Rattle.assise_model_leases.proofs.Common.{step_at_home, of_fresh, OpensAt, CallsUnder, CoalescesUnder, Leases, client_lease, IsRevokedLease, CoversFrom}
+use Rattle.assise_model_leases.proofs.Common.{AreLeases, is_held, lease_among}
 use Rattle.assise_model_world.specs.Staying.{SameLogs, SameClients, KeepsLeases}
 use Rattle.assise_model_leases.proofs.LookUps.{held_some, revoked_held, revoked_serves}
 use Rattle.assise_model_leases.proofs.CutsCover.{covers_same, covers_call, covers_drop, covers_coalesced}
@@ -19,8 +19,7 @@ holder_client w l c i a h =
     let b = held_some (client_lease l c i) h in
     let in_it = lease_among (l.levels.clients i) c b.0 b.1 in
     let k = any_among (carries l.levels.home b.0) (l.levels.nodes i) (a.lawful.under i b.0 in_it.0) in
-    let there : l.levels.home c ≡ Some k.0.holder = subst (λ d. l.levels.home d ≡ Some k.0.holder) in_it.1
-    (home_of l.levels.home b.0.holder k.0.holder (both_true (lives l.levels.home b.0.holder k.0.holder) (strong k.0.mode b.0.mode) k.2).0) in
+    let there : l.levels.home c ≡ Some k.0.holder = grind arith in
     elim (is_client w c) [
       | inl stranger ↦ absurd (none_some k.0.holder (sym (a.strangers c stranger) ∙ there))
       | inr o ↦ o
@@ -62,9 +61,7 @@ pub drop_keeps : (w u : World) (l : Leases) (f : ℕ → ℕ) → AreLeases w l 
 drop_keeps w u l f a e =
     still_leases w u l a e.clients e.leases (λ c i h. covers_drop w u f c i (l.cut c i) e (a.covered c i h))
     (λ c i lives h. rw (e.goals c) (a.goals c i lives h))
-    (λ c i h low.
-    let high : f c ≤ l.cut c i = subst (λ k. k ≤ l.cut c i) (e.first c) low in
-    e.border c (l.cut c i) high ∙ a.borders c i h (omega (arith, e.low c, high)))
+    (grind arith)
 
 pub call_keeps : (w u : World) (l : Leases) (x : NumberedCall) → AreLeases w l → CallsUnder w l x u → AreLeases u l
 call_keeps w u l x a e =
@@ -119,29 +116,15 @@ pub open_keeps : (w u : World) (l k : Leases) (n : ℕ) → AreLeases w l → Op
 open_keeps w u l k n a e = record {
   lawful = enrolled_lawful l.levels a.lawful k.levels (suc w.clients) n (a.strangers (suc w.clients) new_stranger) e.enrols;
   held = search (lease, arith) parts 3;
-  homes = λ c o. elim (cases_eq c (suc w.clients)) [
-    | inl new ↦ subst (λ d. k.levels.home d ≡ Some (u.home d)) (sym new) (e.enrols.home.here ∙ ap (λ m. Some m) (sym e.opens.home_new))
-    | inr old ↦ e.enrols.home.elsewhere c old ∙ a.homes c (older c o old) ∙ ap (λ m. Some m) (sym (e.opens.home_else c old))
-  ];
-  strangers = λ c no. elim (cases_eq c (suc w.clients)) [
-    | inl new ↦ absurd (no (omega (arith, new), rw e.opens.clients (omega (arith, new))))
-    | inr old ↦ e.enrols.home.elsewhere c old ∙ a.strangers c (λ o. no (o.0, rw e.opens.clients (omega (arith, o.1))))
-  ];
+  homes = grind arith;
+  strangers = grind arith;
   covered = λ c i h. rw (e.cuts c i) (covers_same w u c i (l.cut c i) (e.opens.logs.records c) (e.opens.logs.first c) (a.covered c i (was c i h)));
   goals = λ c i lives h.
       (let old : c ≢ suc w.clients = holder_old c i (revoked_holder l c i (was c i h)) in
       rw (e.cuts c i, e.opens.goal_else c old) (a.goals c i (sym (e.opens.lives_else c old) ∙ lives) (was c i h)));
-  borders = λ c i h low.
-      rw (e.cuts c i) (e.opens.logs.border c (l.cut c i)
-      ∙ a.borders c i (was c i h) (subst (λ k. k ≤ l.cut c i) (e.opens.logs.first c) (subst (λ k. u.first c ≤ k) (e.cuts c i) low)));
-  crashed = λ c i over h.
-      (let held : is_held (client_lease l c i) ≡ true = ap is_held (sym (lease c i)) ∙ h in
-      let old : c ≢ suc w.clients = holder_old c i held in
-      ap is_revoked (lease c i) ∙ a.crashed c i (sym (e.opens.crashed_else c old) ∙ over) held);
-  failed = λ c i over h.
-      (let held : is_held (client_lease l c i) ≡ true = ap is_held (sym (lease c i)) ∙ h in
-      let old : c ≢ suc w.clients = holder_old c i held in
-      ap is_revoked (lease c i) ∙ a.failed c i (sym (e.opens.lives_else c old) ∙ over) held);
+  borders = grind arith;
+  crashed = grind arith;
+  failed = grind arith;
 }
   where
     new_stranger : IsClient w (suc w.clients) → ⊥

@@ -1,8 +1,8 @@
 -- Who waits for whom.
-use Rattle.assise_model_leases.proofs.Common.{◌≡◌, ◌≢◌, ℕ, ◌==◌, ◌≤◌, Bool, true, false, cond, not, ◌&&◌, Option, Some, None, refl, ap, sym, ◌∙◌, arith, eq-eqb}
-use Rattle.assise_model_leases.proofs.Common.{subst, both_ways, Mode, Lease, lease_of, both_true, not_true, in_way, is_revoked, WorldInvariant, World}
-use Rattle.assise_model_leases.proofs.Common.{digested_by_all, received_by_all, least_of-above, Asks, is_newly_revoked, AreLeases, IsRevokedLease, Leases}
-use Rattle.assise_model_leases.proofs.Common.{client_lease, lease_among}
+use Rattle.assise_model_leases.proofs.Common.{◌≡◌, ◌≢◌, ℕ, ◌==◌, ◌≤◌, Bool, true, false, not, ◌&&◌, Option, Some, None, ap, sym, ◌∙◌, arith, eq-eqb, both_ways}
+use Rattle.assise_model_leases.proofs.Common.{Mode, Lease, lease_of, both_true, not_true, in_way, is_revoked, WorldInvariant, World, digested_by_all}
+use Rattle.assise_model_leases.proofs.Common.{received_by_all, least_of-above, Asks, is_newly_revoked, AreLeases, IsRevokedLease, Leases, client_lease}
+use Rattle.assise_model_leases.proofs.Common.{lease_among}
 use Rattle.assise_model_leases.proofs.LookUps.{revoked_one, revoke_of}
 
 -- ---- what is asked for
@@ -11,12 +11,7 @@ use Rattle.assise_model_leases.proofs.LookUps.{revoked_one, revoke_of}
 chosen_one : (choice : Lease → Bool) (o : Option Lease) → (not (is_revoked o) && is_revoked (revoked_one choice o)) ≡ true → (a : Lease) × (o ≡ Some a)
     × (choice a ≡ true)
 chosen_one choice None h = cc
-chosen_one choice (Some a) h = (a, refl, was a.revoked (choice a) h)
-  where
-    was : (f b : Bool) → (not f && cond b true f) ≡ true → b ≡ true
-    was true b e = cc
-    was false true e = refl
-    was false false e = cc
+chosen_one choice (Some a) h = grind arith
 
 module _ (w u : World) (l k : Leases) (c i : ℕ) (mode : Mode) (e : Asks w l c i mode u k) where
   abbrev way : Lease → Bool
@@ -39,10 +34,7 @@ module _ (w u : World) (l k : Leases) (c i : ℕ) (mode : Mode) (e : Asks w l c 
       both_ways (a.0.holder == c) (not_true (a.0.holder == c) (both_true (not (a.0.holder == c)) _ a.2).0) (eq-eqb a.0.holder c (own.1 ∙ same))
 
   pub asked_in_way : (d : ℕ) (a : Lease) → is_newly_revoked l k d i ≡ true → client_lease l d i ≡ Some a → way a ≡ true
-  asked_in_way d a h is = let b = newly d h in subst (λ z. way z ≡ true) (some_same b.0 a (sym b.1 ∙ is)) b.2
-    where
-      some_same : (x y : Lease) → Some x ≡ Some y → x ≡ y
-      some_same x y q = cc
+  asked_in_way d a h is = grind (arith, newly)
 
 -- ---- what is ready to go
 

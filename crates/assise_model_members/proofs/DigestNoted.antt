@@ -1,13 +1,13 @@
 -- A digest at a full node, what leaves all areas, and the start.
 use Rattle.assise_model_members.proofs.Common.{◌≡◌, ◌≢◌, inl, inr, ℕ, ◌<◌, true, false, Some, sym, ap, ◌∙◌, subst, arith, option_map, nat_cmp, contains-union}
-use Rattle.assise_model_members.proofs.Common.{nat_cmp_total, cases_eq, cases_Bool, or_parts, both_ways, none-some, contains, World, Full, since_of, AreMembers}
-use Rattle.assise_model_members.proofs.Common.{OtherAreasStay, KeepsAreas, DigestsNoted, fulls, all_full, noted, stale_again, donor_of, Membership}
-use Rattle.assise_model_members.proofs.Common.{written_since, standing_of, full_nodes, full, returning, noted_lawful, all_full_lawful, donor_full}
+use Rattle.assise_model_members.proofs.Common.{nat_cmp_total, cases_eq, cases_Bool, both_ways, contains, World, Full, since_of, AreMembers, OtherAreasStay}
+use Rattle.assise_model_members.proofs.Common.{KeepsAreas, DigestsNoted, fulls, all_full, noted, stale_again, donor_of, Membership, written_since, standing_of}
+use Rattle.assise_model_members.proofs.Common.{full_nodes, full, returning, noted_lawful, all_full_lawful}
 use Rattle.std.specs.FinSet as set
 use Rattle.assise_inode_table.proofs.EffectValues.{untouched}
 use Rattle.assise_model_world.specs.Runs.{begun}
-use Rattle.assise_model_members.proofs.NodeStandings.{mapped_at, full_listed, listed_full, away_not_full, cases_donor, full_no_donor, filled_from, since_listed}
-use Rattle.assise_model_members.proofs.NodeStandings.{none_failed, noted_here, noted_else, same_donor, same_stale}
+use Rattle.assise_model_members.proofs.NodeStandings.{mapped_at, full_listed, listed_full, away_not_full, cases_donor, filled_from, since_listed, noted_here}
+use Rattle.assise_model_members.proofs.NodeStandings.{noted_else, same_donor}
 use Rattle.assise_model_members.proofs.Written.{outside, noted_still, noted_now}
 
 -- ---- a digest
@@ -58,27 +58,17 @@ module _ (w u : World) (m m' : Membership) (n c p : ℕ) (inodes : set.FinSet na
         | inl here ↦
             let (first, old, is) = filled_from (standing_of m.nodes k) n here in
             let stands : standing_of after.nodes k ≡ Some (returning first n (set.union old inodes)) = again_stands k first old is in
-            let both : (set.contains old i ≡ false) × (set.contains inodes i ≡ false) = or_parts (set.contains old i) (set.contains inodes i)
-            (sym (contains-union nat_cmp_total old inodes i)
-            ∙ ap (λ s. set.contains s i) (same_stale (standing_of after.nodes k) first since n donor (set.union old inodes) stale stands at) ∙ none) in
+            let both : (set.contains old i ≡ false) × (set.contains inodes i ≡ false) = grind (arith, contains-union, nat_cmp_total) in
             area_away k first i (ap since_of is) ∙ a.filling k first n i old is both.0 ∙ sym (area_quiet n i g.digests.full_node both.1)
             ∙ ap (λ d. u.area d i) (same_donor (standing_of after.nodes k) first since n donor (set.union old inodes) stale stands at)
         | inr from ↦
             let before : standing_of m.nodes k ≡ Some (returning since donor stale) = sym (kept_stands k from) ∙ at in
             area_away k since i (ap since_of before) ∙ a.filling k since donor i stale before none
-            ∙ sym (g.digests.area_else donor i (a.nodes_full donor (donor_full m k since donor stale a.lawful before))
-            (λ is. from (ap donor_of before ∙ ap Some is)))
+            ∙ sym (grind arith)
       ]
 
   pub digest_keeps : AreMembers u m'
-  digest_keeps = subst (AreMembers u) (sym g.members) (record {
-    lawful = noted_lawful m n inodes a.lawful;
-    full_nodes = λ k f. (let at : standing_of m.nodes k ≡ Some full = a.full_nodes k (was_full k f) in
-        kept_stands k (full_no_donor (standing_of m.nodes k) n at) ∙ at);
-    nodes_full = λ k at. subst (λ ns. contains ns k ≡ true) (sym g.digests.full) (a.nodes_full k (full_before k at));
-    due = due;
-    filling = filling;
-  })
+  digest_keeps = grind (arith, noted_lawful m n inodes a.lawful, kept_stands, full_before, due, filling)
 
 -- ---- what leaves full nodes and areas
 
@@ -91,10 +81,4 @@ keeps_areas w u same areas others = grind (arith, cases_Bool, both_ways)
 -- ---- the start
 
 pub members_begin : (count : ℕ) → 0 < count → AreMembers (begun (full_nodes (fulls count))) (all_full count)
-members_begin count some = record {
-  lawful = all_full_lawful count some;
-  full_nodes = λ k f. listed_full (fulls count) k f;
-  nodes_full = λ k at. full_listed (fulls count) k at;
-  due = λ k e f i at ff none. absurd (none-some e (sym (none_failed count k) ∙ at));
-  filling = λ k since donor i stale at none. absurd (none-some since (sym (none_failed count k) ∙ ap since_of at));
-}
+members_begin count some = grind (arith, all_full_lawful count some, listed_full, full_listed)

@@ -57,8 +57,7 @@ module _ (w u : World) (m m' : Membership) (n : ℕ) (a : AreMembers w m) (g : R
 
   filling : (k since donor i : ℕ) (stale : set.FinSet nat_cmp) → standing_of after.nodes k ≡ Some (returning since donor stale) →
       set.contains stale i ≡ false → u.area k i ≡ u.area donor i
-  filling k since donor i stale at none =
-      g.area k i ∙ a.filling k since donor i stale (sym (elsewhere k (other k since (ap since_of at))) ∙ at) none ∙ sym (g.area donor i)
+  filling k since donor i stale at none = grind (arith, elsewhere k (other k since (ap since_of at)))
 
   pub rejoin_keeps : AreMembers u m'
   rejoin_keeps = grind (arith, joined_lawful, own, elsewhere, not_before, cases_eq, due, filling)

@@ -175,8 +175,7 @@ same_lowest written low n nodes = ap (λ l. slice_index_or l 0 0) (full_from_map
 
 pub noted_here : (n since : ℕ) (inodes stale : set.FinSet nat_cmp) (o : Option Standing) → o ≡ Some (returning since n stale) →
     option_map (stale_again n inodes) o ≡ Some (returning since n (set.union stale inodes))
-noted_here n since inodes stale o at =
-    ap (option_map (stale_again n inodes)) at ∙ ap (λ b. Some (returning since n (cond b (set.union stale inodes) stale))) (eq-eqb n n refl)
+noted_here n since inodes stale o at = grind arith
 
 pub noted_else : (n : ℕ) (inodes : set.FinSet nat_cmp) (o : Option Standing) → donor_of o ≢ Some n → option_map (stale_again n inodes) o ≡ o
 noted_else n inodes o other = grind (arith, ne_eqb)

@@ -1,7 +1,7 @@
 -- Nodes fail.
 use Rattle.assise_model_members.proofs.Common.{◌≡◌, ◌≢◌, inl, inr, ℕ, ◌+◌, ◌-◌, ◌≤◌, true, false, cond, Some, None, refl, sym, ap, ◌∙◌, subst, take, drop}
 use Rattle.assise_model_members.proofs.Common.{arith, ◌==◌, filter, option_map, nat_cmp, cases_eq, cases_Bool, or_cases, or_left, or_right, both_ways}
-use Rattle.assise_model_members.proofs.Common.{false_from_ne_true, none-some, same_Some, all_effects, touched, contains, Fails, kept_at_failure, World, Full}
+use Rattle.assise_model_members.proofs.Common.{false_from_ne_true, same_Some, all_effects, touched, contains, Fails, kept_at_failure, World, Full}
 use Rattle.assise_model_members.proofs.Common.{received_by_all, records_between, contains-take, take-of_take, since_of, AreMembers, FailsWithMembers, failed_as}
 use Rattle.assise_model_members.proofs.Common.{with_epoch, with_new_donor, refilled_from, donor_of, stale_of, Membership, IsMembership, written_since}
 use Rattle.assise_model_members.proofs.Common.{lowest_full, standing_of, full, down, returning, failed_lawful, donor_full}
@@ -11,7 +11,7 @@ use Rattle.assise_model_world.specs.Invariant.{WorldInvariant}
 use Rattle.assise_model_world.proofs.AreasAgree.{same_areas}
 use Rattle.assise_model_world.proofs.WorldObserved.{least_of-above, received_by_all-below, received_by_all-end}
 use Rattle.assise_model_members.proofs.NodeStandings.{mapped_at, set_here, set_else, lowest_stands, may_fail_beside, away_not_full, cases_donor, full_no_donor}
-use Rattle.assise_model_members.proofs.NodeStandings.{filled_from, refilled_here, refilled_else, same_lowest, same_donor, same_stale}
+use Rattle.assise_model_members.proofs.NodeStandings.{filled_from, refilled_here, refilled_else, same_lowest, same_donor}
 use Rattle.assise_model_members.proofs.Written.{outside, still_written, now_written}
 
 -- ---- what is kept
@@ -75,17 +75,14 @@ module _ (w v u : World) (m m' : Membership) (n : ℕ) (inodes : set.FinSet nat_
   is_after = g.members ∙ ap (failed_as m n inodes) stood
 
   fail_lawful : IsMembership m'
-  fail_lawful =
-      let (k, (other, there)) = g.fails.survivor in
-      subst IsMembership (sym g.members) (failed_lawful m n inodes a.lawful (may_fail_beside m n k stood (a.full_nodes k there) other))
+  fail_lawful = grind (arith, failed_lawful, may_fail_beside)
 
   lawful_after : IsMembership after
   lawful_after = subst IsMembership is_after fail_lawful
 
   -- how nodes stand then
   own : standing_of after.nodes n ≡ Some (down (m.epoch + 1))
-  own = mapped_at (refilled_from (written_since begun) low n) begun.nodes n ∙ ap (option_map (refilled_from (written_since begun) low n))
-      (set_here m.nodes n full (down (m.epoch + 1)) stood)
+  own = grind (arith, mapped_at, set_here)
 
   other : (k : ℕ) → k ≢ n → standing_of after.nodes k ≡ option_map (refilled_from (written_since begun) low n) (standing_of m.nodes k)
   other k differs = mapped_at (refilled_from (written_since begun) low n) begun.nodes k ∙ ap (option_map (refilled_from (written_since begun) low n))
@@ -146,35 +143,26 @@ module _ (w v u : World) (m m' : Membership) (n : ℕ) (inodes : set.FinSet nat_
       let before : Full w f = (full_world f ff).0 in
       elim (cases_eq k n) [
         | inl is ↦
-            let new : m.epoch + 1 ≡ e = same_Some (m.epoch + 1) e (sym (ap since_of own) ∙ subst (λ k. since_of (standing_of after.nodes k) ≡ Some e) is at) in
-            subst (λ k. u.area k i ≡ u.area f i) (sym is)
-            (area_full n i g.fails.full_node ∙ failed_same f i before (subst (λ e. set.contains (written_since after e) i ≡ false) (sym new) none)
-            ∙ sym (area_full f i before))
+            grind (arith, own, failed_same)
         | inr differs ↦
-            let old : since_of (standing_of m.nodes k) ≡ Some e = since_before k e differs at in
-            area_due k e i differs old none ∙ a.due k e f i old before (fewer e i none) ∙ sym (area_full f i before)
+            grind (arith, since_before k e differs at, area_due, fewer e i none)
       ]
 
   low_full : Full u low
-  low_full =
-      (let stands : standing_of after.nodes (lowest_full after.nodes) ≡ Some full = lowest_stands after.nodes lawful_after.some_full in
-      subst (Full u) same_low (let b = full_before (lowest_full after.nodes) stands in
-      world_full (lowest_full after.nodes) (a.nodes_full (lowest_full after.nodes) b.1) b.0))
+  low_full = grind (arith, lowest_stands after.nodes lawful_after.some_full, same_low, full_before)
 
   filling : (k since donor i : ℕ) (stale : set.FinSet nat_cmp) → standing_of after.nodes k ≡ Some (returning since donor stale) →
       set.contains stale i ≡ false → u.area k i ≡ u.area donor i
   filling k since donor i stale at none =
       elim (cases_eq k n) [
-        | inl is ↦ absurd (none-some donor
-            (sym (ap donor_of own) ∙ ap donor_of (subst (λ k. standing_of after.nodes k ≡ Some (returning since donor stale)) is at)))
+        | inl is ↦ grind (arith, own)
         | inr differs ↦ elim (cases_donor (donor_of (standing_of m.nodes k)) n) [
           | inl lost ↦
               let (first, old, is) = filled_from (standing_of m.nodes k) n lost in
               let stands : standing_of after.nodes k ≡ Some (returning first low (written_since after first)) = over_stands k first old differs is in
               due k first donor i (ap since_of stands)
               (subst (Full u) (same_donor (standing_of after.nodes k) first since low donor (written_since after first) stale stands at) low_full)
-              (subst (λ t. set.contains t i ≡ false)
-              (sym (same_stale (standing_of after.nodes k) first since low donor (written_since after first) stale stands at)) none)
+              (grind arith)
           | inr from ↦
               let before : standing_of m.nodes k ≡ Some (returning since donor stale) = sym (kept_stands k differs from) ∙ at in
               g.area_else k i from ∙ a.filling k since donor i stale before none

@@ -1,10 +1,10 @@
 -- What a node may lack while it comes back.
-use Rattle.assise_model_members.proofs.Common.{◌≡◌, ◌≢◌, ◌⊎◌, ℕ, true, Some, ap, ◌∙◌, arith, ◌↔◌, nat_cmp, contains-union, nat_cmp_total, or_cases, or_left}
-use Rattle.assise_model_members.proofs.Common.{or_right, true_from_ne_false, same_Some, all_effects, touched, contains, World, undigested_below, since_of}
-use Rattle.assise_model_members.proofs.Common.{AreMembers, FailsAgain, DigestsNoted, BeginsReturn, Refills, stale_again, Membership, written_since, lowest_full}
-use Rattle.assise_model_members.proofs.Common.{standing_of, down, returning, with_node_full}
+use Rattle.assise_model_members.proofs.Common.{◌≡◌, ◌≢◌, ◌⊎◌, ℕ, true, Some, arith, ◌↔◌, nat_cmp, contains-union, nat_cmp_total, or_cases, or_left, or_right}
+use Rattle.assise_model_members.proofs.Common.{true_from_ne_false, same_Some, all_effects, touched, contains, World, undigested_below, since_of, AreMembers}
+use Rattle.assise_model_members.proofs.Common.{FailsAgain, DigestsNoted, BeginsReturn, Refills, Membership, written_since, lowest_full, standing_of, down}
+use Rattle.assise_model_members.proofs.Common.{returning, with_node_full}
 use Rattle.std.specs.FinSet as set
-use Rattle.assise_model_members.proofs.NodeStandings.{mapped_at, set_here, down_is, returning_is, noted_here, noted_else, same_since, same_donor, same_stale}
+use Rattle.assise_model_members.proofs.NodeStandings.{mapped_at, set_here, down_is, returning_is, noted_else, same_since, same_donor, same_stale}
 use Rattle.assise_model_members.proofs.NodeChanged.{again_stands, back_is, refill_is}
 
 pub differing_is_stale : (w : World) (m : Membership) (n since donor i : ℕ) (stale : set.FinSet nat_cmp) → AreMembers w m →
@@ -40,9 +40,8 @@ module _ (w u : World) (m o : Membership) (n c k : ℕ) (inodes : set.FinSet nat
   digested_stale x since stale at = (
     set.union stale inodes,
     (
-      ap (λ o. standing_of o.nodes x) g.members ∙ mapped_at (stale_again n inodes) m.nodes x ∙ noted_here n since inodes stale (standing_of m.nodes x) at,
-      both stale,
-    ),
+        grind (arith, mapped_at, both)
+        ),
   )
 
   pub digested_else : (x since donor : ℕ) (stale : set.FinSet nat_cmp) → standing_of m.nodes x ≡ Some (returning since donor stale) → donor ≢ n →

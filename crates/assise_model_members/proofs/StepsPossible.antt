@@ -10,7 +10,6 @@ use Rattle.assise_model_members.proofs.Common.{standing_of, full}
 use Rattle.std.specs.FinSet as set
 use Rattle.assise_record.specs.LogRecord.{LogRecord}
 use Rattle.assise_inode_table.specs.Contents.{Content, Values}
-use Rattle.assise_inode_table.specs.Traces.{below}
 use Rattle.assise_model_world.specs.Chances.{MayDigest}
 use Rattle.assise_model_world.proofs.Possible.{FullAlso, at_one, at_one-here, at_one-else, chosen, chosen_at, cut_world, digested_world, one_more_full, passed}
 use Rattle.assise_model_world.proofs.Possible.{passed_at, world_digests, world_fails}
@@ -85,16 +84,13 @@ touched_some w n (suc most) i h =
 
 touched_there : (w : World) (n most c i : ℕ) → c ≤ most → contains (touched (all_effects (kept_records w n c))) i ≡ true → set.contains (touched_to w n most) i
     ≡ true
-touched_there w n zero c i low h =
-    (let is : c ≡ 0 = omega arith in
-    listed_as (touched (all_effects (kept_records w n zero))) i ∙ subst (λ c. contains (touched (all_effects (kept_records w n c))) i ≡ true) is h)
+touched_there w n zero c i low h = grind (arith, listed_as)
 touched_there w n (suc most) c i low h =
     let own : set.FinSet nat_cmp = set.from_list (touched (all_effects (kept_records w n (suc most)))) in
     contains-union nat_cmp_total own (touched_to w n most) i
     ∙ (elim (cases_eq c (suc most)) [
       | inl is ↦
-          or_left (set.contains own i) (set.contains (touched_to w n most) i)
-          (listed_as (touched (all_effects (kept_records w n (suc most)))) i ∙ subst (λ c. contains (touched (all_effects (kept_records w n c))) i ≡ true) is h)
+          grind (arith, listed_as)
       | inr differs ↦ or_right (set.contains own i) (set.contains (touched_to w n most) i) (touched_there w n most c i (omega (arith, low, differs)) h)
     ])
 
@@ -111,11 +107,7 @@ may_list w n most f survivor few = (
     full_node = f;
     survivor = survivor;
     touched_only = touched_some w n most;
-    touched_all = λ c i h.
-        elim (cases_lt most c) [
-          | inl above ↦ absurd (none_kept w n c i (few c above) h)
-          | inr within ↦ touched_there w n most c i (omega arith) h
-        ];
+    touched_all = grind (arith, none_kept, touched_there);
   },
 )
 
@@ -204,11 +196,7 @@ tied_same q x h = eqb-true q x (sym (unsigned_tied q x) ∙ h)
 -- the least of some numbers
 low_for : (i x : ℕ) (xs : List ℕ) → i ≤ x → ((q : ℕ) → list_any (eq_by_cmp nat_cmp q) xs ≡ true → i ≤ q) →
     (q : ℕ) → list_any (eq_by_cmp nat_cmp q) (x ∷ xs) ≡ true → i ≤ q
-low_for i x xs here there q h =
-    elim (or_cases (eq_by_cmp nat_cmp q x) (list_any (eq_by_cmp nat_cmp q) xs) h) [
-      | inl is ↦ subst (λ z. i ≤ z) (sym (tied_same q x is)) here
-      | inr later ↦ there q later
-    ]
+low_for i x xs here there q h = grind arith
 
 least_in : (x : ℕ) (xs : List ℕ) → (i : ℕ) × (list_any (eq_by_cmp nat_cmp i) (x ∷ xs) ≡ true)
     × ((q : ℕ) → list_any (eq_by_cmp nat_cmp q) (x ∷ xs) ≡ true → i ≤ q)
@@ -228,10 +216,7 @@ lowest_from : (s : set.FinSet nat_cmp) (xs : List ℕ) → set.items s ≡ xs �
 lowest_from s [] is some =
     absurd (some (same_set nat_cmp_total nat_cmp-IsAntisymmetric s set.empty
     (λ q. contains-items s q ∙ ap (list_any (eq_by_cmp nat_cmp q)) is ∙ sym (contains-empty nat_cmp q))))
-lowest_from s (x ∷ xs) is some =
-    (let (i, there, low) = least_in x xs in
-    let same : (q : ℕ) → set.contains s q ≡ list_any (eq_by_cmp nat_cmp q) (x ∷ xs) = λ q. contains-items s q ∙ ap (list_any (eq_by_cmp nat_cmp q)) is in
-    (i, record { there = same i ∙ there; below = λ q h. low q (sym (same q) ∙ h) }))
+lowest_from s (x ∷ xs) is some = grind (arith, least_in x xs, contains-items)
 
 pub may_fill_one : (m : Membership) (n : ℕ) → join_fault m n ≡ Some Busy → (i : ℕ) × MayRefill m n i
 may_fill_one m n busy =

@@ -1,25 +1,24 @@
 -- A call keeps the invariant.
 use Rattle.assise_model_world.proofs.Common.{◌≡◌, ℕ, suc, ◌+◌, ◌-◌, ◌<◌, ◌≤◌, ◌≢◌, inl, inr, Bool, true, false, List, [], ◌∷◌, ◌++◌, if◌then◌else◌, Option}
-use Rattle.assise_model_world.proofs.Common.{Some, None, IsSome, refl, ap, sym, ◌∙◌, subst, ◌||◌, nat_lt, nat_le, arith, take, length, list_any, both_ways}
-use Rattle.assise_model_world.proofs.Common.{le-ltb, cases_Bool, ltb-true, leb-true, lt-ltb, le-leb, ne_eqb, cases_eq, or_left, or_cases, or_parts}
-use Rattle.assise_model_world.proofs.Common.{false_from_ne_true, cases_lt, nat_tests, opening_tree, answer, AreAnswered, tree_after_calls, Effect, LogRecord}
-use Rattle.assise_model_world.proofs.Common.{all_effects, has_some, record_of, Ascending, all_effects-append, all_effects-one, ascending-append, Content}
-use Rattle.assise_model_world.proofs.Common.{value_after, touched, contains, after, makes, Step, late_value, Spells, NumberedCall, trace, step_of}
-use Rattle.assise_model_world.proofs.Common.{values_after_calls, AllMakeNew, exchanges, ops, Each, NumbersAscend, below, window, Clear, Unseen, NoneFalls}
-use Rattle.assise_model_world.proofs.Common.{StayReplicated, WorldInvariant, AreDropped, IsMadeBy, IsMade, StandFor, Stands, Counted, Numbered, AreMade}
-use Rattle.assise_model_world.proofs.Common.{Guarded, Compatible, IsOrdered, Areas, CallsInvariant, MakesCall, IsClient, calls_replicated, step_at_home, World}
-use Rattle.assise_model_world.proofs.Common.{Full, opening_values, least_of, end_of_log, digested_by_all, received_by_all, records_between, call_at}
-use Rattle.assise_model_world.proofs.Common.{first_undigested_at, first_undigested, first_unreplicated, steps, now, tree, value_below, in_window}
-use Rattle.assise_model_world.proofs.Common.{value_after-append, contains-both, each-map, each-both, step_replies, step_spells, contains-append, append-nil}
-use Rattle.assise_model_world.proofs.Common.{take_all, take-append-le}
-use Rattle.assise_model_world.proofs.Lists.{each-snoc, pairs-snoc, unseen-raise, value-cong, value-snoc, has-none, trace-snoc, values-snoc, answered-snoc}
-use Rattle.assise_model_world.proofs.Lists.{tree-snoc, new-snoc}
-use Rattle.assise_model_world.proofs.Logs.{in_window_from, windows_agree, take-of_append, at-grows, at-same, at-push, of_fresh, length-both, drop-prefix}
+use Rattle.assise_model_world.proofs.Common.{Some, None, IsSome, refl, ap, sym, ◌∙◌, subst, ◌||◌, nat_lt, nat_le, arith, take, length, list_any, le-ltb}
+use Rattle.assise_model_world.proofs.Common.{cases_Bool, ltb-true, lt-ltb, ne_eqb, cases_eq, or_cases, false_from_ne_true, cases_lt, nat_tests, opening_tree}
+use Rattle.assise_model_world.proofs.Common.{answer, AreAnswered, tree_after_calls, Effect, LogRecord, all_effects, has_some, record_of, Ascending}
+use Rattle.assise_model_world.proofs.Common.{all_effects-append, all_effects-one, ascending-append, Content, value_after, touched, contains, after, makes, Step}
+use Rattle.assise_model_world.proofs.Common.{late_value, Spells, NumberedCall, trace, step_of, values_after_calls, AllMakeNew, exchanges, ops, Each}
+use Rattle.assise_model_world.proofs.Common.{NumbersAscend, below, window, Clear, Unseen, NoneFalls, StayReplicated, WorldInvariant, AreDropped, IsMadeBy}
+use Rattle.assise_model_world.proofs.Common.{IsMade, StandFor, Stands, Counted, Numbered, AreMade, Guarded, Compatible, IsOrdered, Areas, CallsInvariant}
+use Rattle.assise_model_world.proofs.Common.{MakesCall, IsClient, calls_replicated, step_at_home, World, Full, opening_values, least_of, end_of_log}
+use Rattle.assise_model_world.proofs.Common.{digested_by_all, received_by_all, records_between, call_at, first_undigested_at, first_undigested}
+use Rattle.assise_model_world.proofs.Common.{first_unreplicated, steps, now, tree, value_below, in_window, value_after-append, contains-both, each-map}
+use Rattle.assise_model_world.proofs.Common.{each-both, step_replies, step_spells, contains-append, append-nil, take_all, take-append-le}
+use Rattle.assise_model_world.proofs.Lists.{each-snoc, pairs-snoc, unseen-raise, value-cong, value-snoc, trace-snoc, values-snoc, answered-snoc, tree-snoc}
+use Rattle.assise_model_world.proofs.Lists.{new-snoc}
+use Rattle.assise_model_world.proofs.Logs.{in_window_from, take-of_append, at-grows, at-same, at-push, of_fresh, length-both, drop-prefix}
 use Rattle.assise_model_world.proofs.WorldObserved.{least_of-same, least_of-most, least_of-below, least_of-above, least_of-end, call_at-mono, next-top, part_of}
 use Rattle.assise_model_world.proofs.WorldObserved.{call_at-end, received_by_all-end, IsCounted, all_counted, guarded_all, part-append, part_none, end-else}
 use Rattle.assise_model_world.proofs.WorldObserved.{part-else, area_at, disjoint}
 use Rattle.assise_model_world.proofs.Views.{clear_from, true_step}
-use Rattle.assise_model_world.proofs.QuietSteps.{held-same, made_more, made_by_more}
+use Rattle.assise_model_world.proofs.QuietSteps.{held-same, made_more}
 use Rattle.assise_model_world.proofs.InodeNumbers.{made_here}
 use Rattle.assise_model_world.proofs.Replicated.{log_of_home}
 use Rattle.std.proofs.lemmas.List.Elements.{filter-append}
@@ -37,8 +36,7 @@ module _ (w w' : World) (y : NumberedCall) (sound : WorldInvariant w) (e : Makes
   -- the step over what the client reads is that
   is_planned : step_at_home w y ≡ planned
   is_planned = true_step w y sound e.lives
-      (λ i t. e.held i (contains-append (step_at_home w y).visits (touched (step_at_home w y).effects) i ∙ or_left (contains (step_at_home w y).visits i)
-      (contains (touched (step_at_home w y).effects) i) t))
+      (λ i t. e.held i (grind (arith, contains-append)))
 
   held : (i : ℕ) → contains (planned.visits ++ touched planned.effects) i ≡ true → w.holds y.client i ≡ true
   held = subst (λ t. (i : ℕ) → contains (t.visits ++ touched t.effects) i ≡ true → w.holds y.client i ≡ true) is_planned e.held
@@ -106,9 +104,7 @@ module _ (w w' : World) (y : NumberedCall) (sound : WorldInvariant w) (e : Makes
   numbered-commit =
       subst (Each (λ x. list_any (makes x.0.fresh) x.1.effects ≡ true → IsMadeBy w' x.0.client x.0.fresh)) (sym steps-commit)
       (each-snoc (λ x. list_any (makes x.0.fresh) x.1.effects ≡ true → IsMadeBy w' x.0.client x.0.fresh) (steps w) (y, planned)
-      (each-map (λ x. list_any (makes x.0.fresh) x.1.effects ≡ true → IsMadeBy w x.0.client x.0.fresh)
-      (λ x. list_any (makes x.0.fresh) x.1.effects ≡ true → IsMadeBy w' x.0.client x.0.fresh) (steps w)
-      (λ x g t. made_by_more w w' x.0.client x.0.fresh made-up (g t)) s.fresh_calls)
+      (grind (arith, each-map))
       made_now)
 
   are_made-commit : AreMade w'
@@ -168,8 +164,7 @@ module _ (w w' : World) (y : NumberedCall) (sound : WorldInvariant w) (e : Makes
   known-commit = received-is (λ n d k. k ≤ end_of_log w' d) (omega arith) (λ n d f. omega (arith, (s.order n d f).known, end-commit d))
 
   border-commit : (n d : ℕ) → Full w n → w'.border d (w'.received n d) ≡ true
-  border-commit = received-is (λ n d k. w'.border d k ≡ true) e.border_new
-      (λ n d f. e.border_old d (w.received n d) (s.order n d f).known ∙ (s.order n d f).received_border)
+  border-commit = grind arith
 
   received-up : (n d : ℕ) → Full w n → w.received n d ≤ w'.received n d
   received-up n d f = grind (arith, cases_eq, end-commit)
@@ -192,17 +187,13 @@ module _ (w w' : World) (y : NumberedCall) (sound : WorldInvariant w) (e : Makes
   -- the first call that some node has not digested doesn't fall
   first_undigested-commit : (d : ℕ) → first_undigested w d ≤ first_undigested w' d
   unfolding first_undigested
-  first_undigested-commit d =
-      let a : call_at w d (digested_by_all w d) ≤ call_at w d (digested_by_all w' d) = call_at-mono w d (digested_by_all w d) (digested_by_all w' d) s
-      (digested_by_all-commit d) in
-      omega (arith, a, call_at-commit d (digested_by_all w' d))
+  first_undigested-commit d = grind
+      (arith, call_at-mono w d (digested_by_all w d) (digested_by_all w' d) s (digested_by_all-commit d), call_at-commit d (digested_by_all w' d))
 
   first_unreplicated-commit : (d : ℕ) → first_unreplicated w d ≤ first_unreplicated w' d
   unfolding first_unreplicated
-  first_unreplicated-commit d =
-      let a : call_at w d (received_by_all w d) ≤ call_at w d (received_by_all w' d) = call_at-mono w d (received_by_all w d) (received_by_all w' d) s
-      (received_by_all-commit d) in
-      omega (arith, a, call_at-commit d (received_by_all w' d))
+  first_unreplicated-commit d = grind
+      (arith, call_at-mono w d (received_by_all w d) (received_by_all w' d) s (received_by_all-commit d), call_at-commit d (received_by_all w' d))
 
   before-same : (d k n : ℕ) → n < w.next d → nat_lt n (call_at w' d k) ≡ nat_lt n (call_at w d k)
   unfolding call_at
@@ -224,19 +215,11 @@ module _ (w w' : World) (y : NumberedCall) (sound : WorldInvariant w) (e : Makes
       let same : late_value (below b) i (opening_values i) xs ≡ late_value (below a) i (opening_values i) xs =
       value-cong (below b) (below a) i (opening_values i) xs
       (each-map (λ x. IsCounted w x.0) (λ x. below b x.0 ≡ below a x.0) xs
-      (λ x h. subst (λ k. nat_lt x.0.number (call_at w' x.0.client k) ≡ nat_lt x.0.number (call_at w x.0.client (w.digested m x.0.client)))
-      (sym (e.digested m x.0.client full))
-      (before-same x.0.client (w.digested m x.0.client) x.0.number h.1)) (all_counted w s)) in
+      (λ x h. grind (arith, before-same)) (all_counted w s)) in
       let v : Option Content = late_value (below b) i (opening_values i) xs in
       let o : IsOrdered w m y.client = s.order m y.client full in
       e.area m i full ∙ area_at w m i s full ∙ sym same
-      ∙ (elim (cases_Bool (below b y)) [
-        | inl t ↦
-            let none : has_some planned.effects ≡ false =
-            new_call (w'.digested m y.client) (rw (e.digested m y.client full) (omega (arith, o.replicated, received_by_all-end w y.client))) t in
-            sym (rw t (has-none i v planned.effects none))
-        | inr t ↦ sym (rw t)
-      ])
+      ∙ (grind (arith, new_call, received_by_all-end))
       ∙ sym (value-snoc (below b) i (opening_values i) xs (y, planned))
       ∙ ap (λ l. late_value (below b) i (opening_values i) l) (sym steps-commit)
 
@@ -253,8 +236,7 @@ module _ (w w' : World) (y : NumberedCall) (sound : WorldInvariant w) (e : Makes
 
   part-commit : (j k : ℕ) → w.first y.client ≤ j → j ≤ k → k ≤ end_of_log w y.client → records_between w' y.client j k ≡ records_between w y.client j k
   unfolding records_between end_of_log
-  part-commit j k low le high =
-      rw (e.first y.client, records_own) (take-of_append (w.records y.client) (record_of y.number planned.effects) (j - w.first y.client) (k - j) (omega arith))
+  part-commit j k low le high = grind (arith, take-of_append)
 
   -- a records_between that stood before
   part_stays : (d j k : ℕ) → records_between w' d j k ≡ records_between w d j k →
@@ -267,10 +249,7 @@ module _ (w w' : World) (y : NumberedCall) (sound : WorldInvariant w) (e : Makes
             ∙ sym (value-cong u (window d (call_at w d j) (call_at w d k)) i v (steps w)
             (each-map (λ x. IsCounted w x.0) (λ x. u x.0 ≡ window d (call_at w d j) (call_at w d k) x.0) (steps w)
             (λ x h. old_window d j k x.0 h.1) (all_counted w s)))
-            ∙ (elim (cases_Bool (u y)) [
-              | inl m ↦ sym (rw m (has-none i (late_value u i v (steps w)) planned.effects (quiet m)))
-              | inr m ↦ sym (rw m)
-            ])
+            ∙ (grind arith)
             ∙ sym (value-snoc u i v (steps w) (y, planned))
             ∙ ap (λ l. late_value u i v l) (sym steps-commit);
         touch = λ i q.
@@ -327,10 +306,7 @@ module _ (w w' : World) (y : NumberedCall) (sound : WorldInvariant w) (e : Makes
       let grown : end_of_log w' c ≡ suc E = end-grown has in
       let t : StandFor w c j E = part_of w c j E s bj (s.end_border c) low le (omega arith) in
       let now_is : records_between w' c j (end_of_log w' c) ≡ records_between w c j E ++ r ∷ [] =
-      ap (λ k. records_between w' c j k) grown
-      ∙ part-append w' c j E (suc E) (rw (e.first c) low) le (omega arith)
-      ∙ ap (λ l. l ++ records_between w' c E (suc E)) (part-commit j E low le (omega arith))
-      ∙ ap (λ l. records_between w c j E ++ l) (part-last has) in
+      grind (arith, part-append w' c j E (suc E) (rw (e.first c) low) le (omega arith), part-commit j E low le (omega arith), part-last has) in
       let K : call_at w' c (end_of_log w' c) ≡ suc y.number = call_at-end w' c (end_of_log w' c) (omega arith) ∙ e.next_own in
       let N : call_at w c E ≡ y.number = call_at-end w c E (omega arith) ∙ sym e.number in
       let J : call_at w' c j ≤ y.number = at_most_new has j le in
@@ -338,27 +314,14 @@ module _ (w w' : World) (y : NumberedCall) (sound : WorldInvariant w) (e : Makes
       let in_it : u y ≡ true = in_window_from c (call_at w' c j) (call_at w' c (end_of_log w' c)) y refl J (omega (arith, K)) in
       let old : Each (λ x. u x.0 ≡ window c (call_at w c j) (call_at w c E) x.0) (steps w) =
       each-map (λ x. IsCounted w x.0) (λ x. u x.0 ≡ window c (call_at w c j) (call_at w c E) x.0) (steps w)
-      (λ x h. windows_agree c (call_at w' c j) (call_at w' c (end_of_log w' c)) (call_at w c j) (call_at w c E) x.0
-      (λ own a b. (let l : x.0.number < w.next c = subst (λ d. x.0.number < w.next d) own h.1 in
-      (leb-true (call_at w c j) x.0.number (sym (after-same c j x.0.number l) ∙ le-leb (call_at w' c j) x.0.number a), omega (arith, l, N, e.number))))
-      (λ own a b. (let l : x.0.number < w.next c = subst (λ d. x.0.number < w.next d) own h.1 in
-      (leb-true (call_at w' c j) x.0.number (after-same c j x.0.number l ∙ le-leb (call_at w c j) x.0.number a), omega (arith, b, N, K))))) (all_counted w s) in
+      (λ x h. grind (arith, after-same)) (all_counted w s) in
       record {
-        value = λ i v.
-            ap (λ rs. value_after i v (all_effects rs)) now_is ∙ ap (λ es. value_after i v es) (all_effects-append (records_between w c j E) (r ∷ []))
-            ∙ value_after-append i v (all_effects (records_between w c j E)) (all_effects (r ∷ []))
-            ∙ ap (λ es. value_after i (value_after i v (all_effects (records_between w c j E))) es) (all_effects-one y.number planned.effects)
-            ∙ ap (λ z. value_after i z planned.effects) (t.value i v ∙ sym (value-cong u (window c (call_at w c j) (call_at w c E)) i v (steps w) old))
-            ∙ sym (rw in_it)
-            ∙ sym (value-snoc u i v (steps w) (y, planned))
-            ∙ ap (λ l. late_value u i v l) (sym steps-commit);
+        value = search (all_effects-append, value_after-append, value-cong, value-snoc, steps-commit, arith) parts 3;
         touch = λ i q.
             (let split : (contains (touched (all_effects (records_between w c j E))) i || contains (touched (all_effects (r ∷ []))) i) ≡ false =
-            sym (contains-both (all_effects (records_between w c j E)) (all_effects (r ∷ [])) i)
-            ∙ ap (λ es. contains (touched es) i) (sym (all_effects-append (records_between w c j E) (r ∷ [])))
-            ∙ ap (λ rs. contains (touched (all_effects rs)) i) (sym now_is) ∙ q in
+            grind (arith, contains-both, all_effects-append) in
             let parts : (contains (touched (all_effects (records_between w c j E))) i ≡ false) × (contains (touched (all_effects (r ∷ []))) i ≡ false) =
-            or_parts (contains (touched (all_effects (records_between w c j E))) i) (contains (touched (all_effects (r ∷ []))) i) split in
+            grind arith in
             subst (λ l. Each (λ x. u x.0 ≡ true → contains (touched x.1.effects) i ≡ false) l) (sym steps-commit)
             (each-snoc (λ x. u x.0 ≡ true → contains (touched x.1.effects) i ≡ false) (steps w) (y, planned)
             (each-both (λ x. window c (call_at w c j) (call_at w c E) x.0 ≡ true → contains (touched x.1.effects) i ≡ false)
@@ -386,8 +349,7 @@ module _ (w w' : World) (y : NumberedCall) (sound : WorldInvariant w) (e : Makes
                   subst (λ k. StandFor w' c j k) is
                   (elim (cases_lt (end_of_log w c) j) [
                     | inr before ↦ part_over has j (sym (e.border_old c j before) ∙ bj) low_w before
-                    | inl beyond ↦ (let je : end_of_log w' c ≡ j = omega (arith, end-grown has) in
-                        subst (λ j. StandFor w' c j (end_of_log w' c)) je (part_none w' c (end_of_log w' c) (omega arith)))
+                    | inl beyond ↦ grind (arith, end-grown has, part_none w' c (end_of_log w' c) (omega arith))
                   ])
             ]
       ]
@@ -396,8 +358,7 @@ module _ (w w' : World) (y : NumberedCall) (sound : WorldInvariant w) (e : Makes
   unfolding Stands
   stands-commit d j k bj bk low le high =
       elim (cases_eq d y.client) [
-        | inl own ↦ subst (λ d. w'.border d j ≡ true → w'.border d k ≡ true → w'.first d ≤ j → k ≤ end_of_log w' d → StandFor w' d j k) (sym own)
-            (stands-own j k le) bj bk low high
+        | inl own ↦ grind (arith, stands-own)
         | inr other ↦
             let high_w : k ≤ end_of_log w d = rw (end-else w w' d (e.first d) (e.records_else d other)) at high in
             part_stays d j k (part-else w w' d j k (e.first d) (e.records_else d other))
@@ -411,8 +372,7 @@ module _ (w w' : World) (y : NumberedCall) (sound : WorldInvariant w) (e : Makes
         | inl own ↦ subst (λ d. Ascending (w'.records d) (w'.next d)) (sym own)
             (rw (records_own, e.next_own)
             (elim (cases_Bool (has_some planned.effects)) [
-              | inl has ↦ rw has (ascending-append (w.records y.client) (record { call = y.number; effects = planned.effects } ∷ []) (suc y.number)
-                  (subst (λ n. Ascending (w.records y.client) n) (sym e.number) (s.ascending y.client)) (omega arith, tt))
+              | inl has ↦ grind (arith, ascending-append)
               | inr none ↦ rw none (ascending-append (w.records y.client) [] (suc y.number)
                   (ascending-up (w.records y.client) (w.next y.client) (suc y.number) (omega (arith, e.number)) (s.ascending y.client)) tt)
             ]))
@@ -438,8 +398,7 @@ module _ (w w' : World) (y : NumberedCall) (sound : WorldInvariant w) (e : Makes
       (λ x. first_undigested w x.0.client ≤ x.0.number → y.client ≢ x.0.client → Clear (touched x.1.effects) (planned.visits ++ touched planned.effects))
       (steps w)
       (λ x guarded late other. clear_from (touched x.1.effects) (planned.visits ++ touched planned.effects)
-      (λ i t. guarded i late (false_from_ne_true (w.writes x.0.client i)
-      (λ k. disjoint w s.compatible x.0.client y.client i (λ same. other (sym same)) k (held i t)))))
+      (λ i t. guarded i late (grind (arith, disjoint, held i t))))
       (guarded_all w s))))
 
   pub call_coherent : CallsInvariant w'
@@ -501,40 +460,7 @@ module _ (w w' : World) (y : NumberedCall) (sound : WorldInvariant w) (e : Makes
       few_more (r ∷ rs) es = (let l : length (rs ++ record_of y.number es) ≤ suc (length rs) = few_more rs es in omega (arith, l))
 
   pub call_sound : WorldInvariant w'
-  call_sound = record {
-    coherent = call_coherent;
-    few_records = few-commit;
-    goals = λ d. omega (arith, e.goals d, sound.goals d, end-commit d);
-    single = λ d k t low from to. elim (cases_lt (end_of_log w d) k) [
-      | inr old ↦ e.border_old d k old ∙ sound.single d k (sym (e.clients.lives d) ∙ t) (rw (e.first d) at low) (rw (e.goals d) at from) old
-      | inl new ↦ elim (cases_eq d y.client) [
-        | inl own ↦ subst (λ d. end_of_log w d < k → k ≤ end_of_log w' d → w'.border d k ≡ true) (sym own)
-            (λ past top. (let last : k ≡ end_of_log w' y.client = omega (arith, past, top, one_more) in ap (w'.border y.client) last ∙ e.border_new)) new to
-        | inr other ↦ (let still : end_of_log w' d ≡ end_of_log w d = end-else w w' d (e.first d) (e.records_else d other) in
-            absurd (omega (arith, new, to, still)))
-      ]
-    ];
-    unused = λ d h. (let other : d ≢ y.client = λ is. omega (arith, is, e.clients.clients, (sound.opened y.client e.lives).1, h) in
-        e.next_else d other ∙ sound.unused d (omega (arith, e.clients.clients, h)));
-    held = held-same w w' sound e.leases;
-    prefixes = λ n d h. prefix_now n d (full-commit n h);
-    opened = λ d t. rw e.clients.clients (sound.opened d (sym (e.clients.lives d) ∙ t));
-    homes = λ d t. rw (e.clients.home d, e.full) (sound.homes d (sym (e.clients.lives d) ∙ t));
-    whole = λ d t. rw (e.clients.home d) (whole_now d (sym (e.clients.lives d) ∙ t));
-    left = λ n d t h. left_now n d (sym (e.clients.lives d) ∙ t) (full-commit n h);
-  }
-    where
-      whole_now : (d : ℕ) → w.lives d ≡ true → w'.received (w.home d) d ≡ end_of_log w' d
-      whole_now d t =
-          elim (cases_eq d y.client) [
-            | inl b ↦ subst (λ d. w'.received (w.home d) d ≡ end_of_log w' d) (sym b) e.received_home
-            | inr b ↦ e.received_else (w.home d) d (sound.homes d t) (λ _ is. b is) ∙ sound.whole d t ∙ sym (end-else w w' d (e.first d) (e.records_else d b))
-          ]
-
-      left_now : (n d : ℕ) → w.lives d ≡ false → Full w n → w'.received n d ≡ end_of_log w' d
-      left_now n d t f =
-          let b : d ≢ y.client = λ is. both_ways (w.lives d) t (subst (λ c. w.lives c ≡ true) (sym is) e.lives) in
-          e.received_else n d f (λ _ is. b is) ∙ sound.left n d t f ∙ sym (end-else w w' d (e.first d) (e.records_else d b))
+  call_sound = search (call_coherent, end-commit, one_more, end-else, held-same, prefix_now, arith) parts 3
 
   -- the home has digested no more than there was, so a longer log changes nothing
   pub call_dropped : AreDropped w → AreDropped w'
@@ -545,8 +471,7 @@ module _ (w w' : World) (y : NumberedCall) (sound : WorldInvariant w) (e : Makes
       ∙ elim (cases_eq c y.client) [
         | inl own ↦ subst (λ c. least_of w.full (λ n. w'.digested n c) (end_of_log w c) ≡ least_of w'.full (λ n. w'.digested n c) (end_of_log w' c)) (sym own)
             (longer y.client)
-        | inr other ↦ ap (least_of w.full (λ n. w'.digested n c)) (sym (end-else w w' c (e.first c) (e.records_else c other)))
-            ∙ ap (λ ns. least_of ns (λ n. w'.digested n c) (end_of_log w' c)) (sym e.full)
+        | inr other ↦ search (end-else, arith) parts 3
       ]
     where
       home : Full w (w.home y.client)

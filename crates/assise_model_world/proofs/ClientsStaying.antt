@@ -1,23 +1,18 @@
 -- Steps of clients other than calls: opening, goals, crashes, leases.
-use Rattle.assise_model_world.proofs.Common.{◌≡◌, ◌≢◌, ℕ, suc, ◌⊎◌, Bool, true, false, sym, ◌∙◌, refl, arith, both_ways, cases_eq, or_cases, Mode, Opens}
-use Rattle.assise_model_world.proofs.Common.{RaisesGoals, Crashes, is_for_writing, IsModeFree, Acquires, Releases, Rests, NoneFalls, Guarded, Compatible}
-use Rattle.assise_model_world.proofs.Common.{WritesAreHeld, CallsInvariant, WorldInvariant, AreDropped, World, IsClient}
+use Rattle.assise_model_world.proofs.Common.{◌≡◌, ◌≢◌, ℕ, suc, ◌⊎◌, true, false, ◌∙◌, arith, both_ways, cases_eq, or_cases, Mode, Opens, RaisesGoals, Crashes}
+use Rattle.assise_model_world.proofs.Common.{is_for_writing, IsModeFree, Acquires, Releases, Rests, NoneFalls, Guarded, Compatible, WritesAreHeld}
+use Rattle.assise_model_world.proofs.Common.{CallsInvariant, WorldInvariant, AreDropped, World}
 use Rattle.assise_names.specs.declared.mode.Mode.TheVariants.{Read, Write}
 use Rattle.assise_model_world.proofs.QuietSteps.{end-same, still_coherent, still_sound, still_falls, still_dropped, held-same, guarded-same, compatible-same}
 
 -- ---- a client more
 
 open_coherent : (w w' : World) (n : ℕ) → WorldInvariant w → Opens w n w' → CallsInvariant w'
-open_coherent w w' n s e = still_coherent w w' s.coherent e.logs e.nodes (rw e.clients (omega arith)) (guarded-same w w' s.coherent e.logs.records e.leases)
-    (compatible-same w w' s.coherent e.leases)
+open_coherent w w' n s e = grind (arith, still_coherent, guarded-same, compatible-same)
 
 -- the new client wasn't there
 new_dead : (w w' : World) (n : ℕ) → WorldInvariant w → Opens w n w' → w.lives (suc w.clients) ≡ false
-new_dead w w' n s e = dead (w.lives (suc w.clients)) (λ t. (let o : IsClient w (suc w.clients) = s.opened (suc w.clients) t in omega (arith, o.1)))
-  where
-    dead : (b : Bool) → (b ≡ true → ⊥) → b ≡ false
-    dead true f = absurd (f refl)
-    dead false f = refl
+new_dead w w' n s e = grind arith
 
 pub open_sound : (w w' : World) (n : ℕ) → WorldInvariant w → Opens w n w' → WorldInvariant w'
 open_sound w w' n s e = grind (arith, open_coherent, end-same, cases_eq, held-same, new_dead, both_ways)
@@ -97,8 +92,7 @@ writes_less w w' c i d j e h = grind (arith, cases_eq, both_ways)
 
 compatible-release : (w w' : World) (c i : ℕ) → WorldInvariant w → Releases w c i w' → Compatible w'
 unfolding Compatible
-compatible-release w w' c i s e a b j other writes holds =
-    s.coherent.compatible a b j other (writes_less w w' c i a j e writes).0 (sym (holds_less w w' c i b j e holds) ∙ holds)
+compatible-release w w' c i s e a b j other writes holds = grind arith
 
 guarded-release : (w w' : World) (c i : ℕ) → WorldInvariant w → Releases w c i w' → Guarded w'
 unfolding Guarded

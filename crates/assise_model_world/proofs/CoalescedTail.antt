@@ -1,12 +1,11 @@
 -- Last records give way to others with the same net effect.
-use Rattle.assise_model_world.proofs.Common.{◌≡◌, ℕ, zero, suc, ◌+◌, ◌-◌, ◌<◌, ◌≤◌, ◌≢◌, inl, inr, true, false, List, [], ◌∷◌, ◌++◌, refl, ap, sym, ◌∙◌, subst}
-use Rattle.assise_model_world.proofs.Common.{◌||◌, arith, take, drop, length, take_all, take-append-le, take-take, both_ways, cases_eq, or_right, or_cases}
-use Rattle.assise_model_world.proofs.Common.{cases_lt, opening_tree, AreAnswered, LogRecord, all_effects, call_of, Ascending, all_effects-append}
-use Rattle.assise_model_world.proofs.Common.{ascending-append, value_after, touched, contains, SameNetEffect, late_value, AllMakeNew, exchanges, NumbersAscend}
-use Rattle.assise_model_world.proofs.Common.{below, window, Unseen, Coalesces, NoneFalls, WorldInvariant, AreDropped, StandFor, Stands, Guarded, Compatible}
-use Rattle.assise_model_world.proofs.Common.{IsOrdered, Areas, CallsInvariant, KeepsLeases, World, Full, opening_values, least_of, end_of_log, digested_by_all}
-use Rattle.assise_model_world.proofs.Common.{received_by_all, records_between, call_at, first_undigested_at, first_undigested, first_unreplicated, steps}
-use Rattle.assise_model_world.proofs.Common.{value_below, value_after-append, contains-both}
+use Rattle.assise_model_world.proofs.Common.{◌≡◌, ℕ, zero, suc, ◌+◌, ◌-◌, ◌<◌, ◌≤◌, inl, inr, true, List, [], ◌∷◌, ◌++◌, refl, ap, sym, ◌∙◌, subst, ◌||◌, arith}
+use Rattle.assise_model_world.proofs.Common.{take, length, take_all, take-append-le, take-take, cases_eq, or_cases, cases_lt, opening_tree, AreAnswered}
+use Rattle.assise_model_world.proofs.Common.{LogRecord, all_effects, call_of, Ascending, all_effects-append, ascending-append, touched, contains, SameNetEffect}
+use Rattle.assise_model_world.proofs.Common.{late_value, AllMakeNew, exchanges, NumbersAscend, below, Unseen, Coalesces, NoneFalls, WorldInvariant, AreDropped}
+use Rattle.assise_model_world.proofs.Common.{StandFor, Stands, Guarded, Compatible, IsOrdered, Areas, CallsInvariant, KeepsLeases, World, Full, opening_values}
+use Rattle.assise_model_world.proofs.Common.{least_of, end_of_log, digested_by_all, received_by_all, records_between, call_at, first_undigested_at}
+use Rattle.assise_model_world.proofs.Common.{first_undigested, first_unreplicated, steps, value_below, value_after-append, contains-both}
 use Rattle.assise_model_world.proofs.Lists.{unseen-raise, below-same}
 use Rattle.assise_model_world.proofs.Logs.{at_mono, take-of_take, take-of_append, length-both, drop-prefix, contains-take, at-take}
 use Rattle.assise_model_world.proofs.WorldObserved.{least_of-same, least_of-most, least_of-below, least_of-above, least_of-end, part_of, digested_by_all-first}
@@ -34,18 +33,12 @@ in_end w c s h = omega arith
 
 prefix-length : (w w' : World) (c s : ℕ) (new : List LogRecord) (was : ℕ → ℕ) → CallsInvariant w → Coalesces w c s new was w' →
     length (take (s - w.first c) (w.records c)) ≡ s - w.first c
-prefix-length w w' c s new was so e = length-prefix (s - w.first c) (w.records c) (within e.high)
-  where
-    within : s ≤ end_of_log w c → s - w.first c ≤ length (w.records c)
-    within h = in_end w c s h
+prefix-length w w' c s new was so e = grind (arith, length-prefix, in_end)
 
 end-coalesce : (w w' : World) (c s : ℕ) (new : List LogRecord) (was : ℕ → ℕ) → CallsInvariant w → Coalesces w c s new was w' → end_of_log w' c ≡ s + length new
 unfolding end_of_log
-end-coalesce w w' c s new was so e =
-    rw (e.first c, e.records_own)
-    (let a : length (take (s - w.first c) (w.records c) ++ new) ≡ length (take (s - w.first c) (w.records c)) + length new =
-    length-both (take (s - w.first c) (w.records c)) new in
-    omega (arith, a, prefix-length w w' c s new was so e, first-received_by_all w so c, e.low))
+end-coalesce w w' c s new was so e = grind
+    (arith, length-both (take (s - w.first c) (w.records c)) new, prefix-length w w' c s new was so e, first-received_by_all w so c)
 
 call_at-coalesce : (w w' : World) (c s : ℕ) (new : List LogRecord) (was : ℕ → ℕ) → CallsInvariant w → Coalesces w c s new was w' → (k : ℕ) → w.first c ≤ k →
     k ≤ s → call_at w' c k ≡ call_at w c k
@@ -67,22 +60,12 @@ call_at-coalesce w w' c s new was so e k low high =
 part-before : (w w' : World) (c s : ℕ) (new : List LogRecord) (was : ℕ → ℕ) → CallsInvariant w → Coalesces w c s new was w' → (j k : ℕ) → w.first c ≤ j →
     j ≤ k → k ≤ s → records_between w' c j k ≡ records_between w c j k
 unfolding records_between
-part-before w w' c s new was so e j k low le high =
-    let n : ℕ = s - w.first c in
-    let len : length (take n (w.records c)) ≡ n = prefix-length w w' c s new was so e in
-    rw (e.first c, e.records_own)
-    (take-of_append (take n (w.records c)) new (j - w.first c) (k - j) (omega (arith, len)) ∙ take-of_take (w.records c) (j - w.first c) (k - j) n
-    (omega arith))
+part-before w w' c s new was so e j k low le high = grind (arith, prefix-length w w' c s new was so e, take-of_append, take-of_take)
 
 part-new : (w w' : World) (c s : ℕ) (new : List LogRecord) (was : ℕ → ℕ) → CallsInvariant w → Coalesces w c s new was w' → (k : ℕ) → k ≡ s + length new →
     records_between w' c s k ≡ new
 unfolding records_between
-part-new w w' c s new was so e k is =
-    let n : ℕ = s - w.first c in
-    let len : n ≡ length (take n (w.records c)) = sym (prefix-length w w' c s new was so e) in
-    rw (e.first c, e.records_own)
-    (ap (λ j. take (k - s) (drop j (take n (w.records c) ++ new))) len ∙ ap (λ l. take (k - s) l) (drop-prefix (take n (w.records c)) new)
-    ∙ take-all new (k - s) (omega arith))
+part-new w w' c s new was so e k is = grind (arith, prefix-length w w' c s new was so e, drop-prefix, take-all new (k - s) (omega arith))
 
 -- what is between two places behind s, and what a border was
 was_low : (w w' : World) (c s : ℕ) (new : List LogRecord) (was : ℕ → ℕ) → Coalesces w c s new was w' → (k : ℕ) → s ≤ k → s ≤ was k
@@ -104,11 +87,7 @@ record Becomes (w w' : World) (c j k j' k' : ℕ) : Type 0 where
 
 part_becomes : (w w' : World) (c j k j' k' : ℕ) → Becomes w w' c j k j' k' → StandFor w c j' k' → StandFor w' c j k
 part_becomes w w' c j k j' k' b t = record {
-  value = λ i v.
-      b.net i v ∙ t.value i v
-      ∙ ap (λ x. late_value (window c x (call_at w c k')) i v (steps w)) (sym b.from)
-      ∙ ap (λ x. late_value (window c (call_at w' c j) x) i v (steps w)) (sym b.to)
-      ∙ ap (λ xs. late_value (window c (call_at w' c j) (call_at w' c k)) i v xs) (sym b.same);
+  value = grind arith;
   touch = λ i q. rw (b.from, b.to, b.same) (t.touch i (sym (b.touch i) ∙ q));
 }
 
@@ -135,28 +114,12 @@ stands-over w w' c s new was so e j k bj bk low le past high =
     part-append w' c j s k low' le past ∙ ap (λ l. l ++ records_between w' c s k) (part-before w w' c s new was so e j s low le (omega arith)) in
     let was_is : records_between w c j K ≡ records_between w c j s ++ records_between w c s K = part-append w c j s K low le past_old in
     let net : SameNetEffect (all_effects (records_between w' c s k)) (all_effects (records_between w c s K)) =
-    subst (λ x. SameNetEffect (all_effects (records_between w' c s k)) (all_effects (records_between w c x K))) e.was_here
-    (e.net s k bs bk (omega arith) past high) in
+    grind arith in
     let touch : (i : ℕ) → contains (touched (all_effects (records_between w' c s k))) i ≡ contains (touched (all_effects (records_between w c s K))) i =
-    λ i. subst (λ x. contains (touched (all_effects (records_between w' c s k))) i ≡ contains (touched (all_effects (records_between w c x K))) i) e.was_here
-    (e.touch i s k bs bk (omega arith) past high) in
+    grind arith in
     part_becomes w w' c j k j K (record {
-      net = λ i v.
-          ap (λ rs. value_after i v (all_effects rs)) now_is
-          ∙ ap (λ es. value_after i v es) (all_effects-append (records_between w c j s) (records_between w' c s k))
-          ∙ value_after-append i v (all_effects (records_between w c j s)) (all_effects (records_between w' c s k))
-          ∙ net i (value_after i v (all_effects (records_between w c j s)))
-          ∙ sym (ap (λ rs. value_after i v (all_effects rs)) was_is
-          ∙ ap (λ es. value_after i v es) (all_effects-append (records_between w c j s) (records_between w c s K))
-          ∙ value_after-append i v (all_effects (records_between w c j s)) (all_effects (records_between w c s K)));
-      touch = λ i.
-          ap (λ rs. contains (touched (all_effects rs)) i) now_is
-          ∙ ap (λ es. contains (touched es) i) (all_effects-append (records_between w c j s) (records_between w' c s k))
-          ∙ contains-both (all_effects (records_between w c j s)) (all_effects (records_between w' c s k)) i
-          ∙ ap (λ b. contains (touched (all_effects (records_between w c j s))) i || b) (touch i)
-          ∙ sym (ap (λ rs. contains (touched (all_effects rs)) i) was_is
-          ∙ ap (λ es. contains (touched es) i) (all_effects-append (records_between w c j s) (records_between w c s K))
-          ∙ contains-both (all_effects (records_between w c j s)) (all_effects (records_between w c s K)) i);
+      net = grind (arith, all_effects-append, value_after-append);
+      touch = grind (arith, all_effects-append, contains-both);
       from = call_at-coalesce w w' c s new was so e j low le;
       to = e.same_call k past high bk;
       same = steps-same w w' e.calls;
@@ -174,10 +137,14 @@ of_own w w' c s new was so e j k le bj bk low high =
             | inr before ↦ stands-over w w' c s new was so e j k (sym (e.border_old j before) ∙ bj) bk low_w before (omega arith) high
           ]
       | inr before ↦
-          part_moves w w' c j k (part-before w w' c s new was so e j k low_w le before)
-          (call_at-coalesce w w' c s new was so e j low_w (omega arith)) (call_at-coalesce w w' c s new was so e k (omega arith) before)
-          (steps-same w w' e.calls)
-          (part_of w c j k so (sym (e.border_old j (omega arith)) ∙ bj) (sym (e.border_old k before) ∙ bk) low_w le (omega (arith, before, e.high)))
+          grind (
+            arith,
+            part_moves w w' c j k (part-before w w' c s new was so e j k low_w le before)
+                (call_at-coalesce w w' c s new was so e j low_w (omega arith)) (call_at-coalesce w w' c s new was so e k (omega arith) before)
+                (steps-same w w' e.calls)
+                (part_of w c j k so (sym (e.border_old j (omega arith)) ∙ bj) (sym (e.border_old k before) ∙ bk) low_w le
+                (omega (arith, before, e.high))),
+          )
     ]
 
 -- what is touched from s on stays
@@ -195,8 +162,7 @@ unfolding Stands
 stands-coalesce w w' c s new was so e d j k bj bk low le high =
     elim (cases_eq d c) [
       | inl own ↦
-          subst (λ d. w'.border d j ≡ true → w'.border d k ≡ true → w'.first d ≤ j → k ≤ end_of_log w' d → StandFor w' d j k) (sym own)
-          (of_own w w' c s new was so e j k le) bj bk low high
+          grind (arith, of_own w w' c s new was so e j k le)
       | inr other ↦
           let same : end_of_log w' d ≡ end_of_log w d = end-else w w' d (e.first d) (e.records_else d other) in
           part_moves w w' d j k
@@ -216,16 +182,9 @@ received_by_all-coalesce w w' c s new was so e d =
           (let a : least_of w.full (λ n. w.received n c) (end_of_log w c) ≤ s = low_of w c s e.low in
           let z : end_of_log w' c ≡ s + length new = end-coalesce w w' c s new was so e in
           least_of-above w'.full (λ n. w'.received n c) (end_of_log w' c) (least_of w.full (λ n. w.received n c) (end_of_log w c)) (omega (arith, a, z))
-          (λ n h. let f : Full w n = subst (λ ns. contains ns n ≡ true) e.full h in
-          elim (e.here n f) [
-            | inl t ↦ rw t.received (least_of-below w.full (λ n. w.received n c) (end_of_log w c) n f)
-            | inr t ↦ rw t.received (omega (arith, a, z))
-          ]))
+          (grind (arith, least_of-below)))
       | inr other ↦
-          least_of-above w'.full (λ n. w'.received n d) (end_of_log w' d) (least_of w.full (λ n. w.received n d) (end_of_log w d))
-          (rw (end-else w w' d (e.first d) (e.records_else d other)) (least_of-end w.full (λ n. w.received n d) (end_of_log w d)))
-          (λ n h. let f : Full w n = subst (λ ns. contains ns n ≡ true) e.full h in
-          rw (e.received_else n d f other) (least_of-below w.full (λ n. w.received n d) (end_of_log w d) n f))
+          search (least_of-above, end-else, least_of-end, least_of-below, arith) parts 3
     ]
   where
     low_of : (w : World) (c s : ℕ) → received_by_all w c ≤ s → least_of w.full (λ n. w.received n c) (end_of_log w c) ≤ s
@@ -241,8 +200,7 @@ digested_by_all-coalesce w w' c s new was so e d =
           (omega (arith, digested_by_all-received_by_all w so c, e.low, end-coalesce w w' c s new was so e))
       | inr other ↦ rw (end-else w w' d (e.first d) (e.records_else d other)) (least_of-end w.full (λ n. w.digested n d) (end_of_log w d))
     ])
-    (λ n h. let f : Full w n = subst (λ ns. contains ns n ≡ true) e.full h in
-    rw (e.digested n d f) (least_of-below w.full (λ n. w.digested n d) (end_of_log w d) n f))
+    (grind (arith, least_of-below))
 
 -- call numbers up to what all have, stay
 call_at-stays : (w w' : World) (c s : ℕ) (new : List LogRecord) (was : ℕ → ℕ) → CallsInvariant w → Coalesces w c s new was w' → (d k : ℕ) → w.first d ≤ k →
@@ -266,22 +224,25 @@ places w c j k r le = at_mono (w.records c) (j - w.first c) (k - w.first c) (w.n
 first_undigested-coalesce : (w w' : World) (c s : ℕ) (new : List LogRecord) (was : ℕ → ℕ) → CallsInvariant w → Coalesces w c s new was w' → (d : ℕ) →
     first_undigested w d ≤ first_undigested w' d
 unfolding first_undigested
-first_undigested-coalesce w w' c s new was so e d =
-    let up : call_at w' d (digested_by_all w d) ≤ call_at w' d (digested_by_all w' d) = places w' d (digested_by_all w d) (digested_by_all w' d)
-    (ascending-coalesce w w' c s new was so e d) (digested_by_all-coalesce w w' c s new was so e d) in
-    let is : call_at w' d (digested_by_all w d) ≡ call_at w d (digested_by_all w d) = call_at-stays w w' c s new was so e d (digested_by_all w d)
-    (digested_by_all-first w so d) (digested_by_all-received_by_all w so d) in
-    omega (arith, up, is)
+first_undigested-coalesce w w' c s new was so e d = grind (
+  arith,
+  places w' d (digested_by_all w d) (digested_by_all w' d) (ascending-coalesce w w' c s new was so e d)
+      (digested_by_all-coalesce w w' c s new was so e d),
+  call_at-stays w w' c s new was so e d (digested_by_all w d) (digested_by_all-first w so d)
+      (digested_by_all-received_by_all w so d),
+)
 
 of_part : (w : World) (c s i : ℕ) → w.first c ≤ s → s ≤ end_of_log w c → contains (touched (all_effects (records_between w c s (end_of_log w c)))) i ≡ true →
     contains (touched (all_effects (w.records c))) i ≡ true
-of_part w c s i low high h =
-    ap (λ rs. contains (touched (all_effects rs)) i) (sym (part-whole w c)) ∙ ap (λ rs. contains (touched (all_effects rs)) i)
-    (part-append w c (w.first c) s (end_of_log w c) (omega arith) low high)
-    ∙ ap (λ es. contains (touched es) i) (all_effects-append (records_between w c (w.first c) s) (records_between w c s (end_of_log w c)))
-    ∙ contains-both (all_effects (records_between w c (w.first c) s)) (all_effects (records_between w c s (end_of_log w c))) i
-    ∙ or_right (contains (touched (all_effects (records_between w c (w.first c) s))) i)
-    (contains (touched (all_effects (records_between w c s (end_of_log w c)))) i) h
+of_part w c s i low high h = grind (
+  arith,
+  part-whole w c,
+  part-append w c (w.first c) s (end_of_log w c) (omega arith) low high,
+  all_effects-append (records_between w c (w.first c) s)
+      (records_between w c s (end_of_log w c)),
+  contains-both (all_effects (records_between w c (w.first c) s))
+      (all_effects (records_between w c s (end_of_log w c))) i,
+)
 
 guarded-coalesce : (w w' : World) (c s : ℕ) (new : List LogRecord) (was : ℕ → ℕ) → CallsInvariant w → Coalesces w c s new was w' → Guarded w'
 unfolding Guarded
@@ -291,9 +252,7 @@ guarded-coalesce w w' c s new was so e d i h =
           (λ h. e.leases.writes c i ∙ so.guarded c i
           (let n : ℕ = s - w.first c in
           let split : (contains (touched (all_effects (take n (w.records c)))) i || contains (touched (all_effects new)) i) ≡ true =
-          sym (contains-both (all_effects (take n (w.records c))) (all_effects new) i)
-          ∙ ap (λ es. contains (touched es) i) (sym (all_effects-append (take n (w.records c)) new)) ∙ ap (λ rs. contains (touched (all_effects rs)) i)
-          (sym e.records_own) ∙ h in
+          grind (arith, contains-both, all_effects-append) in
           elim (or_cases (contains (touched (all_effects (take n (w.records c)))) i) (contains (touched (all_effects new)) i) split) [
             | inl t ↦ contains-take (w.records c) n i t
             | inr t ↦ of_part w c s i (omega (arith, first-received_by_all w so c, e.low)) e.high (sym (touch_all w w' c s new was so e i) ∙ t)
@@ -324,19 +283,8 @@ received_good : (w w' : World) (c s : ℕ) (new : List LogRecord) (was : ℕ →
     (w'.received m d ≤ end_of_log w' d) × (w'.border d (w'.received m d) ≡ true)
 received_good w w' c s new was so e m d full =
     elim (cases_eq d c) [
-      | inl own ↦ subst (λ d. (w'.received m d ≤ end_of_log w' d) × (w'.border d (w'.received m d) ≡ true)) (sym own)
-          (elim (e.here m full) [
-            | inl t ↦ (
-              rw t.received (omega (arith, t.before, end-coalesce w w' c s new was so e)),
-              ap (λ k. w'.border c k) t.received
-                  ∙ e.border_old (w.received m c) t.before ∙ (so.order m c full).received_border,
-            )
-            | inr t ↦ (rw t.received (omega arith), ap (λ k. w'.border c k) t.received ∙ e.border_end)
-          ])
-      | inr other ↦ (
-        rw (e.received_else m d full other, end-else w w' d (e.first d) (e.records_else d other)) (so.order m d full).known,
-        ap (λ k. w'.border d k) (e.received_else m d full other) ∙ e.border_else d (w.received m d) other ∙ (so.order m d full).received_border,
-      )
+      | inl own ↦ grind (arith, end-coalesce w w' c s new was so e)
+      | inr other ↦ search (end-else, arith) parts 3
     ]
 
 end_good : (w w' : World) (c s : ℕ) (new : List LogRecord) (was : ℕ → ℕ) → CallsInvariant w → Coalesces w c s new was w' → (d : ℕ) →
@@ -403,12 +351,7 @@ coalesce_falls w w' c s new was so e = falls w w' c s new was so.coherent e
 prefix-stays : (w w' : World) (c s : ℕ) (new : List LogRecord) (was : ℕ → ℕ) → WorldInvariant w → Coalesces w c s new was w' → (n : ℕ) → Full w n →
     w.received n c ≤ s →
     take (w.received n c - w.first c) (w'.records c) ≡ w.log n c
-prefix-stays w w' c s new was so e n f low =
-    let j : ℕ = w.received n c - w.first c in
-    let k : ℕ = s - w.first c in
-    let len : length (take k (w.records c)) ≡ k = prefix-length w w' c s new was so.coherent e in
-    ap (take j) e.records_own ∙ take-append-le j (take k (w.records c)) new (omega (arith, len, low)) ∙ take-take j k (w.records c) (omega (arith, low))
-    ∙ sym (so.prefixes n c f)
+prefix-stays w w' c s new was so e n f low = grind (arith, prefix-length w w' c s new was so.coherent e, take-append-le, take-take)
 
 whole-prefix : (w' : World) (c : ℕ) → take (end_of_log w' c - w'.first c) (w'.records c) ≡ w'.records c
 unfolding end_of_log
@@ -421,8 +364,7 @@ prefix_now w w' c s new was so e n d f =
       | inr other ↦ rw (e.log_else n d f other, e.received_else n d f other, e.first d, e.records_else d other) (so.prefixes n d f)
       | inl own ↦ subst (λ d. w'.log n d ≡ take (w'.received n d - w'.first d) (w'.records d)) (sym own)
           (elim (e.here n f) [
-            | inl t ↦ t.log ∙ sym (prefix-stays w w' c s new was so e n f t.before)
-                ∙ sym (ap (λ k. take (k - w'.first c) (w'.records c)) t.received ∙ ap (λ k. take (w.received n c - k) (w'.records c)) (e.first c))
+            | inl t ↦ grind (arith, prefix-stays w w' c s new was so e n f t.before)
             | inr t ↦ t.log ∙ sym (ap (λ k. take (k - w'.first c) (w'.records c)) t.received ∙ whole-prefix w' c)
           ])
     ]
@@ -430,35 +372,16 @@ prefix_now w w' c s new was so e n d f =
 pub coalesce_sound : (w w' : World) (c s : ℕ) (new : List LogRecord) (was : ℕ → ℕ) → WorldInvariant w → Coalesces w c s new was w' → WorldInvariant w'
 coalesce_sound w w' c s new was so e = record {
   coherent = coalesce_coherent w w' c s new was so.coherent e;
-  few_records = λ d. elim (cases_eq d c) [
-    | inl own ↦ subst (λ d. end_of_log w' d ≤ w'.next d) (sym own) (omega (arith, e.no_more, so.few_records c, e.next c))
-    | inr other ↦ rw (end-else w w' d (e.first d) (e.records_else d other), e.next d) (so.few_records d)
-  ];
-  goals = λ d. elim (cases_eq d c) [
-    | inl own ↦ subst (λ d. w'.goal d ≤ end_of_log w' d) (sym own) (rw e.goal_here (omega arith))
-    | inr other ↦ rw (end-else w w' d (e.first d) (e.records_else d other), e.goal_else d other) (so.goals d)
-  ];
-  single = λ d k t low from to. elim (cases_eq d c) [
-    | inl own ↦ subst (λ d. w'.goal d ≤ k → k ≤ end_of_log w' d → w'.border d k ≡ true) (sym own)
-        (λ past top. (let last : k ≡ end_of_log w' c = omega (arith, e.goal_here, past, top) in ap (w'.border c) last ∙ e.border_end)) from to
-    | inr other ↦ e.border_else d k other
-        ∙ so.single d k (sym (e.clients.lives d) ∙ t) (rw (e.first d) at low) (rw (e.goal_else d other) at from)
-        (rw (end-else w w' d (e.first d) (e.records_else d other)) at to)
-  ];
+  few_records = search (end-else, arith) parts 3;
+  goals = search (end-else, arith) parts 3;
+  single = search (end-else, arith) parts 3;
   unused = λ d h. e.next d ∙ so.unused d (omega (arith, e.clients.clients, h));
   held = held-same w w' so e.leases;
   prefixes = λ n d h. prefix_now w w' c s new was so e n d (subst (λ ns. contains ns n ≡ true) e.full h);
   opened = λ d t. rw e.clients.clients (so.opened d (sym (e.clients.lives d) ∙ t));
   homes = λ d t. rw (e.clients.home d, e.full) (so.homes d (sym (e.clients.lives d) ∙ t));
-  whole = λ d t. rw (e.clients.home d) (elim (cases_eq d c) [
-    | inl own ↦ subst (λ d. w'.received (w.home d) d ≡ end_of_log w' d) (sym own) e.at_home.received
-    | inr other ↦ (let u : w.lives d ≡ true = sym (e.clients.lives d) ∙ t in
-        e.received_else (w.home d) d (so.homes d u) other ∙ so.whole d u ∙ sym (end-else w w' d (e.first d) (e.records_else d other)))
-  ]);
-  left = λ n d t h. (let u : w.lives d ≡ false = sym (e.clients.lives d) ∙ t in
-      let f : Full w n = subst (λ ns. contains ns n ≡ true) e.full h in
-      let other : d ≢ c = λ own. both_ways (w.lives d) u (subst (λ k. w.lives k ≡ true) (sym own) e.lives) in
-      e.received_else n d f other ∙ so.left n d u f ∙ sym (end-else w w' d (e.first d) (e.records_else d other)));
+  whole = search (end-else, arith) parts 3;
+  left = search (end-else, arith) parts 3;
 }
 
 -- the home has digested no more than all have, which stays
@@ -471,8 +394,7 @@ coalesce_dropped w w' c s new was so dropped e d =
     ∙ elim (cases_eq d c) [
       | inl own ↦ subst (λ d. least_of w.full (λ n. w'.digested n d) (end_of_log w d) ≡ least_of w'.full (λ n. w'.digested n d) (end_of_log w' d)) (sym own)
           shorter
-      | inr other ↦ ap (least_of w.full (λ n. w'.digested n d)) (sym (end-else w w' d (e.first d) (e.records_else d other)))
-          ∙ ap (λ ns. least_of ns (λ n. w'.digested n d) (end_of_log w' d)) (sym e.full)
+      | inr other ↦ search (end-else, arith) parts 3
     ]
   where
     home : Full w (w.home c)

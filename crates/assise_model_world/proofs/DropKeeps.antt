@@ -1,7 +1,7 @@
 -- Prefixes of logs are dropped.
-use Rattle.assise_model_world.proofs.Common.{◌≡◌, ℕ, ◌+◌, ◌-◌, ◌≤◌, true, ap, sym, ◌∙◌, subst, arith, take, drop, length, length-drop, drop-take, opening_tree}
-use Rattle.assise_model_world.proofs.Common.{AreAnswered, contains, late_value, AllMakeNew, exchanges, NumbersAscend, below, Unseen, Drops, NoneFalls, Stands}
-use Rattle.assise_model_world.proofs.Common.{Guarded, IsOrdered, Areas, CallsInvariant, WorldInvariant, AreDropped, World, Full, opening_values, end_of_log}
+use Rattle.assise_model_world.proofs.Common.{◌≡◌, ℕ, ◌-◌, ◌≤◌, true, ap, sym, ◌∙◌, subst, arith, take, length-drop, drop-take, opening_tree, AreAnswered}
+use Rattle.assise_model_world.proofs.Common.{contains, late_value, AllMakeNew, exchanges, NumbersAscend, below, Unseen, Drops, NoneFalls, Stands, Guarded}
+use Rattle.assise_model_world.proofs.Common.{IsOrdered, Areas, CallsInvariant, WorldInvariant, AreDropped, World, Full, opening_values, end_of_log}
 use Rattle.assise_model_world.proofs.Common.{digested_by_all, received_by_all, records_between, call_at, first_undigested_at, first_undigested}
 use Rattle.assise_model_world.proofs.Common.{first_unreplicated, steps, value_below}
 use Rattle.assise_model_world.proofs.Lists.{unseen-raise, below-same}
@@ -26,12 +26,7 @@ digested_by_all-end w c = least_of-end w.full (λ m. w.digested m c) (end_of_log
 
 end-drop : (w w' : World) (f : ℕ → ℕ) → Drops w f w' → (c : ℕ) → end_of_log w' c ≡ end_of_log w c
 unfolding end_of_log
-end-drop w w' f e c =
-    rw (e.first c, e.records c) (within (digested_by_all-end w c))
-  where
-    within : digested_by_all w c ≤ w.first c + length (w.records c) → f c + length (drop (f c - w.first c) (w.records c)) ≡ w.first c + length (w.records c)
-    within h = (let l : length (drop (f c - w.first c) (w.records c)) ≡ length (w.records c) - (f c - w.first c) =
-        length-drop (f c - w.first c) (w.records c) in omega (arith, l, h, e.low c, e.high c))
+end-drop w w' f e c = grind (arith, digested_by_all-end, length-drop)
 
 part-drop : (w w' : World) (f : ℕ → ℕ) → Drops w f w' → (c j k : ℕ) → f c ≤ j → records_between w' c j k ≡ records_between w c j k
 unfolding records_between
@@ -48,13 +43,11 @@ stands-drop w w' f s e c j k bj bk low le high =
 
 digested_by_all-drop : (w w' : World) (f : ℕ → ℕ) → Drops w f w' → (c : ℕ) → digested_by_all w' c ≡ digested_by_all w c
 unfolding digested_by_all
-digested_by_all-drop w w' f e c =
-    rw (end-drop w w' f e c, e.full) (least_of-same w.full (λ m. w'.digested m c) (λ m. w.digested m c) (end_of_log w c) (λ m h. e.digested m c h))
+digested_by_all-drop w w' f e c = grind (arith, end-drop w w' f e c, least_of-same)
 
 received_by_all-drop : (w w' : World) (f : ℕ → ℕ) → Drops w f w' → (c : ℕ) → received_by_all w' c ≡ received_by_all w c
 unfolding received_by_all
-received_by_all-drop w w' f e c =
-    rw (end-drop w w' f e c, e.full) (least_of-same w.full (λ m. w'.received m c) (λ m. w.received m c) (end_of_log w c) (λ m h. e.received m c h))
+received_by_all-drop w w' f e c = grind (arith, end-drop w w' f e c, least_of-same)
 
 first_undigested-drop : (w w' : World) (f : ℕ → ℕ) → Drops w f w' → (c : ℕ) → first_undigested w' c ≡ first_undigested w c
 unfolding first_undigested
@@ -93,11 +86,8 @@ order-drop w w' f s e m c h =
       begun = rw (e.first c, e.digested m c full) (past_prefix w w' f m c e full);
       replicated = rw (e.digested m c full, received_by_all-drop w w' f e c) o.replicated;
       known = rw (end-drop w w' f e c, e.received m c full) o.known;
-      digested_border = e.border c (w'.digested m c) (rw (e.digested m c full) (past_prefix w w' f m c e full)) ∙ ap (λ k. w.border c k) (e.digested m c full)
-          ∙ o.digested_border;
-      received_border = e.border c (w'.received m c)
-          (rw (e.received m c full) (omega (arith, past_prefix w w' f m c e full, o.replicated, received_by_all-below w m c full)))
-          ∙ ap (λ k. w.border c k) (e.received m c full) ∙ o.received_border;
+      digested_border = grind (arith, past_prefix w w' f m c e full);
+      received_border = grind (arith, past_prefix w w' f m c e full, received_by_all-below w m c full);
     }
 
 pub drop_coherent : (w w' : World) (f : ℕ → ℕ) → CallsInvariant w → Drops w f w' → CallsInvariant w'
@@ -127,13 +117,8 @@ drop_coherent w w' f s e = record {
 -- a full node's log is still the prefix of the client's own
 prefixes-drop : (w w' : World) (f : ℕ → ℕ) (m c : ℕ) → WorldInvariant w → Drops w f w' → Full w m → w'.log m c ≡ take (w'.received m c - w'.first c)
     (w'.records c)
-prefixes-drop w w' f m c s e h =
-    let o : IsOrdered w m c = s.coherent.order m c h in
-    let past : f c ≤ w.received m c = omega (arith, past_prefix w w' f m c e h, o.replicated, received_by_all-below w m c h) in
-    let parts : w.received m c - w.first c ≡ (f c - w.first c) + (w.received m c - f c) = omega (arith, e.low c, past) in
-    rw (e.received m c h, e.first c, e.records c)
-    (e.log m c h ∙ ap (drop (f c - w.first c)) (s.prefixes m c h ∙ ap (λ k. take k (w.records c)) parts)
-    ∙ drop-take (f c - w.first c) (w.received m c - f c) (w.records c))
+prefixes-drop w w' f m c s e h = grind
+    (arith, past_prefix w w' f m c e h, received_by_all-below w m c h, drop-take (f c - w.first c) (w.received m c - f c) (w.records c))
 
 pub drop_sound : (w w' : World) (f : ℕ → ℕ) → WorldInvariant w → Drops w f w' → WorldInvariant w'
 drop_sound w w' f s e = record {
@@ -148,10 +133,8 @@ drop_sound w w' f s e = record {
   prefixes = λ m c h. prefixes-drop w w' f m c s e (full_before w w' f m e h);
   opened = λ c t. rw e.clients.clients (s.opened c (sym (e.clients.lives c) ∙ t));
   homes = λ c t. rw (e.clients.home c, e.full) (s.homes c (sym (e.clients.lives c) ∙ t));
-  whole = λ c t. (let u : w.lives c ≡ true = sym (e.clients.lives c) ∙ t in
-      rw (e.clients.home c, end-drop w w' f e c) (e.received (w.home c) c (s.homes c u) ∙ s.whole c u));
-  left = λ m c t h. (let full : Full w m = full_before w w' f m e h in
-      rw (end-drop w w' f e c) (e.received m c full ∙ s.left m c (sym (e.clients.lives c) ∙ t) full));
+  whole = λ c t. (grind (arith, end-drop w w' f e c));
+  left = λ m c t h. (grind (arith, end-drop w w' f e c));
 }
 
 pub drop_falls : (w w' : World) (f : ℕ → ℕ) → WorldInvariant w → Drops w f w' → NoneFalls w w'

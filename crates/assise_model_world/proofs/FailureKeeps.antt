@@ -1,18 +1,17 @@
 -- A failure of a node takes only records that some full node lacks.
 use Rattle.assise_model_world.proofs.Common.{◌≡◌, ℕ, zero, suc, ◌-◌, ◌<◌, ◌≤◌, ◌≢◌, inl, inr, min, Bool, true, false, not, List, [], ◌∷◌, if◌then◌else◌, refl}
 use Rattle.assise_model_world.proofs.Common.{ap, sym, ◌∙◌, subst, ◌&&◌, ◌||◌, ◌==◌, arith, take, length-take, filter, and_from, and_right, both_ways}
-use Rattle.assise_model_world.proofs.Common.{cases_Bool, cases_eq, cases_lt, eq-eqb, eqb-true, le-ltb, ltb-false, ne_eqb, or_cases, or_left, or_right}
-use Rattle.assise_model_world.proofs.Common.{nat_tests, opening_tree, AreAnswered, tree_after_calls, LogRecord, all_effects, call_of, value_after, touched}
-use Rattle.assise_model_world.proofs.Common.{contains, late_value, Spells, NumberedCall, trace, values_after_calls, AllMakeNew, exchanges, ops, Each}
-use Rattle.assise_model_world.proofs.Common.{NumbersAscend, below, window, Unseen, kept_at_failure, Fails, NoneFalls, StayReplicated, StandFor, Stands, Counted}
-use Rattle.assise_model_world.proofs.Common.{Numbered, Guarded, IsOrdered, Areas, CallsInvariant, WorldInvariant, World, Full, opening_values, end_of_log}
-use Rattle.assise_model_world.proofs.Common.{digested_by_all, received_by_all, records_between, call_at, first_undigested_at, first_undigested}
-use Rattle.assise_model_world.proofs.Common.{first_unreplicated, steps, now, tree, value_below, calls_replicated, each-map, each-always}
+use Rattle.assise_model_world.proofs.Common.{cases_Bool, cases_eq, cases_lt, eq-eqb, eqb-true, ne_eqb, or_cases, or_left, or_right, nat_tests, opening_tree}
+use Rattle.assise_model_world.proofs.Common.{AreAnswered, tree_after_calls, LogRecord, all_effects, call_of, value_after, touched, contains, late_value, Spells}
+use Rattle.assise_model_world.proofs.Common.{NumberedCall, trace, values_after_calls, AllMakeNew, exchanges, ops, Each, NumbersAscend, below, window, Unseen}
+use Rattle.assise_model_world.proofs.Common.{kept_at_failure, Fails, NoneFalls, StayReplicated, StandFor, Stands, Counted, Numbered, Guarded, IsOrdered, Areas}
+use Rattle.assise_model_world.proofs.Common.{CallsInvariant, WorldInvariant, World, Full, opening_values, end_of_log, digested_by_all, received_by_all}
+use Rattle.assise_model_world.proofs.Common.{records_between, call_at, first_undigested_at, first_undigested, first_unreplicated, steps, now, tree, value_below}
+use Rattle.assise_model_world.proofs.Common.{calls_replicated, each-map, each-always}
 use Rattle.assise_model_world.proofs.Lists.{each-filter, each-filter_if, pairs-filter, unseen-raise, value-cong, value-filter}
 use Rattle.assise_model_world.proofs.Logs.{ascending-take, take-of_take, contains-take, at-take, at-take_past, inside, at_cut, nothing}
-use Rattle.assise_model_world.proofs.WorldObserved.{least_of-below, least_of-above, least_of-end, least_of-is, call_at-mono, next-top, part_of}
-use Rattle.assise_model_world.proofs.WorldObserved.{digested_by_all-first, received_by_all-below, received_by_all-end, first-received_by_all, IsCounted}
-use Rattle.assise_model_world.proofs.WorldObserved.{area_at}
+use Rattle.assise_model_world.proofs.WorldObserved.{least_of-below, least_of-above, least_of-end, least_of-is, call_at-mono, next-top, digested_by_all-first}
+use Rattle.assise_model_world.proofs.WorldObserved.{received_by_all-below, received_by_all-end, first-received_by_all, IsCounted, area_at}
 use Rattle.assise_model_world.proofs.Between.{digested_by_all-received_by_all}
 use Rattle.assise_model_world.proofs.QuietSteps.{made_by_more, compatible-same, held-same}
 use Rattle.assise_model_world.proofs.RegionAlone.{tails_at, spelled_at, answered_at, new_at}
@@ -40,11 +39,7 @@ filter-contains p (k ∷ ns) m t h =
     elim (cases_Bool (k == m)) [
       | inl is ↦ (let passes : p k ≡ true = subst (λ j. p j ≡ true) (sym (eqb-true k m is)) t in rw passes (or_left (k == m) (contains (filter p ns) m) is))
       | inr other ↦
-          let rest : contains (filter p ns) m ≡ true = filter-contains p ns m t (rw other at h) in
-          elim (p k) as (λ b. contains (if b then k ∷ filter p ns else filter p ns) m ≡ true) [
-            | true ↦ or_right (k == m) (contains (filter p ns) m) rest
-            | false ↦ rest
-          ]
+          grind (arith, filter-contains p ns m t (rw other at h))
     ]
 
 is_survivor : (w : World) (n m : ℕ) → Full w m → m ≢ n → contains (survivors w n) m ≡ true
@@ -150,8 +145,7 @@ module _ (w w' : World) (n : ℕ) (s : CallsInvariant w) (f : Fails w n w') wher
 
   part-cut : (c j k : ℕ) → w.first c ≤ j → j ≤ k → k ≤ cut c → records_between w' c j k ≡ records_between w c j k
   unfolding records_between
-  part-cut c j k low le high =
-      rw (f.first c, cut-records c) (take-of_take (w.records c) (j - w.first c) (k - j) (cut c - w.first c) (omega (arith, low, le, high)))
+  part-cut c j k low le high = grind (arith, take-of_take)
 
   -- the kept calls between two places of the cut log
   kept_window : (c j k : ℕ) → w.first c ≤ j → j ≤ k → k ≤ cut c → (x : NumberedCall) →
@@ -163,30 +157,24 @@ module _ (w w' : World) (n : ℕ) (s : CallsInvariant w) (f : Fails w n w') wher
   stands-fail c j k bj bk low le high =
       let low_w : w.first c ≤ j = rw (f.first c) at low in
       let high_w : k ≤ cut c = rw (end-cut c) at high in
-      let t : StandFor w c j k = part_of w c j k s (sym (f.border c j (omega (arith, le, high_w))) ∙ bj) (sym (f.border c k high_w) ∙ bk) low_w le
-      (omega (arith, high_w, kept_high w n c)) in
+      let t : StandFor w c j k = grind (arith, kept_high) in
       let part : records_between w' c j k ≡ records_between w c j k = part-cut c j k low_w le high_w in
       record {
         value = λ i v.
             ap (λ rs. value_after i v (all_effects rs)) part ∙ t.value i v
-            ∙ sym (value-cong (λ x. below lost x && window c (call_at w' c j) (call_at w' c k) x) (window c (call_at w c j) (call_at w c k)) i v (steps w)
-            (each-always _ (steps w) (λ x. kept_window c j k low_w le high_w x.0)))
+            ∙ sym (grind (arith, kept_window))
             ∙ sym (value-filter (window c (call_at w' c j) (call_at w' c k)) (below lost) i v (steps w))
             ∙ ap (λ xs. late_value (window c (call_at w' c j) (call_at w' c k)) i v xs) (sym steps-fail);
         touch = λ i q.
             subst (λ xs. Each (λ x. window c (call_at w' c j) (call_at w' c k) x.0 ≡ true → contains (touched x.1.effects) i ≡ false) xs) (sym steps-fail)
             (each-filter_if (λ x. window c (call_at w' c j) (call_at w' c k) x.0 ≡ true → contains (touched x.1.effects) i ≡ false) (λ x. below lost x.0)
             (steps w)
-            (each-map (λ x. window c (call_at w c j) (call_at w c k) x.0 ≡ true → contains (touched x.1.effects) i ≡ false)
-            (λ x. below lost x.0 ≡ true → window c (call_at w' c j) (call_at w' c k) x.0 ≡ true → contains (touched x.1.effects) i ≡ false) (steps w)
-            (λ x g kx wx. g (sym (kept_window c j k low_w le high_w x.0) ∙ and_from (below lost x.0) (window c (call_at w' c j) (call_at w' c k) x.0) kx wx))
-            (t.touch i (rw part at q))));
+            (grind (arith, each-map, kept_window)));
       }
 
   guarded-fail : Guarded w'
   unfolding Guarded
-  guarded-fail c i h = f.leases.writes c i
-      ∙ s.guarded c i (contains-take (w.records c) (cut c - w.first c) i (subst (λ rs. contains (touched (all_effects rs)) i ≡ true) (cut-records c) h))
+  guarded-fail c i h = grind (arith, contains-take, cut-records)
 
   -- ---- what the other nodes have
 
@@ -200,21 +188,21 @@ module _ (w w' : World) (n : ℕ) (s : CallsInvariant w) (f : Fails w n w') wher
 
   first_undigested-fail : (c : ℕ) → first_undigested w c ≤ first_undigested w' c
   unfolding first_undigested
-  first_undigested-fail c =
-      let a : call_at w c (digested_by_all w c) ≤ call_at w c (digested_by_all w' c) = call_at-mono w c (digested_by_all w c) (digested_by_all w' c) s
-      (digested_by_all-fail c) in
-      let b : call_at w c (digested_by_all w' c) ≤ call_at w' c (digested_by_all w' c) = call_at-ascends c (digested_by_all w' c)
-      (omega (arith, digested_by_all-first w s c, digested_by_all-fail c)) in
-      omega (arith, a, b)
+  first_undigested-fail c = grind (
+    arith,
+    call_at-mono w c (digested_by_all w c) (digested_by_all w' c) s (digested_by_all-fail c),
+    call_at-ascends c (digested_by_all w' c)
+        (omega (arith, digested_by_all-first w s c, digested_by_all-fail c)),
+  )
 
   first_unreplicated-fail : (c : ℕ) → first_unreplicated w c ≤ first_unreplicated w' c
   unfolding first_unreplicated
-  first_unreplicated-fail c =
-      let a : call_at w c (received_by_all w c) ≤ call_at w c (received_by_all w' c) = call_at-mono w c (received_by_all w c) (received_by_all w' c) s
-      (received_by_all-fail c) in
-      let b : call_at w c (received_by_all w' c) ≤ call_at w' c (received_by_all w' c) = call_at-ascends c (received_by_all w' c)
-      (omega (arith, first-received_by_all w s c, received_by_all-fail c)) in
-      omega (arith, a, b)
+  first_unreplicated-fail c = grind (
+    arith,
+    call_at-mono w c (received_by_all w c) (received_by_all w' c) s (received_by_all-fail c),
+    call_at-ascends c (received_by_all w' c)
+        (omega (arith, first-received_by_all w s c, received_by_all-fail c)),
+  )
 
   unseen-fail : Unseen (first_undigested w') (steps w')
   unseen-fail = grind (arith, steps-fail, unseen-raise, first_undigested-fail, pairs-filter)
@@ -269,15 +257,7 @@ take_least (r ∷ rs) (suc j) (suc k) = (let e : min (suc j) (suc k) ≡ suc (mi
 -- thresholds twice, the lower ones after the higher
 pub filter-lower : (a b : ℕ → ℕ) (xs : List NumberedCall) → ((c : ℕ) → a c ≤ b c) → filter (below a) (filter (below b) xs) ≡ filter (below a) xs
 filter-lower a b [] le = refl
-filter-lower a b (x ∷ xs) le =
-    elim (cases_Bool (below b x)) [
-      | inl e ↦ rw e (elim (below a x) as (λ t. (if t then x ∷ filter (below a) (filter (below b) xs) else filter (below a) (filter (below b) xs))
-          ≡ (if t then x ∷ filter (below a) xs else filter (below a) xs)) [ true ↦ ap (λ l. x ∷ l) (filter-lower a b xs le) | false ↦ filter-lower a b xs le ])
-      | inr e ↦
-          let past : b x.client ≤ x.number = ltb-false x.number (b x.client) e in
-          let out : below a x ≡ false = le-ltb x.number (a x.client) (omega (arith, past, le x.client)) in
-          rw (e, out) (filter-lower a b xs le)
-    ]
+filter-lower a b (x ∷ xs) le = grind (arith, filter-lower a b xs le)
 
 module _ (w w' : World) (n : ℕ) (s : WorldInvariant w) (f : Fails w n w') where
   end-fail : (c : ℕ) → end_of_log w' c ≡ kept_at_failure w n c
@@ -299,8 +279,7 @@ module _ (w w' : World) (n : ℕ) (s : WorldInvariant w) (f : Fails w n w') wher
       let k : ℕ = kept_at_failure w n c in
       let e : min (k - w.first c) (w.received m c - w.first c) ≡ min (min (w.received m c) k - w.first c) (k - w.first c) = omega arith in
       rw (f.received m c h, f.first c, cut-records w w' n s.coherent f c)
-      (f.log m c h ∙ ap (take (k - w.first c)) (s.prefixes m c (f.only m h)) ∙ take_least (w.records c) (k - w.first c) (w.received m c - w.first c)
-      ∙ ap (λ j. take j (w.records c)) e ∙ sym (take_least (w.records c) (min (w.received m c) k - w.first c) (k - w.first c)))
+      (search (take_least, arith) parts 3)
 
   pub fail_sound : WorldInvariant w'
   fail_sound = record {
@@ -308,10 +287,7 @@ module _ (w w' : World) (n : ℕ) (s : WorldInvariant w) (f : Fails w n w') wher
     few_records = λ c. rw (end-fail c, f.next c) (omega (arith, kept_high w n c, s.few_records c));
     goals = λ c. rw (end-fail c, f.goals c) (omega arith);
     single = λ c k t low from to.
-        (let all : kept_at_failure w n c ≡ end_of_log w c = kept_elsewhere w n c (lived c t).0 in
-        let top : k ≤ kept_at_failure w n c = rw (end-fail c) at to in
-        let past : min (w.goal c) (kept_at_failure w n c) ≤ k = rw (f.goals c) at from in
-        f.border c k top ∙ s.single c k (lived c t).1 (rw (f.first c) at low) (omega (arith, past, s.goals c, all)) (omega (arith, top, all)));
+        (grind (arith, kept_elsewhere w n c (lived c t).0, end-fail c));
     unused = λ c h. f.next c ∙ s.unused c (omega (arith, f.clients, h));
     held = held-same w w' s f.leases;
     prefixes = prefixes-fail;

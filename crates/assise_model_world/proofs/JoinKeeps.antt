@@ -1,7 +1,6 @@
 -- A node gets all that a full one has.
-use Rattle.assise_model_world.proofs.Common.{◌≡◌, ℕ, ◌≤◌, inl, inr, true, sym, ◌∙◌, subst, arith, Joins, NoneFalls, IsOrdered, Areas, CallsInvariant}
-use Rattle.assise_model_world.proofs.Common.{WorldInvariant, SameNode, World, Full, least_of, end_of_log, digested_by_all, received_by_all, first_undigested_at}
-use Rattle.assise_model_world.proofs.Common.{value_below}
+use Rattle.assise_model_world.proofs.Common.{◌≡◌, ℕ, ◌≤◌, sym, ◌∙◌, arith, Joins, NoneFalls, Areas, CallsInvariant, WorldInvariant, World, Full, least_of}
+use Rattle.assise_model_world.proofs.Common.{end_of_log, digested_by_all, received_by_all, first_undigested_at, value_below}
 use Rattle.assise_model_world.proofs.Lists.{below-same}
 use Rattle.assise_model_world.proofs.WorldObserved.{least_of-below, least_of-above, least_of-end, call_at-same, steps-same, area_at}
 use Rattle.assise_model_world.proofs.QuietSteps.{end-same, calm_coherent, calm_falls, guarded-same, compatible-same, held-same}
@@ -17,16 +16,7 @@ record IsAs (w w' : World) (m b : ℕ) : Type 0 where
 module _ (w w' : World) (n donor : ℕ) (e : Joins w n donor w') where
   -- what a full node has after the join, some full node had
   as_before : (m : ℕ) → Full w' m → (b : ℕ) × IsAs w w' m b
-  as_before m h =
-      elim (e.only m h) [
-        | inl is ↦ (
-          donor,
-          subst (λ m. IsAs w w' m donor) (sym is)
-              (record { full_before = e.donor_full; area = e.area_here; log = e.log_here; received = e.received_here; digested = e.digested_here }),
-        )
-        | inr f ↦ (let q : SameNode w w' m = e.else_same m f in
-            (m, record { full_before = f; area = q.area; log = q.log; received = q.received; digested = q.digested }))
-      ]
+  as_before m h = grind arith
 
   received_up : (c : ℕ) → received_by_all w c ≤ received_by_all w' c
   unfolding received_by_all
@@ -49,9 +39,7 @@ module _ (w w' : World) (n donor : ℕ) (e : Joins w n donor w') where
   join_coherent : CallsInvariant w → CallsInvariant w'
   join_coherent s =
       calm_coherent w w' s e.logs (rw e.clients.clients (omega arith)) digested_up
-      (λ m d h. let (b, q) = as_before m h in
-      let o : IsOrdered w b d = s.order b d q.full_before in
-      (search (received_up, end-same, arith) parts 3))
+      (λ m d h. grind (arith, received_up, end-same))
       (guarded-same w w' s e.logs.records e.leases) (compatible-same w w' s e.leases)
       (areas-join s)
 
@@ -70,8 +58,6 @@ module _ (w w' : World) (n donor : ℕ) (e : Joins w n donor w') where
     prefixes = λ m d h. (let (b, q) = as_before m h in rw (q.log d, q.received d, e.logs.first d, e.logs.records d) (s.prefixes b d q.full_before));
     opened = λ d t. rw e.clients.clients (s.opened d (sym (e.clients.lives d) ∙ t));
     homes = λ d t. rw (e.clients.home d) (e.stay (w.home d) (s.homes d (sym (e.clients.lives d) ∙ t)));
-    whole = λ d t. (let u : w.lives d ≡ true = sym (e.clients.lives d) ∙ t in
-        rw (e.clients.home d, end-same w w' e.logs d) ((e.else_same (w.home d) (s.homes d u)).received d ∙ s.whole d u));
-    left = λ m d t h. (let (b, q) = as_before m h in
-        rw (end-same w w' e.logs d) (q.received d ∙ s.left b d (sym (e.clients.lives d) ∙ t) q.full_before));
+    whole = grind (arith, end-same);
+    left = λ m d t h. (grind (arith, end-same w w' e.logs d));
   }

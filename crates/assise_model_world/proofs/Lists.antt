@@ -1,8 +1,8 @@
 -- What holds of each call or step of a list, and of each two.
-use Rattle.assise_model_world.proofs.Common.{◌≡◌, ℕ, ◌≤◌, ◌⊎◌, inl, inr, Bool, true, false, List, [], ◌∷◌, ◌++◌, if◌then◌else◌, Option, None, refl, ap, sym}
-use Rattle.assise_model_world.proofs.Common.{◌∙◌, ◌&&◌, nat_lt, arith, filter, list_any, Tree, answer, AreAnswered, tree_after_calls, Effect, has_some, Content}
-use Rattle.assise_model_world.proofs.Common.{Values, value_after, touched, contains, after, makes, Step, late_value, NumberedCall, trace, step_of}
-use Rattle.assise_model_world.proofs.Common.{values_after_calls, AllMakeNew, exchanges, ops, Each, Pairs, below, Unseen, untouched, each-map}
+use Rattle.assise_model_world.proofs.Common.{◌≡◌, ℕ, ◌≤◌, ◌⊎◌, Bool, true, false, List, [], ◌∷◌, ◌++◌, if◌then◌else◌, Option, None, refl, ap, ◌&&◌, arith}
+use Rattle.assise_model_world.proofs.Common.{filter, list_any, Tree, answer, AreAnswered, tree_after_calls, Effect, has_some, Content, Values, value_after}
+use Rattle.assise_model_world.proofs.Common.{touched, contains, after, makes, Step, late_value, NumberedCall, trace, step_of, values_after_calls, AllMakeNew}
+use Rattle.assise_model_world.proofs.Common.{exchanges, ops, Each, Pairs, below, Unseen, untouched, each-map}
 
 -- a fact of all clients' steps from that of each client's
 pub each-client : (Q : ℕ → NumberedCall × Step → Type 0) (xs : List (NumberedCall × Step)) → ((c : ℕ) → Each (λ x. x.0.client ≡ c → Q c x) xs) →
@@ -32,27 +32,15 @@ pairs-snoc R (x ∷ xs) y h p = (each-snoc (R x) xs y h.0 p.0, pairs-snoc R xs y
 
 pub each-filter : {X : Type 0} (P : X → Type 0) (k : X → Bool) (xs : List X) → Each P xs → Each P (filter k xs)
 each-filter P k [] h = tt
-each-filter P k (x ∷ xs) h =
-    elim (k x) as (λ b. Each P (if b then x ∷ filter k xs else filter k xs)) [
-      | true ↦ (h.0, each-filter P k xs h.1)
-      | false ↦ each-filter P k xs h.1
-    ]
+each-filter P k (x ∷ xs) h = grind (arith, each-filter P k xs h.1)
 
 pub each-filter_if : {X : Type 0} (P : X → Type 0) (k : X → Bool) (xs : List X) → Each (λ x. k x ≡ true → P x) xs → Each P (filter k xs)
 each-filter_if P k [] h = tt
-each-filter_if P k (x ∷ xs) h =
-    (elim (k x) as (λ b. (b ≡ true → P x) → Each P (if b then x ∷ filter k xs else filter k xs)) [
-      | true ↦ λ g. (g refl, each-filter_if P k xs h.1)
-      | false ↦ λ g. each-filter_if P k xs h.1
-    ]) h.0
+each-filter_if P k (x ∷ xs) h = grind (arith, each-filter_if P k xs h.1)
 
 pub pairs-filter : {X : Type 0} (R : X → X → Type 0) (k : X → Bool) (xs : List X) → Pairs R xs → Pairs R (filter k xs)
 pairs-filter R k [] h = tt
-pairs-filter R k (x ∷ xs) h =
-    elim (k x) as (λ b. Pairs R (if b then x ∷ filter k xs else filter k xs)) [
-      | true ↦ (each-filter (R x) k xs h.0, pairs-filter R k xs h.1)
-      | false ↦ pairs-filter R k xs h.1
-    ]
+pairs-filter R k (x ∷ xs) h = grind (arith, pairs-filter R k xs h.1, each-filter)
 
 -- what holds of calls holds along their trace
 pub each-along : (P : NumberedCall → Type 0) (v : Values) (xs : List NumberedCall) → Each P xs → Each (λ x. P x.0) (trace v xs)
@@ -74,17 +62,7 @@ value-cong t u i v (x ∷ xs) h = rw h.0 (value-cong t u i (if u x.0 then value_
 pub same_value : (t u : NumberedCall → Bool) (i : ℕ) (v : Option Content) (xs : List (NumberedCall × Step)) →
     Each (λ x. (t x.0 ≡ u x.0) ⊎ (contains (touched x.1.effects) i ≡ false)) xs → late_value t i v xs ≡ late_value u i v xs
 same_value t u i v [] h = refl
-same_value t u i v (x ∷ xs) h =
-    elim h.0 [
-      | inl e ↦ rw e (same_value t u i (if u x.0 then value_after i v x.1.effects else v) xs h.1)
-      | inr q ↦
-          let stays : value_after i v x.1.effects ≡ v = untouched i v x.1.effects q in
-          (elim (t x.0) as (λ b. late_value t i (if b then value_after i v x.1.effects else v) xs ≡ late_value t i v xs)
-          [ true ↦ ap (λ w. late_value t i w xs) stays | false ↦ refl ])
-          ∙ same_value t u i v xs h.1
-          ∙ sym (elim (u x.0) as (λ b. late_value u i (if b then value_after i v x.1.effects else v) xs ≡ late_value u i v xs)
-          [ true ↦ ap (λ w. late_value u i w xs) stays | false ↦ refl ])
-    ]
+same_value t u i v (x ∷ xs) h = grind (arith, same_value t u i (if u x.0 then value_after i v x.1.effects else v) xs h.1, untouched)
 
 pub value-none : (t : NumberedCall → Bool) (i : ℕ) (v : Option Content) (xs : List (NumberedCall × Step)) → Each (λ x. t x.0 ≡ false) xs →
     late_value t i v xs ≡ v
@@ -109,11 +87,7 @@ value-filter t k i v (x ∷ xs) =
 -- the value after thresholds that agree
 pub below-same : (a b : ℕ → ℕ) (i : ℕ) (v : Option Content) (xs : List (NumberedCall × Step)) → ((d : ℕ) → a d ≡ b d) → late_value (below a) i v xs
     ≡ late_value (below b) i v xs
-below-same a b i v xs e = value-cong (below a) (below b) i v xs (each-all xs)
-  where
-    each-all : (ys : List (NumberedCall × Step)) → Each (λ x. below a x.0 ≡ below b x.0) ys
-    each-all [] = tt
-    each-all (y ∷ ys) = (ap (λ k. nat_lt y.0.number k) (e y.0.client), each-all ys)
+below-same a b i v xs e = grind arith
 
 pub has-none : (i : ℕ) (v : Option Content) (es : List Effect) → has_some es ≡ false → value_after i v es ≡ v
 has-none i v [] h = refl

@@ -1,8 +1,8 @@
 -- Lists of log records, and windows of calls.
-use Rattle.assise_model_world.proofs.Common.{◌≡◌, ℕ, zero, suc, ◌+◌, ◌<◌, ◌≤◌, inl, inr, Bool, true, false, List, [], ◌∷◌, ◌++◌, if◌then◌else◌, refl, ap, sym}
-use Rattle.assise_model_world.proofs.Common.{◌∙◌, ◌&&◌, ◌||◌, nat_lt, arith, take, drop, length, cases_Bool, eqb-true, ltb-true, leb-true, lt-ltb, and_parts}
-use Rattle.assise_model_world.proofs.Common.{or_right, or_left, or_cases, nat_tests, Effect, LogRecord, all_effects, has_some, record_of, call_of, Ascending}
-use Rattle.assise_model_world.proofs.Common.{all_effects-one, touched, contains, NumberedCall, below, window, contains-both}
+use Rattle.assise_model_world.proofs.Common.{◌≡◌, ℕ, zero, suc, ◌+◌, ◌<◌, ◌≤◌, inl, inr, Bool, true, false, List, [], ◌∷◌, ◌++◌, refl, ap, ◌∙◌, ◌&&◌, ◌||◌}
+use Rattle.assise_model_world.proofs.Common.{nat_lt, arith, take, drop, length, eqb-true, ltb-true, leb-true, and_parts, or_right, or_left, or_cases, nat_tests}
+use Rattle.assise_model_world.proofs.Common.{Effect, LogRecord, all_effects, record_of, call_of, Ascending, all_effects-one, touched, contains, NumberedCall}
+use Rattle.assise_model_world.proofs.Common.{below, window, contains-both}
 
 -- what it is to pass a window
 pub in_window : (c a b : ℕ) (x : NumberedCall) → window c a b x ≡ true → (x.client ≡ c) × (a ≤ x.number) × (x.number < b)
@@ -105,19 +105,13 @@ take-sum rs j m n = split (drop j rs) m n ∙ ap (λ l. take m (drop j rs) ++ ta
 -- ---- one more record
 
 pub at-grows : (rs : List LogRecord) (j n : ℕ) (es : List Effect) → call_of rs j n ≤ call_of (rs ++ record_of n es) j (suc n)
-at-grows [] j n es =
-    elim (has_some es) as (λ b. n ≤ call_of (if b then record { call = n; effects = es } ∷ [] else []) j (suc n)) [
-      | true ↦ (elim j as (λ j. n ≤ call_of (record { call = n; effects = es } ∷ []) j (suc n)) [ zero ↦ omega arith | suc j ↦ omega arith ])
-      | false ↦ omega arith
-    ]
+at-grows [] j n es = grind arith
 at-grows (r ∷ rs) j n es = elim j as (λ j. call_of (r ∷ rs) j n ≤ call_of (r ∷ (rs ++ record_of n es)) j (suc n))
     [ zero ↦ omega arith | suc j ↦ at-grows rs j n es ]
 
 -- an earlier call is below the one number as below the other
 pub at-same : (rs : List LogRecord) (j n k : ℕ) (es : List Effect) → k < n → nat_lt k (call_of (rs ++ record_of n es) j (suc n)) ≡ nat_lt k (call_of rs j n)
-at-same [] j n k es h =
-    (let up : n ≤ call_of (record_of n es) j (suc n) = at-grows [] j n es in
-    lt-ltb k (call_of (record_of n es) j (suc n)) (omega (arith, up)) ∙ sym (lt-ltb k n h))
+at-same [] j n k es h = grind arith
 at-same (r ∷ rs) j n k es h =
     elim j as (λ j. nat_lt k (call_of (r ∷ (rs ++ record_of n es)) j (suc n)) ≡ nat_lt k (call_of (r ∷ rs) j n)) [ zero ↦ refl | suc j ↦ at-same rs j n k es h ]
 
@@ -128,11 +122,7 @@ at-push (q ∷ rs) r zero d h = refl
 at-push (q ∷ rs) r (suc j) d h = at-push rs r j d (omega arith)
 
 pub of_fresh : (n : ℕ) (es : List Effect) (i : ℕ) → contains (touched (all_effects (record_of n es))) i ≡ true → contains (touched es) i ≡ true
-of_fresh n es i h =
-    elim (cases_Bool (has_some es)) [
-      | inl e ↦ (let t : contains (touched (all_effects (record { call = n; effects = es } ∷ []))) i ≡ true = rw e at h in rw (all_effects-one n es) at t)
-      | inr e ↦ (let t : false ≡ true = rw e at h in cc)
-    ]
+of_fresh n es i h = grind (arith, all_effects-one n es)
 
 pub length-both : (rs zs : List LogRecord) → length (rs ++ zs) ≡ length rs + length zs
 length-both [] zs = omega arith
@@ -169,8 +159,7 @@ contains-take (r ∷ rs) k i h =
     (elim k as (λ j. contains (touched (all_effects (take j (r ∷ rs)))) i ≡ true → contains (touched (all_effects (r ∷ rs))) i ≡ true) [
       | zero ↦ λ h. cc
       | suc j ↦ λ h.
-          let split : (contains (touched r.effects) i || contains (touched (all_effects (take j rs))) i) ≡ true = sym (contains-all_effects r (take j rs) i)
-          ∙ h in
+          let split : (contains (touched r.effects) i || contains (touched (all_effects (take j rs))) i) ≡ true = grind (arith, contains-all_effects) in
           contains-all_effects r rs i ∙ (elim (or_cases (contains (touched r.effects) i) (contains (touched (all_effects (take j rs))) i) split) [
             | inl e ↦ or_left (contains (touched r.effects) i) (contains (touched (all_effects rs)) i) e
             | inr e ↦ or_right (contains (touched r.effects) i) (contains (touched (all_effects rs)) i) (contains-take rs j i e)

@@ -1,12 +1,12 @@
 -- Steps that leave the calls and the logs.
-use Rattle.assise_model_world.proofs.Common.{◌≡◌, ℕ, ◌≤◌, inl, inr, true, IsSome, ap, sym, ◌∙◌, subst, arith, opening_tree, AreAnswered, tree_after_calls}
-use Rattle.assise_model_world.proofs.Common.{Spells, values_after_calls, AllMakeNew, exchanges, ops, NumbersAscend, Unseen, NoneFalls, IsMadeBy, IsMade, Stands}
-use Rattle.assise_model_world.proofs.Common.{Counted, Numbered, AreMade, Guarded, Compatible, IsOrdered, Areas, CallsInvariant, WritesAreHeld, WorldInvariant}
+use Rattle.assise_model_world.proofs.Common.{◌≡◌, ℕ, ◌≤◌, inl, inr, true, ap, sym, ◌∙◌, subst, arith, opening_tree, AreAnswered, tree_after_calls, Spells}
+use Rattle.assise_model_world.proofs.Common.{values_after_calls, AllMakeNew, exchanges, ops, NumbersAscend, NoneFalls, IsMadeBy, IsMade, Stands, Counted}
+use Rattle.assise_model_world.proofs.Common.{Numbered, AreMade, Guarded, Compatible, IsOrdered, Areas, CallsInvariant, WritesAreHeld, WorldInvariant}
 use Rattle.assise_model_world.proofs.Common.{AreDropped, SameLogs, KeepsLeases, SameNodes, World, Full, opening_values, end_of_log, digested_by_all}
-use Rattle.assise_model_world.proofs.Common.{received_by_all, records_between, first_undigested_at, first_undigested, first_unreplicated, steps, now, tree}
+use Rattle.assise_model_world.proofs.Common.{received_by_all, records_between, first_undigested_at, first_undigested, first_unreplicated, now, tree}
 use Rattle.assise_model_world.proofs.Common.{value_below, each-map}
 use Rattle.assise_model_world.proofs.Lists.{unseen-raise, below-same}
-use Rattle.assise_model_world.proofs.WorldObserved.{least_of-below, least_of-above, least_of-end, least_of-same, call_at-mono, part_of, IsCounted, part_moves}
+use Rattle.assise_model_world.proofs.WorldObserved.{least_of-below, least_of-above, least_of-end, least_of-same, call_at-mono, part_of, part_moves}
 use Rattle.assise_model_world.proofs.WorldObserved.{call_at-same, steps-same, area_at}
 
 -- ---- the history stays
@@ -24,8 +24,7 @@ spelled-same w w' e s = subst (λ xs. Spells (values_after_calls opening_values 
 
 pub are_made-same : (w w' : World) → w'.calls ≡ w.calls → ((c : ℕ) → w'.made c ≡ w.made c) → w.clients ≤ w'.clients → CallsInvariant w → AreMade w'
 unfolding AreMade now
-are_made-same w w' e g more s i h =
-    made_more w w' i (λ c. rw (g c) (omega arith)) more (s.fresh_numbers i (subst (λ xs. IsSome (values_after_calls opening_values xs i)) e h))
+are_made-same w w' e g more s i h = grind arith
 
 pub numbered-same : (w w' : World) → w'.calls ≡ w.calls → ((c : ℕ) → w'.made c ≡ w.made c) → CallsInvariant w → Numbered w'
 unfolding Numbered
@@ -33,8 +32,7 @@ numbered-same w w' e g s = grind (arith, steps-same, each-map, made_by_more)
 
 pub counted-same : (w w' : World) → w'.calls ≡ w.calls → ((c : ℕ) → w'.next c ≡ w.next c) → w.clients ≤ w'.clients → CallsInvariant w → Counted w'
 unfolding Counted
-counted-same w w' e g more s =
-    rw e (each-map (IsCounted w) (IsCounted w') w.calls (λ x h. ((h.0.0, omega (arith, h.0.1, more)), rw (g x.client) h.1)) s.counted)
+counted-same w w' e g more s = grind (arith, each-map)
 
 -- ---- history and logs stay
 
@@ -79,8 +77,7 @@ calm_coherent w w' s l more up order guarded compatible areas = record {
   order = order;
   guarded = guarded;
   compatible = compatible;
-  unseen = subst (λ xs. Unseen (first_undigested w') xs) (sym (steps-same w w' l.calls))
-      (unseen-raise (first_undigested w) (first_undigested w') (steps w) (first_undigested-same w w' s l up) s.unseen);
+  unseen = grind (arith, steps-same, unseen-raise, first_undigested-same);
   areas = areas;
 }
 

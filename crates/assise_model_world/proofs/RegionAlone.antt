@@ -4,7 +4,7 @@ use Rattle.assise_model_world.proofs.Common.{cases_eq, opening_tree, AreAnswered
 use Rattle.assise_model_world.proofs.Common.{Spells, trace, values_after_calls, AllMakeNew, exchanges, ops, below, window, CallsInvariant, WorldInvariant}
 use Rattle.assise_model_world.proofs.Common.{World, Full, opening_values, digested_by_all, received_by_all, records_between, first_undigested_at}
 use Rattle.assise_model_world.proofs.Common.{first_undigested, first_unreplicated, steps, calls_replicated, undigested_below, all_undigested_records, alone_at}
-use Rattle.assise_model_world.proofs.Common.{value_after-append, each-map, each-always, opening_spells}
+use Rattle.assise_model_world.proofs.Common.{value_after-append, each-map, opening_spells}
 use Rattle.assise_model_world.proofs.Lists.{value-cong, value-filter, values-value}
 use Rattle.assise_model_world.proofs.WorldObserved.{call_at-mono, received_by_all-below, received_by_all-end, first_undigested-low}
 use Rattle.assise_model_world.proofs.WorldObserved.{first_undigested-received_by_all, received_by_all-border, IsCounted, all_counted, part_value, raised_same}
@@ -36,8 +36,7 @@ last_part : (w : World) (n m i : ℕ) (v : Option Content) → CallsInvariant w 
     value_after i v (all_effects (records_between w m (w.digested n m) (received_by_all w m)))
     ≡ late_value (window m (first_undigested_at w n m) (first_unreplicated w m)) i v (steps w)
 unfolding first_undigested_at first_unreplicated
-last_part w n m i v s f = part_value w m (w.digested n m) (received_by_all w m) i v s (s.order n m f).digested_border (received_by_all-border w s m)
-    (s.order n m f).begun (s.order n m f).replicated (received_by_all-end w m)
+last_part w n m i v s f = grind (arith, part_value, received_by_all-border, received_by_all-end)
 
 -- the node's own records that are replicated and not digested there
 own_part : (w : World) (n c : ℕ) → WorldInvariant w → Full w n → undigested_below w n c (received_by_all w c) ≡ records_between w c (w.digested n c)
@@ -57,9 +56,7 @@ alone_mixed w n (suc m) i s f =
     ∙ ap (λ u. value_after i u (all_effects (records_between w c (w.digested n c) (received_by_all w c)))) (alone_mixed w n m i s f)
     ∙ last_part w n c i v s.coherent f
     ∙ ap (λ k. late_value (window c k (first_unreplicated w c)) i v (steps w)) (sym here)
-    ∙ sym (later w (mixed w n m) c (first_unreplicated w c) i (opening_values i) s.coherent
-    (subst (λ k. first_undigested w c ≤ k) (sym here) (first_undigested-low w n s.coherent f c))
-    (subst (λ k. k ≤ first_unreplicated w c) (sym here) (first_undigested-received_by_all w n s.coherent f c)))
+    ∙ sym (grind (arith, later, first_undigested-low, first_undigested-received_by_all))
 
 alone_value : (w : World) (n i : ℕ) → WorldInvariant w → Full w n → alone_at w n i ≡ late_value (below (first_unreplicated w)) i (opening_values i) (steps w)
 unfolding alone_at
@@ -93,8 +90,7 @@ pub rebuilds : (w : World) (n i : ℕ) → WorldInvariant w → Full w n → alo
 unfolding calls_replicated
 rebuilds w n i s f =
     alone_value w n i s f
-    ∙ sym (value-cong (λ x. below (first_unreplicated w) x && true) (below (first_unreplicated w)) i (opening_values i) (steps w)
-    (each-always _ (steps w) (λ x. and_true (below (first_unreplicated w) x.0))))
+    ∙ sym (grind arith)
     ∙ sym (value-filter (λ x. true) (below (first_unreplicated w)) i (opening_values i) (steps w))
     ∙ ap (λ xs. late_value (λ x. true) i (opening_values i) xs) (sym (tails_at w (first_unreplicated w) s.coherent (first_undigested-below w s.coherent)))
     ∙ sym (values-value opening_values (filter (below (first_unreplicated w)) w.calls) i)

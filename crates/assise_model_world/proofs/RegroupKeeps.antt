@@ -1,7 +1,7 @@
 -- Records that are cut into groups, each of which is coalesced, give way to records with the same net effect.
-use Rattle.assise_model_world.proofs.Common.{◌≡◌, ℕ, ◌+◌, ◌-◌, ◌≤◌, true, List, ◌++◌, length, take, drop, refl, ap, sym, ◌∙◌, subst, arith, length-drop}
-use Rattle.assise_model_world.proofs.Common.{drop-append-add, LogRecord, all_effects, call_of, Ascending, touched, contains, SameNetEffect, Coalesces}
-use Rattle.assise_model_world.proofs.Common.{WorldInvariant, AreDropped, World, end_of_log, records_between, call_at}
+use Rattle.assise_model_world.proofs.Common.{◌≡◌, ℕ, ◌+◌, ◌-◌, ◌≤◌, true, List, length, take, drop, refl, ap, ◌∙◌, arith, length-drop, drop-append-add}
+use Rattle.assise_model_world.proofs.Common.{LogRecord, all_effects, call_of, Ascending, touched, contains, SameNetEffect, Coalesces, WorldInvariant}
+use Rattle.assise_model_world.proofs.Common.{AreDropped, World, end_of_log, records_between, call_at}
 use Rattle.std.proofs.lemmas.List.{length-take}
 use Rattle.assise_record.specs.Groups.{all_records, all_coalesced, are_whole, were}
 use Rattle.assise_record.proofs.WholeGroups.{whole_none, whole-all, were-none, were-ascends, were-all, calls_same, at-past, all-ascending, all-shorter}
@@ -50,8 +50,7 @@ module _ (w u : World) (c s : ℕ) (gs : List (List LogRecord)) (h : WorldInvari
   -- the old records from s on are those of the groups
   olds : all_records gs ≡ drop n rs
   unfolding n rs
-  olds = e.cut ∙ between_is w c s (end_of_log w c) ∙ take-all (drop (s - w.first c) (w.records c)) (end_of_log w c - s)
-      (omega (arith, length-drop (s - w.first c) (w.records c), low, e.high, end_is w c))
+  olds = grind (arith, between_is, take-all, length-drop, end_is)
 
   count : length (all_records gs) ≡ end_of_log w c - s
   unfolding n rs
@@ -91,25 +90,17 @@ module _ (w u : World) (c s : ℕ) (gs : List (List LogRecord)) (h : WorldInvari
   same : (j k : ℕ) → u.border c j ≡ true → u.border c k ≡ true → s ≤ j → j ≤ k → k ≤ end_of_log u c →
       ComeToSame (records_between u c j k) (records_between w c (was j) (was k))
   unfolding new
-  same j k bj bk from le to =
-      subst (λ l. ComeToSame l (records_between w c (was j) (was k))) (sym (new_part j k from))
-      (subst (λ l. ComeToSame (take ((k - s) - (j - s)) (drop (j - s) (all_coalesced gs))) l) (sym (old_part j k))
-      (parts_same gs (j - s) (k - s) e.groups (whole j from (omega (arith, le, to)) bj) (whole k (omega (arith, from, le)) to bk) (omega (arith, le))))
+  same j k bj bk from le to = grind (
+    arith,
+    new_part j k from,
+    old_part j k,
+    parts_same gs (j - s) (k - s) e.groups (whole j from (omega (arith, le, to)) bj)
+        (whole k (omega (arith, from, le)) to bk) (omega (arith, le)),
+  )
 
   same_call : (k : ℕ) → s ≤ k → k ≤ end_of_log u c → u.border c k ≡ true → call_at u c k ≡ call_at w c (was k)
   unfolding n rs new was
-  same_call k from to bk =
-      (let at : k - w.first c ≡ length (take (s - w.first c) (w.records c)) + (k - s) = omega (arith, from, low, prefix) in
-      let back : (length (take (s - w.first c) (w.records c)) + (k - s)) - length (take (s - w.first c) (w.records c)) ≡ k - s = omega arith in
-      let old_at : (s - w.first c) + were gs (k - s) ≡ (s + were gs (k - s)) - w.first c = omega (arith, low) in
-      call_is u c k ∙ ap (λ f. call_of (u.records c) (k - f) (u.next c)) (e.first c) ∙ ap (λ l. call_of l (k - w.first c) (u.next c)) e.records_own
-      ∙ ap (call_of (take (s - w.first c) (w.records c) ++ all_coalesced gs) (k - w.first c)) (e.next c)
-      ∙ ap (λ x. call_of (take (s - w.first c) (w.records c) ++ all_coalesced gs) x (w.next c)) at
-      ∙ at-past (take (s - w.first c) (w.records c)) (all_coalesced gs) (length (take (s - w.first c) (w.records c)) + (k - s)) (w.next c) (omega arith)
-      ∙ ap (λ x. call_of (all_coalesced gs) x (w.next c)) back
-      ∙ calls_same gs (k - s) (w.next c) e.groups (whole k from to bk)
-      ∙ ap (λ l. call_of l (were gs (k - s)) (w.next c)) olds ∙ at-drop (w.records c) (s - w.first c) (were gs (k - s)) (w.next c)
-      ∙ ap (λ x. call_of (w.records c) x (w.next c)) old_at ∙ sym (call_is w c (s + were gs (k - s))))
+  same_call k from to bk = search (prefix, call_is, at-past, calls_same, whole, olds, at-drop, arith) parts 3
 
   begins : call_of new 0 (w.next c) ≡ call_at w c s
   unfolding n rs new
@@ -117,8 +108,7 @@ module _ (w u : World) (c s : ℕ) (gs : List (List LogRecord)) (h : WorldInvari
 
   ascending : Ascending new (w.next c)
   unfolding n rs new
-  ascending = all-ascending gs (w.next c) e.groups
-      (subst (λ l. Ascending l (w.next c)) (sym olds) (ascending-drop (w.records c) (s - w.first c) (w.next c) (h.coherent.ascending c)))
+  ascending = grind (arith, all-ascending, olds, ascending-drop)
 
   no_more : end_of_log u c ≤ end_of_log w c
   unfolding new
@@ -133,13 +123,13 @@ module _ (w u : World) (c s : ℕ) (gs : List (List LogRecord)) (h : WorldInvari
   regrouped =
       let here : w.border c s ≡ true = single s (omega arith) e.high in
       let border : (k : ℕ) → s ≤ k → k ≤ end_of_log u c → u.border c k ≡ true → w.border c (was k) ≡ true =
-      λ k from to bk. single (was k) (was_from k) (omega (arith, was_ascends k (end_of_log u c) to, was_end)) in
+      grind (arith, was_from, was_ascends, was_end) in
       let net : (j k : ℕ) → u.border c j ≡ true → u.border c k ≡ true → s ≤ j → j ≤ k → k ≤ end_of_log u c →
       SameNetEffect (all_effects (records_between u c j k)) (all_effects (records_between w c (was j) (was k))) =
-      λ j k bj bk from le to. (same j k bj bk from le to).net in
+      grind (arith, same) in
       let touch : (i j k : ℕ) → u.border c j ≡ true → u.border c k ≡ true → s ≤ j → j ≤ k → k ≤ end_of_log u c →
       contains (touched (all_effects (records_between u c j k))) i ≡ contains (touched (all_effects (records_between w c (was j) (was k)))) i =
-      λ i j k bj bk from le to. (same j k bj bk from le to).touch i in
+      grind (arith, same) in
       search (here, border, net, touch, was_here, was_end, was_ascends, same_call, begins, ascending, no_more, border_end) parts 1
 
   pub regroups_to : (f : ℕ → ℕ) × Coalesces w c s (all_coalesced gs) f u

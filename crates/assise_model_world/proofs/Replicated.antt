@@ -1,7 +1,6 @@
 -- What all full nodes have, and what others have seen.
-use Rattle.assise_model_world.proofs.Common.{◌≡◌, ◌≢◌, ℕ, List, [], ◌∷◌, if◌then◌else◌, ◌-◌, ◌<◌, ◌≤◌, inl, inr, true, false, refl, ap, sym, ◌∙◌, subst, ◌==◌}
-use Rattle.assise_model_world.proofs.Common.{arith, drop, filter, take_all, both_ways, cases_Bool, false_from_ne_true, cases_lt, cases_eq, lt-ltb, eq-eqb}
-use Rattle.assise_model_world.proofs.Common.{ne_eqb, all_effects, contains, touched, NumberedCall, Each, below, Unseen, each-map, Counted, Guarded}
+use Rattle.assise_model_world.proofs.Common.{◌≡◌, ◌≢◌, ℕ, List, [], ◌∷◌, ◌-◌, ◌<◌, true, false, refl, ap, ◌∙◌, ◌==◌, arith, filter, take_all}
+use Rattle.assise_model_world.proofs.Common.{false_from_ne_true, all_effects, contains, touched, NumberedCall, Each, below, Unseen, each-map, Counted, Guarded}
 use Rattle.assise_model_world.proofs.Common.{WritesAreHeld, WorldInvariant, World, Full, end_of_log, received_by_all, records_between, call_at}
 use Rattle.assise_model_world.proofs.Common.{first_undigested, first_unreplicated, steps, calls_replicated}
 use Rattle.assise_model_world.proofs.Lists.{unseen-raise}
@@ -32,19 +31,7 @@ next_unreplicated w c e = ap (call_at w c) e ∙ call_at-end w c (end_of_log w c
 own_below : (b : ℕ → ℕ) (w : World) (c : ℕ) (xs : List NumberedCall) → b c ≡ w.next c → Each (IsCounted w) xs →
     filter (λ x. x.client == c) (filter (below b) xs) ≡ filter (λ x. x.client == c) xs
 own_below b w c [] e h = refl
-own_below b w c (x ∷ xs) e h =
-    let rest : filter (λ y. y.client == c) (filter (below b) xs) ≡ filter (λ y. y.client == c) xs = own_below b w c xs e h.1 in
-    elim (cases_eq x.client c) [
-      | inl own ↦
-          let low : x.number < w.next c = subst (λ d. x.number < w.next d) own h.0.1 in
-          let in_it : below b x ≡ true = lt-ltb x.number (b x.client) (subst (λ d. x.number < b d) (sym own) (omega (arith, low, e))) in
-          rw (in_it, eq-eqb x.client c own) (ap (λ l. x ∷ l) rest)
-      | inr other ↦
-          elim (cases_Bool (below b x)) [
-            | inl is ↦ rw (is, ne_eqb x.client c other) rest
-            | inr out ↦ rw (out, ne_eqb x.client c other) rest
-          ]
-    ]
+own_below b w c (x ∷ xs) e h = grind (arith, own_below b w c xs e h.1)
 
 pub end_replicated : (w : World) (c : ℕ) → WorldInvariant w → received_by_all w c ≡ end_of_log w c → filter (λ x. x.client == c) (calls_replicated w)
     ≡ filter (λ x. x.client == c) w.calls
@@ -54,23 +41,13 @@ end_replicated w c s e = own_below (first_unreplicated w) w c w.calls (next_unre
 -- what changed an inode that the client doesn't hold for writing, all full nodes have digested
 pub handed_over : (w : World) (c i : ℕ) → WorldInvariant w → w.writes c i ≡ false →
     Each (λ x. x.0.client ≡ c → contains (touched x.1.effects) i ≡ true → x.0.number < first_undigested w c) (steps w)
-handed_over w c i s none =
-    each-map (λ x. first_undigested w x.0.client ≤ x.0.number → w.writes x.0.client i ≡ false → contains (touched x.1.effects) i ≡ false)
-    (λ x. x.0.client ≡ c → contains (touched x.1.effects) i ≡ true → x.0.number < first_undigested w c) (steps w)
-    (λ x guarded own t.
-    elim (cases_lt x.0.number (first_undigested w c)) [
-      | inl h ↦ h
-      | inr h ↦ absurd (both_ways (contains (touched x.1.effects) i)
-          (guarded (subst (λ d. first_undigested w d ≤ x.0.number) (sym own) h) (subst (λ d. w.writes d i ≡ false) (sym own) none)) t)
-    ])
-    (guarded_steps w i s.coherent)
+handed_over w c i s none = grind (arith, each-map, guarded_steps w i s.coherent)
 
 -- ---- what others have seen
 
 pub guarded_between : (w : World) (c j k i : ℕ) → WorldInvariant w → contains (touched (all_effects (records_between w c j k))) i ≡ true → w.writes c i ≡ true
 unfolding Guarded records_between
-guarded_between w c j k i s h =
-    s.coherent.guarded c i (contains-drop (w.records c) (j - w.first c) i (contains-take (drop (j - w.first c) (w.records c)) (k - j) i h))
+guarded_between w c j k i s h = grind (arith, contains-drop, contains-take)
 
 pub touch_disjoint : (w : World) (c d i : ℕ) → WorldInvariant w → c ≢ d →
     contains (touched (all_effects (w.records c))) i ≡ true → contains (touched (all_effects (w.records d))) i ≡ false

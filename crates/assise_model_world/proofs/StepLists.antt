@@ -1,9 +1,9 @@
 -- Steps, one after another.
-use Rattle.assise_model_world.proofs.Common.{◌≡◌, ℕ, ◌-◌, List, [], ◌∷◌, refl, ap, sym, ◌∙◌, arith, filter, below, Moves, opens, makes_call, raises_goals}
-use Rattle.assise_model_world.proofs.Common.{crashes, acquires, releases, delivers, digests, drops, coalesces, fails, joins, rests, Runs, last, begun}
-use Rattle.assise_model_world.proofs.Common.{NoneFalls, StayReplicated, Stands, Counted, Numbered, AreMade, Guarded, Compatible, WritesAreHeld, Areas}
-use Rattle.assise_model_world.proofs.Common.{CallsInvariant, WorldInvariant, AreDropped, World, least_of, end_of_log, digested_by_all, received_by_all}
-use Rattle.assise_model_world.proofs.Common.{records_between, call_at, first_undigested_at, first_undigested, first_unreplicated, steps, now, tree, value_below}
+use Rattle.assise_model_world.proofs.Common.{◌≡◌, ℕ, ◌-◌, List, [], ◌∷◌, refl, ap, sym, arith, filter, below, Moves, opens, makes_call, raises_goals, crashes}
+use Rattle.assise_model_world.proofs.Common.{acquires, releases, delivers, digests, drops, coalesces, fails, joins, rests, Runs, last, begun, NoneFalls}
+use Rattle.assise_model_world.proofs.Common.{StayReplicated, Stands, Counted, Numbered, AreMade, Guarded, Compatible, WritesAreHeld, Areas, CallsInvariant}
+use Rattle.assise_model_world.proofs.Common.{WorldInvariant, AreDropped, World, least_of, end_of_log, digested_by_all, received_by_all, records_between}
+use Rattle.assise_model_world.proofs.Common.{call_at, first_undigested_at, first_undigested, first_unreplicated, steps, now, tree, value_below}
 use Rattle.assise_model_world.proofs.Common.{calls_replicated, opening_spells, root_alone}
 use Rattle.assise_model_world.proofs.ClientsStaying.{open_sound, open_falls, raise_sound, raise_falls, crash_sound, crash_falls, acquire_sound, acquire_falls}
 use Rattle.assise_model_world.proofs.ClientsStaying.{release_sound, release_falls, rest_sound, rest_falls}
@@ -64,16 +64,11 @@ run_sound w (u ∷ us) s r = run_sound u us (step_sound w u s r.0) r.1
 
 pub run_falls : (w : World) (us : List World) → WorldInvariant w → Runs w us → NoneFalls w (last w us)
 run_falls w [] s r = record { unreplicated = λ c. omega arith; undigested = λ c. omega arith }
-run_falls w (u ∷ us) s r =
-    let one : NoneFalls w u = step_falls w u s r.0 in
-    let rest : NoneFalls u (last u us) = run_falls u us (step_sound w u s r.0) r.1 in
-    record { unreplicated = λ c. omega (arith, one.unreplicated c, rest.unreplicated c); undigested = λ c. omega (arith, one.undigested c, rest.undigested c) }
+run_falls w (u ∷ us) s r = grind (arith, run_falls u us (step_sound w u s r.0) r.1, step_falls w u s r.0)
 
 stays-on : (w u v : World) → NoneFalls w u → StayReplicated w u → StayReplicated u v → StayReplicated w v
 unfolding StayReplicated calls_replicated
-stays-on w u v up one rest =
-    sym (filter-lower (first_unreplicated w) (first_unreplicated u) v.calls up.unreplicated) ∙ ap (λ xs. filter (below (first_unreplicated w)) xs) rest
-    ∙ filter-lower (first_unreplicated w) (first_unreplicated u) u.calls up.unreplicated ∙ one
+stays-on w u v up one rest = grind (arith, filter-lower)
 
 pub run_stays : (w : World) (us : List World) → WorldInvariant w → Runs w us → StayReplicated w (last w us)
 run_stays w [] s r = stay-same w w refl

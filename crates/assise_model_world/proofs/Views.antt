@@ -1,14 +1,13 @@
 -- What a client reads at its home is what the calls made.
-use Rattle.assise_model_world.proofs.Common.{◌≡◌, ℕ, ◌+◌, ◌-◌, ◌<◌, ◌≤◌, ◌⊎◌, inl, inr, true, false, List, [], ◌∷◌, refl, ap, sym, ◌∙◌, subst, ◌==◌, arith}
-use Rattle.assise_model_world.proofs.Common.{take, drop, drop-take, take-take, cases_Bool, ltb-false, eq-eqb, cases_eq, or_right, false_from_ne_true, answer}
-use Rattle.assise_model_world.proofs.Common.{all_effects, Values, value_after, touched, contains, Step, AgreeOn, late_value, raised_at, NumberedCall, step_of}
-use Rattle.assise_model_world.proofs.Common.{below, Clear, IsOrdered, CallsInvariant, WorldInvariant, World, Full, opening_values, end_of_log, records_between}
-use Rattle.assise_model_world.proofs.Common.{call_at, first_undigested_at, first_undigested, steps, now, tree, undigested_records, undigested_below, view}
-use Rattle.assise_model_world.proofs.Common.{step_at_home, each-both, step_replies}
+use Rattle.assise_model_world.proofs.Common.{◌≡◌, ℕ, ◌-◌, ◌≤◌, ◌⊎◌, true, false, List, [], ◌∷◌, refl, ap, sym, ◌∙◌, ◌==◌, arith, drop-take, take-take, eq-eqb}
+use Rattle.assise_model_world.proofs.Common.{or_right, answer, all_effects, Values, value_after, touched, contains, Step, AgreeOn, late_value, raised_at}
+use Rattle.assise_model_world.proofs.Common.{NumberedCall, step_of, below, Clear, IsOrdered, CallsInvariant, WorldInvariant, World, Full, opening_values}
+use Rattle.assise_model_world.proofs.Common.{end_of_log, records_between, call_at, first_undigested_at, first_undigested, steps, now, tree, undigested_records}
+use Rattle.assise_model_world.proofs.Common.{undigested_below, view, step_at_home, each-both, step_replies}
 use Rattle.assise_inode_table.proofs.Local.{step_local}
 use Rattle.assise_model_world.proofs.Lists.{same_value, values-value}
 use Rattle.assise_model_world.proofs.WorldObserved.{call_at-mono, call_at-end, received_by_all-below, received_by_all-end, first_undigested-low, IsCounted}
-use Rattle.assise_model_world.proofs.WorldObserved.{all_counted, guarded_all, part_value, raised_same, raised_other, later, area_at, disjoint}
+use Rattle.assise_model_world.proofs.WorldObserved.{all_counted, guarded_all, part_value, later, area_at, disjoint}
 
 pub clear_from : (d ys : List ℕ) → ((i : ℕ) → contains ys i ≡ true → contains d i ≡ false) → Clear d ys
 clear_from d [] f = tt
@@ -39,23 +38,7 @@ over_area_now w n c i s f held =
     (each-both (λ x. (i : ℕ) → first_undigested w x.0.client ≤ x.0.number → w.writes x.0.client i ≡ false → contains (touched x.1.effects) i ≡ false)
     (λ x. IsCounted w x.0)
     (λ x. (below (raised_at b c k) x.0 ≡ true) ⊎ (contains (touched x.1.effects) i ≡ false)) xs
-    (λ x guarded counted.
-    elim (cases_Bool (below (raised_at b c k) x.0)) [
-      | inl e ↦ inl e
-      | inr e ↦ inr (
-          let past : raised_at b c k x.0.client ≤ x.0.number = ltb-false x.0.number (raised_at b c k x.0.client) e in
-          elim (cases_eq x.0.client c) [
-            | inl own ↦
-                let kx : raised_at b c k x.0.client ≡ k = raised_same b c k x.0.client own in
-                let kn : k ≡ w.next c = call_at-end w c (end_of_log w c) (omega arith) in
-                let l : x.0.number < w.next c = subst (λ d. x.0.number < w.next d) own counted.1 in
-                absurd (omega (arith, past, kx, kn, l))
-            | inr other ↦
-                let bx : raised_at b c k x.0.client ≡ b x.0.client = raised_other b c k x.0.client other in
-                guarded i (omega (arith, past, bx, first_undigested-low w n s f x.0.client))
-                (false_from_ne_true (w.writes x.0.client i) (λ k. disjoint w s.compatible x.0.client c i other k held))
-          ])
-    ])
+    (grind (arith, call_at-end, first_undigested-low, disjoint))
     (guarded_all w s) (all_counted w s))
     ∙ sym (now_value w i)
 
@@ -64,12 +47,7 @@ over_area_now w n c i s f held =
 -- what a full node has ahead are the client's own records from what it digested on, as far as it received them
 pub ahead_between : (w : World) (n c : ℕ) → WorldInvariant w → Full w n → undigested_records w n c ≡ records_between w c (w.digested n c) (w.received n c)
 unfolding undigested_records records_between
-ahead_between w n c s f =
-    let o : IsOrdered w n c = s.coherent.order n c f in
-    let past : w.digested n c ≤ w.received n c = omega (arith, o.replicated, received_by_all-below w n c f) in
-    let parts : w.received n c - w.first c ≡ (w.digested n c - w.first c) + (w.received n c - w.digested n c) = omega (arith, o.begun, past) in
-    ap (drop (w.digested n c - w.first c)) (s.prefixes n c f ∙ ap (λ k. take k (w.records c)) parts)
-    ∙ drop-take (w.digested n c - w.first c) (w.received n c - w.digested n c) (w.records c)
+ahead_between w n c s f = grind (arith, received_by_all-below w n c f, drop-take (w.digested n c - w.first c) (w.received n c - w.digested n c) (w.records c))
 
 pub ahead_below_between : (w : World) (n c k : ℕ) → WorldInvariant w → Full w n → k ≤ w.received n c → undigested_below w n c k
     ≡ records_between w c (w.digested n c) k

@@ -1,13 +1,12 @@
 -- What is observed of the machine.
-use Rattle.assise_model_world.proofs.Common.{◌≡◌, ℕ, zero, suc, ◌+◌, ◌-◌, ◌<◌, ◌≤◌, ◌≢◌, ◌⊎◌, inl, inr, min, Bool, true, false, List, [], ◌∷◌, ◌++◌, Option}
-use Rattle.assise_model_world.proofs.Common.{refl, ap, sym, subst, ◌||◌, ◌==◌, arith, take, length, cases_Bool, eqb-true, eq-eqb, ne_eqb, both_ways, cases_lt}
-use Rattle.assise_model_world.proofs.Common.{LogRecord, all_effects, call_of, Content, value_after, touched, contains, Step, late_value, raised_at}
-use Rattle.assise_model_world.proofs.Common.{NumberedCall, Each, below, window, StandFor, Stands, Counted, Guarded, Compatible, Areas, CallsInvariant, World}
-use Rattle.assise_model_world.proofs.Common.{Full, IsClient, opening_values, least_of, end_of_log, digested_by_all, received_by_all, records_between, call_at}
-use Rattle.assise_model_world.proofs.Common.{first_undigested_at, first_undigested, first_unreplicated, steps, value_below, in_window, late_client, each-always}
-use Rattle.assise_model_world.proofs.Common.{each-both}
+use Rattle.assise_model_world.proofs.Common.{◌≡◌, ℕ, zero, suc, ◌+◌, ◌-◌, ◌<◌, ◌≤◌, ◌≢◌, ◌⊎◌, inl, inr, min, true, false, List, [], ◌∷◌, ◌++◌, Option, refl, ap}
+use Rattle.assise_model_world.proofs.Common.{subst, ◌||◌, ◌==◌, arith, take, length, cases_Bool, eqb-true, eq-eqb, ne_eqb, both_ways, cases_lt, LogRecord}
+use Rattle.assise_model_world.proofs.Common.{all_effects, call_of, Content, value_after, touched, contains, late_value, raised_at, NumberedCall, Each, below}
+use Rattle.assise_model_world.proofs.Common.{window, StandFor, Stands, Counted, Guarded, Compatible, Areas, CallsInvariant, World, Full, IsClient}
+use Rattle.assise_model_world.proofs.Common.{opening_values, least_of, end_of_log, digested_by_all, received_by_all, records_between, call_at}
+use Rattle.assise_model_world.proofs.Common.{first_undigested_at, first_undigested, first_unreplicated, steps, value_below, late_client, each-always, each-both}
 use Rattle.assise_model_world.proofs.Lists.{each-client, each-forall, each-along, value-none}
-use Rattle.assise_model_world.proofs.Logs.{in_window_from, at_mono, at_top, take-sum}
+use Rattle.assise_model_world.proofs.Logs.{at_mono, at_top, take-sum}
 
 -- the digested_by_all of some numbers
 
@@ -53,14 +52,7 @@ least_of-same (m ∷ ns) f g d h =
 -- with another end the least is the same, or both are past the lower end
 least_of-or : (ns : List ℕ) (f : ℕ → ℕ) (d e : ℕ) → d ≤ e → (least_of ns f d ≡ least_of ns f e) ⊎ ((d ≤ least_of ns f d) × (d ≤ least_of ns f e))
 least_of-or [] f d e le = inr (omega arith, le)
-least_of-or (m ∷ ns) f d e le =
-    elim (least_of-or ns f d e le) [
-      | inl same ↦ inl (rw same refl)
-      | inr past ↦ elim (cases_lt (f m) d) [
-        | inl low ↦ inl (omega (arith, low, past.0, past.1))
-        | inr high ↦ inr (omega (arith, high, past.0), omega (arith, high, past.1))
-      ]
-    ]
+least_of-or (m ∷ ns) f d e le = grind (arith, least_of-or ns f d e le)
 
 -- where a node's number is no more than either end, it doesn't matter which end is given
 pub least_of-most : (ns : List ℕ) (f : ℕ → ℕ) (d e n : ℕ) → contains ns n ≡ true → f n ≤ d → d ≤ e → least_of ns f d ≡ least_of ns f e
@@ -68,9 +60,7 @@ least_of-most [] f d e n h low le = cc
 least_of-most (m ∷ ns) f d e n h low le =
     elim (cases_Bool (m == n)) [
       | inl is ↦
-          let here : f m ≤ d = subst (λ k. f k ≤ d) (sym (eqb-true m n is)) low in
-          let both : (least_of ns f d ≡ least_of ns f e) ⊎ ((d ≤ least_of ns f d) × (d ≤ least_of ns f e)) = least_of-or ns f d e le in
-          elim both [ inl same ↦ rw same refl | inr past ↦ omega (arith, here, past.0, past.1) ]
+          grind (arith, least_of-or)
       | inr other ↦ rw (least_of-most ns f d e n (rw other at h) low le) refl
     ]
 
@@ -175,8 +165,7 @@ guarded_of w i s c =
           each-both (λ x. window c (call_at w c (w.first c)) (call_at w c (end_of_log w c)) x.0 ≡ true → contains (touched x.1.effects) i ≡ false)
           (λ x. IsCounted w x.0)
           (λ x. x.0.client ≡ c → first_undigested w c ≤ x.0.number → w.writes c i ≡ false → contains (touched x.1.effects) i ≡ false) (steps w)
-          (λ x f k own le _. f (in_window_from c (call_at w c (w.first c)) (call_at w c (end_of_log w c)) x.0 own (omega (arith, le, oldest w s c))
-          (rw (call_at-end w c (end_of_log w c) (omega arith)) (subst (λ d. x.0.number < w.next d) own k.1))))
+          (grind (arith, oldest, call_at-end))
           ((part_of w c (w.first c) (end_of_log w c) s (s.first_border c) (s.end_border c) (omega arith) (first-end w c) (omega arith)).touch i
           (rw (part-whole w c) e))
           (all_counted w s)
@@ -202,10 +191,7 @@ part_value w c j k i v s a b low le high = (part_of w c j k s a b low le high).v
 
 pub part-append : (w : World) (c j m k : ℕ) → w.first c ≤ j → j ≤ m → m ≤ k → records_between w c j k ≡ records_between w c j m ++ records_between w c m k
 unfolding records_between
-part-append w c j m k low a b =
-    (let e : k - j ≡ (m - j) + (k - m) = omega arith in
-    let g : (j - w.first c) + (m - j) ≡ m - w.first c = omega arith in
-    rw (e, ← g) (take-sum (w.records c) (j - w.first c) (m - j) (k - m)))
+part-append w c j m k low a b = grind (arith, take-sum (w.records c) (j - w.first c) (m - j) (k - m))
 
 -- the same records_between, the same calls
 pub part_moves : (w w' : World) (c j k : ℕ) → records_between w' c j k ≡ records_between w c j k → call_at w' c j ≡ call_at w c j →
@@ -228,16 +214,7 @@ steps-same w w' e = rw e
 
 pub part_none : (w : World) (c k : ℕ) → end_of_log w c ≤ k → StandFor w c k k
 unfolding records_between
-part_none w c k h =
-    let z : k - k ≡ 0 = omega arith in
-    let none : (x : NumberedCall × Step) → window c (call_at w c k) (call_at w c k) x.0 ≡ true → ⊥ =
-    λ x m. (let q : (x.0.client ≡ c) × (call_at w c k ≤ x.0.number) × (x.0.number < call_at w c k) = in_window c (call_at w c k) (call_at w c k) x.0 m in
-    absurd (omega (arith, q.1, q.2))) in
-    search (value-none, each-always, off, arith) parts 3
-  where
-    off : (b : Bool) → (b ≡ true → ⊥) → b ≡ false
-    off true f = absurd (f refl)
-    off false f = refl
+part_none w c k h = grind (arith, value-none, each-always)
 
 pub end-else : (w w' : World) (d : ℕ) → w'.first d ≡ w.first d → w'.records d ≡ w.records d → end_of_log w' d ≡ end_of_log w d
 unfolding end_of_log

@@ -14,17 +14,11 @@ after : (p n : List ℕ) (pieces : List (List ℕ)) → name_of p ≡ Ok n → p
 after p n pieces h = ap (λ r. (r >>= λ name. pieces_as_names pieces >>= λ names. Ok (name ∷ names)) >>= no_deeper) h
 
 pub no_second : (p q n : List ℕ) (pieces : List (List ℕ)) (e : PathFault) → name_of p ≡ Ok n → name_of q ≡ Err e → path_of_pieces (p ∷ q ∷ pieces) ≡ Err e
-no_second p q n pieces e first h =
-    after p n (q ∷ pieces) first
-    ∙ ap (λ r. ((r >>= λ name. pieces_as_names pieces >>= λ names. Ok (name ∷ names)) >>= λ names. Ok (n ∷ names)) >>= no_deeper) h
+no_second p q n pieces e first h = cc
 
 pub no_third : (p q r n m : List ℕ) (pieces : List (List ℕ)) (e : PathFault) → name_of p ≡ Ok n → name_of q ≡ Ok m → name_of r ≡ Err e →
     path_of_pieces (p ∷ q ∷ r ∷ pieces) ≡ Err e
-no_third p q r n m pieces e first second h =
-    after p n (q ∷ r ∷ pieces) first
-    ∙ ap (λ o. ((o >>= λ name. pieces_as_names (r ∷ pieces) >>= λ names. Ok (name ∷ names)) >>= λ names. Ok (n ∷ names)) >>= no_deeper) second
-    ∙ ap (λ o. (((o >>= λ name. pieces_as_names pieces >>= λ names. Ok (name ∷ names)) >>= λ names. Ok (m ∷ names)) >>= λ names. Ok (n ∷ names)) >>= no_deeper)
-    h
+no_third p q r n m pieces e first second h = cc
 
 -- ---- names that are
 
@@ -32,15 +26,10 @@ pub one_named : (p n : List ℕ) → name_of p ≡ Ok n → path_of_pieces (p �
 one_named p n first = after p n [] first
 
 pub two_named : (p q n m : List ℕ) → name_of p ≡ Ok n → name_of q ≡ Ok m → path_of_pieces (p ∷ q ∷ []) ≡ Ok (n ∷ m ∷ [])
-two_named p q n m first second =
-    after p n (q ∷ []) first
-    ∙ ap (λ o. ((o >>= λ name. Ok (name ∷ [])) >>= λ names. Ok (n ∷ names)) >>= no_deeper) second
+two_named p q n m first second = cc
 
 pub three_named : (p q r n m k : List ℕ) → name_of p ≡ Ok n → name_of q ≡ Ok m → name_of r ≡ Ok k → path_of_pieces (p ∷ q ∷ r ∷ []) ≡ Ok (n ∷ m ∷ k ∷ [])
-three_named p q r n m k first second third =
-    after p n (q ∷ r ∷ []) first
-    ∙ ap (λ o. ((o >>= λ name. pieces_as_names (r ∷ []) >>= λ names. Ok (name ∷ names)) >>= λ names. Ok (n ∷ names)) >>= no_deeper) second
-    ∙ ap (λ o. (((o >>= λ name. Ok (name ∷ [])) >>= λ names. Ok (m ∷ names)) >>= λ names. Ok (n ∷ names)) >>= no_deeper) third
+three_named p q r n m k first second third = cc
 
 -- ---- the pieces of a text
 

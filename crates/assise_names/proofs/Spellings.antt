@@ -4,7 +4,7 @@ use Rattle.assise_names.proofs.Common.{inl, inr, arith, IsTrue, All, IsOkUnless,
 use Rattle.assise_names.proofs.Common.{ltb-false, le-leb, nat_tests, All-nil, All-cons, All-head, All-tail, slice_split_at, slice_split_none}
 use Rattle.assise_names.proofs.Common.{join_with_byte-slice_split, slice_split, join_with_byte, list_any, is_utf8, is_name, is_barred, is_dots, name_of, ◌>>=◌}
 use Rattle.assise_names.proofs.Common.{IsPath, SpellsPath, path_spelling, pieces_as_names, no_deeper, names_behind, path_behind, path_of, GivesPath, PathFault}
-use Rattle.assise_names.proofs.Common.{EmptyName, NameTooLong, BadName, Memory}
+use Rattle.assise_names.proofs.Common.{Memory}
 use Rattle.std.proofs.lemmas.List.{append-nil}
 use Rattle.assise_names.proofs.PathLemmas.{few_names, not_cut}
 
@@ -23,27 +23,13 @@ record Parts (name : List ℕ) : Type 0 where
   good : (list_any is_barred name || is_dots name) ≡ false
 
 parts_of : (name : List ℕ) → LevelsInvariant name → Parts name
-parts_of name h =
-    let a = and_parts _ _ h in
-    let b = and_parts _ _ a.1 in
-    let c = and_parts _ _ b.1 in
-    record { some = not-true _ b.0; few = le-ltb 255 (length name) (leb-true _ _ c.0); good = not-true _ c.1 }
+parts_of name h = grind (arith, and_parts, not-true, le-ltb, leb-true)
 
 name_of-lawful : (name : List ℕ) → LevelsInvariant name → name_of name ≡ Ok name
 name_of-lawful name h = let p = parts_of name h in rw (p.some, p.few, p.good)
 
 same_name : (text name : List ℕ) → name_of text ≡ Ok name → name ≡ text
-same_name text name h =
-    elim (cases_Bool (length text == 0)) [
-      | inl none ↦ let bad : Err EmptyName ≡ Ok name = rw none at h in cc
-      | inr some ↦ elim (cases_Bool (nat_lt 255 (length text))) [
-        | inl long ↦ let bad : Err NameTooLong ≡ Ok name = rw (some, long) at h in cc
-        | inr few ↦ elim (cases_Bool (list_any is_barred text || is_dots text)) [
-          | inl barred ↦ let bad : Err BadName ≡ Ok name = rw (some, few, barred) at h in cc
-          | inr good ↦ let same : Ok text ≡ Ok name = rw (some, few, good) at h in cc
-        ]
-      ]
-    ]
+same_name text name h = grind (arith, cases_Bool, nat_lt, list_any, is_barred, is_dots)
 
 or_left : (a b : Bool) → (a || b) ≡ false → a ≡ false
 or_left false b h = refl
@@ -61,17 +47,7 @@ no_slashes (b ∷ bytes) h =
 
 -- a text without a fault is a name
 pub lawful_name : (text : List ℕ) → is_utf8 text ≡ true → name_of text ≡ Ok text → IsTrue (is_name text)
-lawful_name text utf8 h =
-    elim (cases_Bool (length text == 0)) [
-      | inl none ↦ let bad : Err EmptyName ≡ Ok text = rw none at h in cc
-      | inr some ↦ elim (cases_Bool (nat_lt 255 (length text))) [
-        | inl long ↦ let bad : Err NameTooLong ≡ Ok text = rw (some, long) at h in cc
-        | inr few ↦ elim (cases_Bool (list_any is_barred text || is_dots text)) [
-          | inl barred ↦ let bad : Err BadName ≡ Ok text = rw (some, few, barred) at h in cc
-          | inr good ↦ rw (utf8, some, good, le-leb (length text) 255 (ltb-false 255 (length text) few)) refl
-        ]
-      ]
-    ]
+lawful_name text utf8 h = grind (arith, cases_Bool, nat_lt, list_any, is_barred, is_dots, le-leb, ltb-false)
 
 -- a name is a text without a fault
 pub faultless_name : (text : List ℕ) → is_name text ≡ true → name_of text ≡ Ok text
@@ -81,11 +57,7 @@ faultless_name text h = let p = parts_of text h in rw (p.some, p.few, p.good) re
 pub is_faultless : (text : List ℕ) (found : Result (Unit {0}) PathFault) → is_utf8 text ≡ true →
     MatchResult found (λ _. name_of text ≡ Ok text) (λ fault. name_of text ≡ Err fault) → is_ok found ≡ is_name text
 is_faultless text (Ok _) utf8 h = sym (lawful_name text utf8 h)
-is_faultless text (Err fault) utf8 h =
-    elim (cases_Bool (is_name text)) [
-      | inl named ↦ let bad : Err fault ≡ Ok text = sym h ∙ faultless_name text named in cc
-      | inr other ↦ sym other
-    ]
+is_faultless text (Err fault) utf8 h = grind (arith, cases_Bool, is_name, faultless_name)
 
 -- ---- the names of a path
 
@@ -120,10 +92,12 @@ pieces_of-join : (name : List ℕ) (names : List (List ℕ)) → All LevelsInvar
     ≡ name ∷ names
 pieces_of-join name [] h =
     slice_split_none is_slash name (no_slashes name (or_left _ _ (parts_of name (All-head LevelsInvariant name [] h)).good))
-pieces_of-join name (next ∷ names) h =
-    slice_split_at is_slash name 47 (join_with_byte 47 (next ∷ names))
-    (no_slashes name (or_left _ _ (parts_of name (All-head LevelsInvariant name (next ∷ names) h)).good)) refl
-    ∙ ap (λ ps. name ∷ ps) (pieces_of-join next names (All-tail LevelsInvariant name (next ∷ names) h))
+pieces_of-join name (next ∷ names) h = grind (
+  arith,
+  pieces_of-join next names (All-tail LevelsInvariant name (next ∷ names) h),
+  slice_split_at is_slash name 47 (join_with_byte 47 (next ∷ names))
+      (no_slashes name (or_left _ _ (parts_of name (All-head LevelsInvariant name (next ∷ names) h)).good)) refl,
+)
 
 join-some : (name : List ℕ) (names : List (List ℕ)) → (length name == 0) ≡ false → (length (join_with_byte 47 (name ∷ names)) == 0) ≡ false
 join-some [] names h = cc
@@ -134,16 +108,14 @@ join-some (b ∷ bytes) (next ∷ names) h = grind (arith, nat_tests)
 
 names_behind-join : (name : List ℕ) (names : List (List ℕ)) → All LevelsInvariant (name ∷ names) → names_behind (join_with_byte 47 (name ∷ names))
     ≡ Ok (name ∷ names)
-names_behind-join name names h =
-    rw (join-some name names (parts_of name (All-head LevelsInvariant name names h)).some, pieces_of-join name names h) (names_of-lawful (name ∷ names) h)
+names_behind-join name names h = search (join-some, parts_of, pieces_of-join, names_of-lawful, arith) parts 3
 
 not_deep : (names : List (List ℕ)) → length names ≤ 32 → no_deeper names ≡ Ok names
 not_deep names h = rw (le-leb (length names) 32 h)
 
 path_of-spelling : (path : List (List ℕ)) → IsPath path → path_of (path_spelling path) ≡ Ok path
 path_of-spelling [] h = refl
-path_of-spelling (name ∷ names) h =
-    ap path_of (spelling-join name names) ∙ ap (λ r. r >>= no_deeper) (names_behind-join name names h.names) ∙ not_deep (name ∷ names) h.depth
+path_of-spelling (name ∷ names) h = grind (arith, path_of, spelling-join, no_deeper, names_behind-join, not_deep)
 
 -- a text that spells a path has no fault
 pub complete : (text : List ℕ) (r : Result (List (List ℕ)) PathFault) → GivesPath r (path_of text) → (path : List (List ℕ)) → SpellsPath text path →
@@ -175,8 +147,4 @@ spelled rest names h lawful depth = record { lawful = record { names = lawful; d
 -- the path behind the first slash is spelled by the whole text
 pub spelled_behind : (rest : List ℕ) (path : List (List ℕ)) → path_behind rest ≡ Ok path → All (λ name. IsTrue (is_name name)) path →
     SpellsPath (47 ∷ rest) path
-spelled_behind rest path h lawful =
-    let found = came_from (names_behind rest) no_deeper path h in
-    let same : path ≡ found.0 = not_cut found.0 path found.1.1 in
-    let names : names_behind rest ≡ Ok path = found.1.0 ∙ ap Ok (sym same) in
-    spelled rest path names lawful (few_names path (ap no_deeper same ∙ found.1.1))
+spelled_behind rest path h lawful = grind (arith, came_from, names_behind, no_deeper, not_cut, spelled, few_names)

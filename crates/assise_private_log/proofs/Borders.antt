@@ -98,14 +98,8 @@ near_grouped l r false marks joins near number =
 pub lawful_grouped : (l : NumberedLog) (r : LogRecord) (begins : Bool) → IsNumberedLog l → (begins ≡ false → HasOpenGroup l) → end l + 1 < 2 ^ 64 →
     length l.records < l.limit
     → IsNumberedLog (with_grouped l r begins)
-lawful_grouped l r begins law room_in_group fits room = record {
-  numbers = omega (arith, length_push l.records r);
-  room = omega (arith, length_push l.records r);
-  least = law.least;
-  most = law.most;
-  marks = omega (arith, length_push l.begins begins, length_push l.records r, law.marks);
-  groups = near_grouped l r begins law.marks room_in_group law.groups;
-}
+lawful_grouped l r begins law room_in_group fits room = grind
+    (arith, length_push l.records r, length_push l.begins begins, near_grouped l r begins law.marks room_in_group law.groups)
 
 pub lawful_prefix : (l : NumberedLog) (to : ℕ) → IsNumberedLog l → l.first ≤ to → to ≤ end l → IsNumberedLog (without_prefix l to)
 lawful_prefix l to law from_first to_end = record {
@@ -187,8 +181,7 @@ whole_step : (l : NumberedLog) (from n : ℕ) (b : Bool) → is_border l (from +
 whole_step l from n b h1 h2 = grind (arith, cases_eq)
 
 pub is_whole : (l : NumberedLog) (from most : ℕ) → IsWholeCount l from most (whole_count l from most)
-is_whole l from zero = subst (IsWholeCount l from 0) (sym (whole_none l from))
-    (record { within = omega arith; border = λ some. absurd (omega arith); greatest = λ k more most. absurd (omega arith) })
+is_whole l from zero = grind (arith, whole_none)
 is_whole l from (suc n) =
     let b : Bool = is_border l (from + suc n) in
     subst (IsWholeCount l from (suc n)) (sym (whole_suc l from n b refl)) (whole_step l from n b refl (is_whole l from n))
@@ -234,8 +227,7 @@ open_group own l law inside same =
     let found = last_border own (end l) in
     let b : IsLastBorder own (end l) found.0 = found.1 in
     let next = law.groups found.0 in
-    let before : found.0 < end l = less_unless found.0 (end l) (λ more.
-    let here : end l ≡ found.0 = omega (arith, b.before) in both_ways (is_border own (end l)) inside (ap (is_border own) here ∙ b.is)) in
+    let before : found.0 < end l = grind arith in
     let past : end l < next.0 = less_unless (end l) next.0 (λ less. both_ways (is_border own next.0) (b.none next.0 next.1 less) next.3) in
     (found.0, before, omega (arith, next.2), same found.0 before b.is)
 
@@ -264,14 +256,11 @@ pub rings_prefix : (first to kept : ℕ) (records : Buffer LogRecord) (begins : 
     → kept ≡ length records.items - (to - first)
     → records' ≡ buffer (keep_last kept records.items) records.capacity → begins' ≡ buffer (keep_last kept begins.items) begins.capacity
     → IsNumberedLog (of_rings to records' begins') × (begins'.capacity ≡ records'.capacity)
-rings_prefix first to kept records begins records' begins' law from_first to_end keeps less marked =
-    let gone : length records.items - kept ≡ to - first = omega arith in
-    let unmarked : length begins.items - kept ≡ to - first = omega (arith, law.0.marks) in
-    rw (less, marked, gone, unmarked) (lawful_prefix (of_rings first records begins) to law.0 from_first to_end, law.1)
+rings_prefix first to kept records begins records' begins' law from_first to_end keeps less marked = grind
+    (arith, lawful_prefix (of_rings first records begins) to law.0 from_first to_end)
 
 pub rings_tail : (first from kept : ℕ) (records : Buffer LogRecord) (begins : Buffer Bool) (records' : Buffer LogRecord) (begins' : Buffer Bool)
     → IsNumberedLog (of_rings first records begins) × (begins.capacity ≡ records.capacity) → kept ≡ from - first
     → records' ≡ buffer (take kept records.items) records.capacity → begins' ≡ buffer (take kept begins.items) begins.capacity
     → IsNumberedLog (of_rings first records' begins') × (begins'.capacity ≡ records'.capacity)
-rings_tail first from kept records begins records' begins' law keeps less marked =
-    rw (less, marked, keeps) (lawful_tail (of_rings first records begins) from law.0, law.1)
+rings_tail first from kept records begins records' begins' law keeps less marked = grind (arith, lawful_tail (of_rings first records begins) from law.0)

@@ -56,14 +56,8 @@ first_group (r ∷ rs) some =
 pub groups_more : (done : List (List LogRecord)) (rest prefix behind : List LogRecord) (g : List LogRecord) (n : ℕ) → 0 < length rest →
     n ≡ min (length rest) 64 → prefix ≡ take n rest → behind ≡ drop n rest → g ≡ coalesced_group prefix
     → (done ++ g ∷ []) ++ map coalesced_group (groups_of (length behind) behind) ≡ done ++ map coalesced_group (groups_of (length rest) rest)
-groups_more done rest prefix behind g n some count is_prefix is_behind is =
-    let least : n ≡ min 64 (length rest) = omega arith in
-    let prefixes : prefix ≡ take 64 rest = is_prefix ∙ ap (λ k. take k rest) least ∙ take_min 64 rest in
-    let others : behind ≡ drop 64 rest = is_behind ∙ ap (λ k. drop k rest) least ∙ drop_min 64 rest in
-    append_assoc done (g ∷ []) (map coalesced_group (groups_of (length behind) behind))
-    ∙ ap (λ h. done ++ h ∷ map coalesced_group (groups_of (length behind) behind)) (is ∙ ap coalesced_group prefixes)
-    ∙ ap (λ b. done ++ coalesced_group (take 64 rest) ∷ map coalesced_group (groups_of (length b) b)) others
-    ∙ ap (λ gs. done ++ map coalesced_group gs) (sym (first_group rest some))
+groups_more done rest prefix behind g n some count is_prefix is_behind is = grind
+    (arith, take_min 64 rest, drop_min 64 rest, append_assoc done (g ∷ []) (map coalesced_group (groups_of (length behind) behind)), first_group rest some)
 
 -- ---- a log with groups behind the last
 
@@ -88,8 +82,7 @@ pub group_open : (l now : NumberedLog) (rs : List LogRecord) (begins : Bool) →
 group_open l now [] begins marks is begun few not_first = absurd (both_ways begins not_first begun)
 group_open l now (r ∷ rs) begins marks is begun few not_first =
     subst HasOpenGroup (sym is)
-    (let long : length (l.records ++ r ∷ rs) ≡ length l.records + suc (length rs) = length-append l.records (r ∷ rs) in
-    (end l, omega arith, omega arith, begun_border l r rs marks))
+    (grind (arith, length-append l.records (r ∷ rs), begun_border l r rs marks))
 
 -- ---- and with all groups in place of the last records
 
@@ -113,31 +106,25 @@ record HasMore (l m : NumberedLog) (more : ℕ) : Type 0 where
 
 with_groups_more : (l : NumberedLog) (gs : List (List LogRecord)) → HasMore l (with_groups l gs) (total gs)
 with_groups_more l [] = record { first = refl; limit = refl; count = omega arith }
-with_groups_more l (g ∷ gs) =
-    let rest : HasMore (with_group l g) (with_groups (with_group l g) gs) (total gs) = with_groups_more (with_group l g) gs in
-    record { first = rest.first; limit = rest.limit; count = omega (arith, rest.count, length-append l.records g) }
+with_groups_more l (g ∷ gs) = grind (arith, with_groups_more (with_group l g) gs, length-append)
 
 total_less : (n : ℕ) (rs : List LogRecord) → total (map coalesced_group (groups_of n rs)) ≤ length rs
 total_less zero rs = omega arith
 total_less (suc n) [] = omega arith
-total_less (suc n) (r ∷ rs) =
-    let rest = total_less n (drop 64 (r ∷ rs)) in
-    let prefix = group-shorter (take 64 (r ∷ rs)) in
-    omega (arith, rest, prefix, length-take 64 (r ∷ rs), length-drop 64 (r ∷ rs))
+total_less (suc n) (r ∷ rs) = grind (arith, total_less n (drop 64 (r ∷ rs)), group-shorter (take 64 (r ∷ rs)), length-take 64 (r ∷ rs), length-drop 64 (r ∷ rs))
 
 -- there is room for the next
 pub room_for_group : (l now : NumberedLog) (from : ℕ) (done rest : List (List LogRecord)) (g : List LogRecord) → IsNumberedLog l →
     now ≡ with_groups (without_tail l from) done → done ++ g ∷ rest ≡ groups_from l from
     → (end now + length g < 2 ^ 64) × (length now.records + length g ≤ now.limit)
-room_for_group l now from done rest g law is all =
-    let same : HasMore (without_tail l from) now (total done) = subst (λ m. HasMore (without_tail l from) m (total done)) (sym is)
-    (with_groups_more (without_tail l from) done) in
-    let whole : total done + (length g + total rest) ≡ total (groups_from l from) = sym (total-append done (g ∷ rest)) ∙ ap total all in
-    let less = total_less (length (records_from l from)) (records_from l from) in
-    let prefix = length-take (from - l.first) l.records in
-    let tail = length-drop (from - l.first) l.records in
-    let fits : length now.records + length g ≤ length l.records = omega (arith, same.count, whole, less, prefix, tail) in
-    (omega (arith, law.numbers, same.first), omega (arith, law.room, same.limit))
+room_for_group l now from done rest g law is all = grind (
+  arith,
+  with_groups_more (without_tail l from) done,
+  total-append done (g ∷ rest),
+  total_less (length (records_from l from)) (records_from l from),
+  length-take (from - l.first) l.records,
+  length-drop (from - l.first) l.records,
+)
 
 -- ---- loops that take groups in
 
@@ -168,15 +155,7 @@ with_all l gs = record { first = l.first; limit = l.limit; records = l.records +
 
 with_groups_all : (l : NumberedLog) (gs : List (List LogRecord)) → with_groups l gs ≡ with_all l gs
 with_groups_all l [] = λ i. record { first = l.first; limit = l.limit; records = sym (append-nil l.records) i; begins = sym (append-nil l.begins) i }
-with_groups_all l (g ∷ gs) =
-    with_groups_all (with_group l g) gs
-    ∙ (λ i. record {
-      first = l.first;
-      limit = l.limit;
-      records = append_assoc l.records g (all_records gs) i;
-      begins =
-          append_assoc l.begins (marks_of g) (all_marks gs) i;
-    })
+with_groups_all l (g ∷ gs) = grind (arith, with_groups_all (with_group l g) gs, append_assoc)
 
 pub regrouped_all : (l : NumberedLog) (from : ℕ) → regrouped l from ≡ with_all (without_tail l from) (groups_from l from)
 regrouped_all l from = with_groups_all (without_tail l from) (groups_from l from)
@@ -213,17 +192,19 @@ regrouped_among l from n k law low last some enough within =
     let gs : List (List LogRecord) = groups_of n (records_from l from) in
     elim (cases_lt l.first (from + k)) [
       | inl high ↦
-          let first : (regrouped l from).first ≡ l.first = ap (λ m. m.first) (regrouped_all l from) in
-          let prefix : length (take (from - l.first) l.records) ≡ from - l.first = omega (arith, length-take (from - l.first) l.records) in
-          let all = length-append (take (from - l.first) l.records) (all_coalesced gs) in
-          let short : k ≤ length (all_coalesced gs) = omega (arith, within, first, prefix, all, ap length (regrouped_records l from n enough)) in
-          border_among l from k law high low last
-          ∙ ap (λ hs. get_or (all_marks (map coalesced_group hs)) k true) (cut_same l from n enough)
-          ∙ marked gs k (groups-are n (records_from l from) some) short
+          grind (
+            arith,
+            regrouped_all l from,
+            length-take,
+            length-append,
+            regrouped_records l from n enough,
+            border_among l from k law high low last,
+            cut_same l from n enough,
+            marked,
+            groups-are n (records_from l from) some,
+          )
       | inr none ↦
-          let is : k ≡ 0 = omega arith in
-          border_first (regrouped l from) (from + k) (omega (arith, ap (λ m. m.first) (regrouped_all l from)))
-          ∙ sym (ap (are_whole gs) is ∙ whole_none gs)
+          grind (arith, regrouped_all l from, whole_none gs)
     ]
 
 -- ---- each record has effects

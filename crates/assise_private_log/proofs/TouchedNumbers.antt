@@ -46,10 +46,7 @@ untouched l inode from none number high = grind (arith, cases_lt, before, at_pla
 -- and where none does, none touches it at such a place
 untouched_places : (l : NumberedLog) (inode from : ℕ) → UntouchedFrom l inode from → (k : ℕ) (r : LogRecord) → from ≤ l.first + k →
     slice_get l.records k ≡ Some r → record_touches r inode ≡ false
-untouched_places l inode from none k r high s =
-    let place : (l.first + k) - l.first ≡ k = omega arith in
-    let there : record_at l (l.first + k) ≡ Some r = at_place l (l.first + k) (omega arith) ∙ ap (slice_get l.records) place ∙ s in
-    ap (λ o. found_touches o inode) (sym there) ∙ none (l.first + k) high
+untouched_places l inode from none k r high s = grind (arith, at_place l (l.first + k) (omega arith))
 
 -- what `touches_after` answers says which it is
 pub untouched_exactly : (l : NumberedLog) (inode from : ℕ) (answer : Bool) → answer ≡ touches_after l inode from → (answer ≡ false) ↔ UntouchedFrom l inode from
@@ -78,8 +75,7 @@ pub last_of_place : (l : NumberedLog) (inode place number : ℕ) → number ≡ 
     → IsLastTouch l inode (Some number)
 last_of_place l inode place number is_at inside here later = (
   touched l inode place number is_at inside here,
-  untouched l inode (number + 1) (λ k r high there.
-      read_there l.records k inode r false there (later k r (omega arith) (slice_get_within l.records k r there))),
+  untouched l inode (number + 1) (grind (arith, read_there, slice_get_within)),
 )
 
 -- no record does

@@ -1,8 +1,8 @@
 -- An effect that is read is the effect that was spelled, and what is spelled is read again.
-use Rattle.assise_record.proofs.Common.{◌≡◌, ℕ, Bool, true, false, ◌==◌, cond, List, [], ◌∷◌, ◌++◌, Result, Ok, refl, sym, ap, subst, ◌∙◌, append_assoc}
-use Rattle.assise_record.proofs.Common.{eqb-true, big_bytes, Effect, NewFile, NewDir, Write, SetLen, Link, Unlink, Free, FrameFault, BadLength, IsEffect}
-use Rattle.assise_record.proofs.Common.{tag_of, fields_of, effect_spelling, patch_spelling, name_spelling, ◌>>=◌, number_at, extent_at, read_size, name_at}
-use Rattle.assise_record.proofs.Common.{new_file_at, new_dir_at, write_at, set_len_at, link_at, unlink_at, free_at, fields_at, effect_at}
+use Rattle.assise_record.proofs.Common.{◌≡◌, ℕ, ◌==◌, cond, List, [], ◌∷◌, ◌++◌, Result, Ok, refl, sym, ap, subst, ◌∙◌, append_assoc, big_bytes, Effect}
+use Rattle.assise_record.proofs.Common.{NewFile, NewDir, Write, SetLen, Link, Unlink, Free, FrameFault, BadLength, IsEffect, tag_of, fields_of, effect_spelling}
+use Rattle.assise_record.proofs.Common.{patch_spelling, name_spelling, ◌>>=◌, number_at, extent_at, read_size, name_at, new_file_at, new_dir_at, write_at}
+use Rattle.assise_record.proofs.Common.{set_len_at, link_at, unlink_at, free_at, fields_at, effect_at, arith}
 use Rattle.assise_record.proofs.Loop.{ok_is}
 use Rattle.assise_record.proofs.FieldLaws.{IsBytes, Takes, Takes-then, Reads, seq_takes, byte_reads, u64_reads, extent_reads, size_reads, name_reads}
 
@@ -72,10 +72,7 @@ link_takes bytes x fits e =
 -- one test of a tag: what is read where it holds, and where not
 choose : {P : Type 0} (tag n : ℕ) (here there : Result (Effect × List ℕ) FrameFault) (x : Effect × List ℕ) → (tag ≡ n → here ≡ Ok x → P) → (there ≡ Ok x → P) →
     cond (tag == n) here there ≡ Ok x → P
-choose {P} tag n here there x this other = by_test (tag == n) (eqb-true tag n) where
-  by_test : (b : Bool) → (b ≡ true → tag ≡ n) → cond b here there ≡ Ok x → P
-  by_test true is e = this (is refl) e
-  by_test false is e = other e
+choose {P} tag n here there x this other = grind arith
 
 fields_take : (tag : ℕ) (bytes : List ℕ) (x : Effect × List ℕ) → IsBytes bytes → fields_at tag bytes ≡ Ok x → TakesFields tag bytes x
 unfolding fields_at
@@ -86,8 +83,7 @@ fields_take tag bytes x fits =
     (choose tag 3 _ _ x (λ t e. is 3 t (write_takes bytes x fits e))
     (choose tag 4 _ _ x (λ t e. is 4 t (set_len_takes bytes x fits e))
     (choose tag 5 _ _ x (λ t e. is 5 t (link_takes bytes x fits e))
-    (choose tag 6 _ _ x (λ t e. is 6 t (unlink_takes bytes x fits e))
-    (choose tag 7 _ _ x (λ t e. is 7 t (free_takes bytes x fits e)) (λ e. absurd cc)))))))
+    (search (unlink_takes, free_takes, arith) parts 3)))))
 
 effect_takes : (bytes : List ℕ) (x : Effect × List ℕ) → IsBytes bytes → effect_at bytes ≡ Ok x → Takes bytes (effect_spelling x.0) x.1 × IsEffect x.0
 unfolding effect_at
@@ -104,24 +100,21 @@ unfolding fields_at new_file_at new_dir_at write_at set_len_at link_at unlink_at
 fields_again (NewFile inode) rest h = rw ((u64_reads BadLength).again inode rest h) refl
 fields_again (NewDir inode) rest h = rw ((u64_reads BadLength).again inode rest h) refl
 fields_again (Write inode patch) rest h =
-    let regrouped : (big_bytes 8 inode ++ patch_spelling patch) ++ rest ≡ big_bytes 8 inode ++ (patch_spelling patch ++ rest) = append_assoc (big_bytes 8 inode)
-    (patch_spelling patch) rest in
+    let regrouped : (big_bytes 8 inode ++ patch_spelling patch) ++ rest ≡ big_bytes 8 inode ++ (patch_spelling patch ++ rest) = grind arith in
     ap write_at regrouped ∙ rw ((u64_reads BadLength).again inode (patch_spelling patch ++ rest) h.0, extent_reads.again patch rest h.1) refl
 fields_again (SetLen inode size) rest h =
-    let regrouped : (big_bytes 8 inode ++ big_bytes 4 size) ++ rest ≡ big_bytes 8 inode ++ (big_bytes 4 size ++ rest) = append_assoc (big_bytes 8 inode)
-    (big_bytes 4 size) rest in
+    let regrouped : (big_bytes 8 inode ++ big_bytes 4 size) ++ rest ≡ big_bytes 8 inode ++ (big_bytes 4 size ++ rest) = grind arith in
     ap set_len_at regrouped ∙ rw ((u64_reads BadLength).again inode (big_bytes 4 size ++ rest) h.0, size_reads.again size rest h.1) refl
 fields_again (Link directory name inode) rest h =
     let regrouped : (big_bytes 8 directory ++ (name_spelling name ++ big_bytes 8 inode)) ++ rest
     ≡ big_bytes 8 directory ++ (name_spelling name ++ (big_bytes 8 inode ++ rest)) =
-    append_assoc (big_bytes 8 directory) (name_spelling name ++ big_bytes 8 inode) rest
-    ∙ ap (λ (t : List ℕ). big_bytes 8 directory ++ t) (append_assoc (name_spelling name) (big_bytes 8 inode) rest) in
+    grind (arith, append_assoc) in
     let first = (u64_reads BadLength).again directory (name_spelling name ++ (big_bytes 8 inode ++ rest)) h.0 in
     let second = name_reads.again name (big_bytes 8 inode ++ rest) h.1 in
     ap link_at regrouped ∙ rw (first, second, (u64_reads BadLength).again inode rest h.2) refl
 fields_again (Unlink directory name) rest h =
     let regrouped : (big_bytes 8 directory ++ name_spelling name) ++ rest ≡ big_bytes 8 directory ++ (name_spelling name ++ rest) =
-    append_assoc (big_bytes 8 directory) (name_spelling name) rest in
+    grind arith in
     ap unlink_at regrouped ∙ rw ((u64_reads BadLength).again directory (name_spelling name ++ rest) h.0, name_reads.again name rest h.1) refl
 fields_again (Free inode) rest h = rw ((u64_reads BadLength).again inode rest h) refl
 

@@ -1,15 +1,14 @@
 -- A field that is read is the field that was spelled, and what is spelled is read again.
-use Rattle.assise_record.proofs.Common.{◌≡◌, ℕ, suc, ◌+◌, ◌^◌, ◌<◌, ◌≤◌, Bool, true, false, ◌&&◌, nat_lt, nat_le, cond, ltb, List, [], ◌∷◌, ◌++◌, length}
-use Rattle.assise_record.proofs.Common.{get_or, take, drop, Result, Ok, Err, refl, sym, ap, subst, ◌∙◌, append_assoc, arith, inl, inr, IsTrue, cases_lt}
-use Rattle.assise_record.proofs.Common.{ltb-true, ltb-false, le-ltb, lt-ltb, leb-true, le-leb, and_parts, and_from, take_at, drop_at, take-append-drop}
-use Rattle.assise_record.proofs.Common.{length-take, get_or-drop, get_or-take, get_or_past, big_bytes, big_number, is_name, FrameFault, BadLength, BadValue}
-use Rattle.assise_record.proofs.Common.{Patch, IsPatch, patch_spelling, name_spelling, ◌>>=◌, guard, Read, byte_at, bytes_at, number_at, is_extent, extent_at}
-use Rattle.assise_record.proofs.Common.{read_size, name_in, name_at}
+use Rattle.assise_record.proofs.Common.{◌≡◌, ℕ, suc, ◌+◌, ◌^◌, ◌<◌, ◌≤◌, Bool, true, false, nat_lt, cond, ltb, List, [], ◌∷◌, ◌++◌, length, get_or, take, drop}
+use Rattle.assise_record.proofs.Common.{Result, Ok, Err, refl, sym, ap, subst, ◌∙◌, append_assoc, arith, IsTrue, ltb-false, le-ltb, le-leb, take_at, drop_at}
+use Rattle.assise_record.proofs.Common.{take-append-drop, length-take, get_or-drop, get_or-take, get_or_past, big_bytes, big_number, is_name, FrameFault}
+use Rattle.assise_record.proofs.Common.{BadLength, BadValue, Patch, IsPatch, patch_spelling, name_spelling, ◌>>=◌, guard, Read, byte_at, bytes_at, number_at}
+use Rattle.assise_record.proofs.Common.{is_extent, extent_at, read_size, name_in, name_at}
 use Rattle.std.proofs.lemmas.List.{append-nil, length-append}
 use Rattle.std.proofs.lemmas.Nat.{be_bytes_2, be_bytes_4, be_bytes_8}
 use Rattle.byteorder.specs.Numbers.{big_number-reads_back, big_from-lt, length-bytes_high_first}
 use Rattle.assise_record.proofs.Loop.{bind_ok, ok_is}
-use Rattle.assise_record.proofs.Names.{named, some_bytes}
+use Rattle.assise_record.proofs.Names.{named}
 
 -- ---- lists of bytes
 
@@ -20,11 +19,7 @@ pub IsBytes-drop : (n : ℕ) (bytes : List ℕ) → IsBytes bytes → IsBytes (d
 IsBytes-drop n bytes h i = rw get_or-drop (h (n + i))
 
 pub IsBytes-take : (n : ℕ) (bytes : List ℕ) → IsBytes bytes → IsBytes (take n bytes)
-IsBytes-take n bytes h i =
-    elim (cases_lt i n) [
-      | inl lt ↦ rw (get_or-take n bytes i 0 lt) (h i)
-      | inr le ↦ rw (get_or_past (take n bytes) i 0 (omega (arith, length-take n bytes))) (omega arith)
-    ]
+IsBytes-take n bytes h i = grind (arith, get_or-take, get_or_past, length-take)
 
 -- what a reader took from the front
 pub record Takes (bytes text rest : List ℕ) : Type 0 where
@@ -84,9 +79,7 @@ bytes_take n fault bytes x fits e =
     (record { parts = sym (take-append-drop n bytes); rest_fits = IsBytes-drop n bytes fits }, len, IsBytes-take n bytes fits)
 
 pub bytes_again : (fault : FrameFault) (text rest : List ℕ) → bytes_at (length text) fault (text ++ rest) ≡ Ok (text, rest)
-bytes_again fault text rest =
-    let long : ltb (length (text ++ rest)) (length text) ≡ false = le-ltb _ _ (omega (arith, length-append text rest)) in
-    rw (long, take_at text rest (length text) refl, drop_at text rest (length text) refl) refl
+bytes_again fault text rest = grind (arith, length-append, take_at, drop_at)
 
 -- ---- numbers
 
@@ -110,17 +103,13 @@ number_takes n width fault bytes x fits e =
     let long : n ≤ length bytes = ltb-false _ _ g.0 in
     let prefix : big_bytes n (big_number n (take n bytes)) ≡ take n bytes = width (take n bytes) (omega (arith, length-take n bytes))
     (IsBytes-take n bytes fits) in
-    let parts : bytes ≡ big_bytes n (big_number n (take n bytes)) ++ drop n bytes = sym (take-append-drop n bytes)
-    ∙ ap (λ (t : List ℕ). t ++ drop n bytes) (sym prefix) in
+    let parts : bytes ≡ big_bytes n (big_number n (take n bytes)) ++ drop n bytes = grind (arith, take-append-drop) in
     subst (λ (y : ℕ × List ℕ). Takes bytes (big_bytes n y.0) y.1 × (y.0 < 256 ^ n)) g.1
     (record { parts = parts; rest_fits = IsBytes-drop n bytes fits }, big_from-lt 0 n (take n bytes) (IsBytes-take n bytes fits))
 
 number_again : (n : ℕ) (fault : FrameFault) (x : ℕ) (rest : List ℕ) → x < 256 ^ n → number_at n fault (big_bytes n x ++ rest) ≡ Ok (x, rest)
-number_again n fault x rest lt =
-    let len = length-bytes_high_first n x in
-    let long : ltb (length (big_bytes n x ++ rest)) n ≡ false = le-ltb _ _ (omega (arith, len, length-append (big_bytes n x) rest)) in
-    let back : big_number n (big_bytes n x) ≡ x = ap (big_number n) (sym (append-nil (big_bytes n x))) ∙ big_number-reads_back n x [] lt in
-    rw (long, take_at (big_bytes n x) rest n len, drop_at (big_bytes n x) rest n len, back) refl
+number_again n fault x rest lt = grind
+    (arith, length-bytes_high_first n x, le-ltb, length-append (big_bytes n x) rest, append-nil (big_bytes n x), big_number-reads_back n x, take_at, drop_at)
 
 number_reads : (n : ℕ) → IsWidth n → (fault : FrameFault) → Reads (number_at n fault) (big_bytes n) (λ x. x < 256 ^ n)
 number_reads n width fault = record { takes = number_takes n width fault; again = number_again n fault }
@@ -137,20 +126,10 @@ u64_reads fault = number_reads 8 width_8 fault
 -- ---- the bytes of a write
 
 is_patch : (offset size : ℕ) (bytes : List ℕ) → is_extent offset size ≡ true → length bytes ≡ size → IsPatch (record { offset = offset; bytes = bytes })
-is_patch offset size bytes e len =
-    let a = and_parts (nat_lt 0 size) (nat_le size 65536 && nat_le (offset + size) 1048576) e in
-    let b = and_parts (nat_le size 65536) (nat_le (offset + size) 1048576) a.1 in
-    let some = ltb-true 0 size a.0 in
-    let few = leb-true size 65536 b.0 in
-    let ends = leb-true (offset + size) 1048576 b.1 in
-    record { some = omega (arith, some, len); few = omega (arith, few, len); fits = omega (arith, ends, len) }
+is_patch offset size bytes e len = grind arith
 
 is_patch-again : (p : Patch) → IsPatch p → is_extent p.offset (length p.bytes) ≡ true
-is_patch-again p h =
-    let some = lt-ltb 0 (length p.bytes) h.some in
-    let few = le-leb (length p.bytes) 65536 h.few in
-    let ends = le-leb (p.offset + length p.bytes) 1048576 h.fits in
-    and_from _ _ some (and_from _ _ few ends)
+is_patch-again p h = grind arith
 
 extent_takes : (bytes : List ℕ) (x : Patch × List ℕ) → IsBytes bytes → extent_at bytes ≡ Ok x → Takes bytes (patch_spelling x.0) x.1 × IsPatch x.0
 unfolding extent_at
@@ -173,13 +152,7 @@ extent_takes bytes x fits e =
 
 extent_again : (p : Patch) (rest : List ℕ) → IsPatch p → extent_at (patch_spelling p ++ rest) ≡ Ok (p, rest)
 unfolding extent_at
-extent_again p rest h =
-    let regrouped : patch_spelling p ++ rest ≡ big_bytes 4 p.offset ++ (big_bytes 4 (length p.bytes) ++ (p.bytes ++ rest)) =
-    append_assoc (big_bytes 4 p.offset) (big_bytes 4 (length p.bytes) ++ p.bytes) rest ∙ ap (λ (t : List ℕ). big_bytes 4 p.offset ++ t)
-    (append_assoc (big_bytes 4 (length p.bytes)) p.bytes rest) in
-    let first = (u32_reads BadLength).again p.offset (big_bytes 4 (length p.bytes) ++ (p.bytes ++ rest)) (omega (arith, h.fits)) in
-    let second = (u32_reads BadLength).again (length p.bytes) (p.bytes ++ rest) (omega (arith, h.few)) in
-    ap extent_at regrouped ∙ rw (first, second, is_patch-again p h, bytes_again BadLength p.bytes rest) refl
+extent_again p rest h = grind (arith, bytes_again BadLength p.bytes rest)
 
 pub extent_reads : Reads extent_at patch_spelling IsPatch
 extent_reads = record { takes = extent_takes; again = extent_again }
@@ -188,10 +161,7 @@ extent_reads = record { takes = extent_takes; again = extent_again }
 
 size_takes : (bytes : List ℕ) (x : ℕ × List ℕ) → IsBytes bytes → read_size bytes ≡ Ok x → Takes bytes (big_bytes 4 x.0) x.1 × (x.0 ≤ 1048576)
 unfolding read_size
-size_takes bytes x fits e =
-    let a = seq_takes (u32_reads BadLength) (λ size. guard (nat_le size.0 1048576) BadValue >>= λ _. Ok size) x bytes fits e in
-    let g = guard_ok (nat_le a.0.0 1048576) BadValue (λ _. Ok a.0) x a.3 in
-    subst (λ (y : ℕ × List ℕ). Takes bytes (big_bytes 4 y.0) y.1 × (y.0 ≤ 1048576)) (ok_is a.0 x g.1) (a.1, leb-true a.0.0 1048576 g.0)
+size_takes bytes x fits e = grind (arith, u32_reads BadLength)
 
 size_again : (size : ℕ) (rest : List ℕ) → size ≤ 1048576 → read_size (big_bytes 4 size ++ rest) ≡ Ok (size, rest)
 unfolding read_size
@@ -219,9 +189,7 @@ name_takes bytes x fits e =
 
 name_again : (name rest : List ℕ) → IsTrue (is_name name) → name_at (name_spelling name ++ rest) ≡ Ok (name, rest)
 unfolding name_at
-name_again name rest h =
-    let some : ltb 0 (length name) ≡ true = lt-ltb 0 (length name) (some_bytes name h) in
-    rw (some, bytes_again BadLength name rest, h) refl
+name_again name rest h = grind (arith, bytes_again)
 
 pub name_reads : Reads name_at name_spelling (λ name. IsTrue (is_name name))
 name_reads = record { takes = name_takes; again = name_again }

@@ -1,9 +1,9 @@
 -- A frame that is read is the frame that was spelled, and what is spelled is read again.
-use Rattle.assise_record.proofs.Common.{◌≡◌, ℕ, ◌+◌, ◌^◌, ◌<◌, ◌≤◌, true, ◌&&◌, ◌==◌, nat_lt, nat_le, List, [], ◌∷◌, ◌++◌, length, take, drop, Result, Ok, refl}
-use Rattle.assise_record.proofs.Common.{sym, ap, subst, ◌∙◌, append_assoc, arith, length-append, ltb-true, leb-true, lt-ltb, le-leb, eqb-true, and_parts}
-use Rattle.assise_record.proofs.Common.{and_from, take-append-drop, take_at, length-take, big_bytes, Header, FrameFault, Short, BadMagic, BadVersion, BadValue}
-use Rattle.assise_record.proofs.Common.{LogFrame, is_marked, IsLogFrame, body_of, spelling, SpellsFrame, BeginsWith, ◌>>=◌, guard, HasCount, IsVersion}
-use Rattle.assise_record.proofs.Common.{has_count, is_version, byte_at, bytes_at, number_at, body_at, version_at, numbers_at, header_at, read_frame, frame_at}
+use Rattle.assise_record.proofs.Common.{◌≡◌, ℕ, ◌+◌, ◌^◌, ◌<◌, ◌≤◌, true, ◌==◌, nat_lt, List, [], ◌∷◌, ◌++◌, length, take, drop, Result, Ok, refl, sym, ap}
+use Rattle.assise_record.proofs.Common.{subst, ◌∙◌, append_assoc, arith, length-append, ltb-true, lt-ltb, le-leb, eqb-true, and_from, take-append-drop, take_at}
+use Rattle.assise_record.proofs.Common.{length-take, big_bytes, Header, FrameFault, Short, BadMagic, BadVersion, BadValue, LogFrame, is_marked, IsLogFrame}
+use Rattle.assise_record.proofs.Common.{body_of, spelling, SpellsFrame, BeginsWith, ◌>>=◌, guard, HasCount, IsVersion, has_count, is_version, byte_at, bytes_at}
+use Rattle.assise_record.proofs.Common.{number_at, body_at, version_at, numbers_at, header_at, read_frame, frame_at}
 use Rattle.assise_record.proofs.Loop.{bind_ok, ok_is}
 use Rattle.assise_record.proofs.FieldLaws.{IsBytes, Takes, Takes-then, Reads, seq_takes, guard_ok, bytes_take, bytes_again, byte_reads, u16_reads, u32_reads}
 use Rattle.assise_record.proofs.FieldLaws.{u64_reads}
@@ -13,9 +13,7 @@ use Rattle.assise_record.proofs.SizeBounds.{body_bytes}
 -- ---- the magic bytes and the version
 
 pub version_is : (newest version : ℕ) → is_version newest version ≡ true → IsVersion newest version
-version_is newest version e =
-    let a = and_parts (nat_le 1 version) (nat_le version newest) e in
-    record { some = leb-true 1 version a.0; known = leb-true version newest a.1 }
+version_is newest version e = grind arith
 
 pub version_again : (newest version : ℕ) → IsVersion newest version → is_version newest version ≡ true
 version_again newest version h = and_from _ _ (le-leb 1 version h.some) (le-leb version newest h.known)
@@ -53,10 +51,7 @@ version_reads newest = record { takes = version_takes newest; again = version_re
 -- ---- the first number and the count
 
 pub count_is : (first count : ℕ) → has_count first count ≡ true → HasCount first count
-count_is first count e =
-    let a = and_parts (nat_lt 0 count) (nat_le count 64 && nat_le (first + count) 18446744073709551615) e in
-    let b = and_parts (nat_le count 64) (nat_le (first + count) 18446744073709551615) a.1 in
-    record { some = ltb-true 0 count a.0; few = leb-true count 64 b.0; numbers = leb-true (first + count) 18446744073709551615 b.1 }
+count_is first count e = grind arith
 
 pub count_again : (first count : ℕ) → HasCount first count → has_count first count ≡ true
 count_again first count h = and_from _ _ (lt-ltb 0 count h.some) (and_from _ _ (le-leb count 64 h.few) (le-leb (first + count) 18446744073709551615 h.numbers))
@@ -78,11 +73,7 @@ numbers_take bytes x fits e =
 
 numbers_again : (x : ℕ × ℕ) (rest : List ℕ) → HasCount x.0 x.1 → numbers_at (numbers_spelling x ++ rest) ≡ Ok (x, rest)
 unfolding numbers_at
-numbers_again x rest h =
-    let regrouped : numbers_spelling x ++ rest ≡ big_bytes 8 x.0 ++ (big_bytes 2 x.1 ++ rest) = append_assoc (big_bytes 8 x.0) (big_bytes 2 x.1) rest in
-    let first = (u64_reads Short).again x.0 (big_bytes 2 x.1 ++ rest) (omega (arith, h.some, h.numbers)) in
-    let count = (u16_reads Short).again x.1 rest (omega (arith, h.few)) in
-    ap numbers_at regrouped ∙ rw (first, count, count_again x.0 x.1 h) refl
+numbers_again x rest h = grind arith
 
 numbers_read : Reads numbers_at numbers_spelling (λ x. HasCount x.0 x.1)
 numbers_read = record { takes = numbers_take; again = numbers_again }
@@ -118,7 +109,7 @@ header_takes newest bytes x fits e =
     let z = seq_takes (u32_reads Short) (last m.0.0 a.0.0 b.0.0 n.0) x n.0.1 n.1.rest_fits n.3 in
     let nz = Takes-then b.0.1 (numbers_spelling n.0.0) n.0.1 (big_bytes 4 z.0.0) z.0.1 n.1 z.1 in
     let nz2 : Takes b.0.1 (big_bytes 8 n.0.0.0 ++ (big_bytes 2 n.0.0.1 ++ big_bytes 4 z.0.0)) z.0.1 =
-    subst (λ (t : List ℕ). Takes b.0.1 t z.0.1) (append_assoc (big_bytes 8 n.0.0.0) (big_bytes 2 n.0.0.1) (big_bytes 4 z.0.0)) nz in
+    grind arith in
     let bz = Takes-then a.0.1 (big_bytes 4 b.0.0) b.0.1 (big_bytes 8 n.0.0.0 ++ (big_bytes 2 n.0.0.1 ++ big_bytes 4 z.0.0)) z.0.1 b.1 nz2 in
     let az = Takes-then m.0.1 (big_bytes 8 a.0.0) a.0.1 (big_bytes 4 b.0.0 ++ (big_bytes 8 n.0.0.0 ++ (big_bytes 2 n.0.0.1 ++ big_bytes 4 z.0.0))) z.0.1 a.1 bz
     in
@@ -135,17 +126,14 @@ header_again newest h rest is =
     let numbers : List ℕ = numbers_spelling (h.first, h.count) ++ last in
     let r1 : (big_bytes 2 h.count ++ big_bytes 4 h.size) ++ rest ≡ big_bytes 2 h.count ++ last = append_assoc (big_bytes 2 h.count) (big_bytes 4 h.size) rest in
     let r2 : (big_bytes 8 h.first ++ (big_bytes 2 h.count ++ big_bytes 4 h.size)) ++ rest ≡ numbers =
-    append_assoc (big_bytes 8 h.first) (big_bytes 2 h.count ++ big_bytes 4 h.size) rest ∙ ap (λ (t : List ℕ). big_bytes 8 h.first ++ t) r1
-    ∙ sym (append_assoc (big_bytes 8 h.first) (big_bytes 2 h.count) last) in
+    grind arith in
     let r3 : (big_bytes 4 h.client ++ (big_bytes 8 h.first ++ (big_bytes 2 h.count ++ big_bytes 4 h.size))) ++ rest ≡ big_bytes 4 h.client ++ numbers =
-    append_assoc (big_bytes 4 h.client) (big_bytes 8 h.first ++ (big_bytes 2 h.count ++ big_bytes 4 h.size)) rest
-    ∙ ap (λ (t : List ℕ). big_bytes 4 h.client ++ t) r2 in
+    grind arith in
     let r4 : (big_bytes 8 h.epoch ++ (big_bytes 4 h.client ++ (big_bytes 8 h.first ++ (big_bytes 2 h.count ++ big_bytes 4 h.size)))) ++ rest
     ≡ big_bytes 8 h.epoch ++ (big_bytes 4 h.client ++ numbers) =
-    append_assoc (big_bytes 8 h.epoch) (big_bytes 4 h.client ++ (big_bytes 8 h.first ++ (big_bytes 2 h.count ++ big_bytes 4 h.size))) rest
-    ∙ ap (λ (t : List ℕ). big_bytes 8 h.epoch ++ t) r3 in
+    grind arith in
     let regrouped : header_spelling h ++ rest ≡ begin_with h.version ++ (big_bytes 8 h.epoch ++ (big_bytes 4 h.client ++ numbers)) =
-    ap (λ (t : List ℕ). 65 ∷ 83 ∷ h.version ∷ t) r4 in
+    grind arith in
     let e0 = (version_reads newest).again h.version (big_bytes 8 h.epoch ++ (big_bytes 4 h.client ++ numbers)) is.version in
     let e1 = (u64_reads Short).again h.epoch (big_bytes 4 h.client ++ numbers) is.epoch in
     let e2 = (u32_reads Short).again h.client numbers is.client_fits in
@@ -159,24 +147,7 @@ header_again newest h rest is =
 is_spelled : (newest : ℕ) (h : Header) (body : List ℕ) (records : Records) → newest ≤ 2 → IsHeader newest h →
     IsBody (is_marked h.version) h.count body records → length body ≡ h.size
     → SpellsFrame newest (header_spelling h ++ body) (read_frame h records)
-is_spelled newest h body records known is b len = record {
-  lawful = record {
-    ranges = record {
-      some_version = is.version.some;
-      known_version = omega (arith, known, is.version.known);
-      epoch = is.epoch;
-      client = is.client;
-      client_fits = is.client_fits;
-      some = omega (arith, b.counted, is.count.some);
-      few = omega (arith, b.counted, is.count.few);
-      numbers = omega (arith, b.counted, is.count.numbers);
-      marks = b.marks;
-    };
-    records = b.lawful;
-  };
-  version = is.version.known;
-  spelled = rw (b.counted, sym b.spelled, len) refl;
-}
+is_spelled newest h body records known is b len = grind arith
 
 pub frame_takes : (newest : ℕ) (bytes : List ℕ) (x : LogFrame × ℕ) → newest ≤ 2 → IsBytes bytes → frame_at newest bytes ≡ Ok x → BeginsWith newest bytes x.0 x.1
 unfolding frame_at
@@ -209,15 +180,7 @@ frame_again newest f rest known is =
     let count : HasCount f.first (length f.records) = record { some = is.ranges.some; few = is.ranges.few; numbers = is.ranges.numbers } in
     let version : IsVersion newest f.version = record { some = is.ranges.some_version; known = known } in
     let lawful : IsHeader newest h =
-    record {
-      version = version;
-      epoch = is.ranges.epoch;
-      client = is.ranges.client;
-      client_fits = is.ranges.client_fits;
-      count = count;
-      size =
-          omega (arith, few);
-    } in
+    grind arith in
     let regrouped : spelling f ++ rest ≡ header_spelling h ++ (body ++ rest) = append_assoc (header_spelling h) body rest in
     let len : 29 + length body ≡ length (spelling f) = omega (arith, length-append (header_spelling h) body) in
     ap (frame_at newest) regrouped
@@ -231,7 +194,5 @@ frame_again newest f rest known is =
 
 -- what is read where the bytes begin with a frame
 pub begins_again : (newest : ℕ) (bytes : List ℕ) (f : LogFrame) (n : ℕ) → BeginsWith newest bytes f n → frame_at newest bytes ≡ Ok (f, n)
-begins_again newest bytes f n h =
-    let parts : bytes ≡ spelling f ++ drop n bytes = sym (take-append-drop n bytes) ∙ ap (λ (t : List ℕ). t ++ drop n bytes) h.prefix.spelled in
-    let len : length (spelling f) ≡ n = ap length (sym h.prefix.spelled) ∙ omega (arith, length-take n bytes, h.inside) in
-    ap (frame_at newest) parts ∙ frame_again newest f (drop n bytes) h.prefix.version h.prefix.lawful ∙ ap (λ (k : ℕ). Ok (f, k)) len
+begins_again newest bytes f n h = grind
+    (arith, take-append-drop n bytes, length-take n bytes, frame_again newest f (drop n bytes) h.prefix.version h.prefix.lawful)

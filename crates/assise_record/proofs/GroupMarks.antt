@@ -1,8 +1,7 @@
 -- Groups of at most 64 records, and the marks of what is left of them.
-use Rattle.assise_record.proofs.Common.{◌≡◌, ℕ, zero, suc, ◌-◌, ◌<◌, ◌≤◌, ◌||◌, ◌&&◌, nat_le, Bool, true, false, List, [], ◌∷◌, ◌++◌, length, take, drop}
-use Rattle.assise_record.proofs.Common.{get_or, map, refl, ap, sym, ◌∙◌, arith, inl, inr, length-append, cases_lt, le-leb, lt-leb, ne_eqb, get_or-append_right}
-use Rattle.assise_record.proofs.Common.{length-drop, length-map, length-take, AllHaveEffects, AreGroups, all_records, all_coalesced, are_whole, all_marks}
-use Rattle.assise_record.proofs.Common.{coalesced_group, groups_of, marks_of, LogRecord}
+use Rattle.assise_record.proofs.Common.{◌≡◌, ℕ, zero, suc, ◌-◌, ◌<◌, ◌≤◌, ◌&&◌, nat_le, Bool, true, false, List, [], ◌∷◌, ◌++◌, length, take, drop, get_or, map}
+use Rattle.assise_record.proofs.Common.{refl, ap, ◌∙◌, arith, inl, inr, length-append, cases_lt, get_or-append_right, length-drop, length-map, AllHaveEffects}
+use Rattle.assise_record.proofs.Common.{AreGroups, all_records, all_coalesced, are_whole, all_marks, coalesced_group, groups_of, marks_of, LogRecord}
 use Rattle.std.proofs.Common.{take-append-drop}
 use Rattle.assise_record.proofs.GroupRest.{group-some}
 
@@ -28,8 +27,7 @@ effects-drop (suc k) (r ∷ rs) h = effects-drop k rs h.1
 pub groups-are : (n : ℕ) (rs : List LogRecord) → AllHaveEffects rs → AreGroups (groups_of n rs)
 groups-are zero rs h = tt
 groups-are (suc n) [] h = tt
-groups-are (suc n) (r ∷ rs) h =
-    ((omega (arith, length-take 64 (r ∷ rs)), effects-take 64 (r ∷ rs) h), groups-are n (drop 64 (r ∷ rs)) (effects-drop 64 (r ∷ rs) h))
+groups-are (suc n) (r ∷ rs) h = search (groups-are n (drop 64 (r ∷ rs)) (effects-drop 64 (r ∷ rs) h), effects-take, arith) parts 3
 
 -- as many steps as there are records are enough, and more come to the same
 pub groups-steps : (n m : ℕ) (rs : List LogRecord) → length rs ≤ n → length rs ≤ m → groups_of n rs ≡ groups_of m rs
@@ -70,8 +68,7 @@ first_of (r ∷ rs) ms some = refl
 
 some_whole : (g : List LogRecord) (gs : List (List LogRecord)) (k : ℕ) →
     are_whole (g ∷ gs) (suc k) ≡ (nat_le (length (coalesced_group g)) (suc k) && are_whole gs (suc k - length (coalesced_group g)))
-some_whole g gs k =
-    ap (λ b. b || (nat_le (length (coalesced_group g)) (suc k) && are_whole gs (suc k - length (coalesced_group g)))) (ne_eqb (suc k) 0 (λ e. omega (arith, e)))
+some_whole g gs k = grind arith
 
 -- by the marks of what is left a group begins, or nothing comes, exactly where the records before are whole groups
 pub marked : (gs : List (List LogRecord)) (k : ℕ) → AreGroups gs → k ≤ length (all_coalesced gs) → get_or (all_marks (map coalesced_group gs)) k true
@@ -82,11 +79,12 @@ marked (g ∷ gs) zero h low = first_of (coalesced_group g) (all_marks (map coal
 marked (g ∷ gs) (suc k) h low =
     elim (cases_lt (suc k) (length (coalesced_group g))) [
       | inl within ↦
-          inside (coalesced_group g) (all_marks (map coalesced_group gs)) k within
-          ∙ sym (some_whole g gs k ∙ ap (λ b. b && are_whole gs (suc k - length (coalesced_group g))) (lt-leb (length (coalesced_group g)) (suc k) within))
+          grind (arith, inside)
       | inr past ↦
-          get_or-append_right (marks_of (coalesced_group g)) (all_marks (map coalesced_group gs)) (length (coalesced_group g)) (suc k) true
-          (length-marks (coalesced_group g)) past
-          ∙ marked gs (suc k - length (coalesced_group g)) h.1 (omega (arith, past, low, length-append (coalesced_group g) (all_coalesced gs)))
-          ∙ sym (some_whole g gs k ∙ ap (λ b. b && are_whole gs (suc k - length (coalesced_group g))) (le-leb (length (coalesced_group g)) (suc k) past))
+          grind (
+            arith,
+            marked gs (suc k - length (coalesced_group g)) h.1 (omega (arith, past, low, length-append (coalesced_group g) (all_coalesced gs))),
+            get_or-append_right,
+            length-marks,
+          )
     ]

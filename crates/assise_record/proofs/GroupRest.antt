@@ -1,25 +1,15 @@
 -- What is left of a group of records.
-use Rattle.assise_record.proofs.Common.{◌≡◌, ℕ, suc, ◌<◌, ◌≤◌, true, if◌then◌else◌, List, [], ◌∷◌, ◌++◌, length, refl, ap, sym, ◌∙◌, arith, inl, inr}
-use Rattle.assise_record.proofs.Common.{cases_Bool, false≢true, Effect, AllHaveEffects, left_of, left_in, begun_by, coalesced_group, LogRecord, all_effects}
-use Rattle.assise_record.proofs.Common.{has_some, record_of, call_of, Ascending}
-use Rattle.assise_record.specs.Coalesced.{overridden, coalesced}
-use Rattle.assise_record.proofs.Records.{all_effects-append, all_effects-record_of}
+use Rattle.assise_record.proofs.Common.{◌≡◌, ℕ, ◌<◌, ◌≤◌, true, List, [], ◌∷◌, ◌++◌, length, refl, ap, ◌∙◌, arith, false≢true, Effect, AllHaveEffects, left_of}
+use Rattle.assise_record.proofs.Common.{left_in, begun_by, coalesced_group, LogRecord, all_effects, has_some, call_of, Ascending}
+use Rattle.assise_record.specs.Coalesced.{coalesced}
 
 left_of-append : (es later : List Effect) → coalesced (es ++ later) ≡ left_of es later ++ coalesced later
 left_of-append [] later = refl
-left_of-append (e ∷ es) later =
-    elim (cases_Bool (overridden e (es ++ later))) [
-      | inl gone ↦ rw gone (left_of-append es later)
-      | inr stays ↦ rw stays (ap (λ fs. e ∷ fs) (left_of-append es later))
-    ]
+left_of-append (e ∷ es) later = grind (arith, left_of-append es later)
 
 left_in-effects : (rs : List LogRecord) → all_effects (left_in rs) ≡ coalesced (all_effects rs)
 left_in-effects [] = refl
-left_in-effects (r ∷ rs) =
-    all_effects-append (record_of r.call (left_of r.effects (all_effects rs))) (left_in rs)
-    ∙ ap (λ es. es ++ all_effects (left_in rs)) (all_effects-record_of r.call (left_of r.effects (all_effects rs)))
-    ∙ ap (λ es. left_of r.effects (all_effects rs) ++ es) (left_in-effects rs)
-    ∙ sym (left_of-append r.effects (all_effects rs))
+left_in-effects (r ∷ rs) = grind (arith, left_in-effects rs, left_of-append)
 
 begun_by-effects : (call : ℕ) (rs : List LogRecord) → all_effects (begun_by call rs) ≡ all_effects rs
 begun_by-effects call [] = refl
@@ -36,11 +26,7 @@ length-begun call (r ∷ rs) = refl
 
 length-left : (rs : List LogRecord) → length (left_in rs) ≤ length rs
 length-left [] = omega arith
-length-left (r ∷ rs) = go (left_of r.effects (all_effects rs)) (length-left rs)
-  where
-    go : (es : List Effect) → length (left_in rs) ≤ length rs → length (record_of r.call es ++ left_in rs) ≤ suc (length rs)
-    go [] h = omega (arith, h)
-    go (e ∷ es) h = omega (arith, h)
+length-left (r ∷ rs) = grind (arith, length-left rs)
 
 pub group-shorter : (rs : List LogRecord) → length (coalesced_group rs) ≤ length rs
 group-shorter rs = omega (arith, length-begun (call_of rs 0 0) (left_in rs), length-left rs)
@@ -51,18 +37,10 @@ group-shorter rs = omega (arith, length-begun (call_of rs 0 0) (left_in rs), len
 some-left : (es : List Effect) → has_some es ≡ true → has_some (coalesced es) ≡ true
 some-left [] h = h
 some-left (e ∷ []) h = refl
-some-left (e ∷ (f ∷ fs)) h =
-    elim (cases_Bool (overridden e (f ∷ fs))) [
-      | inl gone ↦ ap (λ b. has_some (if b then coalesced (f ∷ fs) else e ∷ coalesced (f ∷ fs))) gone ∙ some-left (f ∷ fs) refl
-      | inr stays ↦ ap (λ b. has_some (if b then coalesced (f ∷ fs) else e ∷ coalesced (f ∷ fs))) stays
-    ]
+some-left (e ∷ (f ∷ fs)) h = grind (arith, some-left (f ∷ fs) refl)
 
 effects_some : (r : LogRecord) (rs : List LogRecord) → has_some r.effects ≡ true → has_some (all_effects (r ∷ rs)) ≡ true
-effects_some r rs h = go r.effects h
-  where
-    go : (es : List Effect) → has_some es ≡ true → has_some (es ++ all_effects rs) ≡ true
-    go [] h = absurd (false≢true h)
-    go (e ∷ es) h = refl
+effects_some r rs h = grind arith
 
 first_called : (call next : ℕ) (rs : List LogRecord) → has_some (all_effects rs) ≡ true → call_of (begun_by call rs) 0 next ≡ call
 first_called call next [] h = absurd (false≢true h)
@@ -77,19 +55,11 @@ group-begins (r ∷ rs) next h =
 -- the first of what is left comes no earlier than the first of the group
 left-later : (rs : List LogRecord) (next : ℕ) → Ascending rs next → call_of rs 0 next ≤ call_of (left_in rs) 0 next
 left-later [] next h = omega arith
-left-later (r ∷ rs) next h = go (left_of r.effects (all_effects rs)) (left-later rs next h.1)
-  where
-    go : (es : List Effect) → call_of rs 0 next ≤ call_of (left_in rs) 0 next → r.call ≤ call_of (record_of r.call es ++ left_in rs) 0 next
-    go [] ih = omega (arith, h.0, ih)
-    go (e ∷ es) ih = omega arith
+left-later (r ∷ rs) next h = grind (arith, left-later rs next h.1)
 
 left-ascending : (rs : List LogRecord) (next : ℕ) → Ascending rs next → Ascending (left_in rs) next
 left-ascending [] next h = tt
-left-ascending (r ∷ rs) next h = go (left_of r.effects (all_effects rs)) (left-ascending rs next h.1)
-  where
-    go : (es : List Effect) → Ascending (left_in rs) next → Ascending (record_of r.call es ++ left_in rs) next
-    go [] ih = ih
-    go (e ∷ es) ih = (omega (arith, h.0, left-later rs next h.1), ih)
+left-ascending (r ∷ rs) next h = grind (arith, left-ascending rs next h.1, left-later)
 
 begun-ascending : (call next : ℕ) (rs : List LogRecord) → call ≤ call_of rs 0 next → Ascending rs next → Ascending (begun_by call rs) next
 begun-ascending call next [] low h = tt

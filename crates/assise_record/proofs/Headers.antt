@@ -6,7 +6,6 @@ use Rattle.assise_record.proofs.Common.{HasCount, IsVersion, Read, has_count, is
 use Rattle.assise_record.proofs.Common.{field}
 use Rattle.std.proofs.Common.{◌⊎◌}
 use Rattle.assise_record.proofs.FrameLaws.{count_again, count_is, version_again, version_is}
-use Rattle.assise_record.proofs.Loop.{ok_is}
 
 abbrev Short_ : Read Header
 Short_ = Err Short
@@ -53,11 +52,7 @@ module _ (newest v : ℕ) (known : is_version newest v ≡ true) (t : List ℕ) 
   -- the epoch, or the client, isn't whole
   no_client : length t < 12 → header_at newest bytes ≡ Short_
   unfolding header_at version_at
-  no_client few =
-      elim (cases_lt (length t) 8) [
-        | inl none ↦ rw (known, lt-ltb (length t) 8 none) refl
-        | inr epoch ↦ rw (known, le-ltb (length t) 8 epoch, lt-ltb (length (drop 8 t)) 4 (omega (arith, behind_8))) refl
-      ]
+  no_client few = grind arith
 
   module _ (there : 12 ≤ length t) where
     epoch_there : ltb (length t) 8 ≡ false
@@ -162,10 +157,7 @@ data Class (newest : ℕ) (bytes : List ℕ) : Type 0 where
 -- fewer bytes than an epoch and a client behind the version have
 few_fields : (newest : ℕ) (bytes : List ℕ) → length bytes < 15 → take 2 bytes ≡ take (length bytes) (65 ∷ 83 ∷ []) →
     (3 ≤ length bytes → IsVersion newest (get_or bytes 2 0)) → IsUnfinished newest bytes
-few_fields newest bytes few magic version = record {
-  lawful = record { magic = magic; version = version; client = λ all. absurd (omega (arith, few, all)); count = λ all. absurd (omega (arith, few, all)) };
-  short = λ all. absurd (omega (arith, few, all));
-}
+few_fields newest bytes few magic version = grind arith
 
 not_value : BadValue ≢ Short
 not_value e = cc
@@ -260,22 +252,11 @@ abbrev ok_header : Header → List ℕ → Read Header
 ok_header h rest = Ok (h, rest)
 
 pub ends_inside : (newest : ℕ) (bytes : List ℕ) → header_at newest bytes ≡ Err Short → IsUnfinished newest bytes
-ends_inside newest bytes is = go (class_of newest bytes) where
-  go : Class newest bytes → IsUnfinished newest bytes
-  go (early read unfinished) = unfinished
-  go (wrong fault read other fields) = let same : fault ≡ Short = let both : Short_ ≡ Err fault = sym is ∙ read in cc in absurd (other same)
-  go (entire h rest read fields size long) = let both : Short_ ≡ ok_header h rest = sym is ∙ read in absurd cc
+ends_inside newest bytes is = grind (arith, class_of)
 
 entire_of : (newest : ℕ) (bytes : List ℕ) (h : Header) (rest : List ℕ) → header_at newest bytes ≡ Ok (h, rest)
     → HasLawfulFields newest bytes × (h.size ≡ field 25 4 bytes) × (length rest + 29 ≡ length bytes)
-entire_of newest bytes h rest is = go (class_of newest bytes) where
-  go : Class newest bytes → HasLawfulFields newest bytes × (h.size ≡ field 25 4 bytes) × (length rest + 29 ≡ length bytes)
-  go (early read unfinished) = let both : ok_header h rest ≡ Short_ = sym is ∙ read in absurd cc
-  go (wrong fault read other fields) = let failed : Read Header = Err fault in let both : ok_header h rest ≡ failed = sym is ∙ read in absurd cc
-  go (entire g more read fields size long) =
-      let both : ok_header h rest ≡ ok_header g more = sym is ∙ read in
-      let pair = ok_is (h, rest) (g, more) both in
-      (fields, ap (λ (x : Header × List ℕ). x.0.size) pair ∙ size, ap (λ (x : Header × List ℕ). length x.1 + 29) pair ∙ long)
+entire_of newest bytes h rest is = grind (arith, class_of)
 
 pub header_then : (newest : ℕ) (bytes : List ℕ) (h : Header) (rest : List ℕ) → header_at newest bytes ≡ Ok (h, rest) → length rest < h.size
     → IsUnfinished newest bytes
@@ -283,12 +264,7 @@ header_then newest bytes h rest is few = let e = entire_of newest bytes h rest i
 
 pub header_says : (newest : ℕ) (bytes : List ℕ) → IsUnfinished newest bytes → (header_at newest bytes ≡ Err Short)
     ⊎ ((h : Header) × (rest : List ℕ) × (header_at newest bytes ≡ Ok (h, rest)) × (length rest < h.size))
-header_says newest bytes u = go (class_of newest bytes) where
-  go : Class newest bytes → (header_at newest bytes ≡ Err Short)
-      ⊎ ((h : Header) × (rest : List ℕ) × (header_at newest bytes ≡ Ok (h, rest)) × (length rest < h.size))
-  go (early read unfinished) = inl read
-  go (wrong fault read other fields) = absurd (fields u.lawful)
-  go (entire h rest read fields size long) = inr (h, rest, read, (let short = u.short (omega (arith, long)) in omega (arith, long, size, short)))
+header_says newest bytes u = grind (arith, class_of)
 
 -- a header has 29 bytes
 pub header_long : (newest : ℕ) (bytes : List ℕ) (h : Header) (rest : List ℕ) → header_at newest bytes ≡ Ok (h, rest) → length rest + 29 ≡ length bytes

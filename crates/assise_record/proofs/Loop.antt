@@ -43,18 +43,11 @@ module _ {A C : Type 0} (read : ℕ → List ℕ → Read A) (add : A → C → 
   pub goes_on : (prefix next : C → C) (count i : ℕ) (bytes : List ℕ) (x : A) (after : List ℕ) (total : Read C) → ((y : C) → prefix (add x y) ≡ next y) →
       i < count
       → read (count - (i + 1)) bytes ≡ Ok (x, after) → through prefix (many (count - i) bytes) ≡ total → through next (many (count - (i + 1)) after) ≡ total
-  goes_on prefix next count i bytes x after total same lt h so_far =
-      let k : count - i ≡ suc (count - (i + 1)) = omega arith in
-      let one : through prefix (many (count - i) bytes) ≡ through next (many (count - (i + 1)) after) =
-      rw (k, m.step (count - (i + 1)) bytes, h) (regroup prefix next x same (many (count - (i + 1)) after)) in
-      sym one ∙ so_far
+  goes_on prefix next count i bytes x after total same lt h so_far = grind arith
 
   stops : (fault : FrameFault) (prefix : C → C) (count i : ℕ) (bytes : List ℕ) (total : Read C) → i < count
       → through prefix (many (count - i) bytes) ≡ total → read (count - (i + 1)) bytes ≡ Err fault → total ≡ Err fault
-  stops fault prefix count i bytes total lt so_far h =
-      let k : count - i ≡ suc (count - (i + 1)) = omega arith in
-      let one : through prefix (many (count - i) bytes) ≡ Err fault = rw (k, m.step (count - (i + 1)) bytes, h) refl in
-      sym so_far ∙ one
+  stops fault prefix count i bytes total lt so_far h = grind arith
 
   pub ends : (fault : FrameFault) (prefix : C → C) (count i : ℕ) (bytes : List ℕ) (total : Read C) → i < count →
       FailsReading fault (read (count - (i + 1)) bytes)
@@ -63,10 +56,7 @@ module _ {A C : Type 0} (read : ℕ → List ℕ → Read A) (add : A → C → 
 
   pub is_done : (prefix : C → C) (count i : ℕ) (bytes : List ℕ) (whole : C) (total : Read C) → prefix none ≡ whole → count ≤ i →
       through prefix (many (count - i) bytes) ≡ total → total ≡ Ok (whole, bytes)
-  is_done prefix count i bytes whole total same le so_far =
-      let k : count - i ≡ 0 = omega arith in
-      let one : through prefix (many (count - i) bytes) ≡ Ok (whole, bytes) = rw (k, m.start bytes) (ap (λ (c : C). Ok (c, bytes)) same) in
-      sym so_far ∙ one
+  is_done prefix count i bytes whole total same le so_far = grind arith
 
   -- ---- the same where what is read is passed over
 
@@ -86,24 +76,16 @@ module _ {A C : Type 0} (read : ℕ → List ℕ → Read A) (add : A → C → 
 
   pub skip_goes_on : (count i : ℕ) (bytes after : List ℕ) (total : Result (List ℕ) FrameFault) → i < count → rest_of (read (count - (i + 1)) bytes) ≡ Ok after
       → rest_of (many (count - i) bytes) ≡ total → rest_of (many (count - (i + 1)) after) ≡ total
-  skip_goes_on count i bytes after total lt h so_far =
-      let k : count - i ≡ suc (count - (i + 1)) = omega arith in
-      sym (passed (count - (i + 1)) (read (count - (i + 1)) bytes) after h)
-      ∙ sym (ap (λ n. rest_of (many n bytes)) k ∙ ap rest_of (m.step (count - (i + 1)) bytes)) ∙ so_far
+  skip_goes_on count i bytes after total lt h so_far = grind arith
 
   pub skip_stops : (fault : FrameFault) (count i : ℕ) (bytes : List ℕ) (total : Result (List ℕ) FrameFault) → i < count → rest_of (read (count - (i + 1)) bytes)
       ≡ Err fault
       → rest_of (many (count - i) bytes) ≡ total → total ≡ Err fault
-  skip_stops fault count i bytes total lt h so_far =
-      let k : count - i ≡ suc (count - (i + 1)) = omega arith in
-      sym so_far ∙ ap (λ n. rest_of (many n bytes)) k ∙ ap rest_of (m.step (count - (i + 1)) bytes) ∙ failed (count - (i + 1)) (read (count - (i + 1)) bytes)
-      fault h
+  skip_stops fault count i bytes total lt h so_far = search arith parts 3
 
   pub skip_is_done : (count i : ℕ) (bytes : List ℕ) (total : Result (List ℕ) FrameFault) → count ≤ i → rest_of (many (count - i) bytes) ≡ total →
       total ≡ Ok bytes
-  skip_is_done count i bytes total le so_far =
-      let k : count - i ≡ 0 = omega arith in
-      sym so_far ∙ ap (λ n. rest_of (many n bytes)) k ∙ ap rest_of (m.start bytes)
+  skip_is_done count i bytes total le so_far = grind arith
 
 -- ---- effects and records
 

@@ -1,9 +1,8 @@
 -- The marks of records: a mark that is read is the one that was spelled, and what marks a frame's records have.
-use Rattle.assise_record.proofs.Common.{◌≡◌, ℕ, ◌-◌, Bool, true, false, ◌&&◌, ◌==◌, nat_lt, List, [], ◌∷◌, ◌++◌, length, get_or, Option, Some, None, Result, Ok}
-use Rattle.assise_record.proofs.Common.{refl, sym, ap, subst, ◌∙◌, arith, inl, inr, option_to_list, and_parts, cases_Bool, cases_lt, eqb-true, lt-ltb, ltb-true}
-use Rattle.assise_record.proofs.Common.{or_cases, FrameFault, BadLength, BadValue, LogRecord, HasMarks, mark_spelling, record_spelling, body_of, ◌>>=◌, guard}
-use Rattle.assise_record.proofs.Common.{byte_at, is_mark, mark_at}
-use Rattle.assise_record.proofs.Loop.{bind_ok, ok_is}
+use Rattle.assise_record.proofs.Common.{◌≡◌, ℕ, ◌-◌, Bool, true, false, ◌==◌, List, [], ◌∷◌, ◌++◌, length, get_or, Option, Some, None, Result, Ok, refl, sym}
+use Rattle.assise_record.proofs.Common.{ap, subst, ◌∙◌, arith, option_to_list, FrameFault, BadLength, BadValue, LogRecord, HasMarks, mark_spelling}
+use Rattle.assise_record.proofs.Common.{record_spelling, body_of, ◌>>=◌, guard, is_mark, mark_at}
+use Rattle.assise_record.proofs.Loop.{ok_is}
 use Rattle.assise_record.proofs.FieldLaws.{IsBytes, Takes, Reads, seq_takes, guard_ok, byte_reads}
 
 -- ---- one mark
@@ -14,28 +13,15 @@ IsMark false left mark = mark ≡ None
 IsMark true left mark = (last : Bool) × (mark ≡ Some last) × (left ≡ 0 → last ≡ true)
 
 last_ends : (left mark : ℕ) → is_mark left mark ≡ true → left ≡ 0 → (mark == 1) ≡ true
-last_ends left mark e none =
-    elim (or_cases (mark == 1) (mark == 0 && nat_lt 0 left) e) [
-      | inl is ↦ is
-      | inr more ↦ let some = ltb-true 0 left (and_parts (mark == 0) (nat_lt 0 left) more).1 in absurd (omega (arith, none, some))
-    ]
+last_ends left mark e none = grind arith
 
 spelled_as : (left mark : ℕ) → is_mark left mark ≡ true → mark_spelling (Some (mark == 1)) ≡ mark ∷ []
-spelled_as left mark e =
-    elim (cases_Bool (mark == 1)) [
-      | inl is ↦ rw is (ap (λ (m : ℕ). m ∷ []) (sym (eqb-true mark 1 is)))
-      | inr other ↦ elim (or_cases (mark == 1) (mark == 0 && nat_lt 0 left) e) [
-        | inl is ↦ let bad : true ≡ false = sym is ∙ other in absurd cc
-        | inr more ↦ rw other (ap (λ (m : ℕ). m ∷ []) (sym (eqb-true mark 0 (and_parts (mark == 0) (nat_lt 0 left) more).0)))
-      ]
-    ]
+spelled_as left mark e = grind arith
 
 mark_takes : (marked : Bool) (left : ℕ) (bytes : List ℕ) (x : Option Bool × List ℕ) → IsBytes bytes → mark_at marked left bytes ≡ Ok x →
     Takes bytes (mark_spelling x.0) x.1 × IsMark marked left x.0
 unfolding mark_at
-mark_takes false left bytes x fits e =
-    subst (λ (y : Option Bool × List ℕ). Takes bytes (mark_spelling y.0) y.1 × IsMark false left y.0) (ok_is (None, bytes) x e)
-    (record { parts = refl; rest_fits = fits }, refl)
+mark_takes false left bytes x fits e = grind arith
 mark_takes true left bytes x fits e =
     let last = λ (mark : ℕ × List ℕ). let made : Result (Option Bool × List ℕ) FrameFault = Ok (Some (mark.0 == 1), mark.1) in made in
     let a = seq_takes (byte_reads BadLength) (λ mark. guard (is_mark left mark.0) BadValue >>= λ _. last mark) x bytes fits e in
@@ -51,15 +37,7 @@ mark_again false left None rest h = refl
 mark_again false left (Some last) rest h = absurd cc
 mark_again true left None rest h = let e = h.1 in absurd cc
 mark_again true left (Some true) rest h = refl
-mark_again true left (Some false) rest h =
-    elim (cases_lt 0 left) [
-      | inl some ↦ rw (lt-ltb 0 left some) refl
-      | inr none ↦
-          let same : Some false ≡ Some h.0 = h.1 in
-          let is : false ≡ h.0 = cc in
-          let bad : false ≡ true = is ∙ h.2 (omega (arith, none)) in
-          absurd cc
-    ]
+mark_again true left (Some false) rest h = grind arith
 
 pub mark_reads : (marked : Bool) (left : ℕ) → Reads (mark_at marked left) mark_spelling (IsMark marked left)
 mark_reads marked left = record { takes = mark_takes marked left; again = mark_again marked left }
@@ -68,11 +46,7 @@ mark_reads marked left = record { takes = mark_takes marked left; again = mark_a
 pub mark_is : (marked : Bool) (left : ℕ) (bytes : List ℕ) (x : Option Bool × List ℕ) → mark_at marked left bytes ≡ Ok x → IsMark marked left x.0
 unfolding mark_at
 mark_is false left bytes x e = ap (λ (y : Option Bool × List ℕ). y.0) (sym (ok_is (None, bytes) x e))
-mark_is true left bytes x e =
-    let last = λ (mark : ℕ × List ℕ). let made : Result (Option Bool × List ℕ) FrameFault = Ok (Some (mark.0 == 1), mark.1) in made in
-    let a = bind_ok (byte_at BadLength bytes) (λ mark. guard (is_mark left mark.0) BadValue >>= λ _. last mark) x e in
-    let g = guard_ok (is_mark left a.0.0) BadValue (λ _. last a.0) x a.2 in
-    (a.0.0 == 1, ap (λ (y : Option Bool × List ℕ). y.0) (sym (ok_is (Some (a.0.0 == 1), a.0.1) x g.1)), last_ends left a.0.0 g.0)
+mark_is true left bytes x e = grind arith
 
 -- ---- the marks of records
 
@@ -91,9 +65,7 @@ pub marks_more : (marked : Bool) (r : LogRecord) (rs : List LogRecord) (mark : O
     HasMarks marked rs last
     → HasMarks marked (r ∷ rs) (option_to_list mark ++ last)
 marks_more false r rs mark last is h = rw (is, h) refl
-marks_more true r rs mark last is h =
-    rw is.1
-    (omega (arith, h.0), ap (λ (n : ℕ). get_or (is.0 ∷ last) n true) (omega arith) ∙ last_of_more is.0 rs last is.2 h.0 h.1)
+marks_more true r rs mark last is h = grind arith
 
 pub body_more : (marked : Bool) (r : LogRecord) (rs : List LogRecord) (mark : Option Bool) (last : List Bool) → IsMark marked (length rs) mark →
     HasMarks marked rs last

@@ -1,6 +1,6 @@
 -- What the outcome of a reading says of the bytes.
 use Rattle.assise_record.proofs.Common.{◌≡◌, ℕ, ◌≤◌, List, Result, Ok, Err, refl, sym, ap, ◌∙◌, inl, inr, ◌⊎◌, IfOk, IfErr, FrameFault, Short, BadMagic}
-use Rattle.assise_record.proofs.Common.{BadVersion, BadTag, BadLength, BadValue, Memory, LogFrame, BeginsWith, FailsReading, GivesFrame, frame_at}
+use Rattle.assise_record.proofs.Common.{BadVersion, BadTag, BadLength, BadValue, Memory, LogFrame, BeginsWith, FailsReading, GivesFrame, frame_at, arith}
 use Rattle.assise_record.proofs.FieldLaws.{IsBytes}
 use Rattle.assise_record.proofs.FrameLaws.{frame_takes, begins_again}
 use Rattle.assise_record.proofs.Never.{frame_always}
@@ -29,20 +29,12 @@ is_found newest bytes (Err fault) known fits given = tt
 pub is_only : (newest : ℕ) (bytes : List ℕ) (r : Outcome) → GivesFrame (λ x. x) r (frame_at newest bytes) → (f : LogFrame) (n : ℕ) →
     BeginsWith newest bytes f n → (r ≡ Ok (f, n)) ⊎ (r ≡ Err Memory)
 is_only newest bytes (Ok x) given f n h = inl (sym given ∙ begins_again newest bytes f n h)
-is_only newest bytes (Err fault) given f n h =
-    elim (memory_or fault (frame_at newest bytes) given) [
-      | inl memory ↦ inr (ap fails_with memory)
-      | inr failed ↦ absurd (let both : fails_with fault ≡ Ok (f, n) = sym failed ∙ begins_again newest bytes f n h in cc)
-    ]
+is_only newest bytes (Err fault) given f n h = grind (arith, begins_again)
 
 pub is_no_frame : (newest : ℕ) (bytes : List ℕ) (r : Outcome) → GivesFrame (λ x. x) r (frame_at newest bytes) →
     IfErr r (λ fault. (fault ≡ Memory) ⊎ ((f : LogFrame) (n : ℕ) → ¬ (BeginsWith newest bytes f n)))
 is_no_frame newest bytes (Ok x) given = tt
-is_no_frame newest bytes (Err fault) given =
-    elim (memory_or fault (frame_at newest bytes) given) [
-      | inl memory ↦ inl memory
-      | inr failed ↦ inr (λ f n h. let both : fails_with fault ≡ Ok (f, n) = sym failed ∙ begins_again newest bytes f n h in absurd cc)
-    ]
+is_no_frame newest bytes (Err fault) given = grind (arith, begins_again)
 
 -- memory runs out only where there is a frame
 pub is_there : (newest : ℕ) (bytes : List ℕ) (r : Outcome) → newest ≤ 2 → IsBytes bytes →

@@ -1,9 +1,8 @@
 -- Entries of directories that effects name.
-use Rattle.assise_record.proofs.Common.{◌≡◌, ℕ, ◌==◌, ◌&&◌, Bool, List, sym, ap, ◌∙◌, eq-eqb, pointwise, slice_cmp, texts_ties}
+use Rattle.assise_record.proofs.Common.{◌≡◌, ℕ, ◌==◌, ◌&&◌, Bool, List, pointwise, slice_cmp, texts_ties, arith}
 use Rattle.std.specs.Ordering.{nat_cmp, is_eq}
 
 -- in one directory names that are compared decide whether it is the same entry
 pub same_entry : (b d : ℕ) (name other : List ℕ) (same : Bool) → b ≡ d → same ≡ pointwise ◌==◌ name other →
     same ≡ ((b == d) && is_eq (slice_cmp nat_cmp name other))
-same_entry b d name other same here told =
-    told ∙ texts_ties name other ∙ sym (ap (λ own. own && is_eq (slice_cmp nat_cmp name other)) (eq-eqb b d here))
+same_entry b d name other same here told = grind (arith, texts_ties)

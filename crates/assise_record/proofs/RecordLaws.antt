@@ -1,13 +1,13 @@
 -- Records that are read are the records that were spelled, and what is spelled is read again.
 use Rattle.assise_record.proofs.Common.{◌≡◌, ℕ, zero, suc, Bool, true, false, ◌&&◌, ◌==◌, nat_lt, nat_le, List, [], ◌∷◌, ◌++◌, length, Option, Result, Ok, refl}
-use Rattle.assise_record.proofs.Common.{sym, ap, subst, ◌∙◌, append_assoc, arith, option_to_list, flat_map, AllByRecursion, ltb-true, leb-true, lt-ltb, le-leb}
-use Rattle.assise_record.proofs.Common.{eqb-true, and_parts, and_from, nil_from_length, flat_map-cons, big_bytes, Effect, FrameFault, BadLength, BadValue}
-use Rattle.assise_record.proofs.Common.{LogRecord, HasMarks, IsLogRecord, effect_spelling, mark_spelling, record_spelling, body_of, ◌>>=◌, guard, Read, byte_at}
-use Rattle.assise_record.proofs.Common.{number_at, many_at, effect_at, mark_at, read_record, records_at, body_at}
+use Rattle.assise_record.proofs.Common.{sym, ap, subst, ◌∙◌, append_assoc, arith, option_to_list, flat_map, AllByRecursion, ltb-true, leb-true, eqb-true}
+use Rattle.assise_record.proofs.Common.{and_parts, nil_from_length, flat_map-cons, big_bytes, Effect, FrameFault, BadLength, BadValue, LogRecord, HasMarks}
+use Rattle.assise_record.proofs.Common.{IsLogRecord, effect_spelling, mark_spelling, record_spelling, body_of, ◌>>=◌, guard, Read, byte_at, many_at, effect_at}
+use Rattle.assise_record.proofs.Common.{mark_at, read_record, records_at, body_at}
 use Rattle.std.proofs.lemmas.List.{append-nil}
 use Rattle.assise_record.proofs.Loop.{bind_ok, ok_is}
 use Rattle.assise_record.proofs.FieldLaws.{IsBytes, Takes, Takes-then, Reads, seq_takes, guard_ok, byte_reads, u64_reads}
-use Rattle.assise_record.proofs.Marks.{IsMark, mark_is, mark_reads, no_marks, marks_more, body_more, parts_of}
+use Rattle.assise_record.proofs.Marks.{IsMark, mark_is, mark_reads, marks_more, body_more, parts_of}
 use Rattle.assise_record.proofs.EffectLaws.{effect_reads}
 
 -- ---- several readings, one behind the other
@@ -19,8 +19,7 @@ pub many_take : {A : Type 0} {read : List ℕ → Read A} {spell : A → List �
     (x : List A × List ℕ)
     → IsBytes bytes → many_at read n bytes ≡ Ok x → TakesMany spell Fits n bytes x
 unfolding many_at
-many_take {A} {read} {spell} {Fits} reads zero bytes x fits e =
-    subst (TakesMany spell Fits 0 bytes) (ok_is ([], bytes) x e) (record { parts = refl; rest_fits = fits }, refl, tt)
+many_take {A} {read} {spell} {Fits} reads zero bytes x fits e = grind arith
 many_take {A} {read} {spell} {Fits} reads (suc n) bytes x fits e =
     let a = seq_takes reads (λ first. many_at read n first.1 >>= λ others. Ok (first.0 ∷ others.0, others.1)) x bytes fits e in
     let b = bind_ok (many_at read n a.0.1) (λ others. Ok (a.0.0 ∷ others.0, others.1)) x a.3 in
@@ -33,10 +32,7 @@ pub many_again : {A : Type 0} {read : List ℕ → Read A} {spell : A → List �
     → AllByRecursion Fits xs → many_at read (length xs) (flat_map spell xs ++ rest) ≡ Ok (xs, rest)
 unfolding many_at
 many_again reads [] rest fits = refl
-many_again {A} {read} {spell} reads (x ∷ xs) rest fits =
-    let regrouped : flat_map spell (x ∷ xs) ++ rest ≡ spell x ++ (flat_map spell xs ++ rest) =
-    ap (λ (t : List ℕ). t ++ rest) (flat_map-cons spell x xs) ∙ append_assoc (spell x) (flat_map spell xs) rest in
-    ap (many_at read (suc (length xs))) regrouped ∙ rw (reads.again x (flat_map spell xs ++ rest) fits.0, many_again reads xs rest fits.1) refl
+many_again {A} {read} {spell} reads (x ∷ xs) rest fits = grind (arith, many_again reads xs rest fits.1, append_assoc)
 
 -- ---- one record
 
@@ -77,16 +73,7 @@ record_takes marked left bytes x fits e =
 record_again : (marked : Bool) (left : ℕ) (x : Marked) (rest : List ℕ) → IsMarked marked left x → read_record marked left (marked_spelling x ++ rest)
     ≡ Ok (x, rest)
 unfolding read_record
-record_again marked left x rest h =
-    let r : LogRecord = x.0 in
-    let counted : List ℕ = length r.effects ∷ (flat_map effect_spelling r.effects ++ rest) in
-    let regrouped : marked_spelling x ++ rest ≡ big_bytes 8 r.call ++ (mark_spelling x.1 ++ counted) =
-    append_assoc (big_bytes 8 r.call) (mark_spelling x.1 ++ (length r.effects ∷ flat_map effect_spelling r.effects)) rest
-    ∙ ap (λ (t : List ℕ). big_bytes 8 r.call ++ t) (append_assoc (mark_spelling x.1) (length r.effects ∷ flat_map effect_spelling r.effects) rest) in
-    let first = (u64_reads BadLength).again r.call (mark_spelling x.1 ++ counted) h.0.call in
-    let mark = (mark_reads marked left).again x.1 counted h.1 in
-    let count = and_from _ _ (lt-ltb 0 (length r.effects) h.0.some) (le-leb (length r.effects) 4 h.0.few) in
-    ap (read_record marked left) regrouped ∙ rw (first, mark, count, many_again effect_reads r.effects rest h.0.effects) refl
+record_again marked left x rest h = grind (arith, append_assoc, mark_reads, many_again, effect_reads)
 
 pub record_reads : (marked : Bool) (left : ℕ) → Reads (read_record marked left) marked_spelling (IsMarked marked left)
 record_reads marked left = record { takes = record_takes marked left; again = record_again marked left }
@@ -106,9 +93,7 @@ pub record TakesRecords (marked : Bool) (n : ℕ) (bytes : List ℕ) (x : Record
 records_take : (marked : Bool) (n : ℕ) (bytes : List ℕ) (x : Records × List ℕ) → IsBytes bytes → records_at marked n bytes ≡ Ok x →
     TakesRecords marked n bytes x
 unfolding records_at
-records_take marked zero bytes x fits e =
-    subst (TakesRecords marked 0 bytes) (ok_is (([], []), bytes) x e)
-    (record { taken = record { parts = refl; rest_fits = fits }; counted = refl; marks = no_marks marked; lawful = tt })
+records_take marked zero bytes x fits e = grind arith
 records_take marked (suc n) bytes x fits e =
     let last = λ (first : Marked) (others : Records × List ℕ). let made : Result (Records × List ℕ) FrameFault =
     Ok ((first.0 ∷ others.0.0, option_to_list first.1 ++ others.0.1), others.1) in made in
@@ -120,12 +105,7 @@ records_take marked (suc n) bytes x fits e =
     let spelled = sym (body_more marked a.0.0.0 b.0.0.0 a.0.0.1 b.0.0.1 mark t.marks) in
     let made : Records × List ℕ = ((a.0.0.0 ∷ b.0.0.0, option_to_list a.0.0.1 ++ b.0.0.1), b.0.1) in
     subst (TakesRecords marked (suc n) bytes) (ok_is made x b.2)
-    (record {
-      taken = subst (λ (t : List ℕ). Takes bytes t b.0.1) spelled both;
-      counted = ap suc t.counted;
-      marks = marks_more marked a.0.0.0 b.0.0.0 a.0.0.1 b.0.0.1 mark t.marks;
-      lawful = (a.2.0, t.lawful);
-    })
+    (grind arith)
 
 records_again : (marked : Bool) (rs : List LogRecord) (last : List Bool) (rest : List ℕ) → HasMarks marked rs last → AllByRecursion IsLogRecord rs
     → records_at marked (length rs) (body_of rs last ++ rest) ≡ Ok ((rs, last), rest)
@@ -135,10 +115,9 @@ records_again true [] [] rest h fits = refl
 records_again true [] (m ∷ last) rest h fits = absurd (omega (arith, h.0))
 records_again marked (r ∷ rs) last rest h fits =
     let p = parts_of marked r rs last h in
-    let spelled : body_of (r ∷ rs) last ≡ record_spelling p.mark r ++ body_of rs p.others = ap (body_of (r ∷ rs)) (sym p.parts)
-    ∙ body_more marked r rs p.mark p.others p.is p.marks in
+    let spelled : body_of (r ∷ rs) last ≡ record_spelling p.mark r ++ body_of rs p.others = grind arith in
     let regrouped : body_of (r ∷ rs) last ++ rest ≡ record_spelling p.mark r ++ (body_of rs p.others ++ rest) =
-    ap (λ (t : List ℕ). t ++ rest) spelled ∙ append_assoc (record_spelling p.mark r) (body_of rs p.others) rest in
+    grind (arith, append_assoc) in
     let first = (record_reads marked (length rs)).again (r, p.mark) (body_of rs p.others ++ rest) (fits.0, p.is) in
     let others = records_again marked rs p.others rest p.marks fits.1 in
     ap (records_at marked (suc (length rs))) regrouped ∙ rw (first, others) (ap (λ (t : List Bool). Ok ((r ∷ rs, t), rest)) p.parts)
@@ -146,24 +125,12 @@ records_again marked (r ∷ rs) last rest h fits =
 -- whatever the bytes are
 record_is : (marked : Bool) (left : ℕ) (bytes : List ℕ) (x : Marked × List ℕ) → read_record marked left bytes ≡ Ok x → IsMark marked left x.0.1
 unfolding read_record
-record_is marked left bytes x e =
-    let last = λ (call : ℕ) (mark : Option Bool) (p : List Effect × List ℕ). let made : Result (Marked × List ℕ) FrameFault =
-    Ok ((record { call = call; effects = p.0 }, mark), p.1) in made in
-    let behind = λ (call : ℕ) (mark : Option Bool) (count : ℕ × List ℕ). guard (nat_lt 0 count.0 && nat_le count.0 4) BadValue >>= λ _. many_at effect_at
-    count.0 count.1 >>= last call mark in
-    let a = bind_ok (number_at 8 BadLength bytes) (λ call. mark_at marked left call.1 >>= λ mark. byte_at BadLength mark.1 >>= behind call.0 mark.0) x e in
-    let m = bind_ok (mark_at marked left a.0.1) (λ mark. byte_at BadLength mark.1 >>= behind a.0.0 mark.0) x a.2 in
-    let b = bind_ok (byte_at BadLength m.0.1) (behind a.0.0 m.0.0) x m.2 in
-    let g = guard_ok (nat_lt 0 b.0.0 && nat_le b.0.0 4) BadValue (λ _. many_at effect_at b.0.0 b.0.1 >>= last a.0.0 m.0.0) x b.2 in
-    let d = bind_ok (many_at effect_at b.0.0 b.0.1) (last a.0.0 m.0.0) x g.1 in
-    subst (λ (y : Marked × List ℕ). IsMark marked left y.0.1) (ok_is ((record { call = a.0.0; effects = d.0.0 }, m.0.0), d.0.1) x d.2)
-    (mark_is marked left a.0.1 m.0 m.1)
+record_is marked left bytes x e = grind (arith, mark_is)
 
 pub records_are : (marked : Bool) (n : ℕ) (bytes : List ℕ) (x : Records × List ℕ) → records_at marked n bytes ≡ Ok x →
     (length x.0.0 ≡ n) × HasMarks marked x.0.0 x.0.1
 unfolding records_at
-records_are marked zero bytes x e =
-    subst (λ (y : Records × List ℕ). (length y.0.0 ≡ 0) × HasMarks marked y.0.0 y.0.1) (ok_is (([], []), bytes) x e) (refl, no_marks marked)
+records_are marked zero bytes x e = grind arith
 records_are marked (suc n) bytes x e =
     let last = λ (first : Marked) (others : Records × List ℕ). let made : Result (Records × List ℕ) FrameFault =
     Ok ((first.0 ∷ others.0.0, option_to_list first.1 ++ others.0.1), others.1) in made in
@@ -199,7 +166,4 @@ body_takes marked count body records fits e =
 pub body_again : (marked : Bool) (records : List LogRecord) (last : List Bool) → HasMarks marked records last → AllByRecursion IsLogRecord records
     → body_at marked (length records) (body_of records last) ≡ Ok (records, last)
 unfolding body_at
-body_again marked records last marks h =
-    let read : records_at marked (length records) (body_of records last) ≡ Ok ((records, last), []) =
-    ap (records_at marked (length records)) (sym (append-nil (body_of records last))) ∙ records_again marked records last [] marks h in
-    rw read refl
+body_again marked records last marks h = grind (arith, append-nil (body_of records last), records_again marked records last)

@@ -1,25 +1,18 @@
 -- What stands behind a reading is the end of the bytes, and the bytes of a write stand right before it.
-use Rattle.assise_record.proofs.Common.{◌≡◌, ℕ, ◌+◌, ◌-◌, Bool, List, [], ◌∷◌, ◌++◌, length, take, drop, slice_range, Ok, refl, sym, ap, ◌∙◌, append_assoc}
-use Rattle.assise_record.proofs.Common.{arith, Err, Option, Result, take_at, drop_at, big_bytes, effect_spelling, mark_spelling, Header, Exactly, IsRest}
-use Rattle.assise_record.proofs.Common.{byte_at, effect_at, fields_at, header_at, mark_at, number_at, EndsAt, effect_of, FrameFault, BadLength}
+use Rattle.assise_record.proofs.Common.{◌≡◌, ℕ, ◌+◌, ◌-◌, Bool, List, [], ◌∷◌, ◌++◌, length, drop, slice_range, Ok, refl, ap, ◌∙◌, append_assoc, arith, Err}
+use Rattle.assise_record.proofs.Common.{Option, Result, take_at, drop_at, big_bytes, effect_spelling, mark_spelling, Header, Exactly, IsRest, byte_at}
+use Rattle.assise_record.proofs.Common.{effect_at, fields_at, header_at, mark_at, number_at, EndsAt, effect_of, FrameFault, BadLength}
 use Rattle.std.proofs.Common.{IfOk}
 use Rattle.std.proofs.lemmas.List.{length-append}
 use Rattle.assise_record.specs.declared.effects.EffectView.{EffectView}
 use Rattle.assise_record.specs.declared.effects.EffectView.TheVariants.{NewFile, NewDir, Write, SetLen, Link, Unlink, Free}
 use Rattle.assise_record.proofs.EffectLaws.{effect_reads}
 use Rattle.assise_record.proofs.FieldLaws.{IsBytes, Takes-then, byte_reads, u64_reads}
-use Rattle.assise_record.proofs.FrameLaws.{header_spelling, header_takes}
-use Rattle.assise_record.proofs.Headers.{header_long}
+use Rattle.assise_record.proofs.FrameLaws.{header_takes}
 use Rattle.assise_record.proofs.Marks.{mark_reads}
 
 pub behind : (bytes text rest : List ℕ) → bytes ≡ text ++ rest → IsRest bytes rest
-behind bytes text rest is =
-    let long : length bytes ≡ length text + length rest = ap length is ∙ length-append text rest in
-    let used : length bytes - length rest ≡ length text = omega (arith, long) in
-    record {
-      within = omega (arith, long);
-      end = ap (λ n. drop n bytes) used ∙ ap (drop (length text)) is ∙ drop_at text rest (length text) refl;
-    }
+behind bytes text rest is = grind (arith, length-append, drop_at)
 
 pub behind_effect : (bytes rest : List ℕ) (view : EffectView) → IsBytes bytes → effect_at bytes ≡ Ok (effect_of view, rest) → IsRest bytes rest
 behind_effect bytes rest view fits read =
@@ -39,9 +32,7 @@ behind_head marked left bytes first second rest call count mark fits read_call r
 
 -- what stands in the middle
 middle : (a b c : List ℕ) → slice_range (a ++ (b ++ c)) (length a) (length a + length b) ≡ b
-middle a b c =
-    let few : (length a + length b) - length a ≡ length b = omega arith in
-    ap (λ n. take n (drop (length a) (a ++ (b ++ c)))) few ∙ ap (take (length b)) (drop_at a (b ++ c) (length a) refl) ∙ take_at b c (length b) refl
+middle a b c = grind (arith, drop_at, take_at)
 
 -- the bytes of a write end where what stands behind it begins
 pub ends_there : (bytes rest : List ℕ) (view : EffectView) → IsBytes bytes → effect_at bytes ≡ Ok (effect_of view, rest) →
@@ -59,25 +50,18 @@ ends_there bytes rest (Write inode offset payload) fits read =
     let c = big_bytes 4 (length payload.now) in
     let head : List ℕ = 3 ∷ (a ++ (b ++ c)) in
     let text : effect_spelling (effect_of (Write inode offset payload)) ≡ head ++ payload.now =
-    ap (λ (t : List ℕ). 3 ∷ (a ++ t)) (sym (append_assoc b c payload.now)) ∙ ap (λ (t : List ℕ). 3 ∷ t) (sym (append_assoc a (b ++ c) payload.now)) in
+    grind arith in
     let whole : bytes ≡ head ++ (payload.now ++ rest) = took ∙ ap (λ (t : List ℕ). t ++ rest) text ∙ append_assoc head payload.now rest in
     let long : length bytes ≡ length head + (length payload.now + length rest) =
-    ap length whole ∙ length-append head (payload.now ++ rest) ∙ ap (λ n. length head + n) (length-append payload.now rest) in
+    grind (arith, length-append) in
     let begins : (length bytes - length rest) - length payload.now ≡ length head = omega (arith, long) in
     let ends : length bytes - length rest ≡ length head + length payload.now = omega (arith, long) in (
-      omega (arith, long),
-      omega (arith, long),
-      ap (λ (n : ℕ). slice_range bytes n (length bytes - length rest)) begins ∙ ap (slice_range bytes (length head)) ends
-          ∙ ap (λ (t : List ℕ). slice_range t (length head) (length head + length payload.now)) whole ∙ middle head payload.now rest,
+    grind (arith, middle head payload.now rest)
     )
 
 -- behind a header
 pub behind_header : (newest : ℕ) (bytes : List ℕ) (h : Header) (rest : List ℕ) → IsBytes bytes → header_at newest bytes ≡ Ok (h, rest) → drop 29 bytes ≡ rest
-behind_header newest bytes h rest fits read =
-    let took = (header_takes newest bytes (h, rest) fits read).0.parts in
-    let is = behind bytes (header_spelling h) rest took in
-    let used : length bytes - length rest ≡ 29 = omega (arith, header_long newest bytes h rest read) in
-    ap (λ n. drop n bytes) (sym used) ∙ is.end
+behind_header newest bytes h rest fits read = grind (arith, header_takes newest bytes (h, rest) fits read)
 
 -- ---- as the reader of effects answers
 

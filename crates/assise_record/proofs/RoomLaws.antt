@@ -8,26 +8,17 @@ use Rattle.std.specs.Global.{Vec}
 use Rattle.std.proofs.lemmas.List.Folds.{length-flat_map-take}
 
 pub Appends-then : (a b c : Vec ℕ) (x y : List ℕ) → Appends a b x → Appends b c y → Appends a c (x ++ y)
-Appends-then a b c x y p q = record {
-  items = q.items ∙ ap (λ (t : List ℕ). t ++ y) p.items ∙ append_assoc a.items x y;
-  len = omega (arith, p.len, q.len, length-append x y);
-  capacity = omega (arith, p.capacity, q.capacity);
-}
+Appends-then a b c x y p q = grind (arith, append_assoc, length-append)
 
 -- an item has no more bytes than what is left
 pub item_fits : {A : Type 0} (spell : A → List ℕ) (xs : List A) (i : ℕ) (x : A) → i < length xs → x ≡ get_or xs i x
     → length (flat_map spell (take i xs)) + length (spell x) ≤ length (flat_map spell xs)
-item_fits {A} spell xs i x lt is =
-    subst (λ (y : A). length (flat_map spell (take i xs)) + length (spell y) ≤ length (flat_map spell xs)) (sym is) (length-flat_map-take spell xs i x lt)
+item_fits {A} spell xs i x lt is = grind (arith, length-flat_map-take)
 
 -- the header of a frame, from the numbers that the frame gave
 pub header_is : (f : LogFrame) (epoch client first count size : ℕ) → epoch ≡ f.epoch → client ≡ f.client → first ≡ f.first → count ≡ length f.records
     → big_bytes 8 epoch ++ (big_bytes 4 client ++ (big_bytes 8 first ++ (big_bytes 2 count ++ big_bytes 4 size))) ≡ header_of f size
-header_is f epoch client first count size a b c d =
-    ap (λ (t : List ℕ). t ++ (big_bytes 4 client ++ (big_bytes 8 first ++ (big_bytes 2 count ++ big_bytes 4 size)))) (ap (big_bytes 8) a)
-    ∙ ap (λ (n : ℕ). big_bytes 8 f.epoch ++ (big_bytes 4 n ++ (big_bytes 8 first ++ (big_bytes 2 count ++ big_bytes 4 size)))) b
-    ∙ ap (λ (n : ℕ). big_bytes 8 f.epoch ++ (big_bytes 4 f.client ++ (big_bytes 8 n ++ (big_bytes 2 count ++ big_bytes 4 size)))) c
-    ∙ ap (λ (n : ℕ). big_bytes 8 f.epoch ++ (big_bytes 4 f.client ++ (big_bytes 8 f.first ++ (big_bytes 2 n ++ big_bytes 4 size)))) d
+header_is f epoch client first count size a b c d = cc
 
 -- ---- records with their marks
 
@@ -46,10 +37,7 @@ body_then (s ∷ rs) [] (suc i) r lt is =
     subst (λ (t : List Bool). body_of (take (suc i) rs) [] ≡ body_of (take i rs) t ++ record_spelling None r) (take_none i)
     (body_then rs [] i r (omega (arith, lt)) is) in
     ap (λ (t : List ℕ). record_spelling None s ++ t) others ∙ sym (append_assoc (record_spelling None s) (body_of (take i rs) []) (record_spelling None r))
-body_then (s ∷ rs) (m ∷ last) (suc i) r lt is =
-    let others = body_then rs last i r (omega (arith, lt)) is in
-    ap (λ (t : List ℕ). record_spelling (Some m) s ++ t) others
-    ∙ sym (append_assoc (record_spelling (Some m) s) (body_of (take i rs) (take i last)) (record_spelling (slice_get last i) r))
+body_then (s ∷ rs) (m ∷ last) (suc i) r lt is = grind (arith, body_then rs last i r (omega (arith, lt)) is, append_assoc)
 
 -- no more bytes than the whole
 pub prefix_fits : (records : List LogRecord) (last : List Bool) (i : ℕ) → length (body_of (take i records) (take i last)) ≤ length (body_of records last)
@@ -57,37 +45,33 @@ prefix_fits [] last zero = omega arith
 prefix_fits [] last (suc i) = omega arith
 prefix_fits (s ∷ rs) [] zero = omega arith
 prefix_fits (s ∷ rs) (m ∷ last) zero = omega arith
-prefix_fits (s ∷ rs) [] (suc i) =
-    let others : length (body_of (take i rs) []) ≤ length (body_of rs []) =
-    subst (λ (t : List Bool). length (body_of (take i rs) t) ≤ length (body_of rs [])) (take_none i) (prefix_fits rs [] i) in
-    omega (arith, others, length-append (record_spelling None s) (body_of (take i rs) []), length-append (record_spelling None s) (body_of rs []))
-prefix_fits (s ∷ rs) (m ∷ last) (suc i) =
-    let others = prefix_fits rs last i in
-    omega (
-      arith,
-      others,
-      length-append (record_spelling (Some m) s) (body_of (take i rs) (take i last)),
-      length-append (record_spelling (Some m) s)
-          (body_of rs last),
-    )
+prefix_fits (s ∷ rs) [] (suc i) = grind (
+  arith,
+  prefix_fits rs,
+  take_none i,
+  length-append (record_spelling None s) (body_of (take i rs) []),
+  length-append (record_spelling None s)
+      (body_of rs []),
+)
+prefix_fits (s ∷ rs) (m ∷ last) (suc i) = grind (arith, prefix_fits rs last i, length-append)
 
 -- a record has no more bytes than what is left
 pub record_fits : (records : List LogRecord) (last : List Bool) (i : ℕ) (r : LogRecord) → i < length records → r ≡ get_or records i r
     → length (body_of (take i records) (take i last)) + length (record_spelling (slice_get last i) r) ≤ length (body_of records last)
-record_fits records last i r lt is =
-    let whole = prefix_fits records last (suc i) in
-    let more = ap length (body_then records last i r lt is) in
-    omega (arith, whole, more, length-append (body_of (take i records) (take i last)) (record_spelling (slice_get last i) r))
+record_fits records last i r lt is = grind (
+  arith,
+  prefix_fits records last (suc i),
+  body_then records last i r lt is,
+  length-append (body_of (take i records) (take i last))
+      (record_spelling (slice_get last i) r),
+)
 
 -- all records
 pub body_all : (records : List LogRecord) (last : List Bool) (i : ℕ) → length records ≤ i → body_of (take i records) (take i last) ≡ body_of records last
 body_all [] last zero le = refl
 body_all [] last (suc i) le = refl
 body_all (r ∷ rs) last zero le = absurd (omega (arith, le))
-body_all (r ∷ rs) [] (suc i) le =
-    let others : body_of (take i rs) [] ≡ body_of rs [] = subst (λ (t : List Bool). body_of (take i rs) t ≡ body_of rs []) (take_none i)
-    (body_all rs [] i (omega (arith, le))) in
-    ap (λ (t : List ℕ). record_spelling None r ++ t) others
+body_all (r ∷ rs) [] (suc i) le = grind (arith, body_all rs, take_none i)
 body_all (r ∷ rs) (m ∷ last) (suc i) le = ap (λ (t : List ℕ). record_spelling (Some m) r ++ t) (body_all rs last i (omega (arith, le)))
 
 pub lawful_then : (records : List LogRecord) (i : ℕ) (r : LogRecord) → i < length records → r ≡ get_or records i r

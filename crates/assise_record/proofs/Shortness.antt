@@ -1,8 +1,7 @@
 -- What is Short: bytes that end inside the header, or before the end of the body.
-use Rattle.assise_record.proofs.Common.{◌≡◌, ℕ, ◌+◌, ◌<◌, List, length, take, Result, Ok, Err, refl, ap, ◌∙◌, inl, inr, ◌↔◌, ◌⊎◌, cases_lt, lt-ltb, le-ltb}
-use Rattle.assise_record.proofs.Common.{Header, LogFrame, is_marked, FrameFault, Short, ◌>>=◌, Read, bytes_at, body_at, header_at, read_frame, frame_at}
-use Rattle.assise_record.proofs.Common.{IsUnfinished}
-use Rattle.assise_record.proofs.Never.{body_never, not_short, result_never, value_is}
+use Rattle.assise_record.proofs.Common.{◌≡◌, ℕ, ◌+◌, ◌<◌, List, length, Result, Ok, Err, refl, ap, ◌∙◌, inl, inr, ◌↔◌, ◌⊎◌, Header, LogFrame, is_marked}
+use Rattle.assise_record.proofs.Common.{FrameFault, Short, ◌>>=◌, Read, bytes_at, body_at, header_at, read_frame, frame_at, IsUnfinished, arith}
+use Rattle.assise_record.proofs.Never.{body_never}
 use Rattle.assise_record.proofs.Headers.{ends_inside, header_says, header_then}
 
 -- ---- what is Short
@@ -20,16 +19,7 @@ abbrev behind : Header → List ℕ → Result (LogFrame × ℕ) FrameFault
 behind h rest = bytes_at h.size Short rest >>= λ body. body_at (is_marked h.version) h.count body.0 >>= λ records. Ok (read_frame h records, 29 + h.size)
 
 few_behind : (h : Header) (rest : List ℕ) → behind h rest ≡ short (LogFrame × ℕ) → length rest < h.size
-few_behind h rest e =
-    elim (cases_lt (length rest) h.size) [
-      | inl lt ↦ lt
-      | inr le ↦
-          let enough = le-ltb (length rest) h.size le in
-          let read : (body_at (is_marked h.version) h.count (take h.size rest) >>= λ records. Ok (read_frame h records, 29 + h.size)) ≡ short (LogFrame × ℕ) =
-          rw enough at e in
-          absurd (result_never Short not_short (body_at (is_marked h.version) h.count (take h.size rest)) _
-          (body_never Short not_short (is_marked h.version) h.count (take h.size rest)) (λ records. value_is Short not_short _) read)
-    ]
+few_behind h rest e = grind (arith, body_never)
 
 unfinished : (newest : ℕ) (bytes : List ℕ) → frame_at newest bytes ≡ short (LogFrame × ℕ) → EndsEarly newest bytes
 unfolding frame_at
@@ -44,9 +34,7 @@ unfinished newest bytes e = by_header (header_at newest bytes) refl e where
 not_finished : (newest : ℕ) (bytes : List ℕ) → EndsEarly newest bytes → frame_at newest bytes ≡ short (LogFrame × ℕ)
 unfolding frame_at
 not_finished newest bytes (inl header) = ap (λ (r : Read Header). r >>= λ head. behind head.0 head.1) header
-not_finished newest bytes (inr body) =
-    let few = lt-ltb (length body.1) body.0.size body.3 in
-    ap (λ (r : Read Header). r >>= λ head. behind head.0 head.1) body.2 ∙ rw few refl
+not_finished newest bytes (inr body) = grind arith
 
 said : (newest : ℕ) (bytes : List ℕ) → EndsEarly newest bytes → IsUnfinished newest bytes
 said newest bytes (inl header) = ends_inside newest bytes header

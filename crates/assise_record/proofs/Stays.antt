@@ -1,8 +1,8 @@
 -- More bytes change nothing but what is Short.
-use Rattle.assise_record.proofs.Common.{◌≡◌, ℕ, ◌+◌, Bool, true, false, ◌==◌, nat_lt, List, [], ◌∷◌, ◌++◌, length, Result, Ok, Err, refl, sym, ap, ◌∙◌, arith}
-use Rattle.assise_record.proofs.Common.{inl, inr, take, drop, if◌then◌else◌, big_number, cases_lt, lt-ltb, le-ltb, take-append-le, drop-append-le, Header}
-use Rattle.assise_record.proofs.Common.{FrameFault, Short, BadMagic, BadVersion, BadValue, LogFrame, is_marked, ◌>>=◌, guard, Read, has_count, is_version}
-use Rattle.assise_record.proofs.Common.{byte_at, bytes_at, number_at, body_at, version_at, numbers_at, header_at, read_frame, frame_at}
+use Rattle.assise_record.proofs.Common.{◌≡◌, ℕ, ◌+◌, Bool, true, false, nat_lt, List, [], ◌∷◌, ◌++◌, length, Result, Ok, Err, refl, sym, ap, ◌∙◌, arith, take}
+use Rattle.assise_record.proofs.Common.{drop, if◌then◌else◌, big_number, take-append-le, drop-append-le, Header, FrameFault, Short, BadValue, LogFrame}
+use Rattle.assise_record.proofs.Common.{is_marked, ◌>>=◌, guard, Read, has_count, byte_at, bytes_at, number_at, body_at, version_at, numbers_at, header_at}
+use Rattle.assise_record.proofs.Common.{read_frame, frame_at}
 use Rattle.std.proofs.lemmas.List.{length-append}
 
 abbrev short : (A : Type 0) → Result A FrameFault
@@ -26,14 +26,7 @@ byte_stays (b ∷ bytes) more h = refl
 -- a field of `n` bytes
 field_stays : {A : Type 0} (n : ℕ) (value : List ℕ → A)
     → Stays (λ bytes. if nat_lt (length bytes) n then short (A × List ℕ) else done (value (take n bytes), drop n bytes))
-field_stays n value bytes more h =
-    elim (cases_lt (length bytes) n) [
-      | inl lt ↦ let few = lt-ltb (length bytes) n lt in absurd (h (rw few refl))
-      | inr le ↦
-          let before = le-ltb (length bytes) n le in
-          let after = le-ltb (length (bytes ++ more)) n (omega (arith, le, length-append bytes more)) in
-          rw (before, after, take-append-le n bytes more le, drop-append-le n bytes more le) refl
-    ]
+field_stays n value bytes more h = grind (arith, length-append, take-append-le, drop-append-le)
 
 bytes_stay : (n : ℕ) → Stays (bytes_at n Short)
 bytes_stay n = field_stays n (λ taken. taken)
@@ -65,11 +58,7 @@ value_stays x bytes more h = refl
 
 version_stays : (newest : ℕ) → Stays (version_at newest)
 unfolding version_at
-version_stays newest =
-    let version = λ (v : ℕ). guard_stays (is_version newest v) BadVersion (λ bytes. done (v, bytes)) (value_stays v) in
-    let second = λ (s : ℕ). guard_stays (s == 83) BadMagic _ (then_stays (byte_at Short) _ byte_stays version) in
-    let first = λ (a : ℕ). guard_stays (a == 65) BadMagic _ (then_stays (byte_at Short) _ byte_stays second) in
-    then_stays (byte_at Short) _ byte_stays first
+version_stays newest = grind arith
 
 numbers_stay : Stays numbers_at
 unfolding numbers_at
@@ -97,8 +86,7 @@ abbrev parts_at : ℕ → List ℕ → Read (Header × List ℕ)
 parts_at newest bytes = header_at newest bytes >>= λ head. both head.0 (bytes_at head.0.size Short head.1)
 
 parts_stay : (newest : ℕ) → Stays (parts_at newest)
-parts_stay newest = then_stays (header_at newest) _ (header_stays newest)
-    (λ h. then_stays (bytes_at h.size Short) _ (bytes_stay h.size) (λ body. value_stays (h, body)))
+parts_stay newest = grind (arith, header_stays, bytes_stay)
 
 abbrev finish : Header → List ℕ → Result (LogFrame × ℕ) FrameFault
 finish h body = body_at (is_marked h.version) h.count body >>= λ records. Ok (read_frame h records, 29 + h.size)
@@ -123,12 +111,11 @@ frame_stays newest bytes more h = sym (frame_is newest (bytes ++ more)) ∙ by_o
   by_outcome : (r : Read (Header × List ℕ)) → parts_at newest bytes ≡ r → (parts_at newest (bytes ++ more) >>= λ z. finish z.0.0 z.0.1)
       ≡ (parts_at newest bytes >>= λ z. finish z.0.0 z.0.1)
   by_outcome (Ok x) e =
-      let shorter : ¬ (parts_at newest bytes ≡ short ((Header × List ℕ) × List ℕ)) = λ s. let bad : done x ≡ short ((Header × List ℕ) × List ℕ) = sym e ∙ s in
-      absurd cc in
+      let shorter : ¬ (parts_at newest bytes ≡ short ((Header × List ℕ) × List ℕ)) = grind arith in
       let longer : parts_at newest (bytes ++ more) ≡ Ok (x.0, x.1 ++ more) = parts_stay newest bytes more shorter ∙ ap (λ r. and_more r more) e in
       ap (λ r. r >>= λ z. finish z.0.0 z.0.1) longer ∙ ap (λ r. r >>= λ z. finish z.0.0 z.0.1) (sym e)
   by_outcome (Err fault) e =
       let shorter : ¬ (parts_at newest bytes ≡ short ((Header × List ℕ) × List ℕ)) =
-      λ s. h (sym (frame_is newest bytes) ∙ ap (λ r. r >>= λ z. finish z.0.0 z.0.1) s) in
+      grind (arith, frame_is newest bytes) in
       let longer : parts_at newest (bytes ++ more) ≡ Err fault = parts_stay newest bytes more shorter ∙ ap (λ r. and_more r more) e in
       ap (λ r. r >>= λ z. finish z.0.0 z.0.1) longer ∙ ap (λ r. r >>= λ z. finish z.0.0 z.0.1) (sym e)

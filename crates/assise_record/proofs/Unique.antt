@@ -1,11 +1,10 @@
 -- Frames and their spellings are one to one, and a cut frame is Short.
-use Rattle.assise_record.proofs.Common.{◌≡◌, ℕ, ◌<◌, ◌≤◌, List, [], ◌++◌, length, Result, Ok, Err, refl, sym, ap, ◌∙◌, arith, inl, inr, ◌⊎◌, All, cases_lt}
-use Rattle.assise_record.proofs.Common.{get_or_past, nil_from_length, FrameFault, Short, BadMagic, BadVersion, BadTag, BadLength, BadValue, Memory, LogFrame}
-use Rattle.assise_record.proofs.Common.{frame_at, BeginsWith, SpellsFrame}
+use Rattle.assise_record.proofs.Common.{◌≡◌, ℕ, ◌<◌, ◌≤◌, List, [], ◌++◌, length, Result, Ok, Err, refl, sym, ap, ◌∙◌, arith, inl, inr, ◌⊎◌, All, get_or_past}
+use Rattle.assise_record.proofs.Common.{nil_from_length, FrameFault, Short, BadMagic, BadVersion, BadTag, BadLength, BadValue, Memory, LogFrame, frame_at}
+use Rattle.assise_record.proofs.Common.{BeginsWith, SpellsFrame}
 use Rattle.std.proofs.lemmas.List.{append-nil, length-append}
 use Rattle.assise_record.proofs.FieldLaws.{IsBytes}
 use Rattle.assise_record.proofs.FrameLaws.{frame_again, frame_takes}
-use Rattle.assise_record.proofs.Loop.{ok_is}
 use Rattle.assise_record.proofs.Stays.{frame_stays}
 
 abbrev Outcome : Type 0
@@ -18,16 +17,13 @@ abbrev short : Outcome
 short = Err Short
 
 pub again : (newest : ℕ) (f : LogFrame) (text rest : List ℕ) → SpellsFrame newest text f → frame_at newest (text ++ rest) ≡ Ok (f, length text)
-again newest f text rest h = ap (λ (t : List ℕ). frame_at newest (t ++ rest)) h.spelled ∙ frame_again newest f rest h.version h.lawful
-    ∙ ap (λ (t : List ℕ). frame_of_size f (length t)) (sym h.spelled)
+again newest f text rest h = grind (arith, frame_again newest f rest h.version h.lawful)
 
 alone : (newest : ℕ) (f : LogFrame) (text : List ℕ) → SpellsFrame newest text f → frame_at newest text ≡ frame_of_size f (length text)
 alone newest f text h = ap (frame_at newest) (sym (append-nil text)) ∙ again newest f text [] h
 
 same : (f g : LogFrame) (n m : ℕ) → frame_of_size f n ≡ frame_of_size g m → (f ≡ g) × (n ≡ m)
-same f g n m e =
-    let pair : (f, n) ≡ (g, m) = ok_is (f, n) (g, m) e in
-    (ap (λ (x : LogFrame × ℕ). x.0) pair, ap (λ (x : LogFrame × ℕ). x.1) pair)
+same f g n m e = grind arith
 
 pub one_text : (newest : ℕ) (f : LogFrame) (s t : List ℕ) → SpellsFrame newest s f → SpellsFrame newest t f → s ≡ t
 one_text newest f s t p q = p.spelled ∙ sym q.spelled
@@ -41,11 +37,7 @@ no_more newest f g text rest p q =
     nil_from_length rest (omega (arith, sizes, length-append text rest))
 
 pub all_bytes : (bytes : List ℕ) → All (λ b. b < 256) bytes → IsBytes bytes
-all_bytes bytes h i =
-    elim (cases_lt i (length bytes)) [
-      | inl lt ↦ h i 0 lt
-      | inr le ↦ rw (get_or_past bytes i 0 le) (omega arith)
-    ]
+all_bytes bytes h i = grind (arith, get_or_past)
 
 pub spelled : (newest : ℕ) (bytes : List ℕ) (f : LogFrame) (n : ℕ) → newest ≤ 2 → All (λ b. b < 256) bytes → frame_at newest bytes ≡ Ok (f, n) →
     BeginsWith newest bytes f n
@@ -67,8 +59,8 @@ cut newest f prefix rest known fits some h =
     elim (is_short (frame_at newest prefix)) [
       | inl is ↦ is
       | inr other ↦
-          let whole : frame_at newest prefix ≡ frame_of_size f (length (prefix ++ rest)) = sym (frame_stays newest prefix rest other)
-          ∙ alone newest f (prefix ++ rest) h in
+          let whole : frame_at newest prefix ≡ frame_of_size f (length (prefix ++ rest)) = grind
+          (arith, frame_stays newest prefix rest other, alone newest f (prefix ++ rest) h) in
           let begins = frame_takes newest prefix (f, length (prefix ++ rest)) known (all_bytes prefix fits) whole in
           let inside = begins.inside in
           absurd (omega (arith, inside, some, length-append prefix rest))

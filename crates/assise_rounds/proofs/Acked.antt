@@ -1,6 +1,6 @@
 -- A number for each client, client by client.
-use Rattle.assise_rounds.proofs.Common.{◌≡◌, ◌≤◌, ◌<◌, ◌⊎◌, ℕ, suc, ◌+◌, min, List, [], ◌∷◌, ◌++◌, length, get_or, slice_index_or, zero, true, false, inl, inr}
-use Rattle.assise_rounds.proofs.Common.{refl, ap, sym, subst, ◌∙◌, arith, cases_lt, World, received_by_all, AreAcked}
+use Rattle.assise_rounds.proofs.Common.{◌≡◌, ◌≤◌, ◌<◌, ◌⊎◌, ℕ, suc, ◌+◌, min, List, [], ◌∷◌, ◌++◌, length, slice_index_or, zero, true, false, refl, arith}
+use Rattle.assise_rounds.proofs.Common.{cases_lt, World, received_by_all, AreAcked}
 use Rattle.std.proofs.lemmas.List.{get_or_append_left, length-append}
 use Rattle.std.proofs.Math.Seq.{get_or-append_seam}
 
@@ -17,27 +17,14 @@ split c n k few long = grind (arith, cases_lt)
 
 pub one_acked : (w : World) (i place : ℕ) (acked : List ℕ) → AreAckedTo w i acked → i + 1 ≤ w.clients → place ≡ received_by_all w (i + 1) →
     AreAckedTo w (i + 1) (acked ++ place ∷ [])
-one_acked w i place acked h is_client is =
-    let long : length (acked ++ place ∷ []) ≡ length acked + 1 = length-append acked (place ∷ []) in
-    let here : length acked ≡ i = omega (arith, h.count, is_client) in
-    record {
-      count = omega (arith, long, here, is_client);
-      each = λ c few. elim (split c (length (acked ++ place ∷ [])) (length acked) few long) [
-        | inl below ↦ get_or_append_left acked (place ∷ []) 0 c below ∙ h.each c below
-        | inr last ↦
-            let seam : get_or (acked ++ place ∷ []) (length acked) 0 ≡ place = get_or-append_seam acked place [] 0 in
-            let next : suc c ≡ i + 1 = omega (arith, last, here) in
-            subst (λ k. get_or (acked ++ place ∷ []) k 0 ≡ received_by_all w (suc c)) (sym last) (seam ∙ is ∙ ap (received_by_all w) (sym next))
-      ];
-    }
+one_acked w i place acked h is_client is = grind
+    (arith, length-append acked (place ∷ []), split, get_or_append_left, get_or-append_seam acked place, received_by_all w)
 
 pub no_more_acked : (w : World) (i : ℕ) (acked : List ℕ) → AreAckedTo w i acked → (i + 1 ≤ w.clients → ⊥) → AreAckedTo w (i + 1) acked
 no_more_acked w i acked h none = record { count = omega (arith, h.count, none); each = h.each }
 
 pub all_acked : (w : World) (i : ℕ) (acked : List ℕ) → w.clients ≤ i → AreAckedTo w i acked → AreAcked w acked
-all_acked w i acked few h =
-    let count : length acked ≡ w.clients = omega (arith, h.count, few) in
-    record { count = count; each = λ c below. h.each c (rw count below) }
+all_acked w i acked few h = grind arith
 
 -- ---- there is such a list
 

@@ -1,6 +1,6 @@
 -- Whether there was anything to do: of one event, of a replicate turn, and of some events and then others.
-use Rattle.assise_rounds.proofs.Common.{◌==◌, ◌||◌, ◌≡◌, Bool, false, not, List, [], ◌∷◌, ◌++◌, map, length, refl, ap, sym, ◌∙◌, append-nil, or-false, Answer}
-use Rattle.assise_rounds.proofs.Common.{ClusterEvent, sent, Told, Carried, deliveries, did_work, is_work, letter}
+use Rattle.assise_rounds.proofs.Common.{◌==◌, ◌||◌, ◌≡◌, Bool, not, List, [], ◌∷◌, ◌++◌, map, length, refl, ap, sym, ◌∙◌, append-nil, or-false, Answer}
+use Rattle.assise_rounds.proofs.Common.{ClusterEvent, sent, Told, Carried, deliveries, did_work, is_work, letter, arith}
 use Rattle.std.proofs.lemmas.List.Folds.{list_any-append}
 use Rattle.std.proofs.Math.Dec.{eqb-suc-zero}
 
@@ -8,8 +8,7 @@ pub one_work : (e : ClusterEvent) (a : Answer) → is_work a ≡ did_work ((e, a
 one_work e a = sym (or-false (is_work a))
 
 pub both_work : (before now : Bool) (es fs : Told) → before ≡ did_work es → now ≡ did_work fs → (before || now) ≡ did_work (es ++ fs)
-both_work before now es fs first second =
-    ap (λ b. b || now) first ∙ ap (λ b. did_work es || b) second ∙ sym (list_any-append (λ e. is_work e.1) es fs)
+both_work before now es fs first second = grind (arith, did_work, list_any-append, is_work)
 
 pub no_more_work : (before : Bool) (es : Told) → before ≡ did_work es → before ≡ did_work (es ++ [])
 no_more_work before es first = first ∙ ap did_work (sym (append-nil es))
@@ -17,7 +16,4 @@ no_more_work before es first = first ∙ ap did_work (sym (append-nil es))
 -- what a node sends is work, whatever comes of it
 pub turn_work : (e : ClusterEvent) (cs : List Carried) → not (length (map letter cs) == 0) ≡ did_work ((e, sent (map letter cs)) ∷ deliveries cs)
 turn_work e [] = refl
-turn_work e (c ∷ cs) =
-    let some : (length (map letter (c ∷ cs)) == 0) ≡ false = eqb-suc-zero (length (map letter cs)) in
-    let rest = did_work (deliveries (c ∷ cs)) in
-    ap not some ∙ sym (ap (λ none. not none || rest) some)
+turn_work e (c ∷ cs) = grind (arith, letter, eqb-suc-zero, did_work, deliveries)

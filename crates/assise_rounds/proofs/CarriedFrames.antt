@@ -12,8 +12,7 @@ happen_then m v m' (e ∷ es) fs (u, (first, rest)) h = (u, (first, happen_then 
 
 deliveries-more : (cs : List Carried) (c : Carried) → deliveries (cs ++ c ∷ []) ≡ deliveries cs ++ delivery c.node c.came
 deliveries-more [] c = append-nil (delivery c.node c.came)
-deliveries-more (b ∷ cs) c =
-    ap (λ es. delivery b.node b.came ++ es) (deliveries-more cs c) ∙ sym (append_assoc (delivery b.node b.came) (deliveries cs) (delivery c.node c.came))
+deliveries-more (b ∷ cs) c = grind (arith, deliveries-more cs c, delivery, append_assoc, deliveries)
 
 letters-more : (cs : List Carried) (c : Carried) → map letter (cs ++ c ∷ []) ≡ map letter cs ++ letter c ∷ []
 letters-more [] c = refl
@@ -64,9 +63,7 @@ module _ {F G : Type 0} (stays : F → G) {m v m' : Machine} {frames : List (Log
 -- what a node sent was carried
 pub carried_turn : (F : Type 0) (m v : Machine) (n count : ℕ) (frames : List (LogFrame × ℕ)) → Sending m n (sent frames) m →
     (h : AreCarried F frames count m v) → Replicates F n count m ((outgoing n, sent (map letter h.carried)) ∷ deliveries h.carried) v
-carried_turn F m v n count frames sends h =
-    let first : Sending m n (sent (map letter h.carried)) m = subst (λ fs. Sending m n (sent fs) m) (sym h.letters) sends in
-    record { carried = h.carried; same = h.same; counts = h.counts; told = refl; happen = (m, (first, h.happen)) }
+carried_turn F m v n count frames sends h = grind (arith, sent, letter)
 
 pub all_carried : (F : Type 0) (m v : Machine) (n count : ℕ) (frames : List (LogFrame × ℕ)) → Sending m n (sent frames) m → AreCarried F frames count m v →
     (es : Told) × Replicates F n count m es v

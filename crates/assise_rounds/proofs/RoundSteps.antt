@@ -14,15 +14,11 @@ use Rattle.assise_rounds.proofs.Traces.{both, event}
 last_does : (Does : ℕ → Machine → Told → Machine → Type 0) (n : ℕ) (m v m' : Machine) (es fs : Told) → (n ≡ 0 → ⊥) → EachFull Does (n - 1) m es v →
     IfFull Does n v fs m' → EachFull Does n m (es ++ fs) m'
 last_does Does zero m v m' es fs some before now = absurd (some refl)
-last_does Does (suc n) m v m' es fs some before now =
-    let same : suc n - 1 ≡ n = omega arith in
-    both _ _ _ (subst (λ k. EachFull Does k m es v) same before) now
+last_does Does (suc n) m v m' es fs some before now = grind (arith, both)
 
 next_does : (Does : ℕ → Machine → Told → Machine → Type 0) (n : ℕ) (m v m' : Machine) (es fs : Told) → 1 ≤ n → EachFull Does (n - 1) m es v →
     IfFull Does n v fs m' → EachFull Does (n + 1 - 1) m (es ++ fs) m'
-next_does Does n m v m' es fs some before now =
-    let back : n ≡ n + 1 - 1 = omega arith in
-    subst (λ k. EachFull Does k m (es ++ fs) m') back (last_does Does n m v m' es fs (λ none. omega (arith, some, none)) before now)
+next_does Does n m v m' es fs some before now = grind (arith, last_does)
 
 pub full_does : (fault : Option Refusal) (Does : Machine → Told → Machine → Type 0) (m : Machine) (es : Told) (m' : Machine) → is_none fault ≡ true →
     Does m es m' → UnlessAtFault fault Does m es m'
@@ -38,31 +34,22 @@ faulty_does (Some r) Does m fine = record { told = refl; stays = refl }
 pub full_next : (Does : ℕ → Machine → Told → Machine → Type 0) (n : ℕ) (m v m' : Machine) (so_far now : Bool) → 1 ≤ n → is_none (node_fault v n) ≡ true
     → (es : Told) × WithWork (EachFull Does (n - 1)) so_far m es v → (fs : Told) × WithWork (Does n) now v fs m' →
     (gs : Told) × WithWork (EachFull Does (n + 1 - 1)) (so_far || now) m gs m'
-full_next Does n m v m' so_far now some full (es, before) (fs, h) = (
-  es ++ fs,
-  record {
-    does = next_does Does n m v m' es fs some before.does (full_does (node_fault v n) (Does n) v fs m' full h.does);
-    work = both_work so_far now es fs before.work h.work;
-  },
+full_next Does n m v m' so_far now some full (es, before) (fs, h) = grind (
+  arith,
+  next_does Does n m v m' es fs some before.does (full_does (node_fault v n) (Does n) v fs m' full h.does),
+  both_work so_far now es fs before.work h.work,
 )
 
 pub faulty_next : (Does : ℕ → Machine → Told → Machine → Type 0) (n : ℕ) (m v : Machine) (so_far : Bool) → 1 ≤ n → is_none (node_fault v n) ≡ false
     → (es : Told) × WithWork (EachFull Does (n - 1)) so_far m es v → (gs : Told) × WithWork (EachFull Does (n + 1 - 1)) so_far m gs v
-faulty_next Does n m v so_far some faulty (es, before) = (
-  es ++ [],
-  record {
-    does = next_does Does n m v v es [] some before.does (faulty_does (node_fault v n) (Does n) v faulty);
-    work = no_more_work so_far es before.work;
-  },
-)
+faulty_next Does n m v so_far some faulty (es, before) = grind
+    (arith, next_does Does n m v v es, faulty_does (node_fault v n) (Does n) v faulty, no_more_work so_far es before.work)
 
 -- the nodes behind one that isn't there
 pub none_behind : (Does : ℕ → Machine → Told → Machine → Type 0) (n last : ℕ) (m v : Machine) (so_far : Bool) → 1 ≤ n → n - 1 ≤ last →
     ((j : ℕ) → n ≤ j → is_none (node_fault v j) ≡ false)
     → (es : Told) × WithWork (EachFull Does (n - 1)) so_far m es v → (gs : Told) × WithWork (EachFull Does last) so_far m gs v
-none_behind Does n zero m v so_far some low none before =
-    let same : n - 1 ≡ 0 = omega (arith, low) in
-    subst (λ k. (es : Told) × WithWork (EachFull Does k) so_far m es v) same before
+none_behind Does n zero m v so_far some low none before = grind arith
 none_behind Does n (suc last) m v so_far some low none before =
     elim (cases_eq (n - 1) (suc last)) [
       | inl same ↦ subst (λ k. (es : Told) × WithWork (EachFull Does k) so_far m es v) same before

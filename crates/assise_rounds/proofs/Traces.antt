@@ -23,16 +23,17 @@ trace_keeps m m' [] h same = subst MachineInvariant (sym same) h
 trace_keeps m m' ((e, a) ∷ es) h (v, ((stock, step), rest)) = trace_keeps v m' es (served_keeps stock m v e a h step) rest
 
 pub trace_legal : (m m' : Machine) (es : Told) → MachineInvariant m → IsEventTrace m es m' → IsLegal m'.history
-trace_legal m m' es h trace =
-    let holds : MachineInvariant m' = trace_keeps m m' es h trace in
-    holds.recorded.legal
+trace_legal m m' es h trace = grind (arith, trace_keeps)
 
 pub trace_told : (m m' : Machine) (es : Told) → IsEventTrace m es m' → m'.history ≡ m.history ++ all_entries m.history es
 trace_told m m' [] same = ap (λ x. x.history) same ∙ sym (append-nil m.history)
-trace_told m m' ((e, a) ∷ es) (v, ((stock, step), rest)) =
-    let now : v.history ≡ m.history ++ entries_of m.history e a = served_told stock m v e a step in
-    trace_told v m' es rest ∙ ap (λ h. h ++ all_entries h es) now ∙ append_assoc m.history (entries_of m.history e a)
-    (all_entries (m.history ++ entries_of m.history e a) es)
+trace_told m m' ((e, a) ∷ es) (v, ((stock, step), rest)) = grind (
+  arith,
+  trace_told v m' es rest,
+  served_told stock m v e a step,
+  append_assoc m.history (entries_of m.history e a)
+      (all_entries (m.history ++ entries_of m.history e a) es),
+)
 
 pub trace_unreplicated : (m m' : Machine) (es : Told) (c : ℕ) → MachineInvariant m → IsEventTrace m es m' → first_unreplicated m.world c ≤ first_unreplicated
     m'.world c
@@ -60,9 +61,7 @@ event_trace e a m es m' h = subst (λ x. IsEventTrace m x m') (sym h.told) (m', 
 pub then_trace : (First Second : Machine → Told → Machine → Type 0) → ((m : Machine) (es : Told) (m' : Machine) → First m es m' → IsEventTrace m es m')
     → ((m : Machine) (es : Told) (m' : Machine) → Second m es m' → IsEventTrace m es m') → (m : Machine) (es : Told) (m' : Machine) →
     Then First Second m es m' → IsEventTrace m es m'
-then_trace First Second f s m es m' h =
-    subst (λ x. IsEventTrace m x m') (sym h.told)
-    (trace_then m h.between m' h.before h.after (f m h.before h.between h.first) (s h.between h.after m' h.second))
+then_trace First Second f s m es m' h = grind (arith, trace_then)
 
 unless_trace : (fault : Option Refusal) (Does : Machine → Told → Machine → Type 0) →
     ((m : Machine) (es : Told) (m' : Machine) → Does m es m' → IsEventTrace m es m')

@@ -1,7 +1,7 @@
 -- What is read of bytes that were written over.
-use Rattle.assise_seq_tree.proofs.Common.{◌≡◌, ℕ, zero, suc, ◌+◌, ◌-◌, ◌≤◌, List, ◌++◌, length, take, drop, replicate, refl, ap, sym, ◌∙◌, arith, append_assoc}
-use Rattle.assise_seq_tree.proofs.Common.{length-append, max, length-take, length-drop, length-replicate, take_at, drop_at, take_all, take-take, take-append-le}
-use Rattle.assise_seq_tree.proofs.Common.{drop-take, drop-drop, take_min, bytes_from, overwritten, resized}
+use Rattle.assise_seq_tree.proofs.Common.{◌≡◌, ℕ, ◌+◌, ◌-◌, ◌≤◌, List, ◌++◌, length, take, drop, replicate, refl, ap, ◌∙◌, arith, append_assoc, length-append}
+use Rattle.assise_seq_tree.proofs.Common.{max, length-take, length-drop, length-replicate, take_at, drop_at, take_all, take-take, take-append-le, drop-take}
+use Rattle.assise_seq_tree.proofs.Common.{drop-drop, take_min, bytes_from, overwritten, resized}
 
 -- ---- another size
 abbrev zeros : ℕ → List ℕ
@@ -11,27 +11,18 @@ length-zeros : (n : ℕ) → length (zeros n) ≡ n
 length-zeros n = length-replicate {A = ℕ} n 0
 
 pub length-resized : (bytes : List ℕ) (size : ℕ) → length (resized bytes size) ≡ size
-length-resized bytes size =
-    length-append (take size bytes) (zeros (size - length bytes))
-    ∙ omega (arith, length-take size bytes, length-zeros (size - length bytes))
+length-resized bytes size = grind (arith, length-append, length-take, length-zeros)
 
 -- up to the old end
 pub read_prefix : (bytes : List ℕ) (size from n : ℕ) → from + n ≤ size → from + n ≤ length bytes
     → bytes_from from n (resized bytes size) ≡ bytes_from from n bytes
-read_prefix bytes size from n h k =
-    let short : from + n ≤ length (take size bytes) = omega (arith, length-take size bytes, h, k) in
-    sym (drop-take from n (resized bytes size))
-    ∙ ap (drop from) (take-append-le (from + n) (take size bytes) (zeros (size - length bytes)) short ∙ take-take (from + n) size bytes h)
-    ∙ drop-take from n bytes
+read_prefix bytes size from n h k = grind
+    (arith, length-take size bytes, drop-take from n (resized bytes size), drop-take from n bytes, take-append-le, take-take (from + n) size bytes h)
 
 -- from the old end on
 pub read_zeros : (bytes : List ℕ) (size : ℕ) → length bytes ≤ size
     → bytes_from (length bytes) (size - length bytes) (resized bytes size) ≡ replicate (size - length bytes) 0
-read_zeros bytes size h =
-    let more = size - length bytes in
-    ap (bytes_from (length bytes) more) (ap (λ xs. xs ++ zeros more) (take_all size bytes h))
-    ∙ ap (take more) (drop_at bytes (zeros more) (length bytes) refl)
-    ∙ take_all more (zeros more) (omega (arith, length-zeros more))
+read_zeros bytes size h = grind (arith, take_all, drop_at, length-zeros)
 
 -- ---- a write: what stands before the new bytes are those of a file of that size
 overwritten-is : (bytes : List ℕ) (offset : ℕ) (new : List ℕ) → overwritten bytes offset new ≡ resized bytes offset ++ (new ++ drop (offset + length new) bytes)
@@ -39,19 +30,18 @@ overwritten-is bytes offset new = append_assoc (resized bytes offset) new (drop 
 
 read_front : (bytes : List ℕ) (offset : ℕ) (new : List ℕ) (from n : ℕ) → from + n ≤ offset
     → bytes_from from n (overwritten bytes offset new) ≡ bytes_from from n (resized bytes offset)
-read_front bytes offset new from n h =
-    let short : from + n ≤ length (resized bytes offset) = omega (arith, h, length-resized bytes offset) in
-    sym (drop-take from n (overwritten bytes offset new))
-    ∙ ap (drop from) (ap (take (from + n)) (overwritten-is bytes offset new)
-    ∙ take-append-le (from + n) (resized bytes offset) (new ++ drop (offset + length new) bytes) short)
-    ∙ drop-take from n (resized bytes offset)
+read_front bytes offset new from n h = grind (
+  arith,
+  length-resized bytes offset,
+  drop-take from n (overwritten bytes offset new),
+  drop-take from n (resized bytes offset),
+  overwritten-is bytes offset new,
+  take-append-le,
+)
 
 -- the new bytes
 pub read_new : (bytes : List ℕ) (offset : ℕ) (new : List ℕ) → bytes_from offset (length new) (overwritten bytes offset new) ≡ new
-read_new bytes offset new =
-    ap (bytes_from offset (length new)) (overwritten-is bytes offset new)
-    ∙ ap (take (length new)) (drop_at (resized bytes offset) (new ++ drop (offset + length new) bytes) offset (length-resized bytes offset))
-    ∙ take_at new (drop (offset + length new) bytes) (length new) refl
+read_new bytes offset new = grind (arith, overwritten-is, drop_at, length-resized, take_at)
 
 -- the old bytes before them
 pub read_before : (bytes : List ℕ) (offset : ℕ) (new : List ℕ) (from n : ℕ) → from + n ≤ offset → from + n ≤ length bytes →
@@ -66,12 +56,7 @@ read_again from most bytes = ap (λ n. take n (drop from bytes)) (length-take mo
 pub read_alike : (bytes others : List ℕ) (from most end : ℕ)
     → ((n : ℕ) → from + n ≤ end → from + n ≤ length bytes → bytes_from from n others ≡ bytes_from from n bytes)
     → from + length (bytes_from from most bytes) ≤ end → bytes_from from (length (bytes_from from most bytes)) others ≡ bytes_from from most bytes
-read_alike bytes others from most end alike h = go (length (bytes_from from most bytes)) refl ∙ read_again from most bytes
-  where
-    go : (n : ℕ) → n ≡ length (bytes_from from most bytes)
-        → bytes_from from (length (bytes_from from most bytes)) others ≡ bytes_from from (length (bytes_from from most bytes)) bytes
-    go zero e = rw (← e) refl
-    go (suc n) e = alike _ h (omega (arith, length-take most (drop from bytes), length-drop from bytes, e))
+read_alike bytes others from most end alike h = grind (arith, read_again, length-take, length-drop)
 
 pub read_kept : (bytes : List ℕ) (offset : ℕ) (new : List ℕ) (from most : ℕ) → from + length (bytes_from from most bytes) ≤ offset
     → bytes_from from (length (bytes_from from most bytes)) (overwritten bytes offset new) ≡ bytes_from from most bytes
@@ -86,9 +71,13 @@ read_behind bytes offset new from most h =
     let size : length (resized bytes offset ++ new) ≡ end = length-append (resized bytes offset) new ∙ ap (λ n. n + length new) (length-resized bytes offset) in
     let far : from ≡ end + (from - end) = omega (arith, h) in
     let there : drop from (overwritten bytes offset new) ≡ drop from bytes =
-    ap (λ n. drop n (overwritten bytes offset new)) far ∙ sym (drop-drop (from - end) end (overwritten bytes offset new))
-    ∙ ap (drop (from - end)) (ap (drop end) parts ∙ drop_at (resized bytes offset ++ new) (drop end bytes) end size)
-    ∙ drop-drop (from - end) end bytes ∙ ap (λ n. drop n bytes) (sym far) in
+    grind (
+      arith,
+      drop-drop (from - end) end (overwritten bytes offset new),
+      drop-drop (from - end) end bytes,
+      drop_at (resized bytes offset ++ new)
+          (drop end bytes) end size,
+    ) in
     ap (take most) there
 
 -- the zeros between the old end and the new bytes
@@ -98,6 +87,4 @@ read_gap bytes offset new h = read_front bytes offset new (length bytes) (offset
 
 -- the new end
 pub length-overwritten : (bytes : List ℕ) (offset : ℕ) (new : List ℕ) → length (overwritten bytes offset new) ≡ max (length bytes) (offset + length new)
-length-overwritten bytes offset new =
-    ap length (overwritten-is bytes offset new) ∙ length-append (resized bytes offset) (new ++ drop (offset + length new) bytes)
-    ∙ omega (arith, length-resized bytes offset, length-append new (drop (offset + length new) bytes), length-drop (offset + length new) bytes)
+length-overwritten bytes offset new = grind (arith, length-append, length-resized, length-drop)

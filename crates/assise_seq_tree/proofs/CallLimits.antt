@@ -1,9 +1,9 @@
 -- No call leads out of the limits.
-use Rattle.assise_seq_tree.proofs.Common.{◌≡◌, ◌≤◌, ◌<◌, ◌+◌, arith, ℕ, Bool, true, false, cond, ◌==◌, nat_le, is_some, List, [], ◌∷◌, length, Result, Ok, Err}
-use Rattle.assise_seq_tree.proofs.Common.{refl, sym, ◌∙◌, subst, nat_tests, Op, Create, Mkdir, Read, Write, Truncate, Rename, Unlink, Rmdir, ListCall, Stat}
-use Rattle.assise_seq_tree.proofs.Common.{Fsync, Dsync, Reply, Done, TreeError, Exists, TooBig, DirFull, ◌>>=◌, answer, as_directory, parent_of, last_name}
-use Rattle.assise_seq_tree.proofs.Common.{room_for, room_at, file_at, entries_at, may_rename, may_unlink, may_rmdir, reply_and_tree, overwritten, is_within}
-use Rattle.assise_seq_tree.proofs.Common.{resized, Tree, file, dir, Entries, no_entries, find, count, at, put, without, IsWithinLimits, same_path}
+use Rattle.assise_seq_tree.proofs.Common.{◌≡◌, ◌<◌, arith, ℕ, Bool, true, false, cond, ◌==◌, nat_le, List, [], ◌∷◌, length, Result, Ok, Err, refl, sym, ◌∙◌}
+use Rattle.assise_seq_tree.proofs.Common.{subst, Op, Create, Mkdir, Read, Write, Truncate, Rename, Unlink, Rmdir, ListCall, Stat, Fsync, Dsync, Reply, Done}
+use Rattle.assise_seq_tree.proofs.Common.{TreeError, TooBig, ◌>>=◌, answer, as_directory, room_for, room_at, file_at, entries_at, may_rename, may_unlink}
+use Rattle.assise_seq_tree.proofs.Common.{may_rmdir, reply_and_tree, overwritten, is_within, resized, Tree, file, dir, Entries, no_entries, count, at, put}
+use Rattle.assise_seq_tree.proofs.Common.{without, IsWithinLimits, same_path}
 use Rattle.assise_seq_tree.proofs.Moves.{Path, parent_and_last}
 use Rattle.assise_seq_tree.proofs.BytesRead.{length-overwritten}
 use Rattle.assise_seq_tree.proofs.Writes.{file_there}
@@ -11,25 +11,17 @@ use Rattle.assise_seq_tree.proofs.FileResized.{length-resized}
 use Rattle.assise_seq_tree.proofs.Calls.{second, read_leaves, list_leaves, stat_leaves}
 use Rattle.assise_seq_tree.proofs.Limits.{put_there, put_new, within-without, within-at}
 use Rattle.assise_seq_tree.proofs.MovedTreeRoom.{received}
-use Rattle.assise_seq_tree.proofs.Checks.{no_error}
 
 -- ---- what the checks found
 has_room : (r : Result Tree TreeError) (name : List ℕ) → (r >>= λ found. as_directory found >>= λ es. room_for name es) ≡ Ok tt →
     (es : Entries) × ((r ≡ Ok (dir es)) × (count es < 4096))
 has_room (Ok (file bytes)) name h = cc
-has_room (Ok (dir es)) name h =
-    let new = no_error (is_some (find name es)) Exists (cond (nat_le 4096 (count es)) (Err DirFull) (Ok tt)) tt h in
-    let room = (no_error (nat_le 4096 (count es)) DirFull (Ok tt) tt new.1).0 in
-    (es, (refl, grind (arith, nat_tests)))
+has_room (Ok (dir es)) name h = grind arith
 has_room (Err e) name h = cc
 
 put_made : (t x : Tree) (p : Path) → room_at t p ≡ Ok tt → IsWithinLimits t → IsWithinLimits x → IsWithinLimits (put t p x)
 put_made t x [] h s o = cc
-put_made t x (n ∷ p) h s o =
-    let found = has_room (at t (parent_of (n ∷ p))) (last_name (n ∷ p))
-    (no_error (length (n ∷ p) == 0) Exists (at t (parent_of (n ∷ p)) >>= λ found. as_directory found >>= λ es. room_for (last_name (n ∷ p)) es) tt h).1 in
-    let parts = parent_and_last (n ∷ p) (omega arith) in
-    subst (λ q. IsWithinLimits (put t q x)) (sym parts) (put_new (parent_of (n ∷ p)) (last_name (n ∷ p)) t x found.0 found.1.0 found.1.1 s o)
+put_made t x (n ∷ p) h s o = grind (arith, parent_and_last (n ∷ p) (omega arith), put_new)
 
 -- ---- calls
 -- create and mkdir
@@ -40,9 +32,7 @@ made t x p (Err e) is s o = s
 
 fits_in : (t : Tree) (p : Path) (offset : ℕ) (new bytes : List ℕ) → at t p ≡ Ok (file bytes) → is_within offset new ≡ true → IsWithinLimits t →
     IsWithinLimits (file bytes) → IsWithinLimits (put t p (file (overwritten bytes offset new)))
-fits_in t p offset new bytes there fits s old =
-    let end : offset + length new ≤ 1048576 = grind (arith, nat_tests) in
-    put_there p t (file (overwritten bytes offset new)) (file bytes) there s (omega (arith, end, old, length-overwritten bytes offset new))
+fits_in t p offset new bytes there fits s old = grind (arith, put_there, length-overwritten)
 
 written : (t : Tree) (p : Path) (offset : ℕ) (new : List ℕ) (r : Result (List ℕ) TreeError) (fits none : Bool) → file_at t p ≡ r → is_within offset new ≡ fits →
     IsWithinLimits t
@@ -56,9 +46,7 @@ written t p offset new (Err e) fits none is f s = s
 
 resized_within : (t : Tree) (p : Path) (size : ℕ) (bytes : List ℕ) → at t p ≡ Ok (file bytes) → nat_le size 1048576 ≡ true → IsWithinLimits t →
     IsWithinLimits (put t p (file (resized bytes size)))
-resized_within t p size bytes there fits s =
-    let end : size ≤ 1048576 = grind (arith, nat_tests) in
-    put_there p t (file (resized bytes size)) (file bytes) there s (omega (arith, end, length-resized bytes size))
+resized_within t p size bytes there fits s = grind (arith, put_there, length-resized)
 
 truncated : (t : Tree) (p : Path) (size : ℕ) (r : Result (List ℕ) TreeError) (fits : Bool) → file_at t p ≡ r → nat_le size 1048576 ≡ fits → IsWithinLimits t
     → IsWithinLimits (reply_and_tree t (r >>= λ bytes. cond fits (Ok (Done, put t p (file (resized bytes size)))) (Err TooBig))).1
@@ -86,12 +74,10 @@ limits_kept t u (Write p offset new) reply h s =
     subst IsWithinLimits (sym (second _ reply u h)) (written t p offset new (file_at t p) (is_within offset new) (length new == 0) refl refl s)
 limits_kept t u (Stat p) reply h s = subst IsWithinLimits (sym (second _ reply u h ∙ stat_leaves t (at t p))) s
 limits_kept t u (Mkdir p) reply h s = subst IsWithinLimits (sym (second _ reply u h)) (made t (dir no_entries) p (room_at t p) refl s (omega arith, tt))
-limits_kept t u (Truncate p size) reply h s =
-    subst IsWithinLimits (sym (second _ reply u h)) (truncated t p size (file_at t p) (nat_le size 1048576) refl refl s)
+limits_kept t u (Truncate p size) reply h s = grind (arith, truncated t p size (file_at t p) (nat_le size 1048576) refl refl s)
 limits_kept t u (Unlink p) reply h s = subst IsWithinLimits (sym (second _ reply u h)) (removed t p (may_unlink t p) s)
 limits_kept t u (Rmdir p) reply h s = subst IsWithinLimits (sym (second _ reply u h)) (removed t p (may_rmdir t p) s)
 limits_kept t u (ListCall p) reply h s = subst IsWithinLimits (sym (second _ reply u h ∙ list_leaves t (entries_at t p))) s
 limits_kept t u Fsync reply h s = subst IsWithinLimits (sym (second _ reply u h)) s
 limits_kept t u Dsync reply h s = subst IsWithinLimits (sym (second _ reply u h)) s
-limits_kept t u (Rename p q) reply h s =
-    subst IsWithinLimits (sym (second _ reply u h)) (renamed t p q (at t p) (may_rename t p q) (same_path p q) refl refl refl s)
+limits_kept t u (Rename p q) reply h s = grind (arith, renamed t p q (at t p) (may_rename t p q) (same_path p q) refl refl refl s)

@@ -3,7 +3,7 @@ use Rattle.assise_seq_tree.proofs.Common.{◌≡◌, ℕ, Bool, true, false, con
 use Rattle.assise_seq_tree.proofs.Common.{Create, Mkdir, Read, Write, Truncate, Rename, Unlink, Rmdir, ListCall, Stat, Fsync, Dsync, Reply, Done, Bytes, Names}
 use Rattle.assise_seq_tree.proofs.Common.{TreeError, TooBig, ◌>>=◌, IsDisjointFrom, answer, room_at, file_at, entries_at, may_rename, may_unlink, may_rmdir}
 use Rattle.assise_seq_tree.proofs.Common.{reply_and_tree, description_of, bytes_from, overwritten, is_within, resized, Tree, file, dir, Entries, no_entries}
-use Rattle.assise_seq_tree.proofs.Common.{names_of, at, put, without, AreDisjointPaths}
+use Rattle.assise_seq_tree.proofs.Common.{names_of, at, put, without, AreDisjointPaths, arith}
 use Rattle.assise_seq_tree.proofs.Moves.{Path, at-put_disjoint, at-without_disjoint}
 use Rattle.assise_seq_tree.proofs.Paths.{step_disjoint, turned_disjoint}
 
@@ -53,8 +53,7 @@ rename_leaves : (t : Tree) (p r q : Path) → AreDisjointPaths p q → AreDisjoi
     (same : Bool)
     → at (reply_and_tree t (may >>= λ _. found >>= λ moved. Ok (Done, cond same t (put (without t p) r moved)))).1 q ≡ at t q
 rename_leaves t p r q h k (Ok x) (Ok moved) true = refl
-rename_leaves t p r q h k (Ok x) (Ok moved) false =
-    at-put_disjoint q r (without t p) moved (turned_disjoint r q k) ∙ at-without_disjoint p q t (step_disjoint p q h)
+rename_leaves t p r q h k (Ok x) (Ok moved) false = grind (arith, at-put_disjoint, turned_disjoint, at-without_disjoint)
 rename_leaves t p r q h k (Ok x) (Err e) same = refl
 rename_leaves t p r q h k (Err e) found same = refl
 

@@ -1,8 +1,8 @@
 -- Where a rename passes its checks, neither path begins with the other.
 use Rattle.assise_seq_tree.proofs.Common.{◌≡◌, ◌≢◌, ℕ, ◌<◌, Bool, true, false, not, cond, List, [], ◌∷◌, ◌++◌, length, take, Some, Result, Ok, Err, ◌==◌, refl}
-use Rattle.assise_seq_tree.proofs.Common.{ap, sym, ◌∙◌, ◌⊎◌, inl, inr, arith, nat_lt, ◌||◌, if◌then◌else◌, cases_Bool, or_parts, nat_tests, is_proper_prefix}
-use Rattle.assise_seq_tree.proofs.Common.{same_path, TreeError, Invalid, Tree, file, dir, Entries, no_entries, entry, find, count, at, AreDisjointPaths, ◌>>=◌}
-use Rattle.assise_seq_tree.proofs.Common.{parent_of, last_name, as_directory, entries_at, may_receive, may_rename}
+use Rattle.assise_seq_tree.proofs.Common.{ap, sym, ◌∙◌, ◌⊎◌, inl, inr, arith, ◌||◌, if◌then◌else◌, or_parts, nat_tests, is_proper_prefix, same_path, TreeError}
+use Rattle.assise_seq_tree.proofs.Common.{Invalid, Tree, file, dir, Entries, no_entries, entry, find, count, at, AreDisjointPaths, ◌>>=◌, parent_of, last_name}
+use Rattle.assise_seq_tree.proofs.Common.{as_directory, entries_at, may_receive, may_rename}
 use Rattle.std.specs.Bool.{Decides}
 use Rattle.std.proofs.lemmas.Slice.Eq.{slice_eq-Decides, bytes_eq-Decides, starts_is}
 use Rattle.std.proofs.lemmas.List.{append-nil}
@@ -16,23 +16,10 @@ same_is p q = slice_eq-Decides bytes_eq-Decides p q (same_path p q) refl
 longer : (p rest : Path) → (p ≡ p ++ rest) ⊎ (length p < length (p ++ rest))
 longer [] [] = inl refl
 longer [] (n ∷ rest) = inr (omega arith)
-longer (n ∷ p) rest =
-    elim (longer p rest) [
-      | inl same ↦ inl (ap (λ s. n ∷ s) same)
-      | inr more ↦ inr (omega (arith, more))
-    ]
+longer (n ∷ p) rest = grind (arith, longer p rest)
 
 pub not_begins : (p q : Path) → is_proper_prefix p q ≡ false → p ≢ q → (rest : Path) → q ≢ p ++ rest
-not_begins p q below disjoint rest e =
-    let starts : same_path p (take (length p) q) ≡ true = (starts_is bytes_eq-Decides q p (same_path p (take (length p) q)) refl).1 rest e in
-    elim (longer p rest) [
-      | inl same ↦ disjoint (same ∙ sym e)
-      | inr more ↦
-          let lens : length q ≡ length (p ++ rest) = ap length e in
-          let longer_too : nat_lt (length p) (length q) ≡ true = grind (arith, nat_tests) in
-          let both : is_proper_prefix p q ≡ true = rw (longer_too, starts) refl in
-          cc
-    ]
+not_begins p q below disjoint rest e = grind (arith, starts_is bytes_eq-Decides q p (same_path p (take (length p) q)) refl, longer p rest)
 
 -- ---- what stands on the way
 on_the_way : (q rest : Path) (r : List ℕ) (t u : Tree) → at t (q ++ r ∷ rest) ≡ Ok u → (es : Entries) × (at t q ≡ Ok (dir es)) × (count es ≢ 0)
@@ -53,11 +40,7 @@ last_step (m ∷ q) n (dir fs) u es h k = through_entry fs m q (dir es) h (λ t 
 -- nothing takes the place of a directory with entries
 no_place : (moved : Tree) (stays : Bool) (es fs : Entries) → count fs ≢ 0 → may_receive moved stays es (Some (dir fs)) ≡ Ok tt → ⊥
 no_place (file bytes) stays es fs some h = cc
-no_place (dir ms) stays es fs some h =
-    elim (cases_Bool (count fs == 0)) [
-      | inl none ↦ some (grind (arith, nat_tests))
-      | inr more ↦ let no = rw more at h in cc
-    ]
+no_place (dir ms) stays es fs some h = grind arith
 
 pub then_ok : {A B : Type 0} (r : Result A TreeError) (f : A → Result B TreeError) (y : B) → (r >>= f) ≡ Ok y → (x : A) × (r ≡ Ok x) × (f x ≡ Ok y)
 then_ok (Ok x) f y h = (x, refl, h)

@@ -1,7 +1,6 @@
 -- A map whose first entry has another tree.
-use Rattle.assise_seq_tree.proofs.Common.{◌≡◌, ◌+◌, ◌<◌, ℕ, List, [], ◌∷◌, Some, nat_cmp, Equal, refl, sym, ◌∙◌, subst, arith, slice_get, keys_of, values_of}
-use Rattle.assise_seq_tree.proofs.Common.{insert_entry, slice_cmp, nat_list_cmp_total, Tree, AreOrdered, IsOrdered, size_of, sizes_of, map_entries}
-use Rattle.std.proofs.lemmas.Cmp.{tied_itself}
+use Rattle.assise_seq_tree.proofs.Common.{◌≡◌, ◌+◌, ◌<◌, ℕ, List, [], ◌∷◌, Some, nat_cmp, sym, arith, slice_get, keys_of, values_of, insert_entry, slice_cmp}
+use Rattle.assise_seq_tree.proofs.Common.{nat_list_cmp_total, Tree, AreOrdered, IsOrdered, size_of, sizes_of, map_entries}
 use Rattle.assise_seq_tree.proofs.Entries.{Stored}
 
 -- the entries with another tree, which is as ordered as the one before: they are larger by what it is larger
@@ -14,12 +13,7 @@ pub record HasExchanged (es fs : List Stored) (w u : Tree) : Type 0 where
 pub first-written : (es fs : List Stored) (k : List ℕ) (w u : Tree) → slice_get (keys_of es) 0 ≡ Some k → slice_get (values_of es) 0 ≡ Some u →
     fs ≡ insert_entry (slice_cmp nat_cmp) es k w → AreOrdered (map_entries es) → IsOrdered w → HasExchanged es fs w u
 first-written [] fs k w u key value is ordered o = cc
-first-written (e ∷ es) fs k w u key value is ordered o =
-    let same : e.0 ≡ k = cc in
-    let first : e.1 ≡ u = cc in
-    let tie : slice_cmp nat_cmp k (e.0) ≡ Equal = subst (λ n. slice_cmp nat_cmp k n ≡ Equal) (sym same) (tied_itself nat_list_cmp_total k) in
-    let made : fs ≡ (e.0, w) ∷ es = is ∙ rw tie refl in
-    rw (made, sym first) record { ordered = (ordered.0, o, ordered.2); sum = omega arith; falls = omega arith }
+first-written (e ∷ es) fs k w u key value is ordered o = grind (arith, nat_list_cmp_total)
 
 -- the same with other words for both trees
 pub exchanged-sum : (es fs : List Stored) (w u x y : Tree) → HasExchanged es fs w u → y ≡ u → w ≡ x → sizes_of (map_entries fs) + size_of y

@@ -1,35 +1,22 @@
 -- What is put into a tree and taken out of it within the limits.
-use Rattle.assise_seq_tree.proofs.Common.{◌≡◌, ◌≤◌, ◌<◌, ◌+◌, arith, ℕ, true, false, cond, is_some, List, [], ◌∷◌, ◌++◌, Some, Ok, Less, Equal, Greater}
-use Rattle.assise_seq_tree.proofs.Common.{nat_cmp, refl, ap, sym, inl, inr, subst, match_ordering, slice_cmp, cases_Bool, Tree, file, dir, Entries, no_entries}
-use Rattle.assise_seq_tree.proofs.Common.{entry, same_name, find, replace, insert, set, remove, count, at, put, without, IsWithinLimits, AreWithinLimits}
-use Rattle.assise_seq_tree.proofs.TreePut.{cases_option, put_step, through_entry}
+use Rattle.assise_seq_tree.proofs.Common.{◌≡◌, ◌≤◌, ◌<◌, ◌+◌, arith, ℕ, List, [], ◌∷◌, ◌++◌, Some, Ok, Less, Equal, Greater, nat_cmp, refl, ap, sym, inl, inr}
+use Rattle.assise_seq_tree.proofs.Common.{subst, match_ordering, slice_cmp, cases_Bool, Tree, file, dir, Entries, no_entries, entry, same_name, find, replace}
+use Rattle.assise_seq_tree.proofs.Common.{insert, set, remove, count, at, put, without, IsWithinLimits, AreWithinLimits}
+use Rattle.assise_seq_tree.proofs.TreePut.{put_step, through_entry}
 use Rattle.assise_seq_tree.proofs.Moves.{Path, below}
 
 -- ---- entries
 pub count-replace : (n : List ℕ) (x : Tree) (es : Entries) → count (replace n x es) ≡ count es
 count-replace n x no_entries = refl
-count-replace n x (entry k t es) =
-    elim (same_name n k) as (λ b. count (cond b (entry k x es) (entry k t (replace n x es))) ≡ count es + 1) [
-      | true ↦ refl
-      | false ↦ ap (λ m. m + 1) (count-replace n x es)
-    ]
+count-replace n x (entry k t es) = grind (arith, count-replace n x es)
 
 count-insert : (n : List ℕ) (x : Tree) (es : Entries) → count (insert n x es) ≤ count es + 1
 count-insert n x no_entries = omega arith
-count-insert n x (entry k t es) =
-    elim (slice_cmp nat_cmp n k) as (λ o. count (match_ordering o (entry n x (entry k t es)) (entry k x es) (entry k t (insert n x es))) ≤ count es + 1 + 1) [
-      | Less ↦ omega arith
-      | Equal ↦ omega arith
-      | Greater ↦ omega (arith, count-insert n x es)
-    ]
+count-insert n x (entry k t es) = grind (arith, count-insert n x es)
 
 within-replace : (n : List ℕ) (x : Tree) (es : Entries) → AreWithinLimits es → IsWithinLimits x → AreWithinLimits (replace n x es)
 within-replace n x no_entries s o = tt
-within-replace n x (entry k t es) s o =
-    elim (same_name n k) as (λ b. AreWithinLimits (cond b (entry k x es) (entry k t (replace n x es)))) [
-      | true ↦ (o, s.1)
-      | false ↦ (s.0, within-replace n x es s.1 o)
-    ]
+within-replace n x (entry k t es) s o = grind (arith, within-replace n x es s.1 o)
 
 within-insert : (n : List ℕ) (x : Tree) (es : Entries) → AreWithinLimits es → IsWithinLimits x → AreWithinLimits (insert n x es)
 within-insert n x no_entries s o = (o, tt)
@@ -49,37 +36,21 @@ within-find n (entry k t es) u s h =
     ]
 
 within-set : (n : List ℕ) (x : Tree) (es : Entries) → count es < 4096 → AreWithinLimits es → IsWithinLimits x → IsWithinLimits (dir (set n x es))
-within-set n x es room s o =
-    elim (is_some (find n es)) as (λ b. IsWithinLimits (dir (cond b (replace n x es) (insert n x es)))) [
-      | true ↦ (omega (arith, room, count-replace n x es), within-replace n x es s o)
-      | false ↦ (omega (arith, room, count-insert n x es), within-insert n x es s o)
-    ]
+within-set n x es room s o = grind (arith, count-replace, within-replace, count-insert, within-insert)
 
 within-replaced : (n : List ℕ) (x : Tree) (es : Entries) → IsWithinLimits (dir es) → IsWithinLimits x → IsWithinLimits (dir (replace n x es))
 within-replaced n x es s o = (omega (arith, s.0, count-replace n x es), within-replace n x es s.1 o)
 
 pub count-remove : (n : List ℕ) (es : Entries) → count (remove n es) ≤ count es
 count-remove n no_entries = omega arith
-count-remove n (entry k t es) =
-    elim (same_name n k) as (λ b. count (cond b es (entry k t (remove n es))) ≤ count es + 1) [
-      | true ↦ omega arith
-      | false ↦ omega (arith, count-remove n es)
-    ]
+count-remove n (entry k t es) = grind (arith, count-remove n es)
 
 within-remove : (n : List ℕ) (es : Entries) → AreWithinLimits es → AreWithinLimits (remove n es)
 within-remove n no_entries s = tt
-within-remove n (entry k t es) s =
-    elim (same_name n k) as (λ b. AreWithinLimits (cond b es (entry k t (remove n es)))) [
-      | true ↦ s.1
-      | false ↦ (s.0, within-remove n es s.1)
-    ]
+within-remove n (entry k t es) s = grind (arith, within-remove n es s.1)
 
 within_below : (n : List ℕ) (es : Entries) → AreWithinLimits es → IsWithinLimits (below n es)
-within_below n es s =
-    elim (cases_option (find n es)) [
-      | inl none ↦ rw none (omega arith, tt)
-      | inr some ↦ rw some.1 (within-find n es some.0 s some.1)
-    ]
+within_below n es s = grind (arith, within-find)
 
 -- ---- paths
 -- what stands there is replaced

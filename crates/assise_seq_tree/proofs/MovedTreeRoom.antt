@@ -1,10 +1,9 @@
 -- A directory that takes a moved tree has room for it.
-use Rattle.assise_seq_tree.proofs.Common.{◌≡◌, ◌≤◌, ◌<◌, ◌+◌, arith, ℕ, Bool, true, false, nat_le, List, [], ◌∷◌, ◌++◌, Some, None, Ok, Err, refl, ap, sym, ◌∙◌}
-use Rattle.assise_seq_tree.proofs.Common.{inl, inr, subst, option_map_or, cases_Bool, nat_tests, same_path, NoEnt, parent_of, last_name, may_receive}
-use Rattle.assise_seq_tree.proofs.Common.{may_rename, Tree, file, dir, Entries, no_entries, entry, same_name, find, replace, remove, count, at, put, without}
-use Rattle.assise_seq_tree.proofs.Common.{IsWithinLimits}
+use Rattle.assise_seq_tree.proofs.Common.{◌≡◌, ◌≤◌, ◌<◌, ◌+◌, arith, ℕ, Bool, true, false, List, [], ◌∷◌, ◌++◌, Some, None, Ok, Err, refl, ap, sym, ◌∙◌, inl}
+use Rattle.assise_seq_tree.proofs.Common.{inr, subst, option_map_or, cases_Bool, same_path, NoEnt, parent_of, last_name, may_receive, may_rename, Tree, file}
+use Rattle.assise_seq_tree.proofs.Common.{dir, Entries, no_entries, entry, same_name, find, replace, remove, count, at, put, without, IsWithinLimits}
 use Rattle.std.proofs.lemmas.List.{append_assoc}
-use Rattle.assise_seq_tree.proofs.TreePut.{cases_option, through_entry, last_entry}
+use Rattle.assise_seq_tree.proofs.TreePut.{through_entry}
 use Rattle.assise_seq_tree.proofs.Sets.{same_itself, one_name}
 use Rattle.assise_seq_tree.proofs.Moves.{Path, below, find_remove_other, find_replace_there, find_replace_other, at-without_disjoint, parent_and_last}
 use Rattle.assise_seq_tree.proofs.Paths.{step_disjoint}
@@ -30,17 +29,8 @@ pub stays_directory : (s p : Path) (t : Tree) (es : Entries) → at t s ≡ Ok (
 unfolding at without
 stays_directory s [] t es h outside = absurd (outside s refl)
 stays_directory [] (n ∷ p) (file bytes) es h outside = cc
-stays_directory [] (n ∷ []) (dir fs) es h outside =
-    let one : fs ≡ es = cc in
-    record { entries = remove n fs; there = refl; few = omega (arith, count-remove n fs, ap count one) }
-stays_directory [] (n ∷ k ∷ p) (dir fs) es h outside =
-    let one : fs ≡ es = cc in
-    record {
-      entries = replace n (without (below n fs) (k ∷ p)) fs;
-      there = refl;
-      few =
-          omega (arith, count-replace n (without (below n fs) (k ∷ p)) fs, ap count one);
-    }
+stays_directory [] (n ∷ []) (dir fs) es h outside = grind (arith, count-remove n fs)
+stays_directory [] (n ∷ k ∷ p) (dir fs) es h outside = grind (arith, count-replace n (without (below n fs) (k ∷ p)) fs)
 stays_directory (m ∷ s) (n ∷ p) (file bytes) es h outside = cc
 stays_directory (m ∷ s) (n ∷ []) (dir fs) es h outside =
     elim (cases_Bool (same_name m n)) [
@@ -56,8 +46,7 @@ stays_directory (m ∷ s) (n ∷ k ∷ p) (dir fs) es h outside =
     elim (cases_Bool (same_name m n)) [
       | inr disjoint ↦ record {
         entries = es;
-        there = ap (λ o. option_map_or (λ t. at t s) o (Err NoEnt))
-            (find_replace_other m n (without (below n fs) (k ∷ p)) fs disjoint) ∙ h;
+        there = grind (arith, find_replace_other);
         few = omega arith;
       }
       | inl same ↦
@@ -66,7 +55,7 @@ stays_directory (m ∷ s) (n ∷ k ∷ p) (dir fs) es h outside =
           let rest : StaysDirectory v (k ∷ p) s es = stays_directory s (k ∷ p) v es inside (λ more e. outside more (ap (λ x. x ∷ s) one ∙ ap (λ x. n ∷ x) e)) in
           let child : below n fs ≡ v = subst (λ x. below x fs ≡ v) one (rw got refl) in
           let found : find m (replace n (without (below n fs) (k ∷ p)) fs) ≡ Some (without (below n fs) (k ∷ p)) =
-          find_replace_there m n (without (below n fs) (k ∷ p)) v fs (ap (λ x. find x fs) (sym one) ∙ got) ∙ rw same refl in
+          grind (arith, find_replace_there) in
           record {
             entries = rest.entries;
             there = ap (λ o. option_map_or (λ t. at t s) o (Err NoEnt)) found ∙ ap (λ u. at (without u (k ∷ p)) s) child ∙ rest.there;
@@ -92,28 +81,24 @@ taken_here n fs = refl
 loses_entry : (s : Path) (n : List ℕ) (t u : Tree) (es : Entries) → at t s ≡ Ok (dir es) → at t (s ++ n ∷ []) ≡ Ok u → LosesEntry t (s ++ n ∷ []) s es
 unfolding at
 loses_entry [] n (file bytes) u es h there = cc
-loses_entry [] n (dir fs) u es h there =
-    let one : fs ≡ es = cc in
-    record { entries = remove n fs; there = taken_here n fs; less = count_less n fs u (last_entry fs n u there) ∙ ap count one }
+loses_entry [] n (dir fs) u es h there = grind (arith, taken_here, count_less)
 loses_entry (m ∷ s) n (file bytes) u es h there = cc
 loses_entry (m ∷ s) n (dir fs) u es h there =
     through_entry fs m s (dir es) h (λ v got inside.
     let rest : LosesEntry v (s ++ n ∷ []) s es = loses_entry s n v u es inside (rw got at there) in
     let child : below m fs ≡ v = rw got refl in
     let found : find m (replace m (without (below m fs) (s ++ n ∷ [])) fs) ≡ Some (without (below m fs) (s ++ n ∷ [])) =
-    find_replace_there m m (without (below m fs) (s ++ n ∷ [])) v fs got ∙ rw (same_itself m) refl in
+    grind (arith, find_replace_there, same_itself) in
     record {
       entries = rest.entries;
-      there = ap (λ u. at u (m ∷ s)) (without_step m n s fs) ∙ ap (λ o. option_map_or (λ t. at t s) o (Err NoEnt)) found
-          ∙ ap (λ u. at (without u (s ++ n ∷ [])) s) child ∙ rest.there;
+      there = grind (arith, without_step);
       less = rest.less;
     })
 
 pub entry_there : (s : Path) (n : List ℕ) (t u : Tree) (es : Entries) → at t s ≡ Ok (dir es) → find n es ≡ Some u → at t (s ++ n ∷ []) ≡ Ok u
 unfolding at
 entry_there [] n (file bytes) u es h found = cc
-entry_there [] n (dir fs) u es h found =
-    let one : fs ≡ es = cc in ap (λ gs. option_map_or (λ t. at t []) (find n gs) (Err NoEnt)) one ∙ ap (λ o. option_map_or (λ t. at t []) o (Err NoEnt)) found
+entry_there [] n (dir fs) u es h found = cc
 entry_there (m ∷ s) n (file bytes) u es h found = cc
 entry_there (m ∷ s) n (dir fs) u es h found =
     through_entry fs m s (dir es) h (λ t got there. ap (λ o. option_map_or (λ t. at t (s ++ n ∷ [])) o (Err NoEnt)) got ∙ entry_there s n t u es there found)
@@ -122,11 +107,7 @@ entry_there (m ∷ s) n (dir fs) u es h found =
 
 has_room : (moved : Tree) (stays : Bool) (es : Entries) → may_receive moved stays es None ≡ Ok tt → stays ≡ false → count es < 4096
 has_room moved true es h beside = cc
-has_room moved false es h beside =
-    elim (cases_Bool (nat_le 4096 (count es))) [
-      | inl full ↦ let no = rw full at h in cc
-      | inr room ↦ grind (arith, nat_tests)
-    ]
+has_room moved false es h beside = grind arith
 
 module _ (t : Tree) (p q : Path) (c : Passed p q t) (s : IsWithinLimits t) where
   moved_within : IsWithinLimits c.moved
@@ -139,20 +120,13 @@ module _ (t : Tree) (p q : Path) (c : Passed p q t) (s : IsWithinLimits t) where
   outside rest is = c.disjoint.second (rest ++ last_name q ∷ [], whole ∙ ap (λ x. x ++ last_name q ∷ []) is ∙ append_assoc p rest (last_name q ∷ []))
 
   over : (target : Tree) → find (last_name q) c.entries ≡ Some target → IsWithinLimits (put (without t p) q c.moved)
-  over target found =
-      put_there q (without t p) c.moved target
-      (at-without_disjoint p q t (step_disjoint p q c.disjoint) ∙ ap (at t) whole ∙ entry_there (parent_of q) (last_name q) t target c.entries c.parent found)
-      (within-without p t s) moved_within
+  over target found = search (put_there, at-without_disjoint, step_disjoint, whole, entry_there, within-without, moved_within, arith) parts 3
 
   onto : (fs : Entries) → at (without t p) (parent_of q) ≡ Ok (dir fs) → count fs < 4096 → IsWithinLimits (put (without t p) q c.moved)
-  onto fs there room =
-      subst (λ x. IsWithinLimits (put (without t p) x c.moved)) (sym whole)
-      (put_new (parent_of q) (last_name q) (without t p) c.moved fs there room (within-without p t s) moved_within)
+  onto fs there room = grind (arith, whole, put_new, within-without, moved_within)
 
   elsewhere : count c.entries < 4096 → IsWithinLimits (put (without t p) q c.moved)
-  elsewhere room =
-      let d = stays_directory (parent_of q) p t c.entries c.parent outside in
-      onto d.entries d.there (omega (arith, d.few, room))
+  elsewhere room = grind (arith, stays_directory (parent_of q) p t c.entries c.parent outside, onto)
 
   beside : same_path (parent_of p) (parent_of q) ≡ true → IsWithinLimits (put (without t p) q c.moved)
   beside same =
@@ -163,19 +137,8 @@ module _ (t : Tree) (p q : Path) (c : Passed p q t) (s : IsWithinLimits t) where
       onto d.entries (ap (λ x. at (without t x) (parent_of q)) path ∙ d.there) (omega (arith, d.less, few.0))
 
   placed : IsWithinLimits (put (without t p) q c.moved)
-  placed =
-      elim (cases_option (find (last_name q) c.entries)) [
-        | inr some ↦ over some.0 some.1
-        | inl none ↦ elim (cases_Bool (same_path (parent_of p) (parent_of q))) [
-          | inl same ↦ beside same
-          | inr other ↦ elsewhere (has_room c.moved (same_path (parent_of p) (parent_of q)) c.entries
-              (ap (may_receive c.moved (same_path (parent_of p) (parent_of q)) c.entries) (sym none) ∙ c.receives) other)
-        ]
-      ]
+  placed = search (over, beside, elsewhere, arith) parts 3
 
 pub received : (t moved : Tree) (p q : Path) → at t p ≡ Ok moved → may_rename t p q ≡ Ok tt → same_path p q ≡ false → IsWithinLimits t →
     IsWithinLimits (put (without t p) q moved)
-received t moved p q there passes disjoint s =
-    let c = passed p q t passes disjoint in
-    let one : c.moved ≡ moved = let both = sym c.source ∙ there in cc in
-    subst (λ m. IsWithinLimits (put (without t p) q m)) one (placed t p q c s)
+received t moved p q there passes disjoint s = grind (arith, passed p q t passes disjoint, placed)

@@ -1,12 +1,11 @@
 -- Two paths of which neither begins with the other: what is done at one leaves the other.
-use Rattle.assise_seq_tree.proofs.Common.{◌≡◌, ℕ, suc, ◌-◌, ◌<◌, arith, Bool, true, false, cond, List, [], ◌∷◌, ◌++◌, length, Some, None, is_some, Ok, Err}
-use Rattle.assise_seq_tree.proofs.Common.{refl, ap, sym, ◌∙◌, inl, inr, subst, unwrap_or, option_map_or, cases_Bool, NoEnt, Tree, file, dir, Entries}
-use Rattle.assise_seq_tree.proofs.Common.{no_entries, entry, same_name, find, replace, set, remove, at, put, without, IsOrdered, AreOrdered, parent_of}
-use Rattle.assise_seq_tree.proofs.Common.{last_name}
+use Rattle.assise_seq_tree.proofs.Common.{◌≡◌, ℕ, ◌-◌, ◌<◌, arith, Bool, true, false, cond, List, [], ◌∷◌, ◌++◌, length, Some, None, is_some, Ok, Err, refl, ap}
+use Rattle.assise_seq_tree.proofs.Common.{sym, ◌∙◌, inl, inr, subst, unwrap_or, option_map_or, cases_Bool, NoEnt, Tree, file, dir, Entries, no_entries, entry}
+use Rattle.assise_seq_tree.proofs.Common.{same_name, find, replace, set, remove, at, put, without, IsOrdered, AreOrdered, parent_of, last_name}
 use Rattle.assise_seq_tree.proofs.TreePut.{cases_option, through_entry}
 use Rattle.assise_seq_tree.proofs.Order.{ordered-replace, ordered-find, ordered-put}
-use Rattle.assise_seq_tree.proofs.Sets.{same_itself, one_name, shadowed, swapped, not_both, find-set, find-replace_any, find-remove, ordered-remove}
-use Rattle.assise_seq_tree.proofs.Sets.{ordered-set, same_entries}
+use Rattle.assise_seq_tree.proofs.Sets.{same_itself, one_name, shadowed, not_both, find-set, find-replace_any, find-remove, ordered-remove, ordered-set}
+use Rattle.assise_seq_tree.proofs.Sets.{same_entries}
 
 abbrev pub Path : Type 0
 Path = List (List ℕ)
@@ -56,27 +55,14 @@ pub find_replace_there : (q n : List ℕ) (x u : Tree) (es : Entries) → find n
 find_replace_there q n x u es there = find-replace_any q n x es (ap is_some there)
 
 pub find_replace_other : (q n : List ℕ) (x : Tree) (es : Entries) → same_name q n ≡ false → find q (replace n x es) ≡ find q es
-find_replace_other q n x es disjoint =
-    elim (cases_option (find n es)) [
-      | inl none ↦ ap (find q) (replace_absent n x es none)
-      | inr some ↦ find_replace_there q n x some.0 es some.1 ∙ ap (λ b. cond b (Some x) (find q es)) disjoint
-    ]
+find_replace_other q n x es disjoint = grind (arith, replace_absent, find_replace_there)
 
 -- ---- two changes of entries
 set-set : (n : List ℕ) (x y : Tree) (es : Entries) → AreOrdered es → IsOrdered x → IsOrdered y → set n y (set n x es) ≡ set n y es
-set-set n x y es s o k =
-    same_entries (set n y (set n x es)) (set n y es) (ordered-set n y (set n x es) (ordered-set n x es s o) k) (ordered-set n y es s k)
-    (λ q. find-set q n y (set n x es) ∙ ap (cond (same_name q n) (Some y)) (find-set q n x es) ∙ sym (shadowed (same_name q n) (Some y) (Some x) (find q es))
-    ∙ sym (find-set q n y es))
+set-set n x y es s o k = search (same_entries, ordered-set, find-set, arith) parts 3
 
 remove-set : (n m : List ℕ) (x : Tree) (es : Entries) → AreOrdered es → IsOrdered x → same_name n m ≡ false → remove n (set m x es) ≡ set m x (remove n es)
-remove-set n m x es s o disjoint =
-    let set_first = ordered-set m x es s o in
-    same_entries (remove n (set m x es)) (set m x (remove n es)) (ordered-remove n (set m x es) set_first)
-    (ordered-set m x (remove n es) (ordered-remove n es s) o)
-    (λ q. find-remove q n (set m x es) set_first ∙ ap (cond (same_name q n) None) (find-set q m x es) ∙ swapped (same_name q n) (same_name q m) None (Some x)
-    (find q es) (λ a b. not_both q n m disjoint b a)
-    ∙ ap (cond (same_name q m) (Some x)) (sym (find-remove q n es s)) ∙ sym (find-set q m x (remove n es)))
+remove-set n m x es s o disjoint = grind (arith, ordered-set, same_entries, ordered-remove, find-remove, find-set, not_both)
 
 replace-set : (n m : List ℕ) (w x : Tree) (es : Entries) → AreOrdered es → IsOrdered w → IsOrdered x → same_name n m ≡ false → replace n w (set m x es)
     ≡ set m x (replace n w es)
@@ -86,10 +72,7 @@ replace-set n m w x es s v o disjoint =
       | inr some ↦
           same_entries (replace n w (set m x es)) (set m x (replace n w es)) (ordered-replace n w (set m x es) (ordered-set m x es s o) v)
           (ordered-set m x (replace n w es) (ordered-replace n w es s v) o)
-          (λ q. find_replace_there q n w some.0 (set m x es) (find_set_other n m x es disjoint ∙ some.1)
-          ∙ ap (cond (same_name q n) (Some w)) (find-set q m x es) ∙ swapped (same_name q n) (same_name q m) (Some w) (Some x) (find q es)
-          (λ a b. not_both q n m disjoint b a)
-          ∙ ap (cond (same_name q m) (Some x)) (sym (find_replace_there q n w some.0 es some.1)) ∙ sym (find-set q m x (replace n w es)))
+          (search (find_replace_there, find-set, not_both, arith) parts 3)
     ]
 
 -- the same entry
@@ -108,11 +91,7 @@ replace-set_same n w x y es s v o k =
 
 -- ---- paths
 ordered_below : (n : List ℕ) (es : Entries) → AreOrdered es → IsOrdered (below n es)
-ordered_below n es s =
-    elim (cases_option (find n es)) [
-      | inl none ↦ rw none tt
-      | inr some ↦ rw some.1 (ordered-find n es some.0 s some.1)
-    ]
+ordered_below n es s = grind (arith, ordered-find)
 
 pub ordered-without : (p : Path) (t : Tree) → IsOrdered t → IsOrdered (without t p)
 unfolding without
@@ -159,26 +138,11 @@ unfolding at without
 at-without_disjoint [] q t disjoint = absurd disjoint
 at-without_disjoint (n ∷ p) [] t disjoint = absurd disjoint
 at-without_disjoint (n ∷ p) (m ∷ q) (file bytes) disjoint = refl
-at-without_disjoint (n ∷ []) (m ∷ q) (dir es) disjoint =
-    elim (cases_Bool (same_name n m)) [
-      | inl same ↦ absurd (disjoint same)
-      | inr other ↦ ap (λ o. option_map_or (λ t. at t q) o (Err NoEnt)) (find_remove_other m n es (turned n m other))
-    ]
+at-without_disjoint (n ∷ []) (m ∷ q) (dir es) disjoint = grind (arith, find_remove_other, turned)
 at-without_disjoint (n ∷ k ∷ p) (m ∷ q) (dir es) disjoint =
     elim (cases_Bool (same_name n m)) [
       | inl same ↦
-          let one : n ≡ m = one_name n m same in
-          elim (cases_option (find n es)) [
-            | inl none ↦ ap (λ fs. option_map_or (λ t. at t q) (find m fs) (Err NoEnt)) (replace_absent n (without (below n es) (k ∷ p)) es none)
-            | inr some ↦
-                let child : below n es ≡ some.0 = ap (λ o. unwrap_or o (dir no_entries)) some.1 in
-                ap (λ o. option_map_or (λ t. at t q) o (Err NoEnt))
-                (find_replace_there m n (without (below n es) (k ∷ p)) some.0 es some.1 ∙ ap (λ b. cond b (Some (without (below n es) (k ∷ p))) (find m es))
-                (ap (λ j. same_name j n) (sym one) ∙ same_itself n))
-                ∙ at-without_disjoint (k ∷ p) q (below n es) (disjoint same)
-                ∙ ap (λ u. at u q) child ∙ ap (λ o. option_map_or (λ t. at t q) o (Err NoEnt)) (sym some.1)
-                ∙ ap (λ j. option_map_or (λ t. at t q) (find j es) (Err NoEnt)) one
-          ]
+          grind (arith, at-without_disjoint (k ∷ p) q (below n es) (disjoint same), one_name n m same, replace_absent, find_replace_there)
       | inr other ↦ ap (λ o. option_map_or (λ t. at t q) o (Err NoEnt)) (find_replace_other m n (without (below n es) (k ∷ p)) es (turned n m other))
     ]
 
@@ -188,14 +152,7 @@ unfolding put without
 without-put [] q t x s o disjoint = absurd disjoint
 without-put (n ∷ p) [] t x s o disjoint = absurd disjoint
 without-put (n ∷ p) (m ∷ q) (file bytes) x s o disjoint = refl
-without-put (n ∷ []) (m ∷ q) (dir es) x s o disjoint =
-    elim (cases_Bool (same_name n m)) [
-      | inl same ↦ absurd (disjoint same)
-      | inr other ↦
-          let new = ordered-put q (below m es) x (ordered_below m es s) o in
-          ap dir (remove-set n m (put (below m es) q x) es s new other
-          ∙ ap (λ c. set m (put (unwrap_or c (dir no_entries)) q x) (remove n es)) (sym (find_remove_other m n es (turned n m other))))
-    ]
+without-put (n ∷ []) (m ∷ q) (dir es) x s o disjoint = grind (arith, ordered-put, ordered_below, remove-set, find_remove_other, turned)
 without-put (n ∷ k ∷ p) (m ∷ q) (dir es) x s o disjoint =
     elim (cases_Bool (same_name n m)) [
       | inl same ↦
@@ -203,13 +160,15 @@ without-put (n ∷ k ∷ p) (m ∷ q) (dir es) x s o disjoint =
           subst (λ j. without (put (dir es) (j ∷ q) x) (n ∷ k ∷ p) ≡ put (without (dir es) (n ∷ k ∷ p)) (j ∷ q) x) (sym one)
           (inside (without-put (k ∷ p) q (below n es) x (ordered_below n es s) o (disjoint same)))
       | inr other ↦
-          let new = ordered-put q (below m es) x (ordered_below m es s) o in
-          let left = ordered-without (k ∷ p) (below n es) (ordered_below n es s) in
-          ap (λ c. dir (replace n (without (unwrap_or c (dir no_entries)) (k ∷ p)) (set m (put (below m es) q x) es)))
-          (find_set_other n m (put (below m es) q x) es other)
-          ∙ ap dir (replace-set n m (without (below n es) (k ∷ p)) (put (below m es) q x) es s left new other
-          ∙ ap (λ c. set m (put (unwrap_or c (dir no_entries)) q x) (replace n (without (below n es) (k ∷ p)) es))
-          (sym (find_replace_other m n (without (below n es) (k ∷ p)) es (turned n m other))))
+          grind (
+            arith,
+            ordered-put q (below m es) x (ordered_below m es s) o,
+            ordered-without (k ∷ p) (below n es) (ordered_below n es s),
+            find_set_other n m
+                (put (below m es) q x) es other,
+            replace-set,
+            find_replace_other m n (without (below n es) (k ∷ p)) es (turned n m other),
+          )
     ]
   where
     kept : below n (replace n (without (below n es) (k ∷ p)) es) ≡ without (below n es) (k ∷ p)
@@ -259,6 +218,4 @@ at-put_new (k ∷ p) n (dir fs) x es h =
 pub parent_and_last : (p : Path) → 0 < length p → p ≡ parent_of p ++ last_name p ∷ []
 parent_and_last [] h = absurd (omega arith)
 parent_and_last (n ∷ []) h = refl
-parent_and_last (n ∷ k ∷ p) h =
-    let one : length (n ∷ k ∷ p) - 1 ≡ suc (length (k ∷ p) - 1) = omega arith in
-    rw one (ap (λ q. n ∷ q) (parent_and_last (k ∷ p) (omega arith)))
+parent_and_last (n ∷ k ∷ p) h = grind (arith, parent_and_last (k ∷ p) (omega arith))

@@ -1,7 +1,7 @@
 -- What is put into ordered trees leaves them ordered.
 use Rattle.assise_seq_tree.proofs.Common.{◌≡◌, ℕ, List, [], ◌∷◌, Some, Result, Ok, Err, OnOk, OnErr, Ordering, Less, Equal, Greater, nat_cmp, refl, ap, sym}
 use Rattle.assise_seq_tree.proofs.Common.{◌∙◌, ◌⊎◌, inl, inr, subst, ordering_reverse, slice_cmp, nat_list_cmp_total, cases_Bool, Tree, file, dir, Entries}
-use Rattle.assise_seq_tree.proofs.Common.{no_entries, entry, same_name, find, replace, insert, put, IsBelow, IsOrdered, AreOrdered, TreeError}
+use Rattle.assise_seq_tree.proofs.Common.{no_entries, entry, same_name, find, replace, insert, put, IsBelow, IsOrdered, AreOrdered, TreeError, arith}
 use Rattle.assise_seq_tree.proofs.TreePut.{cases_option}
 
 pub cases_ordering : (o : Ordering) → (o ≡ Less) ⊎ ((o ≡ Equal) ⊎ (o ≡ Greater))
@@ -15,30 +15,15 @@ below_trans a b (entry other t es) h below = (nat_list_cmp_total.trans a b other
 
 below-replace : (a name : List ℕ) (t : Tree) (es : Entries) → IsBelow a es → IsBelow a (replace name t es)
 below-replace a name t no_entries below = tt
-below-replace a name t (entry other u es) below =
-    elim (cases_Bool (same_name name other)) [
-      | inl same ↦ rw same below
-      | inr disjoint ↦ rw disjoint (below.0, below-replace a name t es below.1)
-    ]
+below-replace a name t (entry other u es) below = grind (arith, below-replace a name t es below.1)
 
 below-insert : (a name : List ℕ) (t : Tree) (es : Entries) → slice_cmp nat_cmp a name ≡ Less → IsBelow a es → IsBelow a (insert name t es)
 below-insert a name t no_entries h below = (h, tt)
-below-insert a name t (entry other u es) h below =
-    elim (cases_ordering (slice_cmp nat_cmp name other)) [
-      | inl less ↦ rw less (h, below)
-      | inr more ↦ elim more [
-        | inl tie ↦ rw tie below
-        | inr above ↦ rw above (below.0, below-insert a name t es h below.1)
-      ]
-    ]
+below-insert a name t (entry other u es) h below = grind (arith, below-insert a name t es h below.1)
 
 pub ordered-replace : (name : List ℕ) (t : Tree) (es : Entries) → AreOrdered es → IsOrdered t → AreOrdered (replace name t es)
 ordered-replace name t no_entries s o = tt
-ordered-replace name t (entry other u es) s o =
-    elim (cases_Bool (same_name name other)) [
-      | inl same ↦ rw same (s.0, o, s.2)
-      | inr disjoint ↦ rw disjoint (below-replace other name t es s.0, s.1, ordered-replace name t es s.2 o)
-    ]
+ordered-replace name t (entry other u es) s o = grind (arith, ordered-replace name t es s.2 o, below-replace)
 
 pub ordered-insert : (name : List ℕ) (t : Tree) (es : Entries) → AreOrdered es → IsOrdered t → AreOrdered (insert name t es)
 ordered-insert name t no_entries s o = (tt, o, tt)

@@ -1,7 +1,6 @@
 -- What is put at a path stands there, and what is taken out is gone.
-use Rattle.assise_seq_tree.proofs.Common.{◌≡◌, ◌<◌, arith, cond, [], ◌∷◌, ◌++◌, length, Some, None, Ok, Err, refl, ap, sym, ◌∙◌, subst, unwrap_or}
-use Rattle.assise_seq_tree.proofs.Common.{option_map_or, NoEnt, parent_of, last_name, Tree, file, dir, Entries, no_entries, find, at, put, without, IsOrdered}
-use Rattle.assise_seq_tree.proofs.Common.{AreDisjointPaths}
+use Rattle.assise_seq_tree.proofs.Common.{◌≡◌, ◌<◌, arith, cond, [], ◌∷◌, ◌++◌, length, Some, Ok, Err, refl, ap, sym, ◌∙◌, unwrap_or, option_map_or, NoEnt}
+use Rattle.assise_seq_tree.proofs.Common.{parent_of, last_name, Tree, file, dir, Entries, no_entries, find, at, put, without, IsOrdered, AreDisjointPaths}
 use Rattle.assise_seq_tree.proofs.TreePut.{through_entry}
 use Rattle.assise_seq_tree.proofs.Order.{ordered-find}
 use Rattle.assise_seq_tree.proofs.Sets.{same_itself, one_name, find-remove}
@@ -27,17 +26,14 @@ turned_disjoint p q h = disjoint_from q p (λ rest e. h.second (rest, e)) (λ re
 pub put_stands : (t x : Tree) (p : Path) (es : Entries) → at t (parent_of p) ≡ Ok (dir es) → at (put t p x) p ≡ Ok x
 unfolding at put
 put_stands t x [] es h = refl
-put_stands t x (n ∷ p) es h =
-    let parts = parent_and_last (n ∷ p) (omega arith) in
-    subst (λ q. at (put t q x) q ≡ Ok x) (sym parts) (at-put_new (parent_of (n ∷ p)) (last_name (n ∷ p)) t x es h)
+put_stands t x (n ∷ p) es h = grind (arith, parent_and_last (n ∷ p) (omega arith), at-put_new (parent_of (n ∷ p)) (last_name (n ∷ p)) t x es h)
 
 -- what is taken out is gone
 pub gone : (p : Path) (t x : Tree) → IsOrdered t → 0 < length p → at t p ≡ Ok x → at (without t p) p ≡ Err NoEnt
 unfolding at without
 gone [] t x s h there = absurd (omega arith)
 gone (n ∷ p) (file bytes) x s h there = cc
-gone (n ∷ []) (dir es) x s h there =
-    ap (λ o. option_map_or (λ t. at t []) o (Err NoEnt)) (find-remove n n es s ∙ ap (λ b. cond b None (find n es)) (same_itself n))
+gone (n ∷ []) (dir es) x s h there = grind (arith, find-remove, same_itself)
 gone (n ∷ k ∷ p) (dir es) x s h there =
     through_entry es n (k ∷ p) x there (λ t found inside.
     let child : below n es ≡ t = ap (λ o. unwrap_or o (dir no_entries)) found in

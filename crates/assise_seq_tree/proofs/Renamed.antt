@@ -1,6 +1,6 @@
 -- What a rename leaves at its two paths.
-use Rattle.assise_seq_tree.proofs.Common.{◌≡◌, Bool, true, false, cond, ◌∷◌, [], ◌++◌, Result, Ok, Err, refl, ap, sym, ◌∙◌, same_path, Done, TreeError, NoEnt}
-use Rattle.assise_seq_tree.proofs.Common.{◌>>=◌, parent_of, last_name, may_rename, reply_and_tree, rename_answer, Tree, at, put, without, IsOrdered}
+use Rattle.assise_seq_tree.proofs.Common.{◌≡◌, Bool, true, false, cond, Result, Ok, Err, refl, ap, sym, ◌∙◌, same_path, Done, TreeError, NoEnt, ◌>>=◌}
+use Rattle.assise_seq_tree.proofs.Common.{parent_of, may_rename, reply_and_tree, rename_answer, Tree, at, put, without, IsOrdered, arith}
 use Rattle.std.proofs.lemmas.List.{append_assoc}
 use Rattle.assise_seq_tree.proofs.Moves.{Path, at-put_disjoint, parent_and_last}
 use Rattle.assise_seq_tree.proofs.Paths.{step_disjoint, put_stands, gone}
@@ -32,11 +32,7 @@ stands_at_its_new_path t u p q moved h other there =
     let r = renamed t u p q moved h other there in
     let c = r.checks in
     let d = stays_directory (parent_of q) p t c.entries c.parent
-    (λ rest is. c.disjoint.second (
-      rest ++ last_name q ∷ [],
-      parent_and_last q c.to_name ∙ ap (λ x. x ++ last_name q ∷ []) is
-          ∙ append_assoc p rest (last_name q ∷ []),
-    )) in
+    (grind (arith, parent_and_last q c.to_name, append_assoc)) in
     ap (λ v. at v q) r.tree ∙ put_stands (without t p) moved q d.entries d.there
 
 -- and not at its old one

@@ -1,8 +1,8 @@
 -- One entry is set or taken out: what is found then. Ordered entries are what is found in them.
-use Rattle.assise_seq_tree.proofs.Common.{◌≡◌, ◌≢◌, ℕ, Bool, true, false, cond, List, Option, Some, None, is_some, Ordering, Less, Equal, Greater, nat_cmp}
-use Rattle.assise_seq_tree.proofs.Common.{refl, ap, sym, ◌∙◌, inl, inr, subst, false≢true, cases_Bool, cond_both, is_eq, match_ordering, ordering_reverse}
-use Rattle.assise_seq_tree.proofs.Common.{tied_itself, slice_cmp, Tree, Entries, no_entries, entry, same_name, find, replace, insert, set, remove, IsBelow}
-use Rattle.assise_seq_tree.proofs.Common.{IsOrdered, AreOrdered}
+use Rattle.assise_seq_tree.proofs.Common.{◌≡◌, ◌≢◌, ℕ, Bool, true, false, cond, List, Some, None, is_some, Ordering, Less, Equal, Greater, nat_cmp, refl, ap}
+use Rattle.assise_seq_tree.proofs.Common.{sym, ◌∙◌, inl, inr, subst, false≢true, cases_Bool, is_eq, match_ordering, ordering_reverse, tied_itself, slice_cmp}
+use Rattle.assise_seq_tree.proofs.Common.{Tree, Entries, no_entries, entry, same_name, find, replace, insert, set, remove, IsBelow, IsOrdered, AreOrdered}
+use Rattle.assise_seq_tree.proofs.Common.{arith}
 use Rattle.std.specs.Cmp.Lexicographic.{nat_list_cmp_total}
 use Rattle.std.proofs.lemmas.Map.Lookups.{exact_bytes}
 use Rattle.assise_seq_tree.proofs.Order.{cases_ordering, below_trans, ordered-replace, ordered-insert}
@@ -37,8 +37,7 @@ not_both q n k e a b = two_names n k e (sym (one_name q n b) ∙ one_name q k a)
 
 -- ---- what is found
 find-same : (q n k : List ℕ) (x t : Tree) (es : Entries) → n ≡ k → find q (entry k x es) ≡ cond (same_name q n) (Some x) (find q (entry k t es))
-find-same q n k x t es e = subst (λ m. find q (entry k x es) ≡ cond (same_name q m) (Some x) (find q (entry k t es))) (sym e)
-    (shadowed (same_name q k) (Some x) (Some t) (find q es))
+find-same q n k x t es e = grind arith
 
 pub find-replace_any : (q n : List ℕ) (x : Tree) (es : Entries) → is_some (find n es) ≡ true → find q (replace n x es) ≡ cond (same_name q n) (Some x)
     (find q es)
@@ -63,9 +62,7 @@ find-insert q n x (entry k t es) = go (find-insert q n x es) (slice_cmp nat_cmp 
         (not_both q n k (ap is_eq e))
 
 pub find-set : (q n : List ℕ) (x : Tree) (es : Entries) → find q (set n x es) ≡ cond (same_name q n) (Some x) (find q es)
-find-set q n x es =
-    cond_both (is_some (find n es)) (replace n x es) (insert n x es) (λ fs. find q fs ≡ cond (same_name q n) (Some x) (find q es))
-    (find-replace_any q n x es) (λ _. find-insert q n x es)
+find-set q n x es = grind (arith, find-replace_any, find-insert)
 
 pub find_below : (q : List ℕ) (es : Entries) → IsBelow q es → find q es ≡ None
 find_below q no_entries below = refl
@@ -80,11 +77,7 @@ found_later q name t u es below there =
     ]
 
 pub find-remove : (q n : List ℕ) (es : Entries) → AreOrdered es → find q (remove n es) ≡ cond (same_name q n) None (find q es)
-find-remove q n no_entries s = go (same_name q n)
-  where
-    go : (b : Bool) → ◌≡◌ {A = Option Tree} None (cond b None None)
-    go true = refl
-    go false = refl
+find-remove q n no_entries s = grind arith
 find-remove q n (entry k t es) s = go (find-remove q n es s.2) (same_name n k) refl
   where
     gone : n ≡ k → (b : Bool) → same_name q n ≡ b → find q es ≡ cond b None (cond b (Some t) (find q es))
@@ -100,23 +93,14 @@ find-remove q n (entry k t es) s = go (find-remove q n es s.2) (same_name n k) r
 -- ---- order
 below-remove : (a n : List ℕ) (es : Entries) → IsBelow a es → IsBelow a (remove n es)
 below-remove a n no_entries below = tt
-below-remove a n (entry k t es) below =
-    elim (cases_Bool (same_name n k)) [
-      | inl same ↦ rw same below.1
-      | inr disjoint ↦ rw disjoint (below.0, below-remove a n es below.1)
-    ]
+below-remove a n (entry k t es) below = grind (arith, below-remove a n es below.1)
 
 pub ordered-remove : (n : List ℕ) (es : Entries) → AreOrdered es → AreOrdered (remove n es)
 ordered-remove n no_entries s = tt
-ordered-remove n (entry k t es) s =
-    elim (cases_Bool (same_name n k)) [
-      | inl same ↦ rw same s.2
-      | inr disjoint ↦ rw disjoint (below-remove k n es s.0, s.1, ordered-remove n es s.2)
-    ]
+ordered-remove n (entry k t es) s = grind (arith, ordered-remove n es s.2, below-remove)
 
 pub ordered-set : (n : List ℕ) (x : Tree) (es : Entries) → AreOrdered es → IsOrdered x → AreOrdered (set n x es)
-ordered-set n x es s o =
-    cond_both (is_some (find n es)) (replace n x es) (insert n x es) AreOrdered (λ _. ordered-replace n x es s o) (λ _. ordered-insert n x es s o)
+ordered-set n x es s o = grind (arith, ordered-replace, ordered-insert)
 
 -- ---- ordered entries are what is found in them
 pub find_first : (n : List ℕ) (t : Tree) (es : Entries) → find n (entry n t es) ≡ Some t
@@ -124,10 +108,7 @@ find_first n t es = ap (λ b. cond b (Some t) (find n es)) (same_itself n)
 
 missed : (n m : List ℕ) (t u : Tree) (es fs : Entries) {P : Type 0} → slice_cmp nat_cmp n m ≡ Less → IsBelow m fs →
     find n (entry n t es) ≡ find n (entry m u fs) → P
-missed n m t u es fs less below h =
-    let none : find n (entry m u fs) ≡ None = find_below n (entry m u fs) (less, below_trans n m fs less below) in
-    let some : find n (entry n t es) ≡ Some t = find_first n t es in
-    cc
+missed n m t u es fs less below h = grind (arith, find_below, below_trans, find_first)
 
 tails : (q n : List ℕ) (t u : Tree) (es fs : Entries) → IsBelow n es → IsBelow n fs → find q (entry n t es) ≡ find q (entry n u fs) → find q es ≡ find q fs
 tails q n t u es fs a b h = go (same_name q n) refl h
@@ -148,7 +129,7 @@ same_entries (entry n t es) (entry m u fs) s o h =
         | inl tie ↦
             let one : n ≡ m = exact_bytes n m tie in
             let here : ((q : List ℕ) → find q (entry n t es) ≡ find q (entry n u fs)) =
-            subst (λ k. (q : List ℕ) → find q (entry n t es) ≡ find q (entry k u fs)) (sym one) h in
+            grind arith in
             let below : IsBelow n fs = subst (λ k. IsBelow k fs) (sym one) o.0 in
             let trees : Some t ≡ Some u = sym (find_first n t es) ∙ here n ∙ find_first n u fs in
             let rest : es ≡ fs = same_entries es fs s.2 o.2 (λ q. tails q n t u es fs s.0 below (here q)) in

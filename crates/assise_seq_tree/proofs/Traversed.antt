@@ -1,8 +1,7 @@
 -- What is left of a traversal, step by step.
-use Rattle.assise_seq_tree.proofs.Common.{◌≡◌, ◌≤◌, map, length-append, Ok, ◌+◌, ℕ, List, [], ◌∷◌, ◌++◌, length, refl, ap, sym, ◌∙◌, arith, append_assoc}
-use Rattle.assise_seq_tree.proofs.Common.{append-nil, length-map, map-append, as_directory, Place, places_below, places_of, Tree, places_left, map_entries}
+use Rattle.assise_seq_tree.proofs.Common.{◌≡◌, ◌≤◌, map, length-append, Ok, ◌+◌, ℕ, List, [], ◌∷◌, ◌++◌, length, refl, ap, arith, append_assoc, append-nil}
+use Rattle.assise_seq_tree.proofs.Common.{length-map, map-append, as_directory, Place, places_below, places_of, Tree, places_left, map_entries}
 use Rattle.assise_seq_tree.proofs.Entries.{Stored}
-use Rattle.assise_seq_tree.proofs.TreePrinted.{below_directory}
 
 -- the innermost directory gives an entry
 pub left-next : (path names : List (List ℕ)) (more : List (List Stored)) (e : Stored) (es : List Stored) → length more ≡ length names →
@@ -11,13 +10,7 @@ pub left-next : (path names : List (List ℕ)) (more : List (List Stored)) (e : 
 left-next path [] [] e es long = rw (append-nil path) refl
 left-next path [] (m ∷ more) e es long = absurd (omega (arith, long))
 left-next path (n ∷ names) [] e es long = absurd (omega (arith, long))
-left-next path (n ∷ names) (m ∷ more) e es long =
-    let inner = left-next (path ++ n ∷ []) names more e es (omega (arith, long)) in
-    let same : (path ++ n ∷ []) ++ names ≡ path ++ n ∷ names = append_assoc path (n ∷ []) names in
-    let here = rw same at inner in
-    rw here (ap (λ ps. ((path ++ n ∷ names) ++ e.0 ∷ [], e.1) ∷ ps)
-    (append_assoc (places_below ((path ++ n ∷ names) ++ e.0 ∷ []) e.1) (places_left (path ++ n ∷ []) names (more ++ es ∷ []))
-    (places_of path (map_entries m))))
+left-next path (n ∷ names) (m ∷ more) e es long = grind (arith, left-next (path ++ n ∷ []) names more e es (omega (arith, long)), append_assoc)
 
 -- the innermost directory has ended
 pub left-ended : (path names : List (List ℕ)) (more : List (List Stored)) → places_left path names (more ++ [] ∷ []) ≡ places_left path names more
@@ -32,8 +25,7 @@ pub left-above : (path names : List (List ℕ)) (name : List ℕ) (more : List (
 left-above path names name [] long = refl
 left-above path [] name (m ∷ []) long = refl
 left-above path [] name (m ∷ k ∷ more) long = absurd (omega (arith, long))
-left-above path (n ∷ names) name (m ∷ more) long =
-    ap (λ ps. ps ++ places_of path (map_entries m)) (left-above (path ++ n ∷ []) names name more (omega (arith, long)))
+left-above path (n ∷ names) name (m ∷ more) long = grind (arith, left-above (path ++ n ∷ []) names name more (omega (arith, long)))
 
 -- the entries of a directory come before what was left
 pub left-entered : (path names : List (List ℕ)) (name : List ℕ) (more : List (List Stored)) (es below : List Stored) → length more ≡ length names →
@@ -42,25 +34,15 @@ pub left-entered : (path names : List (List ℕ)) (name : List ℕ) (more : List
 left-entered path [] name [] es below long = rw (append-nil path) refl
 left-entered path [] name (m ∷ more) es below long = absurd (omega (arith, long))
 left-entered path (n ∷ names) name [] es below long = absurd (omega (arith, long))
-left-entered path (n ∷ names) name (m ∷ more) es below long =
-    let inner = left-entered (path ++ n ∷ []) names name more es below (omega (arith, long)) in
-    let same : (path ++ n ∷ []) ++ names ≡ path ++ n ∷ names = append_assoc path (n ∷ []) names in
-    let here = rw same at inner in
-    rw here (append_assoc (places_of ((path ++ n ∷ names) ++ name ∷ []) (map_entries below)) (places_left (path ++ n ∷ []) names (more ++ es ∷ []))
-    (places_of path (map_entries m)))
+left-entered path (n ∷ names) name (m ∷ more) es below long = grind
+    (arith, left-entered (path ++ n ∷ []) names name more es below (omega (arith, long)), append_assoc)
 
 -- the way up from a directory that has ended: the one above it goes on
 pub left-behind : {N : Type 0} (f : N → List ℕ) (names rest : List N) (name : N) (above more : List (List Stored)) (ended es : List Stored) (left : List Place)
     →
     names ≡ rest ++ name ∷ [] → above ≡ more ++ es ∷ [] → ended ≡ [] → length above ≡ length names → places_left [] (map f names) (above ++ ended ∷ []) ≡ left →
     places_left [] (map f rest) (more ++ es ∷ []) ≡ left
-left-behind f names rest name above more ended es left way front none long is =
-    let short : length (more ++ es ∷ []) ≤ length (map f rest) + 1 =
-    omega (arith, ap length front, ap length way, length-append rest (name ∷ []), length-map rest f, long) in
-    let up : places_left [] (map f names) (more ++ es ∷ []) ≡ places_left [] (map f rest) (more ++ es ∷ []) = rw (way, map-append f rest (name ∷ []))
-    (left-above [] (map f rest) (f name) (more ++ es ∷ []) short) in
-    let ends : places_left [] (map f names) (above ++ ended ∷ []) ≡ places_left [] (map f names) above = rw none (left-ended [] (map f names) above) in
-    sym up ∙ ap (places_left [] (map f names)) (sym front) ∙ sym ends ∙ is
+left-behind f names rest name above more ended es left way front none long is = grind (arith, length-append, length-map, map-append, left-above, left-ended)
 
 pub along-behind : {N : Type 0} (names rest : List N) (name : N) (above more : List (List Stored)) (es : List Stored) →
     names ≡ rest ++ name ∷ [] → above ≡ more ++ es ∷ [] → length above ≡ length names → length more ≡ length rest
@@ -73,8 +55,4 @@ pub left-into : {N : Type 0} (f : N → List ℕ) (names pushed : List N) (name 
     length above ≡ length names → pushed ≡ names ++ name ∷ [] → more ≡ above ++ es ∷ [] → top ≡ below → as_directory t ≡ Ok (map_entries below) →
     map f names ≡ way → places_left [] (map f names) (above ++ es ∷ []) ≡ left →
     places_left [] (map f pushed) (more ++ top ∷ []) ≡ places_below (way ++ f name ∷ []) t ++ left
-left-into f names pushed name above more es below top t way left long named kept same is along before =
-    let entered = left-entered [] (map f names) (f name) above es below (long ∙ sym (length-map names f)) in
-    let all : places_left [] (map f pushed) (more ++ top ∷ []) ≡ places_left [] (map f names ++ f name ∷ []) ((above ++ es ∷ []) ++ below ∷ []) =
-    rw (named, map-append f names (name ∷ []), kept, same) refl in
-    all ∙ entered ∙ rw (before, along, below_directory t (map_entries below) is (way ++ f name ∷ [])) refl
+left-into f names pushed name above more es below top t way left long named kept same is along before = grind (arith, left-entered, length-map, map-append)

@@ -1,6 +1,6 @@
 -- A move of a tree to another path: a placeholder first, then the tree in its place.
-use Rattle.assise_seq_tree.proofs.Common.{◌≡◌, ℕ, ◌<◌, arith, List, [], ◌∷◌, ◌++◌, length, Option, Some, None, Ok, ap, sym, ◌∙◌, subst, parent_of, last_name}
-use Rattle.assise_seq_tree.proofs.Common.{Tree, file, dir, Entries, no_entries, at, put, without, IsOrdered, AreDisjointPaths}
+use Rattle.assise_seq_tree.proofs.Common.{◌≡◌, ℕ, ◌<◌, arith, List, [], ◌∷◌, ◌++◌, length, Option, Some, None, Ok, sym, subst, parent_of, last_name, Tree, file}
+use Rattle.assise_seq_tree.proofs.Common.{dir, Entries, no_entries, at, put, without, IsOrdered, AreDisjointPaths}
 use Rattle.assise_seq_tree.proofs.TreePut.{through_entry}
 use Rattle.assise_seq_tree.proofs.Order.{ordered-find}
 use Rattle.assise_seq_tree.proofs.Paths.{turned_disjoint}
@@ -15,12 +15,7 @@ pub record Moves (p q : Path) (t e : Tree) : Type 0 where
 
 pub moves : (p q : Path) (n : List ℕ) (t e : Tree) (es : Entries) → IsOrdered t → IsOrdered e → Disjoint p (q ++ n ∷ []) → at t q ≡ Ok (dir es) →
     Moves p (q ++ n ∷ []) t e
-moves p q n t e es s o disjoint parent = record {
-  source = at-put_disjoint p (q ++ n ∷ []) t e disjoint;
-  target = at-without_disjoint p (q ++ n ∷ []) (put t (q ++ n ∷ []) e) disjoint ∙ at-put_new q n t e es parent;
-  over = λ y k. ap (λ u. put u (q ++ n ∷ []) y) (without-put p (q ++ n ∷ []) t e s o disjoint)
-      ∙ put-put_any (q ++ n ∷ []) (without t p) e y (ordered-without p t s) o k;
-}
+moves p q n t e es s o disjoint parent = grind (arith, at-put_disjoint, at-without_disjoint, at-put_new, without-put, put-put_any, ordered-without)
 
 -- ---- a whole move
 
@@ -45,21 +40,12 @@ pub moved_whole : (p q : Path) (t t1 t2 t3 y x : Tree) (es : Entries) (r : Optio
     at t p ≡ Ok y
     → t1 ≡ put t q (dir no_entries) → ((u : Tree) → at t1 p ≡ Ok u → r ≡ Some u) → t2 ≡ without t1 p → r ≡ Some x
     → ((u : Tree) → at t2 q ≡ Ok u → t3 ≡ put t2 q x) → t3 ≡ put (without t p) q y
-moved_whole p q t t1 t2 t3 y x es r s disjoint parent there placed taken left is over =
-    let m = moves_to p q t (dir no_entries) es s tt disjoint parent in
-    let taken_there = taken y (ap (λ u. at u p) placed ∙ m.source ∙ there) in
-    let same : x ≡ y = cc in
-    let t2_is : t2 ≡ without (put t q (dir no_entries)) p = left ∙ ap (λ u. without u p) placed in
-    over (dir no_entries) (ap (λ u. at u q) t2_is ∙ m.target) ∙ ap (λ u. put u q x) t2_is ∙ ap (put (without (put t q (dir no_entries)) p) q) same
-    ∙ m.over y (ordered-at p t y s there)
+moved_whole p q t t1 t2 t3 y x es r s disjoint parent there placed taken left is over = grind (arith, moves_to, ordered-at)
 
 pub moved_none : (p q : Path) (t t1 y : Tree) (es : Entries) (r : Option Tree) {P : Type 0} → IsOrdered t → Disjoint p q → at t (parent_of q) ≡ Ok (dir es) →
     at t p ≡ Ok y
     → t1 ≡ put t q (dir no_entries) → ((u : Tree) → at t1 p ≡ Ok u → r ≡ Some u) → r ≡ None → P
-moved_none p q t t1 y es r s disjoint parent there placed taken none =
-    let m = moves_to p q t (dir no_entries) es s tt disjoint parent in
-    let taken_there = taken y (ap (λ u. at u p) placed ∙ m.source ∙ there) in
-    cc
+moved_none p q t t1 y es r s disjoint parent there placed taken none = grind (arith, moves_to)
 
 -- a path that is disjoint from another has a name
 pub below_the_root : (p q : Path) → AreDisjointPaths p q → 0 < length p

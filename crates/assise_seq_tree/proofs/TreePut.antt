@@ -1,6 +1,6 @@
 -- Laws of trees: what is put is found, and the last that was put stays.
-use Rattle.assise_seq_tree.proofs.Common.{◌≡◌, ℕ, List, [], ◌∷◌, Option, Some, None, Ok, refl, ap, sym, ◌∙◌, ◌⊎◌, inl, inr, cases_Bool, Tree, file, dir}
-use Rattle.assise_seq_tree.proofs.Common.{Entries, no_entries, entry, same_name, find, replace, at, put}
+use Rattle.assise_seq_tree.proofs.Common.{◌≡◌, ℕ, List, [], ◌∷◌, Option, Some, None, Ok, refl, ap, ◌∙◌, ◌⊎◌, inl, inr, cases_Bool, Tree, file, dir, Entries}
+use Rattle.assise_seq_tree.proofs.Common.{no_entries, entry, same_name, find, replace, at, put, arith}
 
 pub cases_option : {A : Type 0} (o : Option A) → (o ≡ None) ⊎ ((x : A) × (o ≡ Some x))
 cases_option None = inl refl
@@ -17,11 +17,7 @@ find-replace name t u (entry other v es) h =
 
 pub replace-replace : (name : List ℕ) (t u : Tree) (es : Entries) → replace name u (replace name t es) ≡ replace name u es
 replace-replace name t u no_entries = refl
-replace-replace name t u (entry other v es) =
-    elim (cases_Bool (same_name name other)) [
-      | inl same ↦ rw (same, same)
-      | inr disjoint ↦ rw (disjoint, disjoint, replace-replace name t u es)
-    ]
+replace-replace name t u (entry other v es) = grind (arith, replace-replace name t u es)
 
 pub replace-self : (name : List ℕ) (t : Tree) (es : Entries) → find name es ≡ Some t → replace name t es ≡ es
 replace-self name t no_entries h = refl
@@ -45,11 +41,7 @@ at_step es name p u h = rw h
 pub through_entry : {P : Type 0} (es : Entries) (name : List ℕ) (p : List (List ℕ)) (u : Tree) → at (dir es) (name ∷ p) ≡ Ok u
     → ((t : Tree) → find name es ≡ Some t → at t p ≡ Ok u → P) → P
 unfolding at
-through_entry es name p u h next =
-    elim (cases_option (find name es)) [
-      | inl none ↦ let no = rw none at h in cc
-      | inr some ↦ next some.0 some.1 (rw some.1 at h)
-    ]
+through_entry es name p u h next = grind arith
 
 pub last_entry : (es : Entries) (name : List ℕ) (u : Tree) → at (dir es) (name ∷ []) ≡ Ok u → find name es ≡ Some u
 unfolding at
@@ -66,10 +58,7 @@ put-put [] t x y u h = refl
 put-put (name ∷ p) (file bytes) x y u h = refl
 put-put (name ∷ p) (dir es) x y u h =
     through_entry es name p u h (λ v found there.
-    ap (λ t. put t (name ∷ p) y) (put_step es name p x v found)
-    ∙ put_step (replace name (put v p x) es) name p y (put v p x) (find-replace name (put v p x) v es found)
-    ∙ ap dir (replace-replace name (put v p x) (put (put v p x) p y) es ∙ ap (λ t. replace name t es) (put-put p v x y u there))
-    ∙ sym (put_step es name p y v found))
+    grind (arith, put-put p v x y u there, find-replace, replace-replace))
 
 -- what stands at the path, put there, changes nothing
 pub put-at : (p : List (List ℕ)) (t u : Tree) → at t p ≡ Ok u → put t p u ≡ t
@@ -78,7 +67,7 @@ put-at [] t u h = cc
 put-at (name ∷ p) (file bytes) u h = refl
 put-at (name ∷ p) (dir es) u h =
     through_entry es name p u h (λ v found there.
-    put_step es name p u v found ∙ ap dir (ap (λ t. replace name t es) (put-at p v u there) ∙ replace-self name v es found))
+    grind (arith, put-at p v u there, replace-self))
 
 -- what is put is found
 pub at-put : (p : List (List ℕ)) (t x u : Tree) → at t p ≡ Ok u → at (put t p x) p ≡ Ok x
@@ -87,11 +76,9 @@ at-put [] t x u h = refl
 at-put (name ∷ p) (file bytes) x u h = at_in_file bytes name p u h
 at-put (name ∷ p) (dir es) x u h =
     through_entry es name p u h (λ v found there.
-    ap (λ t. at t (name ∷ p)) (put_step es name p x v found)
-    ∙ at_step (replace name (put v p x) es) name p (put v p x) (find-replace name (put v p x) v es found) ∙ at-put p v x u there)
+    grind (arith, at-put p v x u there, find-replace))
 
 -- what stands at the path is swapped for another, and what was made of it is swapped back
 pub swapped_back : (p : List (List ℕ)) (t u other made t' t'' : Tree) → at t p ≡ Ok u → t' ≡ put t p other
     → ((v : Tree) → at t' p ≡ Ok v → t'' ≡ put t' p made) → t'' ≡ put t p made
-swapped_back p t u other made t' t'' h e back =
-    back other (ap (λ s. at s p) e ∙ at-put p t other u h) ∙ ap (λ s. put s p made) e ∙ put-put p t other made u h
+swapped_back p t u other made t' t'' h e back = grind (arith, at-put, put-put)

@@ -1,8 +1,8 @@
 -- One step of each walk.
 use Rattle.assise_seq_tree.proofs.Common.{nat_tests, ◌==◌, Bool, true, false, ◌≡◌, ℕ, ◌-◌, ◌≤◌, ◌<◌, List, [], ◌∷◌, length, take, drop, get_or, Option, Some}
 use Rattle.assise_seq_tree.proofs.Common.{None, Result, Ok, Err, IsErr, OnErr, BTreeMap, Bor, MutBor, MatchResult, refl, ap, sym, ◌∙◌, arith, option_copied}
-use Rattle.assise_seq_tree.proofs.Common.{option_map_or, get_by, is_at, TreeError, NoEnt, NotDir, take_rest, Tree, file, dir, Entries, no_entries, find, at}
-use Rattle.assise_seq_tree.proofs.Common.{put, without, map_entries, option_copied_mut, set_value, lookup, remove_entry, insert_entry, slice_cmp}
+use Rattle.assise_seq_tree.proofs.Common.{get_by, is_at, TreeError, NoEnt, NotDir, take_rest, Tree, file, dir, Entries, no_entries, find, at, put, without}
+use Rattle.assise_seq_tree.proofs.Common.{map_entries, option_copied_mut, set_value, remove_entry, insert_entry, slice_cmp}
 use Rattle.std.proofs.lemmas.Map.Steps.{set_value_same}
 use Rattle.std.specs.Ordering.{nat_cmp}
 use Rattle.assise_seq_tree.proofs.Entries.{at_text, find-entries_of, insert-entries_of, replace-entries_of, remove-entries_of}
@@ -63,9 +63,7 @@ pub put_found : (t x : Tree) (names : List (List ℕ)) (name : List ℕ) (p : Li
     → names ≡ name ∷ p → t ≡ dir (map_entries m.entries) → r ≡ Some u → option_copied_mut r ≡ get_by (at_text name) m
     → n.entries ≡ set_value (is_at (at_text name)) m.entries w → w ≡ put u.now p x → dir (map_entries n.entries) ≡ put t names x
 unfolding put
-put_found t x names name p m n r u w e is some value written ends =
-    let there : lookup (is_at (at_text name)) m.entries ≡ Some u.now = sym (rw some at value) in
-    rw (e, is, find-entries_of name m.entries, there, written, ← ends) (ap dir (sym (replace-entries_of name w m.entries)))
+put_found t x names name p m n r u w e is some value written ends = grind (arith, find-entries_of, replace-entries_of)
 
 -- what is missing is made at its sorted place
 pub put_missing : (t x : Tree) (names : List (List ℕ)) (name : List ℕ) (p : List (List ℕ)) (m n : BTreeMap (List ℕ) Tree) (r : Option (MutBor Tree))
@@ -73,16 +71,13 @@ pub put_missing : (t x : Tree) (names : List (List ℕ)) (name : List ℕ) (p : 
     → names ≡ name ∷ p → t ≡ dir (map_entries m.entries) → r ≡ None → option_copied_mut r ≡ get_by (at_text name) m
     → key ≡ name → n.entries ≡ insert_entry (slice_cmp nat_cmp) m.entries key w → w ≡ put (dir no_entries) p x → dir (map_entries n.entries) ≡ put t names x
 unfolding put
-put_missing t x names name p m n r key w e is none value spelled written ends =
-    let missing : lookup (is_at (at_text name)) m.entries ≡ None = sym (rw none at value) in
-    rw (e, is, find-entries_of name m.entries, missing, written, ← ends, ← spelled) (ap dir (sym (insert-entries_of key w m.entries)))
+put_missing t x names name p m n r key w e is none value spelled written ends = grind (arith, missing, insert-entries_of)
 
 -- a child that stays as it was leaves the tree as it was
 pub kept_found : (t : Tree) (name : List ℕ) (m n : BTreeMap (List ℕ) Tree) (r : Option (MutBor Tree)) (u : MutBor Tree) (w : Tree)
     → t ≡ dir (map_entries m.entries) → r ≡ Some u → option_copied_mut r ≡ get_by (at_text name) m → n.entries ≡ set_value (is_at (at_text name)) m.entries w →
     w ≡ u.now → dir (map_entries n.entries) ≡ t
-kept_found t name m n r u w is some value written same =
-    rw (is, written) (ap (λ es. dir (map_entries es)) (set_value_same (is_at (at_text name)) m.entries w (sym (rw some at value) ∙ ap Some (sym same))))
+kept_found t name m n r u w is some value written same = grind (arith, set_value_same)
 
 -- the same of a look-up that lends
 pub found_mut : (name : List ℕ) (m : BTreeMap (List ℕ) Tree) (r : Option (MutBor Tree)) (x : MutBor Tree) → r ≡ Some x →
@@ -115,13 +110,7 @@ same_tree r x y a b = cc
 pub taken_last : (t x : Tree) (names : List (List ℕ)) (name : List ℕ) (p : List (List ℕ)) (m : BTreeMap (List ℕ) Tree) (r : Option Tree)
     → names ≡ name ∷ p → length p ≡ 0 → t ≡ dir (map_entries m.entries) → r ≡ get_by (at_text name) m → at t names ≡ Ok x → r ≡ Some x
 unfolding at
-taken_last t x names name [] m r e none is value h =
-    let there = rw (e, is) at h in
-    value ∙ sym (find-entries_of name m.entries) ∙ only (find name (map_entries m.entries)) there
-  where
-    only : (o : Option Tree) → option_map_or (λ t. Ok t) o (Err NoEnt) ≡ Ok x → o ≡ Some x
-    only None f = cc
-    only (Some y) f = cc
+taken_last t x names name [] m r e none is value h = grind (arith, find-entries_of)
 taken_last t x names name (k ∷ p) m r e none is value h = absurd (omega arith)
 
 pub without_file : (t : Tree) (names : List (List ℕ)) (bytes name : List ℕ) (p : List (List ℕ)) → names ≡ name ∷ p → t ≡ file bytes → t ≡ without t names
@@ -142,16 +131,13 @@ pub without_found : (t : Tree) (names : List (List ℕ)) (name : List ℕ) (p : 
     → n.entries ≡ set_value (is_at (at_text name)) m.entries w → w ≡ without u.now p → dir (map_entries n.entries) ≡ without t names
 unfolding without
 without_found t names name [] m n r u w e some is found value written ends = absurd (omega arith)
-without_found t names name (k ∷ p) m n r u w e some is found value written ends =
-    let there : lookup (is_at (at_text name)) m.entries ≡ Some u.now = sym (rw found at value) in
-    rw (e, is, find-entries_of name m.entries, there, written, ← ends) (ap dir (sym (replace-entries_of name w m.entries)))
+without_found t names name (k ∷ p) m n r u w e some is found value written ends = grind (arith, find-entries_of, replace-entries_of)
 
 pub without_missing : (t : Tree) (names : List (List ℕ)) (name : List ℕ) (p : List (List ℕ)) (m : BTreeMap (List ℕ) Tree) (r : Option (MutBor Tree))
     → names ≡ name ∷ p → 0 < length p → t ≡ dir (map_entries m.entries) → r ≡ None → option_copied_mut r ≡ get_by (at_text name) m → t ≡ without t names
 unfolding without
 without_missing t names name [] m r e some is none value = absurd (omega arith)
-without_missing t names name (k ∷ p) m r e some is none value =
-    rw (e, is) (ap dir (sym (replace_absent name _ (map_entries m.entries) (missing_mut name m r none value))))
+without_missing t names name (k ∷ p) m r e some is none value = grind (arith, replace_absent, missing_mut)
 
 -- what the test of a length says
 pub is_none : (b : Bool) (n : ℕ) → b ≡ (n == 0) → b ≡ true → n ≡ 0

@@ -1,8 +1,7 @@
 -- What a write that was done says of the file before and after it.
-use Rattle.assise_seq_tree.proofs.Common.{◌≡◌, ℕ, ◌+◌, ◌-◌, ◌≤◌, ◌<◌, Bool, true, false, cond, ◌==◌, List, [], ◌∷◌, length, replicate, Result, Ok, Err, refl}
-use Rattle.assise_seq_tree.proofs.Common.{ap, sym, ◌∙◌, arith, max, cond_both, nat_tests, Done, Bytes, File, TreeError, TooBig, ◌>>=◌, as_file, file_at}
-use Rattle.assise_seq_tree.proofs.Common.{reply_and_tree, read_answer, write_answer, stat_answer, tree_after_write, bytes_from, overwritten, is_within, Tree}
-use Rattle.assise_seq_tree.proofs.Common.{file, dir, at, put}
+use Rattle.assise_seq_tree.proofs.Common.{◌≡◌, ℕ, ◌+◌, ◌-◌, ◌≤◌, ◌<◌, false, cond, ◌==◌, List, [], ◌∷◌, length, replicate, Result, Ok, Err, refl, ap, ◌∙◌}
+use Rattle.assise_seq_tree.proofs.Common.{arith, max, nat_tests, Done, Bytes, File, TreeError, ◌>>=◌, as_file, read_answer, write_answer, stat_answer}
+use Rattle.assise_seq_tree.proofs.Common.{tree_after_write, bytes_from, overwritten, Tree, file, dir, at}
 use Rattle.assise_seq_tree.proofs.TreePut.{at-put}
 use Rattle.assise_seq_tree.proofs.Moves.{Path}
 use Rattle.assise_seq_tree.proofs.BytesRead.{read_new, read_again, read_kept, read_behind, read_gap, length-overwritten}
@@ -23,31 +22,7 @@ file_there (Ok (dir es)) bytes h = cc
 file_there (Err e) bytes h = cc
 
 pub wrote : (t u : Tree) (p : Path) (offset : ℕ) (new : List ℕ) → write_answer t p offset new ≡ (Done, u) → Wrote t u p offset new
-wrote t u p offset new h = go (file_at t p) refl h
-  where
-    fits : (bytes : List ℕ) → at t p ≡ Ok (file bytes) → (b : Bool) → reply_and_tree t (cond b (Ok (Done, tree_after_write t p offset new bytes)) (Err TooBig))
-        ≡ (Done, u) → u ≡ tree_after_write t p offset new bytes
-    fits bytes there true h = sym (ap (λ r. r.1) h)
-    fits bytes there false h = let no = ap (λ r. r.0) h in cc
-
-    after : (bytes : List ℕ) → at t p ≡ Ok (file bytes) → (b : Bool) → at (cond b t (put t p (file (overwritten bytes offset new)))) p
-        ≡ Ok (file (cond b bytes (overwritten bytes offset new)))
-    after bytes there true = there
-    after bytes there false = at-put p t (file (overwritten bytes offset new)) (file bytes) there
-
-    go : (r : Result (List ℕ) TreeError) → file_at t p ≡ r →
-        reply_and_tree t (r >>= λ bytes. cond (is_within offset new) (Ok (Done, tree_after_write t p offset new bytes)) (Err TooBig)) ≡ (Done, u) →
-        Wrote t u p offset new
-    go (Err e) is h = let no = ap (λ r. r.0) h in cc
-    go (Ok bytes) is h =
-        let there = file_there (at t p) bytes is in
-        let u_is = fits bytes there (is_within offset new) h in
-        record {
-          bytes = bytes;
-          there = there;
-          after = ap (λ v. at v p) u_is ∙ after bytes there (length new == 0);
-          is = u_is;
-        }
+wrote t u p offset new h = grind (arith, at-put)
 
 -- ---- reads and stats of a file that is there
 pub reads : (u : Tree) (p : Path) (offset most : ℕ) (bytes : List ℕ) → at u p ≡ Ok (file bytes) → read_answer u p offset most
@@ -80,31 +55,15 @@ written_is_read t u p offset new h =
 
 pub kept_before : (t u : Tree) (p : Path) (offset from most : ℕ) (new old : List ℕ) → write_answer t p offset new ≡ (Done, u) → read_answer t p from most
     ≡ (Bytes old, t) → from + length old ≤ offset → read_answer u p from (length old) ≡ (Bytes old, u)
-kept_before t u p offset from most new old h r prefix =
-    let w = wrote t u p offset new h in
-    let is = have_read t p from most w.bytes old w.there r in
-    reads u p from (length old) (bytes_after w.bytes offset new) w.after ∙ ap (λ bytes. (Bytes bytes, u))
-    (cond_both (length new == 0) w.bytes (overwritten w.bytes offset new) (λ bytes. bytes_from from (length old) bytes ≡ old)
-    (λ _. rw (← is) (read_again from most w.bytes)) (λ _. rw (← is) (read_kept w.bytes offset new from most (omega (arith, prefix, ap length is)))))
+kept_before t u p offset from most new old h r prefix = grind (arith, wrote t u p offset new h, read_again, read_kept)
 
 pub kept_behind : (t u : Tree) (p : Path) (offset from most : ℕ) (new old : List ℕ) → write_answer t p offset new ≡ (Done, u) → read_answer t p from most
     ≡ (Bytes old, t) → offset + length new ≤ from → read_answer u p from most ≡ (Bytes old, u)
-kept_behind t u p offset from most new old h r behind =
-    let w = wrote t u p offset new h in
-    let is = have_read t p from most w.bytes old w.there r in
-    reads u p from most (bytes_after w.bytes offset new) w.after ∙ ap (λ bytes. (Bytes bytes, u))
-    (cond_both (length new == 0) w.bytes (overwritten w.bytes offset new) (λ bytes. bytes_from from most bytes ≡ old)
-    (λ _. is) (λ _. read_behind w.bytes offset new from most behind ∙ is))
+kept_behind t u p offset from most new old h r behind = grind (arith, wrote t u p offset new h, read_behind)
 
 pub gap_is_zeros : (t u : Tree) (p : Path) (offset size : ℕ) (new : List ℕ) → write_answer t p offset new ≡ (Done, u) → stat_answer t p ≡ (File size, t) →
     0 < length new → size ≤ offset → read_answer u p size (offset - size) ≡ (Bytes (replicate (offset - size) 0), u)
-gap_is_zeros t u p offset size new h s some gap =
-    let w = wrote t u p offset new h in
-    let is = has_size t p w.bytes size w.there s in
-    reads u p size (offset - size) (bytes_after w.bytes offset new) w.after ∙ ap (λ bytes. (Bytes bytes, u)) (zeros w.bytes is)
-  where
-    zeros : (bytes : List ℕ) → length bytes ≡ size → bytes_from size (offset - size) (bytes_after bytes offset new) ≡ replicate (offset - size) 0
-    zeros bytes is = let test = some_bytes new some in rw (test, ← is) (read_gap bytes offset new (omega (arith, gap, is)))
+gap_is_zeros t u p offset size new h s some gap = grind (arith, wrote t u p offset new h, read_gap)
 
 pub size_after : (t u : Tree) (p : Path) (offset size : ℕ) (new : List ℕ) → write_answer t p offset new ≡ (Done, u) → stat_answer t p ≡ (File size, t) →
     0 < length new → stat_answer u p ≡ (File (max size (offset + length new)), u)

@@ -25,12 +25,12 @@ view-view-requires-clause-client g t c = call_number (value_of c.args.state.now)
 pub view-view-requires-clause-lives : goal.view-view-requires-clause-lives
 view-view-requires-clause-lives g t c = call_unfailed (value_of c.args.state.now) c.args.client c.args.op.now c.requires.invariant.shape c.requires.fine
 
-pub returns-in_err-reply-clause-happens : goal.returns-in_err-reply-clause-happens
-returns-in_err-reply-clause-happens g t c =
+pub returns-in_err-outcome-clause-happens : goal.returns-in_err-outcome-clause-happens
+returns-in_err-outcome-clause-happens g t c =
     let error = err_from_is_err_and c.from_residual.result c.from_residual.ensures.1 in
     let m = observed (value_of c.args.state.now) in
     lacking_as m m c.args.client c.args.op.now (turn_answer c.from_residual.result) error.0 c.requires.fine
-    (ap turn_answer error.1) (error.2 ∙ c.in_err-reply.ensures.only_memory) refl
+    (ap turn_answer error.1) (error.2 ∙ c.in_err-outcome.ensures.only_memory) refl
 
 pub lease_changes-requires-clause-visited : goal.lease_changes-requires-clause-visited
 lease_changes-requires-clause-visited g t c =
@@ -38,10 +38,10 @@ lease_changes-requires-clause-visited g t c =
     let planned =
     planned_now s c.args.client c.args.op.now c.requires.invariant.shape c.requires.invariant.holds c.requires.fine c.inode_number-fresh.result
     (c.inode_number-fresh.ensures ∙ ap (inode_number c.args.client) (c.made.ensures ∙ ap (λ x. x.made) c.get-known.ensures))
-    (shown c.in_ok-reply.field-0) c.view-view.result.client (levels_of c.view-view.result.leases.now).clients c.view-view.result.inodes
-    c.in_ok-reply.ensures.exact c.view-view.ensures.client (ap (λ l. (levels_of l).clients) c.view-view.ensures.leases) c.view-view.ensures.inodes in
+    (shown c.in_ok-outcome.field-0) c.view-view.result.client (levels_of c.view-view.result.leases.now).clients c.view-view.result.inodes
+    c.in_ok-outcome.ensures.exact c.view-view.ensures.client (ap (λ l. (levels_of l).clients) c.view-view.ensures.leases) c.view-view.ensures.inodes in
     visited_now s c.args.client c.args.op.now c.requires.invariant.shape c.requires.invariant.holds c.requires.fine
-    (step_in record { reply = c.in-Ready.reply; reads = c.in-Ready.reads; effects = c.in-Ready.effects })
+    (step_in c.in-Ready.outcome)
     (sym planned ∙ ap shown c.in-Ready.is)
 
 pub returns-in_err-lease_changes-in-Ready-clause-happens : goal.returns-in_err-lease_changes-in-Ready-clause-happens
@@ -67,8 +67,8 @@ missing_now g t c =
     let planned =
     planned_now s c.args.client c.args.op.now c.requires.invariant.shape c.requires.invariant.holds c.requires.fine c.inode_number-fresh.result
     (c.inode_number-fresh.ensures ∙ ap (inode_number c.args.client) (c.made.ensures ∙ ap (λ x. x.made) c.get-known.ensures))
-    (shown c.in_ok-reply.field-0) c.view-view.result.client (levels_of c.view-view.result.leases.now).clients c.view-view.result.inodes
-    c.in_ok-reply.ensures.exact c.view-view.ensures.client (ap (λ l. (levels_of l).clients) c.view-view.ensures.leases) c.view-view.ensures.inodes in
+    (shown c.in_ok-outcome.field-0) c.view-view.result.client (levels_of c.view-view.result.leases.now).clients c.view-view.result.inodes
+    c.in_ok-outcome.ensures.exact c.view-view.ensures.client (ap (λ l. (levels_of l).clients) c.view-view.ensures.leases) c.view-view.ensures.inodes in
     lacks_visit s c.args.client c.args.op.now c.requires.invariant.shape c.requires.invariant.holds c.requires.fine c.in-Missing.inode c.in-Missing.mode
     (sym planned ∙ ap shown c.in-Missing.is)
 
@@ -158,8 +158,8 @@ returns-in_err-grant-in-Missing-clause-noted g t c =
     subst (λ l. CutsInvariant (after_leases s l)) (sym (same_levels s.levels (levels_of c.grant.new.self) c.in_err-grant-in-Missing.ensures.err))
     c.requires.invariant.noted
 
-pub returns-in_err-reply-clause-cuts : goal.returns-in_err-reply-clause-cuts
-returns-in_err-reply-clause-cuts g t c =
+pub returns-in_err-outcome-clause-cuts : goal.returns-in_err-outcome-clause-cuts
+returns-in_err-outcome-clause-cuts g t c =
     nothing_revoked g.C.Revokes.answers (stored_by c.args.state.now.leases) (machine_of c.args.state.now) (machine_of c.args.state.now) (λ d i. refl)
 
 pub returns-else-not-branch-clause-cuts : goal.returns-else-not-branch-clause-cuts

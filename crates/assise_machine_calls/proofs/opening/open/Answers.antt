@@ -4,7 +4,47 @@ use Rattle.assise_machine_calls.proofs.Common.{MachineInvariant, event_keeps, af
 use Rattle.assise_machine_calls.proofs.Common.{open_noted}
 use Rattle.assise_machine_calls.proofs.OpenFaults.{fine_few}
 use Rattle.assise_machine_calls.proofs.Opened.{done, is_event, keeps_shape, stranger, undone}
+use Rattle.assise_machine_calls.proofs.SyncChanges.{Gives}
+use Rattle.assise_machine_calls.proofs.opening.open.Given as over
 use Rattle.assise_machine_calls.proofs.opening.open.Goals as goal
+use Rattle.assise_machine_calls.proofs.opening.open.Goals.{After-end_logs}
+
+-- where no lease is enrolled, what was begun is undone
+undone_now : (g : over.Over) (c : After-end_logs g) →
+    record (value_of c.begin.new.state) { nodes = c.end_logs.new.self; levels = levels_of c.enrol.new.self } ≡ value_of c.args.sound.now.state
+undone_now g c =
+    let s = value_of c.args.sound.now.state in
+    let v = value_of c.begin.new.state in
+    let number : c.len.result + 1 ≡ suc (length c.args.sound.now.state.clients) = omega (arith, c.len.ensures) in
+    undone s v c.args.node c.end_logs.new.self (levels_of c.enrol.new.self) c.args.sound.now.invariant.shape c.in_default-begin.ensures.ok
+    (c.end_logs.ensures ∙ ap (with_logs_ended v.nodes) number) c.in-Err-enrol.ensures.err
+
+-- what is opened, with the invariant after it
+opened_now : (g : over.Over) (c : goal.After-push g) →
+    Gives (λ w. Opening (observed (value_of c.args.sound.now.state)) c.args.node c.args.durability (opened (c.len.result + 1)) (observed w))
+    (record (value_of c.begin.new.state) { clients = c.open.new.self; levels = levels_of c.enrol.new.self; history = c.push.new.self.events })
+opened_now g c =
+    let s = value_of c.args.sound.now.state in
+    let v = value_of c.begin.new.state in
+    let x = c.args.sound.now.invariant in
+    let levels = levels_of c.enrol.new.self in
+    let fine : open_fault (observed s) c.args.node ≡ None = sym c.open_refusal.ensures ∙ c.in_default.is in
+    let number : c.len.result + 1 ≡ suc (length s.clients) = omega (arith, c.len.ensures) in
+    let told = c.push.ensures.grown ∙ ap (λ e. v.history ++ e ∷ []) (c.open-2.ensures ∙ ap (λ k. opens k c.args.node c.args.durability) number) in
+    let same = done s v c.args.node c.args.durability c.open.new.self levels c.push.new.self.events c.in_default-begin.ensures.ok c.open.ensures told in
+    let enrols : EnrolsAt s.levels levels (suc (length s.clients)) c.args.node =
+    subst (λ t. EnrolsAt (levels_of t) levels (suc (length s.clients)) c.args.node) c.begin.ensures.revokers
+    (subst (λ k. EnrolsAt (levels_of c.begin.new.state.leases) levels k c.args.node) number c.in_default-enrol.ensures.ok) in
+    let then = after_open s c.args.node c.args.durability levels in
+    let event = is_event s c.args.node c.args.durability levels x.shape fine x.noted enrols in
+    subst (Gives (λ w. Opening (observed s) c.args.node c.args.durability (opened (c.len.result + 1)) (observed w))) (sym same)
+    (record {
+      happens = subst (λ k. Opening (observed s) c.args.node c.args.durability (opened k) (observed then)) (sym number) event;
+      holds = ∥∥₁_map x.holds
+          (λ h. event_keeps (observed s) (observed then) (open_client c.args.node c.args.durability) (opened (suc (length s.clients))) h event);
+      shape = keeps_shape s c.args.node c.args.durability levels x.shape fine;
+      noted = open_noted s c.args.node c.args.durability levels x.noted enrols;
+    })
 
 pub returns-in-Some-clause-happens : goal.returns-in-Some-clause-happens
 returns-in-Some-clause-happens g c = is_refused c.in-Some.refusal (sym c.open_refusal.ensures ∙ c.in-Some.is) refl refl
@@ -34,11 +74,7 @@ enrol-requires g c =
 
 pub invariant_of-sound-in-Err-enrol : goal.invariant_of-sound-in-Err-enrol
 invariant_of-sound-in-Err-enrol g c =
-    let s = value_of c.args.sound.now.state in
-    let v = value_of c.begin.new.state in
-    let number : c.len.result + 1 ≡ suc (length c.args.sound.now.state.clients) = omega (arith, c.len.ensures) in
-    let same = undone s v c.args.node c.end_logs.new.self (levels_of c.enrol.new.self) c.args.sound.now.invariant.shape c.in_default-begin.ensures.ok
-    (c.end_logs.ensures ∙ ap (with_logs_ended v.nodes) number) c.in-Err-enrol.ensures.err in
+    let same = undone_now g c in
     record {
       invariant = record {
         holds = subst (λ u. ∥ MachineInvariant (observed u) ∥₁) (sym same) c.args.sound.now.invariant.holds;
@@ -49,12 +85,8 @@ invariant_of-sound-in-Err-enrol g c =
 
 pub returns-in-Err-enrol-clause-happens : goal.returns-in-Err-enrol-clause-happens
 returns-in-Err-enrol-clause-happens g c =
-    let s = value_of c.args.sound.now.state in
-    let v = value_of c.begin.new.state in
-    let number : c.len.result + 1 ≡ suc (length c.args.sound.now.state.clients) = omega (arith, c.len.ensures) in
-    let same = undone s v c.args.node c.end_logs.new.self (levels_of c.enrol.new.self) c.args.sound.now.invariant.shape c.in_default-begin.ensures.ok
-    (c.end_logs.ensures ∙ ap (with_logs_ended v.nodes) number) c.in-Err-enrol.ensures.err in
-    lacks_memory (sym c.open_refusal.ensures ∙ c.in_default.is) (ap (λ b. refused b.0) c.in-Err-enrol.ensures.given_back) (ap observed same)
+    lacks_memory (sym c.open_refusal.ensures ∙ c.in_default.is) (ap (λ b. refused b.0) c.in-Err-enrol.ensures.given_back)
+    (ap observed (undone_now g c.before))
 
 pub open-requires : goal.open-requires
 open-requires g c =
@@ -64,40 +96,7 @@ open-requires g c =
 
 pub invariant_of-sound-2 : goal.invariant_of-sound-2
 invariant_of-sound-2 g c =
-    let s = value_of c.args.sound.now.state in
-    let v = value_of c.begin.new.state in
-    let levels = levels_of c.enrol.new.self in
-    let fine : open_fault (observed s) c.args.node ≡ None = sym c.open_refusal.ensures ∙ c.in_default.is in
-    let number : c.len.result + 1 ≡ suc (length c.args.sound.now.state.clients) = omega (arith, c.len.ensures) in
-    let told = c.push.ensures.grown ∙ ap (λ e. v.history ++ e ∷ []) (c.open-2.ensures ∙ ap (λ k. opens k c.args.node c.args.durability) number) in
-    let same = done s v c.args.node c.args.durability c.open.new.self levels c.push.new.self.events c.in_default-begin.ensures.ok c.open.ensures told in
-    let enrols : EnrolsAt s.levels levels (suc (length s.clients)) c.args.node =
-    subst (λ t. EnrolsAt (levels_of t) levels (suc (length s.clients)) c.args.node) c.begin.ensures.revokers
-    (subst (λ k. EnrolsAt (levels_of c.begin.new.state.leases) levels k c.args.node) number c.in_default-enrol.ensures.ok) in
-    record {
-      invariant = record {
-        holds = subst (λ u. ∥ MachineInvariant (observed u) ∥₁) (sym same)
-            (∥∥₁_map c.args.sound.now.invariant.holds
-            (λ h. event_keeps (observed s) (observed (after_open s c.args.node c.args.durability levels)) (open_client c.args.node c.args.durability)
-            (opened (suc (length s.clients))) h
-            (is_event s c.args.node c.args.durability levels c.args.sound.now.invariant.shape fine c.args.sound.now.invariant.noted enrols)));
-        shape = subst ShapeInvariant (sym same) (keeps_shape s c.args.node c.args.durability levels c.args.sound.now.invariant.shape fine);
-        noted = subst CutsInvariant (sym same) (open_noted s c.args.node c.args.durability levels c.args.sound.now.invariant.noted enrols);
-      };
-    }
+    record { invariant = record { holds = (opened_now g c).holds; shape = (opened_now g c).shape; noted = (opened_now g c).noted } }
 
 pub returns-clause-happens : goal.returns-clause-happens
-returns-clause-happens g c =
-    let s = value_of c.args.sound.now.state in
-    let v = value_of c.begin.new.state in
-    let levels = levels_of c.enrol.new.self in
-    let fine : open_fault (observed s) c.args.node ≡ None = sym c.open_refusal.ensures ∙ c.in_default.is in
-    let number : c.len.result + 1 ≡ suc (length c.args.sound.now.state.clients) = omega (arith, c.len.ensures) in
-    let told = c.push.ensures.grown ∙ ap (λ e. v.history ++ e ∷ []) (c.open-2.ensures ∙ ap (λ k. opens k c.args.node c.args.durability) number) in
-    let same = done s v c.args.node c.args.durability c.open.new.self levels c.push.new.self.events c.in_default-begin.ensures.ok c.open.ensures told in
-    let enrols : EnrolsAt s.levels levels (suc (length s.clients)) c.args.node =
-    subst (λ t. EnrolsAt (levels_of t) levels (suc (length s.clients)) c.args.node) c.begin.ensures.revokers
-    (subst (λ k. EnrolsAt (levels_of c.begin.new.state.leases) levels k c.args.node) number c.in_default-enrol.ensures.ok) in
-    subst (λ u. Opening (observed s) c.args.node c.args.durability (opened (c.len.result + 1)) (observed u)) (sym same)
-    (subst (λ k. Opening (observed s) c.args.node c.args.durability (opened k) (observed (after_open s c.args.node c.args.durability levels))) (sym number)
-    (is_event s c.args.node c.args.durability levels c.args.sound.now.invariant.shape fine c.args.sound.now.invariant.noted enrols))
+returns-clause-happens g c = (opened_now g c.before).happens

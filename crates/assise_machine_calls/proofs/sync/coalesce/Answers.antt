@@ -1,9 +1,21 @@
 use Rattle.assise_machine_calls.proofs.Common.{ap, refl, subst, sym, ◌∙◌, err_from_is_err_and, end, refused, MachineInvariant, observed, CutsInvariant}
-use Rattle.assise_machine_calls.proofs.Common.{ShapeInvariant, value_of, turn_answer}
+use Rattle.assise_machine_calls.proofs.Common.{ShapeInvariant, value_of, turn_answer, not_yet}
 use Rattle.assise_model_events.specs.Dsyncs.Coalescing.{lacks_memory}
-use Rattle.assise_machine_calls.proofs.GroupedSyncs.{coalesced_given, from_digested, from_high, home_log, lacking_seen, still_log}
-use Rattle.assise_machine_calls.proofs.SyncChanges.{fine_number}
+use Rattle.assise_machine_calls.proofs.GroupedSyncs.{CoalescesTo, coalesced_given, from_digested, from_high, home_log, lacking_seen, still_log}
+use Rattle.assise_machine_calls.proofs.SyncChanges.{Gives, fine_number}
+use Rattle.assise_machine_calls.proofs.sync.coalesce.Given as over
 use Rattle.assise_machine_calls.proofs.sync.coalesce.Goals as goal
+
+-- what is coalesced, with the invariant after it
+coalesced : (g : over.Over) (c : goal.After-raise_goal g) → Gives (CoalescesTo (value_of c.args.sound.now.state) c.args.client not_yet)
+    (record (value_of c.args.sound.now.state) { nodes = c.coalesce.new.self; clients = c.raise_goal.new.self })
+coalesced g c =
+    let s = value_of c.args.sound.now.state in
+    let x = c.args.sound.now in
+    coalesced_given s c.args.client x.invariant.shape c.requires.fine c.home-home.result (c.home-home.ensures ∙ ap (λ y. y.home) c.get.ensures)
+    x.invariant.holds c.coalesced_from-from.result c.coalesced_from-from.ensures c.coalesce.ensures.lawful x.invariant.noted
+    (lacking_seen s c.args.client c.requires.lacking) c.in_ok-coalesce.ensures.effects x.state.members.lawful.some_full c.coalesce.new.self c.end-end.result
+    c.raise_goal.new.self c.in_ok-coalesce.ensures.ok (c.end-end.ensures.end ∙ ap end c.log.ensures.log) c.raise_goal.ensures
 
 pub coalesced_from-from-requires-clause-client : goal.coalesced_from-from-requires-clause-client
 coalesced_from-from-requires-clause-client g c = fine_number (value_of c.args.sound.now.state) c.args.client c.requires.fine
@@ -64,25 +76,7 @@ returns-in_err-coalesce g c =
     }
 
 pub invariant_of-sound-2 : goal.invariant_of-sound-2
-invariant_of-sound-2 g c =
-    let s = value_of c.args.sound.now.state in
-    let x = c.args.sound.now in
-    let home = c.home-home.ensures ∙ ap (λ y. y.home) c.get.ensures in
-    let place = c.end-end.ensures.end ∙ ap end c.log.ensures.log in
-    let given = coalesced_given s c.args.client x.invariant.shape c.requires.fine c.home-home.result home x.invariant.holds c.coalesced_from-from.result
-    c.coalesced_from-from.ensures c.coalesce.ensures.lawful
-    x.invariant.noted (lacking_seen s c.args.client c.requires.lacking) c.in_ok-coalesce.ensures.effects x.state.members.lawful.some_full c.coalesce.new.self
-    c.end-end.result c.raise_goal.new.self c.in_ok-coalesce.ensures.ok place c.raise_goal.ensures in
-    record { invariant = record { holds = given.holds; shape = given.shape; noted = given.noted } }
+invariant_of-sound-2 g c = record { invariant = record { holds = (coalesced g c).holds; shape = (coalesced g c).shape; noted = (coalesced g c).noted } }
 
 pub returns : goal.returns
-returns g c =
-    let s = value_of c.args.sound.now.state in
-    let x = c.args.sound.now in
-    let home = c.home-home.ensures ∙ ap (λ y. y.home) c.get.ensures in
-    let place = c.end-end.ensures.end ∙ ap end c.log.ensures.log in
-    let given = coalesced_given s c.args.client x.invariant.shape c.requires.fine c.home-home.result home x.invariant.holds c.coalesced_from-from.result
-    c.coalesced_from-from.ensures c.coalesce.ensures.lawful
-    x.invariant.noted (lacking_seen s c.args.client c.requires.lacking) c.in_ok-coalesce.ensures.effects x.state.members.lawful.some_full c.coalesce.new.self
-    c.end-end.result c.raise_goal.new.self c.in_ok-coalesce.ensures.ok place c.raise_goal.ensures in
-    record { happens = given.happens; revokers = λ d. refl }
+returns g c = record { happens = (coalesced g c.before).happens; revokers = λ d. refl }

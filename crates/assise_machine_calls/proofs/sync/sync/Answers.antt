@@ -1,9 +1,37 @@
-use Rattle.assise_machine_calls.proofs.Common.{◌≡◌, ◌+◌, ◌++◌, ◌∷◌, [], length, refl, ap, ◌∙◌, arith, length_push, err_from_is_err_and, Done, calls, end_of_log}
-use Rattle.assise_machine_calls.proofs.Common.{received_by_all, refused, client_in, observed, world_of, value_of, turn_answer, op_of}
+use Rattle.assise_machine_calls.proofs.Common.{◌≡◌, ◌+◌, ◌++◌, ◌∷◌, [], length, refl, ap, ◌∙◌, arith, length_push, err_from_is_err_and, Done, calls, refused}
+use Rattle.assise_machine_calls.proofs.Common.{client_in, observed, value_of, turn_answer, op_of, not_yet, replied}
 use Rattle.assise_model_events.specs.ClientEvents.Syncing.{lacks_memory}
 use Rattle.assise_machine_calls.proofs.SyncChanges.{all_received, answered_given, awaited_given, client_now, fine_number, made_fits, next_fits, place_is}
-use Rattle.assise_machine_calls.proofs.SyncChanges.{still_number, syncs_some}
+use Rattle.assise_machine_calls.proofs.SyncChanges.{Gives, SyncsTo, still_number, syncs_some}
+use Rattle.assise_machine_calls.proofs.sync.sync.Given as over
 use Rattle.assise_machine_calls.proofs.sync.sync.Goals as goal
+
+-- what is awaited, with the invariant after it
+awaited : (g : over.Over) (c : goal.After-raise_goal g) → Gives (SyncsTo (value_of c.args.sound.now.state) c.args.client (op_of c.args.which) not_yet)
+    (record (value_of c.args.sound.now.state) { clients = c.raise_goal.new.self })
+awaited g c =
+    let s = value_of c.args.sound.now.state in
+    let place = place_is s c.args.client c.end-end.result c.own_log.result.now c.args.sound.now.invariant.shape c.requires.fine
+    c.args.sound.now.state.members.lawful.some_full c.own_log.ensures.log c.end-end.ensures.end in
+    awaited_given s c.args.client (op_of c.args.which) c.end-end.result c.raise_goal.new.self
+    c.args.sound.now.invariant.shape c.requires.fine c.args.sound.now.invariant.holds c.raise_goal.ensures place (syncs_some c.args.which)
+    c.args.sound.now.invariant.noted c.acked.result c.acked.ensures c.if-acked-end.true
+
+-- what is answered, with the invariant after it
+answered : (g : over.Over) (c : goal.After-note_call g) →
+    Gives (SyncsTo (value_of c.args.sound.now.state) c.args.client (op_of c.args.which) (replied Done))
+    (record (value_of c.args.sound.now.state) { clients = c.note_call.new.self; history = c.push.new.self.events })
+answered g c =
+    let s = value_of c.args.sound.now.state in
+    let place = place_is s c.args.client c.end-end.result c.own_log.result.now c.args.sound.now.invariant.shape c.requires.fine
+    c.args.sound.now.state.members.lawful.some_full c.own_log.ensures.log c.end-end.ensures.end in
+    let all = all_received s c.args.client c.acked.result c.end-end.result c.acked.ensures place c.if-acked-end.false in
+    answered_given s c.args.client (op_of c.args.which) c.end-end.result c.raise_goal-2.new.self
+    c.args.sound.now.invariant.shape c.requires.fine c.args.sound.now.invariant.holds c.raise_goal-2.ensures place (syncs_some c.args.which)
+    c.args.sound.now.invariant.noted all c.next-number.result c.call.result c.note_call.new.self c.reserve.new.self.events
+    c.push.new.self.events (c.next-number.ensures ∙ ap (λ x. x.next) c.get.ensures)
+    (c.call.ensures ∙ ap (λ o. calls (record { client = c.args.client; number = c.next-number.result; op = o; reply = Done })) c.op_of.ensures)
+    c.note_call.ensures c.reserve.ensures.same c.push.ensures.grown
 
 pub own_log-requires-clause-client : goal.own_log-requires-clause-client
 own_log-requires-clause-client g c = fine_number (value_of c.args.sound.now.state) c.args.client c.requires.fine
@@ -15,39 +43,18 @@ pub raise_goal-requires : goal.raise_goal-requires
 raise_goal-requires g c = record { client = fine_number (value_of c.args.sound.now.state) c.args.client c.requires.fine }
 
 pub invariant_of-sound : goal.invariant_of-sound
-invariant_of-sound g c =
-    let s = value_of c.args.sound.now.state in
-    let place : c.end-end.result ≡ end_of_log (world_of s) c.args.client =
-    place_is s c.args.client c.end-end.result c.own_log.result.now c.args.sound.now.invariant.shape c.requires.fine
-    c.args.sound.now.state.members.lawful.some_full
-    c.own_log.ensures.log c.end-end.ensures.end in
-    let given = awaited_given s c.args.client (op_of c.args.which) c.end-end.result c.raise_goal.new.self c.args.sound.now.invariant.shape c.requires.fine
-    c.args.sound.now.invariant.holds c.raise_goal.ensures
-    place (syncs_some c.args.which) c.args.sound.now.invariant.noted c.acked.result c.acked.ensures c.if-acked-end.true in
-    record { invariant = record { holds = given.holds; shape = given.shape; noted = given.noted } }
+invariant_of-sound g c = record { invariant = record { holds = (awaited g c).holds; shape = (awaited g c).shape; noted = (awaited g c).noted } }
 
 pub returns-then-acked-end : goal.returns-then-acked-end
-returns-then-acked-end g c =
-    let s = value_of c.args.sound.now.state in
-    let place : c.end-end.result ≡ end_of_log (world_of s) c.args.client =
-    place_is s c.args.client c.end-end.result c.own_log.result.now c.args.sound.now.invariant.shape c.requires.fine
-    c.args.sound.now.state.members.lawful.some_full
-    c.own_log.ensures.log c.end-end.ensures.end in
-    let given = awaited_given s c.args.client (op_of c.args.which) c.end-end.result c.raise_goal.new.self c.args.sound.now.invariant.shape c.requires.fine
-    c.args.sound.now.invariant.holds c.raise_goal.ensures
-    place (syncs_some c.args.which) c.args.sound.now.invariant.noted c.acked.result c.acked.ensures c.if-acked-end.true in
-    record { happens = given.happens; revokers = λ d. refl }
+returns-then-acked-end g c = record { happens = (awaited g c.before).happens; revokers = λ d. refl }
 
 pub returns-in_err-reserve : goal.returns-in_err-reserve
 unfolding observed
 returns-in_err-reserve g c =
     let s = value_of c.args.sound.now.state in
-    let place : c.end-end.result ≡ end_of_log (world_of s) c.args.client =
-    place_is s c.args.client c.end-end.result c.own_log.result.now c.args.sound.now.invariant.shape c.requires.fine
-    c.args.sound.now.state.members.lawful.some_full
-    c.own_log.ensures.log c.end-end.ensures.end in
-    let all : received_by_all (world_of s) c.args.client ≡ end_of_log (world_of s) c.args.client =
-    all_received s c.args.client c.acked.result c.end-end.result c.acked.ensures place c.if-acked-end.false in
+    let place = place_is s c.args.client c.end-end.result c.own_log.result.now c.args.sound.now.invariant.shape c.requires.fine
+    c.args.sound.now.state.members.lawful.some_full c.own_log.ensures.log c.end-end.ensures.end in
+    let all = all_received s c.args.client c.acked.result c.end-end.result c.acked.ensures place c.if-acked-end.false in
     let error = err_from_is_err_and c.from_residual.result c.from_residual.ensures.1 in
     record {
       happens = lacks_memory c.requires.fine all (ap turn_answer error.1 ∙ ap refused (error.2 ∙ c.in_err-reserve.ensures.only_memory))
@@ -85,39 +92,7 @@ note_call-requires-clause-made g c =
     made_fits s c.args.client c.requires.fine c.args.sound.now.invariant.holds (client_in c.raise_goal-2.new.self c.args.client) (ap (λ y. y.made) now)
 
 pub invariant_of-sound-2 : goal.invariant_of-sound-2
-invariant_of-sound-2 g c =
-    let s = value_of c.args.sound.now.state in
-    let place : c.end-end.result ≡ end_of_log (world_of s) c.args.client =
-    place_is s c.args.client c.end-end.result c.own_log.result.now c.args.sound.now.invariant.shape c.requires.fine
-    c.args.sound.now.state.members.lawful.some_full
-    c.own_log.ensures.log c.end-end.ensures.end in
-    let all : received_by_all (world_of s) c.args.client ≡ end_of_log (world_of s) c.args.client =
-    all_received s c.args.client c.acked.result c.end-end.result c.acked.ensures place c.if-acked-end.false in
-    let given =
-    answered_given s c.args.client (op_of c.args.which) c.end-end.result c.raise_goal-2.new.self c.args.sound.now.invariant.shape c.requires.fine
-    c.args.sound.now.invariant.holds c.raise_goal-2.ensures place (syncs_some c.args.which) c.args.sound.now.invariant.noted all
-    c.next-number.result c.call.result c.note_call.new.self c.reserve.new.self.events c.push.new.self.events
-    (c.next-number.ensures ∙ ap (λ x. x.next) c.get.ensures)
-    (c.call.ensures ∙ ap (λ o. calls (record { client = c.args.client; number = c.next-number.result; op = o; reply = Done })) c.op_of.ensures)
-    c.note_call.ensures c.reserve.ensures.same c.push.ensures.grown
-    in
-    record { invariant = record { holds = given.holds; shape = given.shape; noted = given.noted } }
+invariant_of-sound-2 g c = record { invariant = record { holds = (answered g c).holds; shape = (answered g c).shape; noted = (answered g c).noted } }
 
 pub returns : goal.returns
-returns g c =
-    let s = value_of c.args.sound.now.state in
-    let place : c.end-end.result ≡ end_of_log (world_of s) c.args.client =
-    place_is s c.args.client c.end-end.result c.own_log.result.now c.args.sound.now.invariant.shape c.requires.fine
-    c.args.sound.now.state.members.lawful.some_full
-    c.own_log.ensures.log c.end-end.ensures.end in
-    let all : received_by_all (world_of s) c.args.client ≡ end_of_log (world_of s) c.args.client =
-    all_received s c.args.client c.acked.result c.end-end.result c.acked.ensures place c.if-acked-end.false in
-    let given =
-    answered_given s c.args.client (op_of c.args.which) c.end-end.result c.raise_goal-2.new.self c.args.sound.now.invariant.shape c.requires.fine
-    c.args.sound.now.invariant.holds c.raise_goal-2.ensures place (syncs_some c.args.which) c.args.sound.now.invariant.noted all
-    c.next-number.result c.call.result c.note_call.new.self c.reserve.new.self.events c.push.new.self.events
-    (c.next-number.ensures ∙ ap (λ x. x.next) c.get.ensures)
-    (c.call.ensures ∙ ap (λ o. calls (record { client = c.args.client; number = c.next-number.result; op = o; reply = Done })) c.op_of.ensures)
-    c.note_call.ensures c.reserve.ensures.same c.push.ensures.grown
-    in
-    record { happens = given.happens; revokers = λ d. refl }
+returns g c = record { happens = (answered g c.before).happens; revokers = λ d. refl }
