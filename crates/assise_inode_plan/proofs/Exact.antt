@@ -15,7 +15,7 @@ after_visits before v x = record { visits = before ++ visits_of v x; reply = rep
 one_more_visit : (before : List ℕ) (i : ℕ) (v : Values) (next : Interaction) → after_visits (before ++ i ∷ []) v next
     ≡ record { visits = before ++ i ∷ visits_of v next; reply = reply_of v next; effects = effects_of v next }
 unfolding after_visits
-one_more_visit before i v next = grind (arith, reply_of, effects_of, append_assoc, visits_of)
+one_more_visit before i v next = grind (arith, append_assoc)
 
 step_by_step : (leased : LeaseView) (v : Values) (before : List ℕ) (x : Interaction) → plan_from leased v before x ≡ plan_lacking (after_visits before v x)
     (first_missing leased (for_reading (visits_of v x)))
@@ -58,7 +58,7 @@ few_planned leased v op fresh (Some w) = omega arith
 pub few_effects_planned : {E : Type 0} (r : Result Planned E) (leased : LeaseView) (v : Values) (op : Op) (fresh : ℕ) →
     IfOk r (λ p. shown p ≡ plan_from leased v [] (interaction op fresh)) →
     IfOk r (λ p. length (effects_planned (shown p)) ≤ 4)
-few_effects_planned (Ok p) leased v op fresh h = grind (arith, effects_planned, whole_plan, interaction, few_planned, first_missing, for_reading, step)
+few_effects_planned (Ok p) leased v op fresh h = grind (arith, whole_plan, few_planned)
 few_effects_planned (Err e) leased v op fresh h = tt
 
 -- ---- they can be made all or none
@@ -70,5 +70,5 @@ whole_planned v op fresh (Some w) = inr (inl tt)
 pub whole_effects_planned : {E : Type 0} (r : Result Planned E) (leased : LeaseView) (v : Values) (op : Op) (fresh : ℕ) →
     IfOk r (λ p. shown p ≡ plan_from leased v [] (interaction op fresh)) →
     IfOk r (λ p. CanBeMadeWhole (effects_planned (shown p)))
-whole_effects_planned (Ok p) leased v op fresh h = grind (arith, effects_planned, whole_plan, interaction, whole_planned, first_missing, for_reading, step)
+whole_effects_planned (Ok p) leased v op fresh h = grind (arith, whole_plan, whole_planned)
 whole_effects_planned (Err e) leased v op fresh h = tt

@@ -53,14 +53,14 @@ ready_from s u (Some w) e = cc
 
 pub ready_has_all : (leased : LeaseView) (s u : Step) (ws : List (ℕ × Mode)) → plan_lacking s (first_missing leased ws) ≡ ready u →
     (u ≡ s) × AreLeased leased ws
-ready_has_all leased s u ws e = grind (arith, ready_from, first_missing, all_leased)
+ready_has_all leased s u ws e = grind (arith, all_leased)
 
 -- ---- inodes that agree
 
 same_from : (leased : LeaseView) (v w : Values) (before : List ℕ) (x : Interaction) → ((i : ℕ) → leased i Read ≡ true → v i ≡ w i) → plan_from leased v before x
     ≡ plan_from leased w before x
 same_from leased v w before (finish reply es) same = refl
-same_from leased v w before (visit i next) same = grind (arith, same_from leased v w (before ++ i ∷ []) (next (v i)) same, cases_Bool, plan_from)
+same_from leased v w before (visit i next) same = grind (arith, same_from leased v w (before ++ i ∷ []) (next (v i)) same)
 
 pub same_visits : (leased : LeaseView) (v w : Values) (op : Op) (fresh : ℕ) → ((i : ℕ) → leased i Read ≡ true → v i ≡ w i) →
     visited_plan_of leased (step v op fresh) ≡ visited_plan_of leased (step w op fresh)

@@ -118,7 +118,7 @@ module _ (leased : LeaseView) (v : Values) (before : List ℕ) (p q names new_na
     (name_at : name ≡ slice_index_or names (length names - 1) name)
     (outside : is_proper_prefix p q ≡ false) where
   of_names : plan_from leased v [] (walk_to_entry (parent_of names) name (move_to names new_names)) ≡ plan_from leased v [] (rename_call p q)
-  of_names = grind (arith, rename_below, is_proper_prefix, plan_from, rename_call)
+  of_names = grind (arith, rename_below)
 
   pub rename_stops : (stop : Stop) → end ≡ Err stop → plan_stopped reads stop ≡ plan_from leased v [] (rename_call p q)
   rename_stops stop stopped = at_entry_stop leased v before (parent_of names) name reads end none ended stop stopped (move_to names new_names) ∙ of_names

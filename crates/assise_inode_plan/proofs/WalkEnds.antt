@@ -1,6 +1,6 @@
 -- What is planned for a call where its walk ends.
 use Rattle.assise_inode_plan.proofs.Common.{◌≡◌, ℕ, ◌-◌, ◌≤◌, if◌then◌else◌, ◌==◌, List, [], length, slice_index_or, Some, Result, Ok, Err, MatchResult, Bor}
-use Rattle.assise_inode_plan.proofs.Common.{ap, sym, subst, ◌∙◌, arith, ne_eqb, get_or_default, Reply, TreeError, last_name, then_or_error, walk, walk_from}
+use Rattle.assise_inode_plan.proofs.Common.{ap, sym, subst, ◌∙◌, arith, get_or_default, Reply, TreeError, last_name, then_or_error, walk, walk_from}
 use Rattle.assise_inode_plan.proofs.Common.{walk_to_entry, Content, Values, Interaction, link_of, LeaseView, Plan, ready, plan_from, plan_stopped, Entry, Stop}
 use Rattle.assise_inode_plan.proofs.Common.{Fault}
 use Rattle.assise_inode_plan.proofs.WalkRest.{Reached, reach_ends, reach_stops}
@@ -99,4 +99,4 @@ name_is p name some is = get_or_default p (length p - 1) [] name (omega (arith, 
 pub below_root : (leased : LeaseView) (v : Values) (at_root : Interaction) (below : List ℕ → Interaction) (p : List (List ℕ)) (name : List ℕ) → 1 ≤ length p →
     name ≡ slice_index_or p (length p - 1) name →
     plan_from leased v [] (below name) ≡ plan_from leased v [] (if length p == 0 then at_root else below (last_name p))
-below_root leased v at_root below p name some is = grind (arith, plan_from, name_is, last_name, ne_eqb)
+below_root leased v at_root below p name some is = grind (arith, name_is)

@@ -1,7 +1,7 @@
 -- A walk that is made again visits the same inodes, and ends at the same.
 use Rattle.assise_inode_plan.proofs.Common.{◌≡◌, ℕ, ◌≤◌, Bool, true, false, if◌then◌else◌, List, [], ◌∷◌, ◌++◌, length, take, ap, sym, refl, ◌∙◌, append_assoc}
-use Rattle.assise_inode_plan.proofs.Common.{length-append, take_all, arith, take-append-le, Read, walk, Content, Values, Interaction, visit, finish, LeaseView}
-use Rattle.assise_inode_plan.proofs.Common.{Plan, ready, missing, EndsAt, plan_from}
+use Rattle.assise_inode_plan.proofs.Common.{length-append, take_all, arith, take-append-le, Read, Content, Values, Interaction, visit, finish, LeaseView, Plan}
+use Rattle.assise_inode_plan.proofs.Common.{ready, missing, EndsAt, plan_from}
 use Rattle.std.proofs.Common.{append-nil}
 
 -- the visits of a walk, before one more
@@ -18,7 +18,7 @@ behind before (ready step) = ready (record { visits = before ++ step.visits; rep
 behind before (missing i mode) = missing i mode
 
 behind_both : (before more : List ℕ) (p : Plan) → behind before (behind more p) ≡ behind (before ++ more) p
-behind_both before more (ready step) = grind (arith, ready, append_assoc)
+behind_both before more (ready step) = grind (arith, append_assoc)
 behind_both before more (missing i mode) = refl
 
 module _ (leased : LeaseView) (v : Values) where
@@ -30,8 +30,8 @@ module _ (leased : LeaseView) (v : Values) where
   -- what was visited before changes nothing else
   later : (before : List ℕ) (x : Interaction) → plan_from leased v before x ≡ behind before (plan_from leased v [] x)
   later before (finish reply es) = ap (λ l. ready (record { visits = l; reply = reply; effects = es })) (sym (append-nil before))
-  later before (visit i next) = grind (arith, later (before ++ i ∷ []) (next (v i)), later (i ∷ []) (next (v i)), by_lease, plan_from, behind_both)
+  later before (visit i next) = grind (arith, later (before ++ i ∷ []) (next (v i)), later (i ∷ []) (next (v i)), behind_both)
 
   pub walk_again : (p : List (List ℕ)) (visits : List ℕ) (i : ℕ) (content : Content) → EndsAt leased v [] p visits i content → (before : List ℕ) →
       EndsAt leased v before p (before ++ visits) i content
-  walk_again p visits i content first before next = grind (arith, later, walk, behind_both, plan_from)
+  walk_again p visits i content first before next = grind (arith, later, behind_both)

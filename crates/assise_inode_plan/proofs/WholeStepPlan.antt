@@ -19,7 +19,7 @@ visits_then_changes leased s = go s.visits
 pub answers_kept : (v : Values) (outcome : Reply × Tree) (leased : LeaseView) (p : Plan) → PlanAnswers v outcome p →
     PlanAnswers v outcome (changed_plan_of leased p)
 answers_kept v outcome leased (missing i mode) h = tt
-answers_kept v outcome leased (ready s) h = grind (arith, first_missing, for_writing, touched, plan_lacking)
+answers_kept v outcome leased (ready s) h = grind arith
 
 -- and nothing is changed
 pub whole_kept : (leased : LeaseView) (p : Plan) → CanBeMadeWhole (effects_planned p) → CanBeMadeWhole (effects_planned (changed_plan_of leased p))

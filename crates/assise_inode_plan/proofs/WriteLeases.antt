@@ -17,7 +17,7 @@ LooksAt leased es k = first_missing leased (for_writing (touched es)) ≡ first_
 
 at_effect : (leased : LeaseView) (es : List Effect) (k : ℕ) (e : Effect) → LooksAt leased es k → k < length es → e ≡ slice_index_or es k e →
     first_missing leased (for_writing (touched es)) ≡ first_missing leased (for_writing (touched (e ∷ drop (k + 1) es)))
-at_effect leased es k e so_far few is = grind (arith, first_missing, for_writing, touched, drop_more)
+at_effect leased es k e so_far few is = grind (arith, drop_more)
 
 pub effect_lacks : (leased : LeaseView) (es : List Effect) (k : ℕ) (e : Effect) → LooksAt leased es k → k < length es → e ≡ slice_index_or es k e →
     leased (touched_by e) Write ≡ false →

@@ -35,14 +35,7 @@ pub record Comes (s : StateValue) (f : LogFrame) (n r : ℕ) : Type 0 where
 pub comes : {C : Type 0} (sound : SoundOf C) (f : LogFrame) (n r k : ℕ) (l : NumberedLog) → delivery_fault (machine_of sound.state) f n ≡ None →
     r ≡ log_end l → l ≡ (log_in sound.state.nodes n k).log → k ≡ f.client → Comes (value_of sound.state) f n r
 unfolding world_of
-comes sound f n r k l fine is log of_client = record {
-  shape = sound.invariant.shape;
-  holds = sound.invariant.holds;
-  noted = sound.invariant.noted;
-  some_full = sound.state.members.lawful.some_full;
-  fine = fine;
-  is = is ∙ ap log_end log ∙ ap (λ d. log_end (log_in sound.state.nodes n d).log) of_client;
-}
+comes sound f n r k l fine is log of_client = grind arith
 
 -- ---- what the laws ask of a delivery
 
@@ -106,12 +99,7 @@ module _ {s : StateValue} {f : LogFrame} {n r : ℕ} (came : Comes s f n r) wher
 
   from_timely : IsTimelyDelivery (observed s) f n → Next (own_log s c) (w.received n c)
   unfolding observed world_of own_seen
-  from_timely timely =
-      let whole : w.received n c < f.first + length f.records → w.border c (f.first + length f.records) ≡ true = λ past.
-      (let place : f.first + length f.records ≡ max (w.received n c) (f.first + length f.records) = omega (arith, past) in
-      ap (w.border c) place ∙ timely.whole)
-      in
-      assumption (whole, timely)
+  from_timely timely = grind arith
 
   pub not_timely : (IsNextOf s f n r → ⊥) → IsTimelyDelivery (observed s) f n → ⊥
   not_timely stale timely = stale (subst (Next (own_log s c)) (sym came.is) (from_timely timely))

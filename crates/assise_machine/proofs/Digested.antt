@@ -1,13 +1,13 @@
 -- A node's digest, as the laws have it.
-use Rattle.assise_machine.proofs.Common.{◌≡◌, ◌≢◌, ℕ, suc, ◌+◌, ◌-◌, ◌<◌, ◌≤◌, min, true, false, ◌==◌, List, [], ◌∷◌, length, map, take, inl, inr, refl, ap}
-use Rattle.assise_machine.proofs.Common.{sym, subst, ◌∙◌, arith, ∥∥₁_elim, ∥∥₁_map, props, cases_Bool, cases_lt, false_from_ne_true, nat_cmp, all_effects}
-use Rattle.assise_machine.proofs.Common.{all_applied, contains, touched, NumberedLog, log_end, is_border, border_end, border_first, whole_here, HasClient}
-use Rattle.assise_machine.proofs.Common.{ReceivedLog, RegionValue, TouchDisjoint, ahead, digested_further, log_at, noted, stale_again, with_written, Membership}
-use Rattle.assise_machine.proofs.Common.{Standing, down, full, full_nodes, returning, MayDigest, Compatible, Guarded, IsOrdered, WorldInvariant, WritesAreHeld}
-use Rattle.assise_machine.proofs.Common.{Full, World, undigested_below, received_by_all, received_by_all-below, received_by_all-border, DigestsNoted}
-use Rattle.assise_machine.proofs.Common.{undigested, HasLog, log_in, region_in, with_digested_in, with_log_in, is_full_in, own_seen, world_of, IsNumber}
-use Rattle.assise_machine.proofs.Common.{item_at, ShapeInvariant, StateValue, standings, has_log, same_first, seen_full, border_inside, so_many_marks}
-use Rattle.assise_machine.proofs.Common.{ahead_first, length-with, EndsWithGroup, NoneListed, digests_some}
+use Rattle.assise_machine.proofs.Common.{◌≡◌, ◌≢◌, ℕ, suc, ◌+◌, ◌-◌, ◌<◌, ◌≤◌, min, true, false, List, [], ◌∷◌, length, map, take, inl, inr, refl, ap, sym, ◌∙◌}
+use Rattle.assise_machine.proofs.Common.{arith, ∥∥₁_elim, ∥∥₁_map, props, cases_lt, false_from_ne_true, nat_cmp, all_effects, contains, touched, NumberedLog}
+use Rattle.assise_machine.proofs.Common.{log_end, is_border, border_end, border_first, whole_here, ReceivedLog, RegionValue, TouchDisjoint, ahead}
+use Rattle.assise_machine.proofs.Common.{digested_further, log_at, noted, stale_again, with_written, Membership, Standing, down, full, full_nodes, returning}
+use Rattle.assise_machine.proofs.Common.{MayDigest, Compatible, Guarded, IsOrdered, WorldInvariant, WritesAreHeld, Full, World, undigested_below}
+use Rattle.assise_machine.proofs.Common.{received_by_all, received_by_all-below, received_by_all-border, DigestsNoted, undigested, HasLog, log_in, region_in}
+use Rattle.assise_machine.proofs.Common.{with_digested_in, with_log_in, is_full_in, own_seen, world_of, IsNumber, item_at, ShapeInvariant, StateValue}
+use Rattle.assise_machine.proofs.Common.{standings, has_log, same_first, seen_full, border_inside, so_many_marks, ahead_first, length-with, EndsWithGroup}
+use Rattle.assise_machine.proofs.Common.{NoneListed, digests_some}
 use Rattle.std.specs.FinSet as set
 use Rattle.std.specs.FinSet.{contains-from_list_nat}
 use Rattle.assise_private_log.specs.Borders.{whole_count}
@@ -15,7 +15,7 @@ use Rattle.assise_model_world.proofs.DigestKeeps.{digest_sound}
 use Rattle.assise_model_world.proofs.Logs.{contains-drop, contains-take}
 use Rattle.assise_manager.proofs.Sets.{union-empty}
 use Rattle.assise_machine_state.proofs.DigestSeen.{digest_shaped, noted_prefix}
-use Rattle.assise_machine_state.proofs.LogChanges.{log_back, log_here, region_here, region_with}
+use Rattle.assise_machine_state.proofs.LogChanges.{log_back, log_here, region_here}
 use Rattle.assise_machine.proofs.Unlisted.{nothing_noted}
 
 -- ---- nothing is changed where nothing is digested
@@ -28,11 +28,7 @@ none_written (list ∷ next ∷ lists) = ap (λ ls. list ∷ ls) (none_written (
 none_stale : (n : ℕ) (x : Standing) → stale_again n set.empty x ≡ x
 none_stale n full = refl
 none_stale n (down since) = refl
-none_stale n (returning since donor stale) =
-    elim (cases_Bool (donor == n)) [
-      | inl here ↦ rw here (ap (returning since donor) (union-empty stale))
-      | inr else ↦ rw else refl
-    ]
+none_stale n (returning since donor stale) = grind (arith, union-empty)
 
 none_again : (n : ℕ) (nodes : List Standing) → map (stale_again n set.empty) nodes ≡ nodes
 none_again n [] = refl
@@ -52,7 +48,7 @@ unfolding world_of
 none_digested s n c has =
     let none : (log_in s.nodes n c).digested + 0 - (log_in s.nodes n c).digested ≡ 0 = omega arith in
     let nodes : with_digested_in s.nodes n c ((log_in s.nodes n c).digested + 0 - (log_in s.nodes n c).digested) ≡ s.nodes =
-    ap (with_digested_in s.nodes n c) none ∙ none_made s.nodes n c in
+    grind (arith, none_made) in
     (λ i. record s { nodes = nodes i; members = none_noted s.members n i })
 
 -- ---- one client's records
@@ -64,11 +60,7 @@ pub digests_as : (s : StateValue) (n c count : ℕ) → HasLog s.nodes n c → (
     m ≡ noted s.members n (set.from_list is) → is ≡ touched (all_effects (take count (ahead (log_in s.nodes n c)))) → record s { nodes = rs; members = m }
     ≡ digests_some s n c count
 unfolding world_of
-digests_as s n c count has rs m is nodes members inodes =
-    let so_many : count ≡ (log_in s.nodes n c).digested + count - (log_in s.nodes n c).digested = omega arith in
-    let there = nodes ∙ ap (with_digested_in s.nodes n c) so_many in
-    let listed = members ∙ ap (λ l. noted s.members n (set.from_list l)) inodes in
-    (λ i. record s { nodes = there i; members = listed i })
+digests_as s n c count has rs m is nodes members inodes = grind arith
 
 -- as the code finds it while all nodes are full, when nothing is noted
 
@@ -81,20 +73,10 @@ digests_unlisted s n c count has many none rs nodes =
 -- what the node has then
 
 pub has_after : (rs : List RegionValue) (n c count : ℕ) → HasLog rs n c → HasLog (with_digested_in rs n c count) n c
-has_after rs n c count has =
-    let r : RegionValue =
-    region_with rs n c (all_applied (region_in rs n).inodes (all_effects (take count (ahead (log_in rs n c))))) (digested_further (log_in rs n c) count) in
-    let logs : length r.logs ≡ length (region_in rs n).logs = length-with (region_in rs n).logs c (digested_further (log_in rs n c) count) in
-    record {
-      node = record { some = has.node.some; there = subst (λ k. n ≤ k) (sym (length-with rs n r)) has.node.there };
-      client =
-          subst (λ q. HasClient q c) (sym (region_here rs n r has.node))
-          (record { some = has.client.some; there = subst (λ k. c ≤ k) (sym logs) has.client.there });
-    }
+has_after rs n c count has = grind (arith, length-with, region_here)
 
 pub log_after : (rs : List RegionValue) (n c count : ℕ) → HasLog rs n c → log_in (with_digested_in rs n c count) n c ≡ digested_further (log_in rs n c) count
-log_after rs n c count has =
-    log_here rs n c (all_applied (region_in rs n).inodes (all_effects (take count (ahead (log_in rs n c))))) (digested_further (log_in rs n c) count) has
+log_after rs n c count has = grind (arith, log_here)
 
 module _ (s : StateValue) (n c : ℕ) (shape : ShapeInvariant s) (sound : ∥ WorldInvariant (world_of s) ∥₁) (here : is_full_in (standings s) n ≡ true)
     (client : IsNumber s.clients c) where
@@ -120,9 +102,7 @@ module _ (s : StateValue) (n c : ℕ) (shape : ShapeInvariant s) (sound : ∥ Wo
   -- as the code finds it: how many records may be digested
   pub wanted_as : (from acked at_most wanted : ℕ) → from ≡ (log_in s.nodes n c).digested → acked ≡ received_by_all w c →
       wanted ≡ min at_most (acked - from) → wanted ≡ min at_most (undigested w n c)
-  wanted_as from acked at_most wanted log all is =
-      let there : from ≡ w.digested n c = log ∙ sym digested_is in
-      is ∙ (λ i. min at_most (all i - there i))
+  wanted_as from acked at_most wanted log all is = grind (arith, digested_is)
 
   -- no other client's records touch what these touch
 
@@ -171,32 +151,14 @@ module _ (s : StateValue) (n c : ℕ) (shape : ShapeInvariant s) (sound : ∥ Wo
   -- as the code finds it: what is digested ends with a group
   pub whole_as : (count : ℕ) → count ≤ undigested w n c → (0 < count → is_border (log_in s.nodes n c).log ((log_in s.nodes n c).digested + count) ≡ true) →
       EndsWithGroup w n c count
-  whole_as count few groups =
-      elim (cases_lt 0 count) [
-        | inl some ↦
-            let all : received_by_all w c ≤ w.received n c = received_by_all-below w n c full_here in
-            let there : (log_in s.nodes n c).digested + count ≡ w.digested n c + count = omega (arith, digested_is) in
-            sym (border_there (w.digested n c + count) (omega (arith, few, all, order.replicated)))
-            ∙ ap (is_border (log_in s.nodes n c).log) (sym there)
-            ∙ groups some
-        | inr none ↦ (let zero_now : count ≡ 0 = omega (arith, none) in subst (EndsWithGroup w n c) (sym zero_now) none_whole)
-      ]
+  whole_as count few groups = grind (arith, received_by_all-below, full_here, digested_is, border_there, none_whole)
 
   -- some whole groups are among 64 of them, and all of them are
   pub some_wanted : (l : NumberedLog) (from acked at_most most wanted : ℕ) → from ≡ (log_in s.nodes n c).digested → l ≡ (log_in s.nodes n c).log →
       acked ≡ received_by_all w c →
       most ≡ min at_most (acked - from) → wanted ≡ whole_count l from most → (64 ≤ most → 0 < wanted) → at_most ≡ 64 → 0 < undigested w n c → 0 < wanted
-  some_wanted l from acked at_most most wanted log logs all is counted some whole_most left =
-      let there : from ≡ w.digested n c = log ∙ sym digested_is in
-      elim (cases_lt most 64) [
-        | inl fewer ↦
-            let ends : from + most ≡ received_by_all w c = omega (arith, fewer, is, whole_most, all, there, order.replicated) in
-            let high : received_by_all w c ≤ w.received n c = received_by_all-below w n c full_here in
-            let border : is_border l (from + most) ≡ true =
-            (λ i. is_border (logs i) (ends i)) ∙ border_there (received_by_all w c) high ∙ all_border in
-            omega (arith, counted, whole_here l from most border, is, whole_most, left, all, there, fewer)
-        | inr enough ↦ some enough
-      ]
+  some_wanted l from acked at_most most wanted log logs all is counted some whole_most left = grind
+      (arith, digested_is, received_by_all-below, full_here, border_there, all_border, whole_here)
 
   -- ---- `count` of them
 

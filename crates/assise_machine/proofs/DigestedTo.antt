@@ -1,8 +1,8 @@
 -- A node's digest of one client's records after another's, as the laws have it.
 use Rattle.assise_machine.proofs.Common.{◌≡◌, ℕ, zero, suc, ◌+◌, ◌-◌, ◌<◌, ◌≤◌, min, Bool, true, false, take, length, inl, inr, refl, ap, sym, subst, ◌∙◌}
-use Rattle.assise_machine.proofs.Common.{arith, both_ways, cases_eq, cases_lt, ∥∥₁_elim, props, nat_cmp, all_effects, contains, touched, ahead, WorldInvariant}
-use Rattle.assise_machine.proofs.Common.{World, received_by_all, DigestsNoted, DigestsTo, most_digested, part_of, undigested, undigested_to, hot_capacities}
-use Rattle.assise_machine.proofs.Common.{log_in, is_full_in, world_of, IsNumber, ShapeInvariant, StateValue, standings, full_seen, seen_full, region_keeps}
+use Rattle.assise_machine.proofs.Common.{arith, cases_eq, cases_lt, ∥∥₁_elim, props, nat_cmp, all_effects, contains, touched, ahead, WorldInvariant, World}
+use Rattle.assise_machine.proofs.Common.{received_by_all, DigestsNoted, DigestsTo, most_digested, part_of, undigested, undigested_to, hot_capacities, log_in}
+use Rattle.assise_machine.proofs.Common.{is_full_in, world_of, IsNumber, ShapeInvariant, StateValue, standings, full_seen, seen_full, region_keeps}
 use Rattle.assise_machine.proofs.Common.{EndWithGroups, EndsWithGroup, NoneListed, digests_some, digests_to}
 use Rattle.std.specs.FinSet as set
 use Rattle.assise_model_events.proofs.Digestible.{same_received}
@@ -142,10 +142,7 @@ module _ (s : StateValue) (n : ℕ) (shape : ShapeInvariant s) (sound : ∥ Worl
   -- where each has enough for all
   enough_same : (a b m : ℕ) → undigested_to w n m ≤ a → undigested_to w n m ≤ b → digests_to s n a m ≡ digests_to s n b m
   enough_same a b zero first second = refl
-  enough_same a b (suc m) first second =
-      let parts : part_of w n a (suc m) ≡ part_of w n b (suc m) = omega (arith, first, second) in
-      let before = enough_same a b m (omega (arith, first)) (omega (arith, second)) in
-      (λ i. digests_some (before i) n (suc m) (parts i))
+  enough_same a b (suc m) first second = grind (arith, enough_same a b m (omega (arith, first)) (omega (arith, second)))
 
   none_more : (count m : ℕ) → m < length s.clients → EndWithGroups w n count m → part_of w n count (suc m) ≡ 0 → digests_to s n count (suc m)
       ≡ digests_to s n count m
@@ -185,13 +182,7 @@ module _ (s : StateValue) (n : ℕ) (shape : ShapeInvariant s) (sound : ∥ Worl
       ]
 
   stopped_whole : (count m : ℕ) → count ≤ undigested_to w n m → EndWithGroups w n count m → EndWithGroups w n count (suc m)
-  stopped_whole count m few whole c low =
-      elim (cases_eq c m) [
-        | inl last ↦
-            let none : part_of w n count (suc c) ≡ 0 = subst (λ k. part_of w n count (suc k) ≡ 0) (sym last) (omega (arith, few)) in
-            subst (EndsWithGroup w n (suc c)) (sym none) (nothing_whole c)
-        | inr before ↦ whole c (omega (arith, low, before))
-      ]
+  stopped_whole count m few whole c low = grind (arith, nothing_whole c)
 
   parts_behind : (a b m : ℕ) → a ≡ min most_digested (undigested_to w n m) → b ≤ min (most_digested - a) (undigested w n (suc m)) → EndWithGroups w n a m →
       EndsWithGroup w n (suc m) b →
@@ -199,12 +190,9 @@ module _ (s : StateValue) (n : ℕ) (shape : ShapeInvariant s) (sound : ∥ Worl
   parts_behind a b m all few whole own c low =
       elim (cases_eq c m) [
         | inl last ↦
-            let part : b ≡ part_of w n (a + b) (suc m) = omega (arith, all, few) in
-            subst (λ k. EndsWithGroup w n (suc k) (part_of w n (a + b) (suc k))) (sym last) (subst (EndsWithGroup w n (suc m)) part own)
+            grind arith
         | inr before ↦
-            let there : undigested_to w n (suc c) ≤ undigested_to w n m = before_low (suc c) m (omega (arith, low, before)) in
-            let part : part_of w n a (suc c) ≡ part_of w n (a + b) (suc c) = omega (arith, all, few, there) in
-            subst (EndsWithGroup w n (suc c)) part (whole c (omega (arith, low, before)))
+            grind (arith, before_low (suc c) m (omega (arith, low, before)))
       ]
 
   -- a client's part behind those of the clients before
@@ -219,17 +207,7 @@ module _ (s : StateValue) (n : ℕ) (shape : ShapeInvariant s) (sound : ∥ Worl
 
   -- it ended before the next client
   past_more : (m : ℕ) {t : StateValue} {a : ℕ} {r e : Bool} → m < length s.clients → GoesTo s n m t a r e → e ≡ true → GoesTo s n (suc m) t a r e
-  past_more m {t} {a} {r} {e} low go stopped =
-      let less = go.ended stopped in
-      record {
-        digests = go.digests ∙ sym (stopped_before a m low go.groups (omega (arith, less)));
-        groups = stopped_whole a m (omega (arith, less)) go.groups;
-        few = omega (arith, go.few);
-        all = λ fine. absurd (both_ways e fine stopped);
-        ended = λ yes. omega (arith, less);
-        refused = go.refused;
-        some = λ fine more. go.some fine (omega (arith, less));
-      }
+  past_more m {t} {a} {r} {e} low go stopped = grind (arith, stopped_before, stopped_whole)
 
   -- the next client's part more: where there was something to digest before, some was, and else there are 64 left of the most
   part_more : (m : ℕ) {t u : StateValue} {a b : ℕ} {was r e : Bool} → m < length s.clients → GoesTo s n m t a was false →
@@ -246,16 +224,11 @@ module _ (s : StateValue) (n : ℕ) (shape : ShapeInvariant s) (sound : ∥ Worl
         all = λ fine. omega (arith, whole, part.all fine, left);
         ended = λ yes. omega (arith, whole, part.ended yes, left);
         refused = part.refused;
-        some = λ fine more. elim (cases_lt 0 a) [
-          | inl before ↦ omega (arith, before)
-          | inr none ↦ (let here = part.some fine (omega (arith, none)) (omega (arith, none, whole, more, left)) in omega (arith, here))
-        ];
+        some = grind arith;
       }
 
   pub goes_past : (k : ℕ) {t : StateValue} {a : ℕ} {r e : Bool} → 1 ≤ k → k ≤ length s.clients → GoesTo s n (k - 1) t a r e → e ≡ true → GoesTo s n k t a r e
-  goes_past k {t} {a} {r} {e} some low go stopped =
-      let next : suc (k - 1) ≡ k = omega (arith, some) in
-      subst (λ j. GoesTo s n j t a r e) next (past_more (k - 1) (omega (arith, some, low)) go stopped)
+  goes_past k {t} {a} {r} {e} some low go stopped = grind (arith, past_more (k - 1) (omega (arith, some, low)) go stopped)
 
   pub goes_on : (k : ℕ) {t u : StateValue} {a b : ℕ} {was r e : Bool} → 1 ≤ k → k ≤ length s.clients → GoesTo s n (k - 1) t a was false →
       Part t n k (most_digested - a) u b r e → GoesTo s n k u (a + b) r e

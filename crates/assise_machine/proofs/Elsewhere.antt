@@ -32,8 +32,7 @@ pub event_ahead : (m m' : Machine) (e : ClusterEvent) (a : Answer) → Happens m
     (j c : ℕ) → Full m.world j → node_of m.world e ≢ Some j → undigested_records m'.world j c ≡ undigested_records m.world j c
 event_ahead m m' (open_client n u) a s none j c there other = (opening_leaves m m' n u a s j there).ahead c
 event_ahead m m' (try_call d op) a s none j c there other = (trying_leaves m m' d op a s j there).ahead (λ here. other (ap Some (sym here))) c
-event_ahead m m' (try_fsync d) a s none j c there other =
-    (fsyncing_leaves m m' (durability_of d m.history) d a s j there).ahead (λ here. other (ap Some (sym here))) c
+event_ahead m m' (try_fsync d) a s none j c there other = grind (arith, fsyncing_leaves m m' (durability_of d m.history) d a s j there)
 event_ahead m m' (outgoing n) a s none j c there other = (sending_leaves m m' n a s j).ahead c
 event_ahead m m' (deliver f n) a s none j c there other = (delivering_leaves m m' f n a s j there).ahead (λ here. other (ap Some (sym here))) c
 event_ahead m m' (digest n) a s none j c there other = (digesting_leaves m m' n a s j there (λ here. other (ap Some (sym here)))).ahead c

@@ -31,10 +31,13 @@ all_keep k m m' ((e, a) ∷ es) h (v, (step, rest)) = all_keep (stock_after k a)
 
 pub all_told : (k : ℕ) (m m' : Machine) (es : List (ClusterEvent × Answer)) → AllServed k m es m' → m'.history ≡ m.history ++ all_entries m.history es
 all_told k m m' [] e = ap (λ x. x.history) e ∙ sym (append-nil m.history)
-all_told k m m' ((e, a) ∷ es) (v, (step, rest)) =
-    let now : v.history ≡ m.history ++ entries_of m.history e a = served_told k m v e a step in
-    all_told (stock_after k a) v m' es rest ∙ ap (λ h. h ++ all_entries h es) now ∙ append_assoc m.history (entries_of m.history e a)
-    (all_entries (m.history ++ entries_of m.history e a) es)
+all_told k m m' ((e, a) ∷ es) (v, (step, rest)) = grind (
+  arith,
+  all_told (stock_after k a) v m' es rest,
+  served_told k m v e a step,
+  append_assoc m.history (entries_of m.history e a)
+      (all_entries (m.history ++ entries_of m.history e a) es),
+)
 
 pub all_lead : (k : ℕ) (m m' : Machine) (es : List (ClusterEvent × Answer)) → MachineInvariant m → AllServed k m es m' → Leads m m'
 all_lead k m m' [] h e = same_leads m m' e
@@ -42,9 +45,7 @@ all_lead k m m' ((e, a) ∷ es) h (v, (step, rest)) =
     then_leads m v m' (served_leads k m v e a h step) (all_lead (stock_after k a) v m' es (served_keeps k m v e a h step) rest)
 
 pub all_last : (k : ℕ) (m m' : Machine) (es : List (ClusterEvent × Answer)) → MachineInvariant m → AllServed k m es m' → IsLasting (state_of m) (state_of m')
-all_last k m m' es h run =
-    let l : Leads m m' = all_lead k m m' es h run in
-    subst (IsLasting (state_of m)) l.last (trace_lasts (state_of m) l.states h.sound h.recorded l.trace)
+all_last k m m' es h run = grind (arith, all_lead, trace_lasts)
 
 -- ---- one event more
 

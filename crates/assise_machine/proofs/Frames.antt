@@ -1,11 +1,11 @@
 -- What a node sends of a client's log, as the laws have it.
-use Rattle.assise_machine.proofs.Common.{append-nil, subst, length-append, ◌≡◌, ℕ, zero, suc, ◌-◌, ◌<◌, ◌≤◌, ◌==◌, min, Bool, true, List, [], ◌∷◌, ◌++◌, filter}
-use Rattle.assise_machine.proofs.Common.{length, nat_le, nat_lt, Option, Some, None, inl, inr, refl, ap, sym, ◌∙◌, arith, eq-eqb, option_to_list, ∥∥₁_elim}
-use Rattle.assise_machine.proofs.Common.{props, cases_Bool, cases_eq, or_cases, or_left, or_right, WrongPhase, MOST_CLIENTS, LogFrame, log_end, is_border}
-use Rattle.assise_machine.proofs.Common.{behind, chain, first_of_all, LogRecord, level_of, sends_marks, contains, Standing, full_nodes, standing_of}
-use Rattle.assise_machine.proofs.Common.{contains-filter, node_fault, unless_full, MachineInvariant, Machine, for_node, frame_for, frames_to, border_marks}
-use Rattle.assise_machine.proofs.Common.{next_node, node_log, client_in, HasLog, log_in, is_full_in, observed, own_seen, stands_full, world_of, IsNumber}
-use Rattle.assise_machine.proofs.Common.{ShapeInvariant, StateValue, standings, less_one, has_log, same_first, seen_full, listed_is_full}
+use Rattle.assise_machine.proofs.Common.{append-nil, length-append, ◌≡◌, ℕ, zero, suc, ◌-◌, ◌<◌, ◌≤◌, ◌==◌, min, Bool, true, List, [], ◌∷◌, ◌++◌, length}
+use Rattle.assise_machine.proofs.Common.{Option, Some, None, inl, inr, refl, ap, sym, ◌∙◌, arith, eq-eqb, option_to_list, ∥∥₁_elim, props, cases_Bool, cases_eq}
+use Rattle.assise_machine.proofs.Common.{or_left, or_right, WrongPhase, MOST_CLIENTS, LogFrame, log_end, is_border, behind, chain, first_of_all, LogRecord}
+use Rattle.assise_machine.proofs.Common.{level_of, sends_marks, contains, Standing, full_nodes, standing_of, contains-filter, node_fault, unless_full}
+use Rattle.assise_machine.proofs.Common.{MachineInvariant, Machine, for_node, frame_for, frames_to, border_marks, next_node, node_log, client_in, HasLog}
+use Rattle.assise_machine.proofs.Common.{log_in, is_full_in, observed, own_seen, stands_full, world_of, IsNumber, ShapeInvariant, StateValue, standings}
+use Rattle.assise_machine.proofs.Common.{less_one, has_log, same_first, seen_full, listed_is_full}
 use Rattle.assise_chain.specs.Messages.{frame_of, message_of}
 use Rattle.assise_inode_table.proofs.EffectValues.{contains-append}
 
@@ -32,12 +32,7 @@ behind_there (m ∷ ns) n k is =
     ]
 
 chain_there : (ns : List ℕ) (head k : ℕ) → contains (chain ns head) k ≡ true → contains ns k ≡ true
-chain_there ns head k there =
-    elim (or_cases (contains (filter (nat_le head) ns) k) (contains (filter (λ n. nat_lt n head) ns) k)
-    (sym (contains-append (filter (nat_le head) ns) (filter (λ n. nat_lt n head) ns) k) ∙ there)) [
-      | inl above ↦ contains-filter (nat_le head) ns k above
-      | inr below ↦ contains-filter (λ n. nat_lt n head) ns k below
-    ]
+chain_there ns head k there = grind (arith, contains-append, contains-filter)
 
 next_full : (nodes : List Standing) (head n k : ℕ) → behind n (chain (full_nodes nodes) head) ≡ Some k → is_full_in nodes k ≡ true
 next_full nodes head n k is = listed_is_full nodes k (chain_there (full_nodes nodes) head k (behind_there (chain (full_nodes nodes) head) n k is))
@@ -133,9 +128,7 @@ some_frames m n c (suc k) client low some =
     let both = length-append (frames_to m n k) (frame_for m n (suc k) (next_node m n (suc k))) in
     elim (cases_eq c (suc k)) [
       | inl last ↦
-          let here : 0 < length (frame_for m n (suc k) (next_node m n (suc k))) = subst (λ d. 0 < length (frame_for m n d (next_node m n d))) last
-          (some_long (frame_for m n c (next_node m n c)) some) in
-          omega (arith, both, here)
+          grind arith
       | inr before ↦
           let below : c ≤ k = omega (arith, low, before) in
           let there = some_frames m n c k client below some in

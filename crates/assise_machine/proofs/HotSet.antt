@@ -1,7 +1,7 @@
 -- How many inodes may be hot at a node is another number, or stays: the invariant between events stays.
 use Rattle.assise_machine.proofs.Common.{⊤, ◌≡◌, ℕ, List, None, Result, Ok, Err, OnErr, OnOk, IsOkUnless, refl, ap, sym, subst, ∥∥₁_map, Refusal, OutOfMemory}
-use Rattle.assise_machine.proofs.Common.{RegionValue, hot_set, refused, node_fault, MachineInvariant, SettingHot, is_set, lacks_memory, hot_holds, after_hot}
-use Rattle.assise_machine.proofs.Common.{with_hot_in, observed, IsNumber, CutsInvariant, ShapeInvariant, StateValue, full_number, setting_answer}
+use Rattle.assise_machine.proofs.Common.{RegionValue, hot_set, node_fault, MachineInvariant, SettingHot, is_set, hot_holds, after_hot, with_hot_in, observed}
+use Rattle.assise_machine.proofs.Common.{IsNumber, CutsInvariant, ShapeInvariant, StateValue, full_number, setting_answer, arith}
 use Rattle.assise_machine_state.proofs.HotSeen.{machine_set, notes_kept, shape_kept}
 use Rattle.assise_machine.proofs.Frames.{fine_node}
 
@@ -30,6 +30,4 @@ module _ (s : StateValue) (n capacity : ℕ) (shape : ShapeInvariant s) (fine : 
         noted = notes_kept s n capacity noted;
         happens = is_set_now;
       })
-  sets holds noted (Err e) rs set kept only =
-      let same : record s { nodes = rs } ≡ s = ap (λ x. record s { nodes = x }) kept in
-      subst (Sets s n capacity (Err e)) (sym same) (record { holds = holds; shape = shape; noted = noted; happens = lacks_memory fine (ap refused only) refl })
+  sets holds noted (Err e) rs set kept only = grind arith

@@ -1,8 +1,8 @@
 -- What a failure leaves at the other full nodes.
-use Rattle.assise_machine.proofs.Common.{◌≡◌, ◌≢◌, inl, inr, ℕ, ◌+◌, ◌-◌, ◌≤◌, Some, true, drop, take, length, List, ap, sym, subst, ◌∙◌, arith, and_parts}
-use Rattle.assise_machine.proofs.Common.{cases_Bool, cases_eq, eqb-true, drop-take, length-take, take_all, Loss, contains, donor_of, is_returning, full}
-use Rattle.assise_machine.proofs.Common.{standing_of, kept_at_failure, WorldInvariant, World, Full, undigested_records, undigested_below, end_of_log}
-use Rattle.assise_machine.proofs.Common.{records_between, kept_low, Answer, failed, MachineInvariant, Machine, Failing, IsFailed, full_after}
+use Rattle.assise_machine.proofs.Common.{◌≡◌, ◌≢◌, ℕ, ◌-◌, ◌≤◌, Some, true, take, length, List, ap, sym, ◌∙◌, arith, and_parts, cases_Bool, eqb-true, drop-take}
+use Rattle.assise_machine.proofs.Common.{length-take, take_all, Loss, donor_of, is_returning, full, standing_of, kept_at_failure, WorldInvariant, World, Full}
+use Rattle.assise_machine.proofs.Common.{undigested_records, undigested_below, end_of_log, records_between, kept_low, Answer, failed, MachineInvariant, Machine}
+use Rattle.assise_machine.proofs.Common.{Failing, IsFailed, full_after}
 use Rattle.assise_model_world.proofs.Views.{ahead_between}
 use Rattle.assise_model_events.specs.MemberEvents as member
 use Rattle.assise_machine.proofs.Others.{dropped_ahead, leaves_all, leaves_nodes}
@@ -17,18 +17,7 @@ cut_full : (m m' : Machine) (n j : ℕ) (e : IsFailed m n m') → Full m.world j
 cut_full m m' n j e there other = full_after e.cut e.refreshed j e.failure.rests.nodes.full (e.failure.fails.others j there other)
 
 failed_area : (m m' : Machine) (n j i : ℕ) → IsFailed m n m' → Full m.world j → m'.world.area j i ≡ m.world.area j i
-failed_area m m' n j i e there =
-    elim (cases_eq j n) [
-      | inl here ↦
-          subst (λ k. m'.world.area k i ≡ m.world.area k i) (sym here)
-          (e.others n i (λ still. e.failure.fails.gone (subst (λ ns. contains ns n ≡ true) e.failure.rests.nodes.full still))
-          ∙ e.failure.area_else n i (no_donor m n e.was_full))
-      | inr other ↦
-          let cut = e.failure.fails.others j there other in
-          e.drops.area j i (cut_full m m' n j e there other)
-          ∙ (e.failure.rests.nodes.same j cut).area i
-          ∙ e.failure.fails.area j i cut
-    ]
+failed_area m m' n j i e there = grind arith
 
 pub failing_area : (m m' : Machine) (n : ℕ) (a : Answer) → Failing m n a m' → (j i : ℕ) → Full m.world j → m'.world.area j i ≡ m.world.area j i
 failing_area m m' n a s j i there = grind (arith, failed_area, leaves_all)
@@ -40,11 +29,7 @@ prefix_ahead : (w v : World) (j c k : ℕ) → v.digested j c ≡ w.digested j c
     w.first c ≤ w.digested j c → w.digested j c ≤ k →
     undigested_records v j c ≡ undigested_below w j c k
 unfolding undigested_records undigested_below
-prefix_ahead w v j c k digested first log begun kept =
-    let parts : k - w.first c ≡ (w.digested j c - w.first c) + (k - w.digested j c) = omega (arith, begun, kept) in
-    (λ i. drop (digested i - first i) (log i))
-    ∙ ap (λ n. drop (w.digested j c - w.first c) (take n (w.log j c))) parts
-    ∙ drop-take (w.digested j c - w.first c) (k - w.digested j c) (w.log j c)
+prefix_ahead w v j c k digested first log begun kept = grind (arith, drop-take (w.digested j c - w.first c) (k - w.digested j c) (w.log j c))
 
 failed_ahead : (m m' : Machine) (n j c : ℕ) → WorldInvariant m.world → IsFailed m n m' → Full m.world j → j ≢ n → undigested_records m'.world j c
     ≡ undigested_below m.world j c (kept_at_failure m.world n c)
@@ -64,18 +49,12 @@ failed_ahead m m' n j c s e there other =
 
 short : (w : World) (j c : ℕ) → WorldInvariant w → Full w j → length (undigested_records w j c) ≤ end_of_log w c - w.digested j c
 unfolding records_between
-short w j c s there =
-    let order = s.coherent.order j c there in
-    let same = ap length (ahead_between w j c s there) in
-    let few = length-take (w.received j c - w.digested j c) (drop (w.digested j c - w.first c) (w.records c)) in
-    omega (arith, order.known, same, few)
+short w j c s there = grind (arith, ahead_between, length-take)
 
 -- a full node has nothing past the end of a client's log
 ahead_to_end : (w : World) (j c : ℕ) → WorldInvariant w → Full w j → undigested_below w j c (end_of_log w c) ≡ undigested_records w j c
 unfolding undigested_below
-ahead_to_end w j c s there =
-    let order = s.coherent.order j c there in
-    take_all (end_of_log w c - w.digested j c) (undigested_records w j c) (short w j c s there)
+ahead_to_end w j c s there = grind (arith, take_all, short)
 
 kept_whole : (w : World) (n c : ℕ) → (w.lives c ≡ true → w.home c ≢ n) → kept_at_failure w n c ≡ end_of_log w c
 unfolding kept_at_failure
@@ -103,8 +82,7 @@ failing_ahead m m' n losses h (member.is_refused r fault is same) j c there othe
 pub failing_elsewhere : (m m' : Machine) (n : ℕ) (a : Answer) → MachineInvariant m → Failing m n a m' → (j c : ℕ) → Full m.world j → j ≢ n →
     m.world.home c ≢ n →
     undigested_records m'.world j c ≡ undigested_records m.world j c
-failing_elsewhere m m' n a h (member.is_failed fine is e) j c there other away =
-    failed_ahead m m' n j c h.sound e there other ∙ kept_ahead m.world n j c h.sound there (λ lives. away)
+failing_elsewhere m m' n a h (member.is_failed fine is e) j c there other away = grind (arith, failed_ahead m m' n j c h.sound e there other, kept_ahead)
 failing_elsewhere m m' n a h (member.is_failed_again fine is e) j c there other away =
     (leaves_nodes m.world m'.world j e.failure.rests.logs e.failure.rests.nodes there).ahead c
 failing_elsewhere m m' n a h (member.lacks_memory fine is same) j c there other away = (leaves_all m m' j same).ahead c

@@ -1,6 +1,6 @@
 -- What is known of a client is what the history says.
-use Rattle.assise_machine.proofs.Common.{◌≡◌, ℕ, Bool, not, ◌∷◌, ◌++◌, ap, sym, ◌∙◌, arith, list_any, opens, is_failure_of, IsClient, MachineInvariant}
-use Rattle.assise_machine.proofs.Common.{ClientValue, client_in, observed, world_of, StateValue}
+use Rattle.assise_machine.proofs.Common.{◌≡◌, ℕ, Bool, not, ◌∷◌, ◌++◌, ap, sym, ◌∙◌, arith, opens, IsClient, MachineInvariant, ClientValue, client_in, observed}
+use Rattle.assise_machine.proofs.Common.{world_of, StateValue}
 use Rattle.assise_machine.specs.KnownClients.{IsKnownClient}
 
 same_not : (a b : Bool) → not a ≡ not b → a ≡ b
@@ -23,8 +23,6 @@ known_client s c x client is h =
       };
       crashed = sym (ap (λ y. y.crashed) same) ∙ was.crashed;
       failed =
-          sym (ap (λ y. y.failed) same)
-          ∙ same_not (client_in s.clients c).failed (list_any (is_failure_of (client_in s.clients c).home) since) was.lives
-          ∙ ap (λ n. list_any (is_failure_of n) since) home;
+          grind arith;
       calls = sym (ap (λ y. y.next) same) ∙ h.recorded.next c;
     }

@@ -1,7 +1,6 @@
 -- A log goes on with some records.
-use Rattle.assise_machine.proofs.Common.{◌≡◌, ℕ, zero, suc, ◌+◌, ◌-◌, ◌≤◌, List, [], ◌∷◌, length, take, drop, slice_get, Some, None, refl, ap, sym, subst, ◌∙◌}
-use Rattle.assise_machine.proofs.Common.{arith, cases_Bool, ltb-true, length-drop, take_all, drop-cons, LogRecord, AreWhole, NumberedLog, record_at}
-use Rattle.assise_machine.proofs.Common.{records_from}
+use Rattle.assise_machine.proofs.Common.{◌≡◌, ℕ, zero, suc, ◌+◌, ◌-◌, ◌≤◌, List, [], ◌∷◌, length, take, drop, slice_get, Some, None, refl, ap, sym, ◌∙◌, arith}
+use Rattle.assise_machine.proofs.Common.{cases_Bool, ltb-true, length-drop, take_all, drop-cons, LogRecord, AreWhole, NumberedLog, record_at, records_from}
 use Rattle.std.proofs.lemmas.Option.{get_or_from_slice_get, slice_get_within}
 
 drop_here : (xs : List LogRecord) (i : ℕ) (x : LogRecord) → slice_get xs i ≡ Some x → drop i xs ≡ x ∷ drop (suc i) xs
@@ -30,16 +29,10 @@ pub more_agrees : (xs ys rs : List LogRecord) (q r : LogRecord) → xs ≡ q ∷
 more_agrees xs ys rs q r is same rest = ap (take (suc (length rs))) is ∙ (λ i. same i ∷ rest i)
 
 pub first_agrees : (xs ys rs : List LogRecord) (q r : LogRecord) → xs ≡ q ∷ ys → take (length (r ∷ rs)) xs ≡ r ∷ rs → q ≡ r
-first_agrees xs ys rs q r is all = heads (sym (ap (take (suc (length rs))) is) ∙ all)
-  where
-    heads : {zs : List LogRecord} → q ∷ zs ≡ r ∷ rs → q ≡ r
-    heads same = cc same
+first_agrees xs ys rs q r is all = cc
 
 pub rest_agrees : (xs ys rs : List LogRecord) (q r : LogRecord) → xs ≡ q ∷ ys → take (length (r ∷ rs)) xs ≡ r ∷ rs → take (length rs) ys ≡ rs
-rest_agrees xs ys rs q r is all = tails (sym (ap (take (suc (length rs))) is) ∙ all)
-  where
-    tails : {zs : List LogRecord} → q ∷ zs ≡ r ∷ rs → zs ≡ rs
-    tails same = cc same
+rest_agrees xs ys rs q r is all = cc
 
 pub nothing_agrees : (xs rs : List LogRecord) (r : LogRecord) → xs ≡ [] → take (length (r ∷ rs)) xs ≡ r ∷ rs → ⊥
 nothing_agrees xs rs r is all = (let none : [] ≡ r ∷ rs = sym (ap (take (suc (length rs))) is) ∙ all in cc)
@@ -67,7 +60,4 @@ whole_part l from count whole = whole_prefix (records_from l from) count (whole_
 pub whole_new : (l : NumberedLog) (from skipped : ℕ) (rs : List LogRecord) → AreWhole l.records →
     take (length (take (length rs - skipped) (drop skipped rs))) (records_from l from) ≡ take (length rs - skipped) (drop skipped rs) →
     AreWhole (drop skipped rs)
-whole_new l from skipped rs whole all =
-    let left = length-drop skipped rs in
-    let new_is : take (length rs - skipped) (drop skipped rs) ≡ drop skipped rs = take_all (length rs - skipped) (drop skipped rs) (omega (arith, left)) in
-    subst AreWhole (all ∙ new_is) (whole_part l from (length (take (length rs - skipped) (drop skipped rs))) whole)
+whole_new l from skipped rs whole all = grind (arith, length-drop, take_all, whole_part)

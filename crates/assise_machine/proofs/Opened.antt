@@ -5,7 +5,7 @@ use Rattle.assise_machine.proofs.Common.{clients_opened, durability_of, Calling,
 use Rattle.assise_machine.proofs.Common.{open_client, try_call, try_fsync, crash, opened, entries_of, Dsyncing, Fsyncing, Happens, Trying, MachineInvariant}
 use Rattle.assise_machine.proofs.Common.{Machine, Answered, Event, AllServed, IsServed, all_opened, answer_seen, event_seen, last_first, opened_of, stock_after}
 use Rattle.assise_machine.proofs.Common.{stock_left, told}
-use Rattle.std.proofs.lemmas.List.Elements.{Contains-append_cases, Contains-append_left, Contains-append_right, Contains-push, Contains-push_cases}
+use Rattle.std.proofs.lemmas.List.Elements.{Contains-append_cases, Contains-append_left, Contains-append_right, Contains-push}
 use Rattle.assise_history.proofs.ClientCounts.{opened_append}
 use Rattle.assise_machine.proofs.EventLists.{served_keeps, served_told, told_now}
 
@@ -25,15 +25,7 @@ in_none : (c : ℕ) → Contains [] c → ⊥
 in_none c (k, low, is) = omega (arith, low)
 
 opened_is : (a : Answer) (c : ℕ) → Contains (opened_of a) c → a ≡ opened c
-opened_is a c here =
-    elim (opens_or a) [
-      | inl (d, is) ↦
-          elim (Contains-push_cases [] d c (subst (λ b. Contains (opened_of b) c) is here)) [
-            | inl before ↦ absurd (in_none c before)
-            | inr same ↦ is ∙ ap opened same
-          ]
-      | inr none ↦ absurd (in_none c (subst (λ cs. Contains cs c) none.none here))
-    ]
+opened_is a c here = grind arith
 
 opened_there : (a : Answer) (c : ℕ) → a ≡ opened c → Contains (opened_of a) c
 opened_there a c is = subst (λ b. Contains (opened_of b) c) (sym is) (Contains-push [] c)
@@ -96,10 +88,8 @@ clients_grow k m m' e a h step =
 
 all_grow : (k : ℕ) (m m' : Machine) (es : List (ClusterEvent × Answer)) → MachineInvariant m → AllServed k m es m' → m.world.clients ≤ m'.world.clients
 all_grow k m m' [] h same = (let is = ap (λ x. x.world.clients) same in omega (arith, is))
-all_grow k m m' ((e, a) ∷ es) h (v, (step, rest)) =
-    let first = clients_grow k m v e a h step in
-    let then = all_grow (stock_after k a) v m' es (served_keeps k m v e a h step) rest in
-    omega (arith, first, then)
+all_grow k m m' ((e, a) ∷ es) h (v, (step, rest)) = grind
+    (arith, all_grow (stock_after k a) v m' es (served_keeps k m v e a h step) rest, clients_grow k m v e a h step)
 
 -- those that were opened so far have no higher numbers than there are clients
 opened_low : (k : ℕ) (m m' : Machine) (es : List (ClusterEvent × Answer)) → MachineInvariant m → AllServed k m es m' → (c : ℕ) → Contains (all_opened es) c →
@@ -109,10 +99,7 @@ opened_low k m m' ((e, a) ∷ es) h (v, (step, rest)) c here =
     let still = served_keeps k m v e a h step in
     elim (Contains-append_cases (opened_of a) (all_opened es) c here) [
       | inl now ↦
-          let next = served_next k m v e c (subst (λ b. IsServed k m e b v) (opened_is a c now) step) in
-          let count = next.clients in
-          let later = all_grow (stock_after k a) v m' es still rest in
-          omega (arith, count, later)
+          grind (arith, all_grow (stock_after k a) v m' es still rest)
       | inr then ↦ opened_low (stock_after k a) v m' es still rest c then
     ]
 
@@ -120,10 +107,7 @@ opened_low k m m' ((e, a) ∷ es) h (v, (step, rest)) c here =
 pub opened_new : (k j : ℕ) (m v m' : Machine) (es : List (ClusterEvent × Answer)) (e : ClusterEvent) (a : Answer) → MachineInvariant m → AllServed k m es v →
     IsServed j v e a m' →
     (c : ℕ) → Contains (all_opened es) c → a ≢ opened c
-opened_new k j m v m' es e a h run step c here is =
-    let next = (served_next j v m' e c (subst (λ b. IsServed j v e b m') is step)).next in
-    let low = opened_low k m v es h run c here in
-    omega (arith, next, low)
+opened_new k j m v m' es e a h run step c here is = grind (arith, opened_low k m v es h run c here)
 
 -- ---- what they store
 
@@ -134,8 +118,7 @@ opened_more ((f, b) ∷ es) e a = ap (λ cs. opened_of b ++ cs) (opened_more es 
 module _ {C : Type 0} where
   last_append : (f : ℕ → Option C) (cs ds : List ℕ) → last_first f (cs ++ ds) ≡ last_first f ds ++ last_first f cs
   last_append f [] ds = sym (append-nil (last_first f ds))
-  last_append f (c ∷ cs) ds =
-      ap (λ rs. rs ++ option_to_list (f c)) (last_append f cs ds) ∙ append_assoc (last_first f ds) (last_first f cs) (option_to_list (f c))
+  last_append f (c ∷ cs) ds = grind (arith, last_append f cs ds, append_assoc)
 
   same_stored : (f g : ℕ → Option C) (cs : List ℕ) → ((c : ℕ) → Contains cs c → g c ≡ f c) → last_first g cs ≡ last_first f cs
   same_stored f g [] same = refl
@@ -153,17 +136,9 @@ module _ {C : Type 0} where
       let stay : last_first f cs ≡ last_first g cs = sym (same_stored f g cs (λ c here. others c (new c here))) in
       elim (opens_or a) [
         | inl (c, is) ↦
-            before
-            ∙ (λ i. gets c is i ++ stay i)
-            ∙ append_assoc zs (option_to_list (g c)) (last_first g cs)
-            ∙ ap (λ rs. zs ++ rs) (sym (last_append g cs (c ∷ [])))
-            ∙ ap (λ b. zs ++ last_first g (cs ++ opened_of b)) (sym is)
+            grind (arith, append_assoc, last_append)
         | inr none ↦
-            let all : zs ≡ ys = prefix ∙ take_all (length zs) ys (omega (arith, stock, none.stock (length ys))) in
-            before
-            ∙ (λ i. sym all i ++ stay i)
-            ∙ ap (λ ds. zs ++ last_first g ds) (sym (append-nil cs))
-            ∙ ap (λ ds. zs ++ last_first g (cs ++ ds)) (sym none.none)
+            grind (arith, take_all, append-nil)
       ]
 
   pub others_on : (f g h : ℕ → Option C) (cs : List ℕ) (a : Answer) → ((c : ℕ) → (Contains cs c → ⊥) → g c ≡ f c) → ((c : ℕ) → (a ≡ opened c → ⊥) → h c ≡ g c) →

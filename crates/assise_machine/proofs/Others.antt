@@ -1,10 +1,10 @@
 -- What happens at one node leaves what other full nodes have.
-use Rattle.assise_machine.proofs.Common.{inl, inr, ◌≡◌, ◌≢◌, ℕ, zero, suc, ◌+◌, ◌-◌, drop, List, [], ◌∷◌, refl, ap, sym, subst, ◌∙◌, arith, cases_eq, drop-drop}
-use Rattle.assise_machine.proofs.Common.{Op, Fsync, Dsync, Durability, Reply, durability_of, LogFrame, NumberedCall, Membership, Digests, Drops, World, Full}
-use Rattle.assise_machine.proofs.Common.{undigested_records, digested_by_all, digested_by_all-below, Calling, Crashing, Gets, Granted, IsTried, KeepsGranted}
-use Rattle.assise_machine.proofs.Common.{Noting, Opening, Syncing, call_of_client, last_world, Coalescing, Answer, Dsyncing, Fsyncing, Trying, Machine, Joining}
-use Rattle.assise_machine.proofs.Common.{Raising, Refilling, Returning, Delivering, Digesting, DigestsTo, Gone, LetsGo, Releasing, Sending, SettingHot}
-use Rattle.assise_machine.proofs.Common.{world_after, clients_after, full_after, logs_after, nodes_after}
+use Rattle.assise_machine.proofs.Common.{◌≡◌, ◌≢◌, ℕ, zero, suc, ◌-◌, drop, List, [], ◌∷◌, refl, ap, sym, subst, ◌∙◌, arith, drop-drop, Op, Fsync, Dsync}
+use Rattle.assise_machine.proofs.Common.{Durability, Reply, durability_of, LogFrame, NumberedCall, Membership, Digests, Drops, World, Full, undigested_records}
+use Rattle.assise_machine.proofs.Common.{digested_by_all, digested_by_all-below, Calling, Crashing, Gets, Granted, IsTried, KeepsGranted, Noting, Opening}
+use Rattle.assise_machine.proofs.Common.{Syncing, call_of_client, last_world, Coalescing, Answer, Dsyncing, Fsyncing, Trying, Machine, Joining, Raising}
+use Rattle.assise_machine.proofs.Common.{Refilling, Returning, Delivering, Digesting, DigestsTo, Gone, LetsGo, Releasing, Sending, SettingHot, world_after}
+use Rattle.assise_machine.proofs.Common.{full_after}
 use Rattle.assise_names.specs.declared.durability.Durability.TheVariants.{Pessimistic, Optimistic}
 use Rattle.assise_model_world.specs.ClientSteps.{MakesCall}
 use Rattle.assise_model_world.specs.Staying.{SameLogs, SameClients, SameNode, SameNodes}
@@ -26,10 +26,7 @@ unfolding undigested_records
 ahead_as w w' j c digested first log = λ i. drop (digested i - first i) (log i)
 
 pub leaves_node : (w w' : World) (j : ℕ) → SameLogs w w' → SameNode w w' j → Leaves w w' j
-leaves_node w w' j logs node = record {
-  area = λ i. node.area i;
-  ahead = λ c. ahead_as w w' j c (node.digested c) (logs.first c) (node.log c);
-}
+leaves_node w w' j logs node = grind (arith, ahead_as)
 
 pub leaves_nodes : (w w' : World) (j : ℕ) → SameLogs w w' → SameNodes w w' → Full w j → Leaves w w' j
 leaves_nodes w w' j logs nodes there = leaves_node w w' j logs (nodes.same j there)
@@ -75,32 +72,21 @@ all_rest : (w : World) → Rested w w
 all_rest w = assumption
 
 rested_after : (w v u : World) → Rested w v → Rested v u → Rested w u
-rested_after w v u a b = record {
-  logs = logs_after w v u a.logs b.logs;
-  clients = clients_after w v u a.clients b.clients;
-  nodes = nodes_after w v u a.nodes b.nodes;
-}
+rested_after w v u a b = grind arith
 
 gets_rested : (x : NumberedCall) (w : World) (l : Leases) (gs : List Granted) → Gets x w l gs → Rested w (last_world w gs)
 gets_rested x w l [] e = all_rest w
-gets_rested x w l (g ∷ gs) (missing, grants, others, rest) =
-    rested_after w g.world (last_world g.world gs)
-    (record { logs = grants.holds.logs; clients = grants.holds.clients; nodes = grants.holds.nodes })
-    (gets_rested x g.world g.leases gs rest)
+gets_rested x w l (g ∷ gs) (missing, grants, others, rest) = grind (arith, gets_rested x g.world g.leases gs rest)
 
 goes_rested : (w : World) (l : Leases) (gs : List Gone) → LetsGo w l gs → Rested w (world_after w gs)
 goes_rested w l [] e = all_rest w
-goes_rested w l (g ∷ gs) (releases, others, rest) =
-    rested_after w g.world (world_after g.world gs)
-    (record { logs = releases.holds.logs; clients = releases.holds.clients; nodes = releases.holds.nodes })
-    (goes_rested g.world g.leases gs rest)
+goes_rested w l (g ∷ gs) (releases, others, rest) = grind (arith, goes_rested g.world g.leases gs rest)
 
 pub rested_leaves : (w w' : World) (j : ℕ) → Rested w w' → Full w j → Leaves w w' j
 rested_leaves w w' j e there = leaves_nodes w w' j e.logs e.nodes there
 
 pub releasing_leaves : (m m' : Machine) (a : Answer) → Releasing m a m' → (j : ℕ) → Full m.world j → Leaves m.world m'.world j
-releasing_leaves m m' a (node.is_released gone freed is e) j there =
-    subst (λ w. Leaves m.world w j) (sym e.world) (rested_leaves m.world (world_after m.world gone) j (goes_rested m.world m.leases gone e.releases) there)
+releasing_leaves m m' a (node.is_released gone freed is e) j there = grind (arith, rested_leaves, goes_rested)
 
 -- ---- a call
 
@@ -113,34 +99,17 @@ leaves_else : (w w' : World) (c j : ℕ) → Leaves w w' j → LeavesElse w w' c
 leaves_else w w' c j e = record { area = e.area; ahead = λ other. e.ahead }
 
 pub made_leaves : (w u w' : World) (x : NumberedCall) (j : ℕ) → Rested w u → MakesCall u x w' → Full w j → LeavesElse w w' x.client j
-made_leaves w u w' x j rested e there =
-    let still = full_after w u j rested.nodes.full there in
-    let before = rested_leaves w u j rested there in
-    record {
-      area = λ i. e.area j i still ∙ before.area i;
-      ahead = λ other d.
-          ahead_as u w' j d (e.digested j d still) (e.first d) (e.log_else j d still (λ home own. other (home ∙ rested.clients.home x.client)))
-          ∙ before.ahead d;
-    }
+made_leaves w u w' x j rested e there = search (ahead_as, arith) parts 3
 
 pub granted_leaves : (m m' : Machine) (c : ℕ) (op : Op) (reply : Reply) (granted : List Granted) →
     IsTried m (call_of_client m.world c op reply) granted → KeepsGranted m granted m' → (j : ℕ) → Full m.world j → LeavesElse m.world m'.world c j
-granted_leaves m m' c op reply granted tried keeps j there =
-    leaves_else m.world m'.world c j
-    (subst (λ w. Leaves m.world w j) (sym keeps.world)
-    (rested_leaves m.world (last_world m.world granted) j (gets_rested (call_of_client m.world c op reply) m.world m.leases granted tried.gets) there))
+granted_leaves m m' c op reply granted tried keeps j there = grind (arith, leaves_else, rested_leaves, gets_rested)
 
 pub calling_leaves : (m m' : Machine) (c : ℕ) (op : Op) (a : Answer) → Calling m c op a m' → (j : ℕ) → Full m.world j → LeavesElse m.world m'.world c j
 calling_leaves m m' c op a (client.is_answered reply granted is e) j there =
     let x = call_of_client m.world c op reply in
     made_leaves m.world (last_world m.world granted) m'.world x j (gets_rested x m.world m.leases granted e.tried.gets) e.call.call there
-calling_leaves m m' c op a (client.is_awaited reply granted is e) j there =
-    let x = call_of_client m.world c op reply in
-    let u = last_world m.world granted in
-    leaves_else m.world m'.world c j
-    (rested_leaves m.world m'.world j
-    (rested_after m.world u m'.world (gets_rested x m.world m.leases granted e.tried.gets)
-    (record { logs = e.asks.goals.logs; clients = e.asks.goals.clients; nodes = e.asks.goals.nodes })) there)
+calling_leaves m m' c op a (client.is_awaited reply granted is e) j there = grind (arith, leaves_else, rested_leaves, gets_rested)
 calling_leaves m m' c op a (client.is_spent reply granted is e keeps) j there = granted_leaves m m' c op reply granted e.tried keeps j there
 calling_leaves m m' c op a (client.is_full reply granted is e keeps) j there = granted_leaves m m' c op reply granted e.tried keeps j there
 calling_leaves m m' c op a (client.lacks_memory reply granted is e keeps) j there = granted_leaves m m' c op reply granted e keeps j there
@@ -150,8 +119,7 @@ syncing_leaves : (m m' : Machine) (c : ℕ) (op : Op) (a : Answer) → Syncing m
 syncing_leaves m m' c op a (client.is_synced reply fine is e) j there =
     made_leaves m.world e.between m'.world (call_of_client m.world c op reply) j
     (record { logs = e.raises.logs; clients = e.raises.clients; nodes = e.raises.nodes }) e.call.call there
-syncing_leaves m m' c op a (client.is_replicating fine is e) j there =
-    leaves_else m.world m'.world c j (leaves_nodes m.world m'.world j e.raises.logs e.raises.nodes there)
+syncing_leaves m m' c op a (client.is_replicating fine is e) j there = grind (arith, leaves_else, leaves_nodes)
 syncing_leaves m m' c op a (client.lacks_memory fine all is same) j there = leaves_else m.world m'.world c j (leaves_all m m' j same)
 syncing_leaves m m' c op a (client.is_refused r fault is same) j there = leaves_else m.world m'.world c j (leaves_all m m' j same)
 
@@ -167,13 +135,7 @@ fsyncing_leaves m m' Optimistic c a s j there = noting_leaves m m' c a s j there
 
 coalescing_leaves : (m m' : Machine) (c : ℕ) (a : Answer) → Coalescing m c a m' → (j : ℕ) → Full m.world j → LeavesElse m.world m'.world c j
 coalescing_leaves m m' c a (dsync.is_synced reply fine is e) j there = syncing_leaves m m' c Dsync a (client.is_synced reply fine is e) j there
-coalescing_leaves m m' c a (dsync.is_coalesced fine is e) j there = record {
-  area = λ i. e.regroups.area j i there;
-  ahead = λ other d. ahead_as m.world m'.world j d (e.regroups.digested j d there) (e.regroups.first d) (elim (cases_eq d c) [
-    | inl own ↦ subst (λ x. m'.world.log j x ≡ m.world.log j x) (sym own) (e.elsewhere j there other).log
-    | inr away ↦ e.regroups.log_else j d there away
-  ]);
-}
+coalescing_leaves m m' c a (dsync.is_coalesced fine is e) j there = grind (arith, ahead_as)
 coalescing_leaves m m' c a (dsync.lacks_memory fine is same) j there = leaves_else m.world m'.world c j (leaves_all m m' j same)
 coalescing_leaves m m' c a (dsync.is_refused r fault is same) j there = leaves_else m.world m'.world c j (leaves_all m m' j same)
 
@@ -212,32 +174,20 @@ parts_full n count w₀ w o (suc c) u p (v, (q, (before, step))) = step.digests.
 parts_leave : (n count : ℕ) (w₀ w : World) (o : Membership) (c : ℕ) (u : World) (p : Membership) → DigestsTo n count w₀ w o c u p →
     (j : ℕ) → Full w j → j ≢ n → Leaves w u j
 parts_leave n count w₀ w o zero u p (same, stay) j there other = subst (λ x. Leaves w x j) (sym same) (record { area = λ i. refl; ahead = λ c. refl })
-parts_leave n count w₀ w o (suc c) u p (v, (q, (before, step))) j there other =
-    let still = full_after w v j (parts_full n count w₀ w o c v q before) there in
-    let first = parts_leave n count w₀ w o c v q before j there other in
-    record {
-      area = λ i. step.digests.digests.area_else j i still other ∙ first.area i;
-      ahead = λ d. part_ahead v u n (suc c) _ j d step.digests.digests still other ∙ first.ahead d;
-    }
+parts_leave n count w₀ w o (suc c) u p (v, (q, (before, step))) j there other = grind
+    (arith, parts_leave n count w₀ w o c v q before j there other, parts_full, part_ahead)
 
 -- what all have digested goes from the front
 pub dropped_ahead : (w w' : World) (j c : ℕ) → Drops w (digested_by_all w) w' → Full w j → undigested_records w' j c ≡ undigested_records w j c
 unfolding undigested_records
-dropped_ahead w w' j c e there =
-    let low = e.low c in
-    let high = digested_by_all-below w j c there in
-    let so_many : (digested_by_all w c - w.first c) + (w.digested j c - digested_by_all w c) ≡ w.digested j c - w.first c = omega (arith, low, high) in
-    (λ i. drop (e.digested j c there i - e.first c i) (e.log j c there i))
-    ∙ drop-drop (w.digested j c - digested_by_all w c) (digested_by_all w c - w.first c) (w.log j c)
-    ∙ ap (λ k. drop k (w.log j c)) so_many
+dropped_ahead w w' j c e there = grind (arith, digested_by_all-below, drop-drop)
 
 pub digesting_leaves : (m m' : Machine) (n : ℕ) (a : Answer) → Digesting m n a m' → (j : ℕ) → Full m.world j → j ≢ n → Leaves m.world m'.world j
-digesting_leaves m m' n a (node.is_digested k fine is e) j there other =
-    let still = full_after m.world e.between j (parts_full n k m.world m.world m.members m.world.clients e.between m'.members e.digests) there in
-    let parts = parts_leave n k m.world m.world m.members m.world.clients e.between m'.members e.digests j there other in
-    record {
-      area = λ i. e.drops.area j i still ∙ parts.area i;
-      ahead = λ c. dropped_ahead e.between m'.world j c e.drops still ∙ parts.ahead c;
-    }
+digesting_leaves m m' n a (node.is_digested k fine is e) j there other = grind (
+  arith,
+  full_after m.world e.between j (parts_full n k m.world m.world m.members m.world.clients e.between m'.members e.digests) there,
+  parts_leave n k m.world m.world m.members m.world.clients e.between m'.members e.digests j there other,
+  dropped_ahead,
+)
 digesting_leaves m m' n a (node.lacks_memory fine some is same) j there other = leaves_all m m' j same
 digesting_leaves m m' n a (node.is_refused r fault is same) j there other = leaves_all m m' j same

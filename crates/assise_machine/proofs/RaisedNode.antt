@@ -73,7 +73,4 @@ module _ (s : StateValue) (n : ℕ) where
 
   pub node_none : (r : Result Phase Refusal) (e : Refusal) → r ≡ phase_of (standing_of s.members.nodes n) → r ≡ Err e →
       (false ≡ true → There) × (There → false ≡ true)
-  node_none r e is err = (
-    λ is. cc,
-    λ some. absurd (no_phase (standing_of s.members.nodes n) r e is err (subst (λ m. IsSome (standing_of m.nodes n)) members_as some)),
-  )
+  node_none r e is err = grind (arith, members_as)

@@ -1,14 +1,14 @@
 -- The invariant between events, in the words of the headline.
-use Rattle.assise_machine.proofs.Common.{◌≡◌, ℕ, zero, suc, ◌<◌, ◌≤◌, nat_lt, true, false, None, if◌then◌else◌, List, [], ◌∷◌, filter, get_or, length, map}
-use Rattle.assise_machine.proofs.Common.{slice_index_or, inl, inr, refl, ap, sym, subst, ◌∙◌, arith, le_prop, ∥∥₁_elim, ∥∥₁_map, props, cases_Bool, cases_lt}
-use Rattle.assise_machine.proofs.Common.{get_or_append_left, get_or_push, length_push, Coded, Coded-set, Unit-prop, codes, ×_prop, Op, WrongPhase, Reply}
-use Rattle.assise_machine.proofs.Common.{answer, AreAnswered, tree_after_calls, Tree, opening, EntryValue, IsRun, exchange, tree_after, IsDown, IsPastSyncs}
-use Rattle.assise_machine.proofs.Common.{calls_made, clients_opened, contains, touched, Spells, Each, NumberedCall, below, exchanges, ops, alone, fulls}
-use Rattle.assise_machine.proofs.Common.{lowest_full, full_nodes, Full, alone_observed, first_undigested, first_unreplicated, received_by_all, steps, IsLasting}
-use Rattle.assise_machine.proofs.Common.{numbered_replicated, MachineInvariant, begun_as, state_of, node_fault, unless_full, handed_over_replicated, safe}
-use Rattle.assise_machine.proofs.Common.{region_in, observed, world_of, IsNumber, ShapeInvariant, StateValue, leases_of, standings, machine_of, value_of}
-use Rattle.assise_machine.proofs.Common.{full_number, full_seen, seen_full, alone_same, lowest_listed, stands_so, ClusterOf, IsUp, acked_to, call_from}
-use Rattle.assise_machine.proofs.Common.{first_acked, history_of, kept_below, least_end, regions_of, replicated_calls, replicated_to}
+use Rattle.assise_machine.proofs.Common.{◌≡◌, ℕ, zero, suc, ◌<◌, ◌≤◌, nat_lt, true, false, None, List, [], ◌∷◌, filter, get_or, length, map, slice_index_or}
+use Rattle.assise_machine.proofs.Common.{inl, inr, refl, ap, sym, subst, ◌∙◌, arith, le_prop, ∥∥₁_elim, ∥∥₁_map, props, cases_lt, get_or_append_left}
+use Rattle.assise_machine.proofs.Common.{get_or_push, length_push, Coded, Coded-set, Unit-prop, codes, ×_prop, Op, WrongPhase, Reply, answer, AreAnswered}
+use Rattle.assise_machine.proofs.Common.{tree_after_calls, Tree, opening, EntryValue, IsRun, exchange, tree_after, IsDown, IsPastSyncs, calls_made}
+use Rattle.assise_machine.proofs.Common.{clients_opened, contains, touched, Spells, Each, NumberedCall, below, exchanges, ops, alone, fulls, lowest_full}
+use Rattle.assise_machine.proofs.Common.{full_nodes, Full, alone_observed, first_unreplicated, received_by_all, steps, IsLasting, numbered_replicated}
+use Rattle.assise_machine.proofs.Common.{MachineInvariant, begun_as, state_of, node_fault, unless_full, handed_over_replicated, safe, region_in, observed}
+use Rattle.assise_machine.proofs.Common.{world_of, IsNumber, ShapeInvariant, StateValue, leases_of, standings, machine_of, value_of, full_number, full_seen}
+use Rattle.assise_machine.proofs.Common.{seen_full, alone_same, lowest_listed, stands_so, ClusterOf, IsUp, acked_to, call_from, first_acked, history_of}
+use Rattle.assise_machine.proofs.Common.{kept_below, least_end, regions_of, replicated_calls, replicated_to}
 use Rattle.assise_history.specs.declared.call.Call.{Call}
 use Rattle.assise_inode_table.specs.Interaction.{Step}
 use Rattle.assise_inode_table.proofs.PairwiseLists.{each-map}
@@ -36,14 +36,7 @@ answered_prop t (x ∷ xs) = ×_prop (Coded-set coded_reply x.1 (answer t x.0).0
 
 plain_below : (b : ℕ → ℕ) (xs : List NumberedCall) → filter (λ x. nat_lt x.number (b x.client)) (map plain_call xs) ≡ map plain_call (filter (below b) xs)
 plain_below b [] = refl
-plain_below b (x ∷ xs) =
-    let rest : filter (λ y. nat_lt y.number (b y.client)) (map plain_call xs) ≡ map plain_call (filter (below b) xs) = plain_below b xs in
-    elim (below b x) as (λ t. (if t then plain_call x ∷ filter (λ y. nat_lt y.number (b y.client)) (map plain_call xs) else filter
-    (λ y. nat_lt y.number (b y.client)) (map plain_call xs))
-    ≡ map plain_call (if t then x ∷ filter (below b) xs else filter (below b) xs)) [
-      | true ↦ ap (λ ys. plain_call x ∷ ys) rest
-      | false ↦ rest
-    ]
+plain_below b (x ∷ xs) = grind (arith, plain_below b xs)
 
 pub kept_below_is : (b : ℕ → ℕ) (h : List EntryValue) → kept_below b h ≡ map plain_call (filter (below b) (kept_numbered h))
 kept_below_is b h = ap (filter (λ x. nat_lt x.number (b x.client))) (sym (kept_plain h)) ∙ plain_below b (kept_numbered h)
@@ -60,18 +53,15 @@ plain_ops (x ∷ xs) = ap (λ ys. x.op ∷ ys) (plain_ops xs)
 
 pub first_length : {C : Type 0} (cluster : ClusterOf C) (m : ℕ) → length (first_acked cluster m) ≡ m
 first_length cluster zero = refl
-first_length cluster (suc m) =
-    (let more = length_push (first_acked cluster m) (acked_to cluster (suc m)) in let rest = first_length cluster m in omega (arith, more, rest))
+first_length cluster (suc m) = grind (arith, first_length cluster m, length_push)
 
 pub first_at : {C : Type 0} (cluster : ClusterOf C) (m c : ℕ) → c < m → get_or (first_acked cluster m) c 0 ≡ acked_to cluster (suc c)
 first_at cluster zero c low = absurd (omega (arith, low))
 first_at cluster (suc m) c low =
     elim (cases_lt c m) [
-      | inl below ↦ get_or_append_left (first_acked cluster m) (acked_to cluster (suc m) ∷ []) 0 c (omega (arith, below, first_length cluster m))
-          ∙ first_at cluster m c below
+      | inl below ↦ grind (arith, first_at cluster m c below, get_or_append_left, first_length)
       | inr here ↦
-          let same : m ≡ c = omega (arith, low, here) in
-          get_or_push (first_acked cluster m) (acked_to cluster (suc m)) 0 c (first_length cluster m ∙ same) ∙ ap (λ k. acked_to cluster (suc k)) same
+          grind (arith, get_or_push, first_length)
     ]
 
 -- ---- of a state
@@ -102,11 +92,7 @@ module _ (s : StateValue) (shape : ShapeInvariant s) (some : 0 < length (full_no
 
   pub full_known : (n : ℕ) → 1 ≤ n → n ≤ length s.nodes → (IsDown s.history n → ⊥) → Full (observed s).world n
   unfolding observed
-  full_known n least most up = ∥∥₁_elim holds (search props) (λ h.
-      elim (cases_Bool (contains (observed s).world.full n)) [
-        | inl full ↦ full
-        | inr away ↦ absurd (up (h.recorded.down n (least, subst (λ k. n ≤ k) shape.nodes most) (λ full. cc (away, full))))
-      ])
+  full_known n least most up = ∥∥₁_elim holds (search props) (grind arith)
 
   pub up_known : (n : ℕ) → Full (observed s).world n → IsDown s.history n → ⊥
   unfolding observed
@@ -129,10 +115,7 @@ module _ (s : StateValue) (shape : ShapeInvariant s) (some : 0 < length (full_no
   -- the tree of the replicated calls is that of the laws
   pub same_tree : tree_after opening (kept_below bound s.history) ≡ tree_after_calls opening (ops (numbered_replicated (state_of (observed s))))
   unfolding observed
-  same_tree =
-      ap (λ b. tree_after opening (kept_below b s.history)) same_bound
-      ∙ ap (tree_after opening) (kept_below_is (first_unreplicated (observed s).world) s.history)
-      ∙ ap (tree_after_calls opening) (plain_ops (filter (below (first_unreplicated (observed s).world)) (kept_numbered s.history)))
+  same_tree = grind (arith, same_bound, kept_below_is, plain_ops)
 
   module _ (places : List ℕ) (count : length places ≡ length s.clients)
       (each : (c : ℕ) → c < length s.clients → slice_index_or places c 0 ≡ acked (suc c)) where
@@ -152,19 +135,12 @@ module _ (s : StateValue) (shape : ShapeInvariant s) (some : 0 < length (full_no
 
   pub synced_known : (c : ℕ) → IsPastSyncs s.history (record { client = c; first = bound c })
   unfolding observed
-  synced_known c = λ before since x split own sync. ∥∥₁_elim holds le_prop (λ h.
-      (let low : x.number < first_unreplicated (observed s).world c = h.recorded.synced c before since x split own sync in
-      omega (arith, low, bound_known c)))
+  synced_known c = λ before since x split own sync. ∥∥₁_elim holds le_prop (grind (arith, bound_known c))
 
   pub run_known : (b : ℕ → ℕ) → ((c : ℕ) → bound c ≤ b c) → IsRun opening (kept_below b s.history)
   unfolding observed
-  run_known b past = ∥∥₁_elim holds (answered_prop opening (map exchange (kept_below b s.history))) (λ h.
-      let high : (c : ℕ) → first_undigested (observed s).world c ≤ b c = λ c.
-      omega (arith, first_undigested-below (observed s).world h.sound.coherent c, bound_known c, past c) in
-      let answered : AreAnswered opening (exchanges (filter (below b) (observed s).world.calls)) = answered_at (observed s).world b h.sound.coherent high in
-      subst (IsRun opening) (sym (kept_below_is b s.history))
-      (subst (AreAnswered opening) (sym (plain_exchanges (filter (below b) (kept_numbered s.history))))
-      (subst (λ xs. AreAnswered opening (exchanges (filter (below b) xs))) h.recorded.calls answered)))
+  run_known b past = ∥∥₁_elim holds (answered_prop opening (map exchange (kept_below b s.history)))
+      (grind (arith, first_undigested-below, bound_known, answered_at, kept_below_is, plain_exchanges))
 
 -- ---- of a cluster
 
@@ -176,24 +152,13 @@ module _ {C : Type 0} (cluster : ClusterOf C) where
   some_there = cluster.sound.state.members.lawful.some_full
 
   pub full_is_up : (n : ℕ) → Full (observed value).world n → IsUp cluster n
-  full_is_up n full =
-      let there : IsNumber value.nodes n = full_there value cluster.sound.invariant.shape some_there cluster.sound.invariant.holds n full in
-      record {
-        least = there.some;
-        most = there.there;
-        up = λ down. up_known value cluster.sound.invariant.shape some_there cluster.sound.invariant.holds n full
-            down;
-      }
+  full_is_up n full = grind (arith, full_there, up_known)
 
   pub up_is_full : (n : ℕ) → IsUp cluster n → Full (observed value).world n
   up_is_full n up = full_known value cluster.sound.invariant.shape some_there cluster.sound.invariant.holds n up.least up.most up.up
 
   pub one_is_up : (n : ℕ) × IsUp cluster n
-  one_is_up = (
-    lowest_full (standings value),
-    full_is_up (lowest_full (standings value))
-        (some_full value cluster.sound.invariant.shape some_there cluster.sound.invariant.holds),
-  )
+  one_is_up = grind (arith, full_is_up (lowest_full (standings value)) (some_full value cluster.sound.invariant.shape some_there cluster.sound.invariant.holds))
 
   pub fine_is_up : (n : ℕ) → node_fault (observed value) n ≡ None → IsUp cluster n
   fine_is_up n fine = full_is_up n (fine_full value n fine)
@@ -222,9 +187,7 @@ module _ {C : Type 0} (cluster : ClusterOf C) where
   pub handed_known : (c i : ℕ) → has_write_lease cluster c i ≡ false → AreReplicated cluster c i
   unfolding observed world_of steps leases_of
   handed_known c i away = ∥∥₁_elim cluster.sound.invariant.holds (before_prop (replicated_to cluster) c i (kept_steps cluster)) (λ h.
-      each-map (Before (first_unreplicated (observed value).world) c i) (Before (replicated_to cluster) c i) (kept_steps cluster)
-      (λ x low own touches. (let before = low own touches in omega (arith, before, replicated_seen c)))
-      (handed_over_replicated (observed value) h c i away))
+      grind (arith, each-map, replicated_seen c, handed_over_replicated (observed value) h c i away))
 
 -- ---- at the start
 

@@ -1,35 +1,23 @@
 -- What the headline says of regions is what the laws observe: which records are replicated, and which calls are replicated.
-use Rattle.assise_machine.proofs.Common.{◌≡◌, ◌⊎◌, ℕ, zero, suc, ◌-◌, ◌<◌, ◌≤◌, min, nat_le, true, false, if◌then◌else◌, List, [], ◌∷◌, drop, get_or, length}
-use Rattle.assise_machine.proofs.Common.{take, inl, inr, refl, ap, sym, subst, ◌∙◌, arith, cases_Bool, cases_lt, le-leb, leb-true, drop-nil, take-nil}
-use Rattle.assise_machine.proofs.Common.{calls_made, LogRecord, call_of, log_end, records_from, RegionValue, no_log, lowest_full, full_nodes, WorldInvariant}
-use Rattle.assise_machine.proofs.Common.{Full, World, call_at, end_of_log, first_unreplicated, received_by_all, least_of-above, least_of-end}
-use Rattle.assise_machine.proofs.Common.{received_by_all-below, client_in, no_client, log_in, no_region, region_in, is_full_in, world_of, IsNumber, item_at}
-use Rattle.assise_machine.proofs.Common.{ShapeInvariant, StateValue, standings, full_number, full_seen, same_first, seen_full, seen_nothing, seen_past}
-use Rattle.assise_machine.proofs.Common.{lowest_listed, call_from, first_call, least_end, received_log}
+use Rattle.assise_machine.proofs.Common.{◌≡◌, ◌⊎◌, ℕ, zero, suc, ◌-◌, ◌<◌, ◌≤◌, nat_le, true, false, List, [], ◌∷◌, drop, get_or, length, take, inl, inr, refl}
+use Rattle.assise_machine.proofs.Common.{ap, sym, ◌∙◌, arith, cases_Bool, cases_lt, drop-nil, take-nil, calls_made, LogRecord, call_of, log_end, records_from}
+use Rattle.assise_machine.proofs.Common.{RegionValue, no_log, lowest_full, full_nodes, WorldInvariant, Full, World, call_at, end_of_log, first_unreplicated}
+use Rattle.assise_machine.proofs.Common.{received_by_all, least_of-above, least_of-end, received_by_all-below, client_in, no_client, log_in, no_region}
+use Rattle.assise_machine.proofs.Common.{region_in, is_full_in, world_of, IsNumber, item_at, ShapeInvariant, StateValue, standings, full_number, full_seen}
+use Rattle.assise_machine.proofs.Common.{same_first, seen_full, seen_nothing, seen_past, lowest_listed, call_from, first_call, least_end, received_log}
 use Rattle.assise_model_world.proofs.Replicated.{log_of_home, log_of_left}
 
 -- ---- the least place
 
 least_end-most : (c : ℕ) (rs : List RegionValue) (m : ℕ) → least_end c rs m ≤ m
 least_end-most c [] m = omega arith
-least_end-most c (r ∷ rs) m =
-    let rest : least_end c rs m ≤ m = least_end-most c rs m in
-    elim (nat_le c (length r.logs)) as (λ b. (if b then min (log_end (received_log r c)) (least_end c rs m) else least_end c rs m) ≤ m) [
-      | true ↦ omega (arith, rest)
-      | false ↦ rest
-    ]
+least_end-most c (r ∷ rs) m = grind (arith, least_end-most c rs m)
 
 least_end-below : (c : ℕ) (none : RegionValue) (rs : List RegionValue) (m k : ℕ) → k < length rs → nat_le c (length (get_or rs k none).logs) ≡ true →
     least_end c rs m ≤ log_end (received_log (get_or rs k none) c)
 least_end-below c none [] m k low has = absurd (omega (arith, low))
 least_end-below c none (r ∷ rs) m zero low has = rw has (omega arith)
-least_end-below c none (r ∷ rs) m (suc k) low has =
-    let rest : least_end c rs m ≤ log_end (received_log (get_or rs k none) c) = least_end-below c none rs m k (omega (arith, low)) has in
-    elim (nat_le c (length r.logs))
-    as (λ b. (if b then min (log_end (received_log r c)) (least_end c rs m) else least_end c rs m) ≤ log_end (received_log (get_or rs k none) c)) [
-      | true ↦ omega (arith, rest)
-      | false ↦ rest
-    ]
+least_end-below c none (r ∷ rs) m (suc k) low has = grind (arith, least_end-below c none rs m k (omega (arith, low)) has)
 
 least_end-above : (c : ℕ) (none : RegionValue) (rs : List RegionValue) (m j : ℕ) → j ≤ m →
     ((k : ℕ) → k < length rs → nat_le c (length (get_or rs k none).logs) ≡ true → j ≤ log_end (received_log (get_or rs k none) c)) → j ≤ least_end c rs m
@@ -83,22 +71,14 @@ module _ (c place : ℕ) (xs : List LogRecord) (d next : ℕ) (none : RegionValu
       let here : HasPrefix r = each zero (omega arith) in
       elim (call_either rs (tail r rs each)) [
         | inl is ↦ inl ((λ i. first_call (here.is i) (is i)) ∙ prefix_found xs d here.taken next)
-        | inr is ↦ elim (prefix_either xs d here.taken next) [
-          | inl found ↦ inl ((λ i. first_call (here.is i) (is i)) ∙ found)
-          | inr past ↦ inr ((λ i. first_call (here.is i) (is i)) ∙ past)
-        ]
+        | inr is ↦ grind (arith, prefix_either)
       ]
 
   -- where one node has all of them
   call_found : (rs : List RegionValue) (k : ℕ) → k < length rs → All rs → records_from (received_log (get_or rs k none) c) place ≡ drop d xs →
       call_from c place rs next ≡ call_of xs d next
   call_found [] k low each own = absurd (omega (arith, low))
-  call_found (r ∷ rs) zero low each own =
-      let here : HasPrefix r = each zero (omega arith) in
-      elim (call_either rs (tail r rs each)) [
-        | inl is ↦ (λ i. first_call (here.is i) (is i)) ∙ prefix_found xs d here.taken next
-        | inr is ↦ (λ i. first_call (own i) (is i)) ∙ all_found xs d next
-      ]
+  call_found (r ∷ rs) zero low each own = grind (arith, call_either rs (tail r rs each), all_found xs d next)
   call_found (r ∷ rs) (suc k) low each own =
       let here : HasPrefix r = each zero (omega arith) in
       let rest : call_from c place rs next ≡ call_of xs d next = call_found rs k (omega (arith, low)) (tail r rs each) own in
@@ -159,25 +139,13 @@ module _ (s : StateValue) (shape : ShapeInvariant s) (some : 0 < length (full_no
   -- ---- of a client
 
   has_it : (j c : ℕ) → IsNumber s.clients c → Full w (suc j) → nat_le c (length (region_at j).logs) ≡ true
-  has_it j c client full =
-      let all : length (region_at j).logs ≡ length s.clients = ap (λ r. length r.logs) (sym (seen_at j)) ∙ shape.logs (suc j) (full_seen s (suc j) full) in
-      le-leb c (length (region_at j).logs) (omega (arith, client.there, all))
+  has_it j c client full = grind (arith, seen_at j, full_seen s (suc j) full)
 
   low_at : (j c : ℕ) → IsNumber s.clients c → nat_le c (length (region_at j).logs) ≡ true → received_by_all w c ≤ log_end (received_log (region_at j) c)
-  low_at j c client has =
-      elim (cases_Bool (is_full_in (standings s) (suc j))) [
-        | inl f ↦ (let below = received_by_all-below w (suc j) c (seen_full s (suc j) f) in let is = received_there j c in omega (arith, below, is))
-        | inr away ↦
-            let none : length (region_at j).logs ≡ 0 = ap length (none_there j c away) in
-            absurd (omega (arith, client.some, leb-true c (length (region_at j).logs) has, none))
-      ]
+  low_at j c client has = grind (arith, received_by_all-below, seen_full, received_there j c, none_there)
 
   below_full : (n c : ℕ) → IsNumber s.clients c → Full w n → least_end c s.nodes (next c) ≤ w.received n c
-  below_full n c client full =
-      let p : IsPlace n = place_of n full in
-      let low : least_end c s.nodes (next c) ≤ log_end (received_log (region_at p.place) c) = least_end-below c no_region s.nodes (next c) p.place p.inside
-      (has_it p.place c client p.full) in
-      subst (λ k. least_end c s.nodes (next c) ≤ w.received k c) (sym p.is) (subst (λ k. least_end c s.nodes (next c) ≤ k) (sym (received_there p.place c)) low)
+  below_full n c client full = grind (arith, place_of n full, least_end-below, has_it, received_there)
 
   received-above : (c k : ℕ) → k ≤ end_of_log w c → ((n : ℕ) → Full w n → k ≤ w.received n c) → k ≤ received_by_all w c
   unfolding received_by_all
@@ -192,8 +160,7 @@ module _ (s : StateValue) (shape : ShapeInvariant s) (some : 0 < length (full_no
       let n : ℕ = lowest_full (standings s) in
       let known : w.received n c ≤ end_of_log w c = (sound.coherent.order n c one_full).known in
       let there : least_end c s.nodes (next c) ≤ w.received n c = below_full n c client one_full in
-      let high : least_end c s.nodes (next c) ≤ received_by_all w c = received-above c (least_end c s.nodes (next c)) (omega (arith, known, there))
-      (λ k full. below_full k c client full) in
+      let high : least_end c s.nodes (next c) ≤ received_by_all w c = grind (arith, received-above, below_full) in
       let low : received_by_all w c ≤ least_end c s.nodes (next c) =
       least_end-above c no_region s.nodes (next c) (received_by_all w c) (omega (arith, received-end c, few c)) (λ j inside has. low_at j c client has) in
       omega (arith, high, low)

@@ -1,6 +1,6 @@
 -- The entries that the headline tells events by are those of the laws.
-use Rattle.assise_machine.proofs.Common.{rules, ◌≡◌, List, [], ◌∷◌, ◌++◌, append-nil, append_assoc, ap, sym, ◌∙◌, EntryValue, all_entries, entries_of, Event}
-use Rattle.assise_machine.proofs.Common.{entry_of, history_after, answer_seen, event_seen, told}
+use Rattle.assise_machine.proofs.Common.{rules, ◌≡◌, List, [], ◌∷◌, ◌++◌, append-nil, append_assoc, sym, EntryValue, all_entries, entries_of, Event, entry_of}
+use Rattle.assise_machine.proofs.Common.{history_after, answer_seen, event_seen, told, arith}
 use Rattle.assise_machine.specs.declared.answer.Answer.{Answer}
 use Rattle.assise_machine.specs.declared.event.Event.TheVariants.{Open}
 
@@ -11,7 +11,4 @@ same_entry h _ a = search rules
 pub history_told : (h : List EntryValue) (es : List Event) (bs : List Answer) → history_after h es bs ≡ h ++ all_entries h (told es bs)
 history_told h [] bs = sym (append-nil h)
 history_told h (e ∷ es) [] = sym (append-nil h)
-history_told h (e ∷ es) (b ∷ bs) =
-    history_told (h ++ entry_of h e b) es bs
-    ∙ ap (λ x. (h ++ x) ++ all_entries (h ++ x) (told es bs)) (same_entry h e b)
-    ∙ append_assoc h (entries_of h (event_seen e) (answer_seen b)) (all_entries (h ++ entries_of h (event_seen e) (answer_seen b)) (told es bs))
+history_told h (e ∷ es) (b ∷ bs) = grind (arith, history_told (h ++ entry_of h e b) es bs, append_assoc)

@@ -1,6 +1,6 @@
 -- A node that was down begins to come back, as the laws have it.
 use Rattle.assise_machine_failures.proofs.Common.{◌≡◌, List, false, ℕ, true, if◌then◌else◌, length, Option, Some, None, inl, inr, refl, ap, sym, subst, ◌∙◌}
-use Rattle.assise_machine_failures.proofs.Common.{append-nil, arith, option_map, nat_cmp, cases_eq, none-some, same_Some, Refusal, back, back_as, is_returning}
+use Rattle.assise_machine_failures.proofs.Common.{append-nil, arith, option_map, nat_cmp, none-some, same_Some, Refusal, back, back_as, is_returning}
 use Rattle.assise_machine_failures.proofs.Common.{return_fault, stale_of, Membership, lowest_full, written_since, Standing, down, is_full, returning}
 use Rattle.assise_machine_failures.proofs.Common.{standing_of, with_standing, BeginsReturn, down_is, set_here, Answer, began, refused, IsBack, Returning}
 use Rattle.assise_machine_failures.proofs.Common.{count_of, stale_at, after_members, is_full_in, observed, world_of, CutsInvariant, ShapeInvariant, StateValue}
@@ -24,7 +24,7 @@ back_refused s n m e a same is (inr fault) = is_refused e fault is (ap observed 
 
 pub still_full : (nodes : List Standing) (n : ℕ) (old now : Standing) → standing_of nodes n ≡ Some old → is_full old ≡ false → is_full now ≡ false →
     (k : ℕ) → is_full_in (with_standing nodes n now) k ≡ is_full_in nodes k
-still_full nodes n old now stands was is k = grind (arith, cases_eq, is_full_in, with_standing, full_here, full_as, full_else)
+still_full nodes n old now stands was is k = grind (arith, full_here, full_as, full_else)
 
 -- ---- a node stands down
 

@@ -1,9 +1,9 @@
 -- Logs of a failed node's clients that are cut, one client after another.
 use Rattle.assise_machine_failures.proofs.Common.{◌≡◌, ◌≢◌, ℕ, zero, suc, ◌-◌, ◌<◌, ◌≤◌, ◌==◌, List, [], ◌∷◌, length, slice_index_or, inl, inr, refl, ap, sym}
-use Rattle.assise_machine_failures.proofs.Common.{subst, ◌∙◌, arith, eq-eqb, cases_Bool, ne_eqb, length-map, HasClient, RegionValue, log_of, up_to_number}
-use Rattle.assise_machine_failures.proofs.Common.{with_clients_cut, with_clients_failed, ClientValue, client_in, failed_at, with_client, AreUndigested, HasLog}
-use Rattle.assise_machine_failures.proofs.Common.{IsUndigestedFrom, changed_in, log_in, no_region, region_in, with_tails_cut, IsNumber, item_at, count_over}
-use Rattle.assise_machine_failures.proofs.Common.{beside_seen, count_seen, log_found, client_else, less_one}
+use Rattle.assise_machine_failures.proofs.Common.{subst, ◌∙◌, arith, eq-eqb, cases_Bool, ne_eqb, length-map, HasClient, RegionValue, log_of, with_clients_cut}
+use Rattle.assise_machine_failures.proofs.Common.{with_clients_failed, ClientValue, client_in, failed_at, with_client, AreUndigested, HasLog, IsUndigestedFrom}
+use Rattle.assise_machine_failures.proofs.Common.{log_in, no_region, region_in, with_tails_cut, IsNumber, item_at, count_over, beside_seen, count_seen}
+use Rattle.assise_machine_failures.proofs.Common.{log_found, client_else, less_one}
 
 each_undigested : (rs : List RegionValue) (c from : ℕ) →
     ((k : ℕ) → k < length rs → HasClient (slice_index_or rs k no_region) c → IsUndigestedFrom (log_of (slice_index_or rs k no_region) c) from) →
@@ -25,25 +25,25 @@ module _ (n : ℕ) (cs : List ClientValue) (kept : ℕ → ℕ) (rs : List Regio
 
   count_then : (m : ℕ) → length (cut m) ≡ length rs
   count_then zero = refl
-  count_then (suc m) = grind (arith, count_then m, cases_Bool, client_in, length-map, changed_in, up_to_number)
+  count_then (suc m) = grind (arith, count_then m, length-map)
 
   number_then : (m k : ℕ) → IsNumber (cut m) k → IsNumber rs k
   number_then m k there = record { some = there.some; there = subst (λ j. k ≤ j) (count_then m) there.there }
 
   logs_then : (m k : ℕ) → length (region_in (cut m) k).logs ≡ length (region_in rs k).logs
   logs_then zero k = refl
-  logs_then (suc m) k = grind (arith, logs_then m k, cases_Bool, client_in, count_seen, up_to_number)
+  logs_then (suc m) k = grind (arith, logs_then m k, count_seen)
 
   log_then : (m k d : ℕ) → m < d → log_in (cut m) k d ≡ log_in rs k d
   log_then zero k d past = refl
-  log_then (suc m) k d past = grind (arith, log_then m k d (omega (arith, past)), cases_Bool, client_in, beside_seen, up_to_number)
+  log_then (suc m) k d past = grind (arith, log_then m k d (omega (arith, past)), beside_seen)
 
   has_then : (m k d : ℕ) → m < d → HasLog (cut m) k d → HasLog rs k d
   has_then m k d past has = search (number_then, logs_then, arith) parts 3
 
   pub undigested_then : (m d from : ℕ) → m < d → ((k : ℕ) → HasLog rs k d → IsUndigestedFrom (log_in rs k d) from) → (k : ℕ) → HasLog (cut m) k d →
       IsUndigestedFrom (log_in (cut m) k d) from
-  undigested_then m d from past each k has = grind (arith, has_then m k d past has, log_in (cut m) k d, log_in rs k d, log_then m k d past)
+  undigested_then m d from past each k has = grind (arith, has_then m k d past has, log_then m k d past)
 
   -- the next client of the node, and one of another
   pub next_cut : (last : ℕ) → last ≢ 0 → (client_in cs last).home ≡ n → with_tails_cut (cut (last - 1)) last (kept last) ≡ cut last
@@ -82,7 +82,7 @@ module _ (n : ℕ) (kept : ℕ → ℕ) (cs : List ClientValue) where
   pub next_fails : (last : ℕ) → IsNumber cs last → (client_in cs last).home ≡ n →
       with_client (over (last - 1)) last (failed_at (kept last) (client_in (over (last - 1)) last)) ≡ over last
   next_fails zero there here = absurd (omega (arith, there.some))
-  next_fails (suc m) there here = grind (arith, client_in, known_then, eq-eqb, with_client, less_one, failed_at)
+  next_fails (suc m) there here = grind (arith, known_then)
 
   pub next_lives : (last : ℕ) → last ≢ 0 → (client_in cs last).home ≢ n → over (last - 1) ≡ over last
   next_lives last some other = grind (arith, ne_eqb, less_one)
@@ -90,7 +90,7 @@ module _ (n : ℕ) (kept : ℕ → ℕ) (cs : List ClientValue) where
   -- the home that is found of it
   pub home_found : (last : ℕ) {home : ℕ} {known : ClientValue} {now : List ClientValue} → IsNumber cs last → now ≡ over (last - 1) →
       known ≡ client_in now last → home ≡ known.home → home ≡ (client_in cs last).home
-  home_found last there is got found = grind (arith, client_in, seen_known)
+  home_found last there is got found = grind (arith, seen_known)
 
   pub number_found : (last : ℕ) {now : List ClientValue} → IsNumber cs last → now ≡ over (last - 1) → IsNumber now last
   number_found last there is = subst (λ xs. IsNumber xs last) (sym is) (number_over (last - 1) last there)

@@ -1,38 +1,37 @@
 -- What is cut where a node fails, and what is kept, as the state has it.
-use Rattle.assise_machine_failures.proofs.Common.{◌≡◌, ℕ, zero, suc, ◌+◌, ◌-◌, ◌<◌, ◌≤◌, true, false, nat_lt, List, [], ◌∷◌, ◌++◌, if◌then◌else◌, map, take}
-use Rattle.assise_machine_failures.proofs.Common.{get_or, slice_get, length, Some, None, refl, ap, sym, subst, ◌∙◌, arith, append-nil, ∥∥₁_elim, props}
-use Rattle.assise_machine_failures.proofs.Common.{cases_Bool, le-ltb, lt-ltb, ltb-false, map-append, none-some, slice_get_within, slice_get_cases, LogRecord}
-use Rattle.assise_machine_failures.proofs.Common.{all_effects, call_of, NumberedLog, log_end, record_at, records_from, touched, ReceivedLog, full_nodes}
-use Rattle.assise_machine_failures.proofs.Common.{kept_at_failure, WorldInvariant, World, call_at, end_of_log, records_between, is_cut, losses_to, client_in}
-use Rattle.assise_machine_failures.proofs.Common.{log_in, own_node, own_seen, world_of, IsNumber, ShapeInvariant, StateValue, standings, kept_from_first}
-use Rattle.assise_machine_failures.proofs.Common.{own_end, less_one, loss_of, kept_inodes, kept_to}
+use Rattle.assise_machine_failures.proofs.Common.{◌≡◌, ℕ, zero, suc, ◌+◌, ◌-◌, ◌<◌, ◌≤◌, true, false, List, [], ◌∷◌, ◌++◌, if◌then◌else◌, map, take, get_or}
+use Rattle.assise_machine_failures.proofs.Common.{slice_get, length, Some, None, refl, ap, sym, subst, ◌∙◌, arith, append-nil, ∥∥₁_elim, props, lt-ltb}
+use Rattle.assise_machine_failures.proofs.Common.{map-append, none-some, slice_get_within, slice_get_cases, LogRecord, all_effects, call_of, NumberedLog}
+use Rattle.assise_machine_failures.proofs.Common.{log_end, record_at, records_from, touched, ReceivedLog, full_nodes, kept_at_failure, WorldInvariant, World}
+use Rattle.assise_machine_failures.proofs.Common.{call_at, end_of_log, records_between, is_cut, losses_to, client_in, log_in, own_node, own_seen, world_of}
+use Rattle.assise_machine_failures.proofs.Common.{IsNumber, ShapeInvariant, StateValue, standings, kept_from_first, own_end, loss_of, kept_inodes, kept_to}
 use Rattle.assise_machine_failures.proofs.KeptPlaces.{kept_count, kept_place}
 
 -- ---- one client more
 
 pub one_kept : (w : World) (n c k : ℕ) (ks js : List ℕ) → 1 ≤ c → ks ≡ kept_to w n (c - 1) → js ≡ ks ++ k ∷ [] → k ≡ kept_at_failure w n c → js ≡ kept_to w n c
 one_kept w n zero k ks js low before push is = absurd (omega (arith, low))
-one_kept w n (suc m) k ks js low before push is = grind (arith, kept_to, less_one)
+one_kept w n (suc m) k ks js low before push is = grind arith
 
 loss_step : (w : World) (n m k : ℕ) → suc m ≡ k →
     losses_to w n k ≡ losses_to w n m ++ (if is_cut w n k then record { client = k; first = call_at w k (kept_at_failure w n k) } ∷ [] else [])
-loss_step w n m k next = grind (arith, losses_to, is_cut, call_at, kept_at_failure)
+loss_step w n m k next = grind arith
 
 pub one_lost : (w : World) (n m call : ℕ) (ls ks : List (ℕ × ℕ)) → map loss_of ls ≡ losses_to w n m → ks ≡ ls ++ (m + 1, call) ∷ [] →
     is_cut w n (m + 1) ≡ true → call_at w (m + 1) (kept_at_failure w n (m + 1)) ≡ call →
     map loss_of ks ≡ losses_to w n (m + 1)
-one_lost w n m call ls ks before push cut is = grind (arith, call_at, kept_at_failure, is_cut, loss_of, map-append, losses_to, loss_step)
+one_lost w n m call ls ks before push cut is = grind (arith, map-append)
 
 pub none_lost : (w : World) (n m : ℕ) (ls ks : List (ℕ × ℕ)) → map loss_of ls ≡ losses_to w n m → ks ≡ ls → is_cut w n (m + 1) ≡ false →
     map loss_of ks ≡ losses_to w n (m + 1)
-none_lost w n m ls ks before same whole = grind (arith, call_at, kept_at_failure, is_cut, loss_of, append-nil, losses_to, loss_step)
+none_lost w n m ls ks before same whole = grind (arith, append-nil)
 
 -- what one client's records touch which are kept
 abbrev pub touched_kept : World → ℕ → ℕ → List ℕ
 touched_kept w n c = touched (all_effects (records_between w c (w.first c) (kept_at_failure w n c)))
 
 pub one_touched : (w : World) (n m : ℕ) (is js : List ℕ) → is ≡ kept_inodes w n m → js ≡ is ++ touched_kept w n (m + 1) → js ≡ kept_inodes w n (m + 1)
-one_touched w n m is js before more = grind (arith, kept_inodes)
+one_touched w n m is js before more = grind arith
 
 -- ---- the list of places
 
@@ -44,11 +43,11 @@ module _ (s : StateValue) (n : ℕ) (ks : List ℕ) (all : ks ≡ kept_to (world
   place_client = record { some = omega arith; there = omega (arith, place_within) }
 
   pub place_kept : get_or ks k 0 ≡ kept_at_failure (world_of s) n (k + 1)
-  place_kept = grind (arith, kept_place, world_of, place_within, kept_at_failure)
+  place_kept = grind (arith, kept_place, place_within)
 
 pub all_places : (s : StateValue) (n : ℕ) (ks : List ℕ) (k : ℕ) → ks ≡ kept_to (world_of s) n (length s.clients) → k ≤ length ks → length ks ≤ k →
     k ≡ length s.clients
-all_places s n ks k all most least = grind (arith, kept_count, world_of)
+all_places s n ks k all most least = grind (arith, kept_count)
 
 -- ---- the first record that is lost
 
@@ -59,10 +58,10 @@ call_there (q ∷ rs) (suc k) next r is = call_there rs k next r is
 
 -- a record that is there lies before the end
 there_lost : (l : NumberedLog) (k next : ℕ) (r : LogRecord) → record_at l k ≡ Some r → (k < log_end l) × (call_of l.records (k - l.first) next ≡ r.call)
-there_lost l k next r is = grind (arith, cases_Bool, nat_lt, none-some, slice_get, slice_get_within, ltb-false, call_there)
+there_lost l k next r is = grind (arith, slice_get_within, call_there)
 
 nothing_lost : (l : NumberedLog) (k : ℕ) → l.first ≤ k → record_at l k ≡ None → log_end l ≤ k
-nothing_lost l k first none = grind (arith, nat_lt, le-ltb, slice_get, slice_get_cases, none-some)
+nothing_lost l k first none = grind (arith, slice_get_cases)
 
 -- ---- a client's own log
 
@@ -98,8 +97,8 @@ module _ (s : StateValue) (n c : ℕ) (shape : ShapeInvariant s) (client : IsNum
       (lt-ltb cut (end_of_log (world_of s) c) low, (λ i. call_of (records_is i) (cut - first_is i) ((world_of s).next c)) ∙ there.1)
 
   pub whole_here : (l : NumberedLog) → ∥ WorldInvariant (world_of s) ∥₁ → l ≡ own.log → record_at l cut ≡ None → is_cut (world_of s) n c ≡ false
-  whole_here l sound same none = grind (arith, log_end, nothing_lost, first_kept, record_at, le-ltb, end_of_log, world_of, own_end)
+  whole_here l sound same none = grind (arith, nothing_lost, first_kept, own_end)
 
   pub touched_here : (l : NumberedLog) → l ≡ own.log → touched (all_effects (take (cut - l.first) (records_from l l.first))) ≡ touched_kept (world_of s) n c
   unfolding records_between
-  touched_here l same = grind (arith, touched, all_effects, first_is, records_is)
+  touched_here l same = grind (arith, first_is, records_is)

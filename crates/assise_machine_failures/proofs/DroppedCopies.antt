@@ -1,13 +1,11 @@
 -- Copies of inodes that a node loses: what is left of the state, and what the laws observe of it.
 use Rattle.assise_machine_failures.proofs.Common.{◌≡◌, ◌≢◌, ℕ, ◌≤◌, Bool, true, false, if◌then◌else◌, List, [], ◌∷◌, length, Option, Some, None, inl, inr, refl}
-use Rattle.assise_machine_failures.proofs.Common.{ap, sym, subst, ◌∙◌, arith, eq-eqb, true≢false, nat_cmp, contains-from_list_nat, cases_eq, ne_eqb}
-use Rattle.assise_machine_failures.proofs.Common.{get_or_past, same_Some, Content, contains, IsQuiet, RegionValue, log_at, no_log, with_inode, is_returning}
-use Rattle.assise_machine_failures.proofs.Common.{stale_of, Standing, standing_of, Rests, Full, World, LosesCopies, after_inode, hot_capacities, region_in}
-use Rattle.assise_machine_failures.proofs.Common.{with_region, is_full_in, stands_full, world_of, IsNumber, ShapeInvariant, StateValue, standings, full_seen}
-use Rattle.assise_machine_failures.proofs.Common.{node_number, region_keeps, inode_else, inode_here, inode_rests, inode_shaped, region_here, length-with}
-use Rattle.assise_machine_failures.proofs.Common.{LosesStale, nodes_without, without_copies}
+use Rattle.assise_machine_failures.proofs.Common.{ap, sym, subst, ◌∙◌, arith, true≢false, nat_cmp, contains-from_list_nat, cases_eq, ne_eqb, same_Some, Content}
+use Rattle.assise_machine_failures.proofs.Common.{contains, IsQuiet, RegionValue, with_inode, is_returning, stale_of, Standing, standing_of, Rests, Full, World}
+use Rattle.assise_machine_failures.proofs.Common.{LosesCopies, after_inode, hot_capacities, region_in, with_region, is_full_in, stands_full, world_of, IsNumber}
+use Rattle.assise_machine_failures.proofs.Common.{ShapeInvariant, StateValue, standings, full_seen, node_number, region_keeps, inode_else, inode_here}
+use Rattle.assise_machine_failures.proofs.Common.{inode_rests, inode_shaped, region_here, length-with, LosesStale, nodes_without, without_copies}
 use Rattle.std.specs.FinSet as set
-use Rattle.assise_model_events.proofs.LeaseSteps.{clients_after, logs_after, nodes_after}
 
 -- ---- one rest after another
 
@@ -15,7 +13,7 @@ pub rests_still : (w : World) → Rests w w
 rests_still w = assumption
 
 pub rests_more : (u v w : World) → Rests u v → Rests v w → Rests u w
-rests_more u v w e f = grind (arith, logs_after, clients_after, nodes_after)
+rests_more u v w e f = grind arith
 
 -- ---- nothing changes but the nodes
 
@@ -38,7 +36,7 @@ module _ (rs : List RegionValue) (n i : ℕ) (there : IsNumber rs n) where
 
 -- where there are no logs, no record touches anything
 pub logless_quiet : (r : RegionValue) (i : ℕ) → r.logs ≡ [] → IsQuiet r i
-logless_quiet r i none k home = grind (arith, log_at, no_log, get_or_past, true≢false)
+logless_quiet r i none k home = grind arith
 
 -- ---- what the laws observe
 
@@ -90,7 +88,7 @@ gone_here s n (i ∷ inodes) there j =
     gone_here t n inodes (still_number s n i there) j
     ∙ elim (cases_eq j i) [
       | inl is ↦
-          grind (arith, eq-eqb i j (sym is), gone_either, contains inodes j, world_of t, inode_here s n i None there)
+          grind (arith, inode_here s n i None there)
       | inr other ↦
           rw (ne_eqb i j (λ is. other (sym is)))
           (ap (λ v. if contains inodes j then None else v) (inode_else s n i None there n j (λ is same. other same)))
@@ -98,7 +96,7 @@ gone_here s n (i ∷ inodes) there j =
 
 pub without_here : (s : StateValue) (n : ℕ) (inodes : List ℕ) → IsNumber s.nodes n → LosesCopies (world_of s) (world_of (without_copies s n inodes)) n
     (set.from_list inodes)
-without_here s n inodes there j = grind (arith, gone_here, world_of, contains-from_list_nat)
+without_here s n inodes there j = grind (arith, gone_here, contains-from_list_nat)
 
 -- ---- a node that comes back
 

@@ -3,9 +3,9 @@ use Rattle.assise_machine_failures.proofs.Common.{◌≡◌, ◌≢◌, ℕ, ◌
 use Rattle.assise_machine_failures.proofs.Common.{∥∥₁_map, Coded-set, coded_ℕ, nat_cmp, all_effects, contains, touched, Asked, Among, revoke, lease_of}
 use Rattle.assise_machine_failures.proofs.Common.{TwoLevels, donor_of, failed, failure_fault, stale_of, full, standing_of, Drops, Fails, kept_at_failure}
 use Rattle.assise_machine_failures.proofs.Common.{WorldInvariant, Full, World, digested_by_all, fail_sound, FailsWithMembers, losses_of, fail_event}
-use Rattle.assise_machine_failures.proofs.Common.{failed_answer, MachineInvariant, Failing, IsFailed, is_failed, event_keeps, after_failure, drops_to}
-use Rattle.assise_machine_failures.proofs.Common.{is_full_in, observed, world_of, AreLeft, CutsInvariant, ShapeInvariant, StateValue, leases_of, standings}
-use Rattle.assise_machine_failures.proofs.Common.{failure_noted, noted_known, still_noted, seen_full, failure_keeps, survivor_left}
+use Rattle.assise_machine_failures.proofs.Common.{failed_answer, MachineInvariant, Failing, IsFailed, is_failed, event_keeps, after_failure, drops_to, observed}
+use Rattle.assise_machine_failures.proofs.Common.{world_of, AreLeft, CutsInvariant, ShapeInvariant, StateValue, leases_of, standings, failure_noted}
+use Rattle.assise_machine_failures.proofs.Common.{noted_known, still_noted, seen_full, failure_keeps, survivor_left}
 use Rattle.std.specs.FinSet as set
 use Rattle.assise_lease_table.specs.LeaseMaps.{SameLeases as SameLeasesOf}
 use Rattle.assise_lease_tree.specs.Levels.{is_revoked, lives}
@@ -84,7 +84,7 @@ module _ (s : StateValue) (n : ℕ) (inodes : set.FinSet nat_cmp) (levels : TwoL
       (λ h. failure_seen s n inodes levels asked may.shape may.stands h.sound may.fine revokes.clients revokes.home revokes.nodes revokes.left h.leases)
 
   survivor : (m : ℕ) × ((m ≢ n) × Full w m)
-  survivor = grind (arith, is_full_in, standings, survivor_left, seen_full)
+  survivor = grind (arith, survivor_left, seen_full)
 
   node_fails : Fails w n (world_of t)
   node_fails = fails_settled w n (world_of t) (∥∥₁_map seen_some (λ f. f.fails)) survivor

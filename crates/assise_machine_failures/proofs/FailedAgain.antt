@@ -1,10 +1,10 @@
 -- A node that was coming back and is down again, as the laws have it.
 use Rattle.assise_machine_failures.proofs.Common.{◌≡◌, ℕ, true, List, [], ◌∷◌, ◌++◌, Option, Some, None, Ok, Err, length, refl, sym, subst, arith, true≢false}
-use Rattle.assise_machine_failures.proofs.Common.{∥∥₁_map, cases_eq, Refusal, WrongPhase, Loss, EntryValue, fails, failed, failed_as, failure_fault_of}
-use Rattle.assise_machine_failures.proofs.Common.{is_returning, Membership, Standing, down, full, phase_of, returning, standing_of, with_standing, Rests}
-use Rattle.assise_machine_failures.proofs.Common.{fail_event, failed_answer, MachineInvariant, Failing, IsFailedAgain, is_failed_again, event_keeps}
-use Rattle.assise_machine_failures.proofs.Common.{after_members, is_full_in, observed, own_seen, world_of, CutsInvariant, ShapeInvariant, StateValue, leases_of}
-use Rattle.assise_machine_failures.proofs.Common.{standings, still_noted, members_rest, members_shaped, full_as, full_else, full_here, same_count}
+use Rattle.assise_machine_failures.proofs.Common.{∥∥₁_map, Refusal, WrongPhase, Loss, EntryValue, fails, failed, failed_as, failure_fault_of, is_returning}
+use Rattle.assise_machine_failures.proofs.Common.{Membership, Standing, down, full, phase_of, returning, standing_of, Rests, fail_event, failed_answer}
+use Rattle.assise_machine_failures.proofs.Common.{MachineInvariant, Failing, IsFailedAgain, is_failed_again, event_keeps, after_members, is_full_in, observed}
+use Rattle.assise_machine_failures.proofs.Common.{own_seen, world_of, CutsInvariant, ShapeInvariant, StateValue, leases_of, standings, still_noted}
+use Rattle.assise_machine_failures.proofs.Common.{members_rest, members_shaped, full_as, full_else, full_here, same_count}
 use Rattle.std.specs.FinSet as set
 use Rattle.assise_history.proofs.ClientCounts.{durability-still}
 use Rattle.assise_manager.specs.declared.phase.Phase.TheVariants.{Down}
@@ -34,7 +34,7 @@ module _ (m : Membership) (n : ℕ) where
   full_still None at is k = absurd (true≢false (sym is))
   full_still (Some full) at is k = absurd (true≢false (sym is))
   full_still (Some (down since)) at is k = absurd (true≢false (sym is))
-  full_still (Some (returning since donor stale)) at is k = grind (arith, cases_eq, is_full_in, with_standing, down, full_here, returning, full_as, full_else)
+  full_still (Some (returning since donor stale)) at is k = grind (arith, full_here, full_as, full_else)
 
 -- ---- it fails
 
@@ -82,7 +82,7 @@ module _ {s : StateValue} {n : ℕ} (was : WasReturning s n) where
 
   again_shaped : ShapeInvariant t
   unfolding own_seen
-  again_shaped = grind (arith, members_shaped, long, same, durability-still, fails)
+  again_shaped = grind (arith, members_shaped, long, same, durability-still)
 
   again_noted : CutsInvariant t
   again_noted = still_noted s t refl (omega arith) (λ c i. refl) was.noted
@@ -103,7 +103,7 @@ module _ {s : StateValue} {n : ℕ} {now : Membership} {h : List EntryValue} (do
   so = (λ i. record s { members = down_again.members i; history = down_again.told i })
 
   pub happens_again : (answer : List Loss) → answer ≡ [] → Failing (observed s) n (failed_answer answer) (observed x)
-  happens_again answer none = grind (arith, observed s, observed x, failed_answer, so, again_happens down_again.was)
+  happens_again answer none = grind (arith, again_happens down_again.was)
 
   pub holds_again : ∥ MachineInvariant (observed x) ∥₁
   holds_again = subst (λ y. ∥ MachineInvariant (observed y) ∥₁) (sym so) (again_holds down_again.was)

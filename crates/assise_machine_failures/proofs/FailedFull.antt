@@ -2,10 +2,9 @@
 use Rattle.assise_machine_failures.proofs.Common.{◌≡◌, ◌≢◌, ℕ, suc, ◌+◌, ◌<◌, true, List, [], ◌∷◌, Option, Some, None, inl, inr, length, map, take}
 use Rattle.assise_machine_failures.proofs.Common.{slice_index_or, refl, ap, sym, subst, ◌∙◌, arith, eq-eqb, option_map, cases_Bool, ne_eqb, take_all, nat_cmp}
 use Rattle.assise_machine_failures.proofs.Common.{Refusal, LastNode, OutOfMemory, Among, TwoLevels, donor_of, failed, failure_fault, failure_fault_of}
-use Rattle.assise_machine_failures.proofs.Common.{is_returning, refilled_from, with_epoch, failed_as, Membership, lowest_full, written_since, Standing, full}
-use Rattle.assise_machine_failures.proofs.Common.{full_nodes, down, standing_of, mapped_at, set_else, Answer, failed_answer, refused, Failing, is_refused}
-use Rattle.assise_machine_failures.proofs.Common.{lacks_memory, after_failure, drops_to, observed, world_of, ShapeInvariant, StateValue, standings, loss_of}
-use Rattle.assise_machine_failures.proofs.Common.{AllLose, AreReturning, LosesStale}
+use Rattle.assise_machine_failures.proofs.Common.{is_returning, refilled_from, Membership, Standing, full, full_nodes, down, standing_of, mapped_at, set_else}
+use Rattle.assise_machine_failures.proofs.Common.{Answer, failed_answer, refused, Failing, is_refused, lacks_memory, after_failure, drops_to, observed}
+use Rattle.assise_machine_failures.proofs.Common.{world_of, ShapeInvariant, StateValue, standings, loss_of, AllLose, AreReturning, LosesStale}
 use Rattle.std.proofs.Math.Seq.{take-suc}
 use Rattle.std.specs.FinSet as set
 use Rattle.assise_machine_failures.specs.declared.failure.Failure.{Failure}
@@ -46,23 +45,7 @@ module _ (m : Membership) (n : ℕ) (inodes : set.FinSet nat_cmp) (stands : stan
   other k from same = absurd (let bad : ◌≡◌ {A = Option ℕ} None (Some n) = sym (ap donor_of (ap (standing_of m.nodes) same ∙ stands)) ∙ from in cc)
 
   filled_back : (k : ℕ) → donor_of (standing_of m.nodes k) ≡ Some n → is_returning (standing_of (failed m n inodes).nodes k) ≡ true
-  filled_back k from = grind (
-    arith,
-    with_epoch,
-    lowest_full,
-    is_returning,
-    standing_of,
-    mapped_at,
-    refilled_from,
-    written_since,
-    option_map,
-    set_else,
-    full,
-    down,
-    other,
-    back_still,
-    failed_as,
-  )
+  filled_back k from = grind (arith, mapped_at, set_else)
 
 all_back : (t : StateValue) (ks : List ℕ) → ((k : ℕ) → Among ks k → is_returning (standing_of (standings t) k) ≡ true) → AreReturning t ks
 all_back t [] each = tt
@@ -155,7 +138,7 @@ module _ {s : StateValue} {n : ℕ} {f : Failure} where
   shaped_now d = subst ShapeInvariant (sym d.down) (down_shaped s n f d.levels d.may d.listed d.revoked)
 
   pub refreshed_now : {u : StateValue} → AreCopiesDropped s n f u → IsRefreshed s n u
-  refreshed_now {u} c = grind (arith, all_refreshed, after_failure, set.from_list)
+  refreshed_now {u} c = grind (arith, all_refreshed)
 
   pub given_now : {x : StateValue} → ArePrefixesDropped s n f x → Gives s n x
   given_now d = subst (Gives s n) (sym (d.drops ∙ ap (drops_to d.refreshed) d.all)) (refreshed_now d.copies).gives
@@ -163,4 +146,4 @@ module _ {s : StateValue} {n : ℕ} {f : Failure} where
   -- the answer tells what was listed as lost
   pub happens_now : {x : StateValue} (losses : List (ℕ × ℕ)) → ArePrefixesDropped s n f x → losses ≡ f.losses.items →
       Failing (observed s) n (failed_answer (map loss_of losses)) (observed x)
-  happens_now {x} losses d is = grind (arith, observed, failed_answer, loss_of, given_now)
+  happens_now {x} losses d is = grind (arith, given_now)

@@ -1,7 +1,7 @@
 -- The nodes that are filled from a node.
 use Rattle.assise_machine_failures.proofs.Common.{◌≡◌, ◌↔◌, ℕ, zero, suc, ◌-◌, ◌≤◌, ◌==◌, Bool, true, false, List, [], ◌∷◌, ◌++◌, if◌then◌else◌, Option, Some}
 use Rattle.assise_machine_failures.proofs.Common.{None, Result, Ok, Err, IsOk, IfOk, ap, sym, arith, append-nil, Refusal, donor_of, filling_fault_of, Standing}
-use Rattle.assise_machine_failures.proofs.Common.{standing_of, less_one, filled_from, is_number}
+use Rattle.assise_machine_failures.proofs.Common.{standing_of, filled_from, is_number}
 use Rattle.std.specs.Result.{result_eq}
 
 -- ---- one node more
@@ -9,15 +9,15 @@ use Rattle.std.specs.Result.{result_eq}
 filled_to : (nodes : List Standing) (n c : ℕ) → 1 ≤ c →
     filled_from nodes n c ≡ filled_from nodes n (c - 1) ++ (if is_number n (donor_of (standing_of nodes c)) then c ∷ [] else [])
 filled_to nodes n zero low = absurd (omega (arith, low))
-filled_to nodes n (suc m) low = grind (arith, filled_from, is_number, donor_of, standing_of, less_one)
+filled_to nodes n (suc m) low = grind arith
 
 pub one_filled : (nodes : List Standing) (n c : ℕ) (ks js : List ℕ) → 1 ≤ c → ks ≡ filled_from nodes n (c - 1) → js ≡ ks ++ c ∷ [] →
     is_number n (donor_of (standing_of nodes c)) ≡ true → js ≡ filled_from nodes n c
-one_filled nodes n c ks js low before push from = grind (arith, is_number, donor_of, standing_of, filled_to)
+one_filled nodes n c ks js low before push from = grind arith
 
 pub none_filled : (nodes : List Standing) (n c : ℕ) (ks js : List ℕ) → 1 ≤ c → ks ≡ filled_from nodes n (c - 1) → js ≡ ks →
     is_number n (donor_of (standing_of nodes c)) ≡ false → js ≡ filled_from nodes n c
-none_filled nodes n c ks js low before same other = grind (arith, is_number, donor_of, standing_of, append-nil, filled_from, filled_to)
+none_filled nodes n c ks js low before same other = grind (arith, append-nil)
 
 -- ---- who a node is filled from
 

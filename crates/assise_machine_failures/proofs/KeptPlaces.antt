@@ -1,6 +1,6 @@
 -- The places up to which logs are kept where a node fails, as the state has them.
 use Rattle.assise_machine_failures.proofs.Common.{◌≡◌, ◌≢◌, ℕ, zero, suc, ◌+◌, ◌<◌, ◌≤◌, ◌==◌, ◌&&◌, min, take, take-suc, true, false, not, List, [], ◌∷◌, ◌++◌}
-use Rattle.assise_machine_failures.proofs.Common.{filter, length, get_or, inl, inr, refl, ap, sym, ◌∙◌, arith, eqb-true, eq-eqb, append-nil, cases_lt, ne_eqb}
+use Rattle.assise_machine_failures.proofs.Common.{filter, length, get_or, inl, inr, refl, ap, sym, ◌∙◌, arith, eqb-true, append-nil, cases_lt}
 use Rattle.assise_machine_failures.proofs.Common.{get_or_append_left, get_or_push, length_push, contains, log_end, Standing, full_nodes, kept_at_failure, World}
 use Rattle.assise_machine_failures.proofs.Common.{end_of_log, least_of, client_in, log_in, full_in, own_node, world_of, IsNumber, ShapeInvariant, StateValue}
 use Rattle.assise_machine_failures.proofs.Common.{standings, full_is, kept_elsewhere, listed_is, one_more, own_end, kept_to}
@@ -22,10 +22,10 @@ no_more ms ns f d same = least_of-above ms f d (least_of ns f d) (least_of-end n
 
 -- lists that have the same have one least number
 same_least : (ms ns : List ℕ) (f : ℕ → ℕ) (d : ℕ) → ((k : ℕ) → contains ms k ≡ contains ns k) → least_of ms f d ≡ least_of ns f d
-same_least ms ns f d same = grind (arith, least_of, no_more)
+same_least ms ns f d same = grind (arith, no_more)
 
 same_others : (nodes : List Standing) (n k : ℕ) → contains (others n (full_nodes nodes)) k ≡ contains (others n (full_in nodes)) k
-same_others nodes n k = grind (arith, others_has, full_nodes, listed_is, full_is, full_in)
+same_others nodes n k = grind (arith, others_has, listed_is, full_is)
 
 -- ---- one full node after another
 
@@ -36,11 +36,11 @@ prefix_more n ns i low =
 
 pub next_other : (n : ℕ) (ns : List ℕ) (i : ℕ) (f : ℕ → ℕ) (d : ℕ) → i < length ns → get_or ns i 0 ≢ n →
     least_of (others n (take (i + 1) ns)) f d ≡ min (least_of (others n (take i ns)) f d) (f (get_or ns i 0))
-next_other n ns i f d low other = grind (arith, ne_eqb, least_of, prefix_more, one_more)
+next_other n ns i f d low other = grind (arith, prefix_more, one_more)
 
 pub next_itself : (n : ℕ) (ns : List ℕ) (i : ℕ) (f : ℕ → ℕ) (d : ℕ) → i < length ns → get_or ns i 0 ≡ n → least_of (others n (take (i + 1) ns)) f d
     ≡ least_of (others n (take i ns)) f d
-next_itself n ns i f d low same = grind (arith, eq-eqb, least_of, prefix_more, append-nil)
+next_itself n ns i f d low same = grind (arith, prefix_more, append-nil)
 
 -- ---- what is kept of a client
 
@@ -63,18 +63,18 @@ module _ (s : StateValue) (n c : ℕ) (shape : ShapeInvariant s) (client : IsNum
   least_seen : least_of (others n (full_in (standings s))) (λ m. log_end (log_in s.nodes m c).log) own_place ≡ least_of (others n (world_of s).full)
       (λ m. (world_of s).received m c) (end_of_log (world_of s) c)
   unfolding world_of
-  least_seen = grind (arith, least_of, full_in, standings, log_end, log_in, own_end)
+  least_seen = grind (arith, own_end)
 
   pub kept_least : (client_in s.clients c).failed ≡ false → (client_in s.clients c).home ≡ n →
       least_of (others n (full_nodes (standings s))) (λ m. log_end (log_in s.nodes m c).log) own_place ≡ kept_at_failure (world_of s) n c
   unfolding world_of
-  kept_least unfailed here = grind (arith, same_least, full_nodes, standings, full_in, log_end, log_in, same_others, least_seen, cut_there, world_of)
+  kept_least unfailed here = grind (arith, same_least, same_others, least_seen, cut_there)
 
 -- ---- of all clients
 
 pub kept_count : (w : World) (n m : ℕ) → length (kept_to w n m) ≡ m
 kept_count w n zero = refl
-kept_count w n (suc m) = grind (arith, kept_count w n m, kept_to, length_push, kept_at_failure)
+kept_count w n (suc m) = grind (arith, kept_count w n m, length_push)
 
 pub kept_place : (w : World) (n m k : ℕ) → k < m → get_or (kept_to w n m) k 0 ≡ kept_at_failure w n (suc k)
 kept_place w n zero k low = absurd (omega (arith, low))
@@ -83,5 +83,5 @@ kept_place w n (suc m) k low =
     elim (cases_lt k m) [
       | inl before ↦ get_or_append_left (kept_to w n m) (kept_at_failure w n (suc m) ∷ []) 0 k (omega (arith, before, count)) ∙ kept_place w n m k before
       | inr last ↦
-          grind (arith, kept_to, kept_at_failure, get_or_push)
+          grind (arith, get_or_push)
     ]

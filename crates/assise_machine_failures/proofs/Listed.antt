@@ -1,10 +1,10 @@
 -- What a failure lists, as the laws have it.
 use Rattle.assise_machine_failures.proofs.Common.{◌≡◌, ℕ, zero, suc, ◌-◌, ◌≤◌, true, false, List, [], take, drop, length, Option, Some, inl, inr, refl, ap, sym}
-use Rattle.assise_machine_failures.proofs.Common.{subst, ◌∙◌, arith, append-nil, eqb-true, eq-eqb, true≢false, cases_Bool, cases_eq, cases_lt, or_cases}
-use Rattle.assise_machine_failures.proofs.Common.{or_left, or_right, get_or_past, none-some, nat_cmp, contains-from_list_nat, LogRecord, all_effects, contains}
-use Rattle.assise_machine_failures.proofs.Common.{touched, Among, no_log, donor_of, Standing, standing_of, kept_at_failure, World, records_between, client_in}
-use Rattle.assise_machine_failures.proofs.Common.{log_in, region_in, is_full_in, own_node, own_seen, world_of, IsNumber, item_at, ShapeInvariant, StateValue}
-use Rattle.assise_machine_failures.proofs.Common.{standings, no_log_there, numbers, filled_from, is_number, kept_inodes}
+use Rattle.assise_machine_failures.proofs.Common.{subst, ◌∙◌, arith, append-nil, eqb-true, true≢false, cases_Bool, cases_eq, cases_lt, or_cases, or_left}
+use Rattle.assise_machine_failures.proofs.Common.{get_or_past, nat_cmp, contains-from_list_nat, LogRecord, all_effects, contains, touched, Among, no_log}
+use Rattle.assise_machine_failures.proofs.Common.{donor_of, Standing, standing_of, kept_at_failure, World, records_between, client_in, log_in, own_node}
+use Rattle.assise_machine_failures.proofs.Common.{own_seen, world_of, IsNumber, item_at, ShapeInvariant, StateValue, standings, numbers, filled_from, is_number}
+use Rattle.assise_machine_failures.proofs.Common.{kept_inodes}
 use Rattle.std.specs.FinSet as set
 use Rattle.assise_inode_table.proofs.EffectValues.{contains-append}
 use Rattle.assise_lease_table.proofs.Elements.{among_prefix, among_last, among_push}
@@ -26,7 +26,7 @@ to_touched w n zero c i low high there = absurd (omega (arith, low, high))
 to_touched w n (suc m) c i low high there =
     contains-append (kept_inodes w n m) (touched_kept w n (suc m)) i
     ∙ elim (cases_eq c (suc m)) [
-      | inl last ↦ grind (arith, or_right, contains, kept_inodes, touched_kept)
+      | inl last ↦ grind arith
       | inr other ↦ or_left (contains (kept_inodes w n m) i) (contains (touched_kept w n (suc m)) i)
           (to_touched w n m c i low (omega (arith, high, other)) there)
     ]
@@ -36,11 +36,11 @@ to_touched w n (suc m) c i low high there =
 not_seen : {X : Type 0} (none : X) (xs : List X) (d : ℕ) → (IsNumber xs d → ⊥) → item_at none xs d ≡ none
 unfolding item_at
 not_seen none xs zero other = refl
-not_seen none xs (suc k) other = grind (arith, cases_lt, get_or_past)
+not_seen none xs (suc k) other = grind (arith, get_or_past)
 
 no_log_seen : (s : StateValue) (m c : ℕ) → ShapeInvariant s → (IsNumber s.clients c → ⊥) → log_in s.nodes m c ≡ no_log
 unfolding log_in
-no_log_seen s m c shape other = grind (arith, cases_Bool, is_full_in, standings, region_in, not_seen, no_log, no_log_there)
+no_log_seen s m c shape other = grind (arith, not_seen)
 
 no_records : (s : StateValue) (c : ℕ) → ShapeInvariant s → (IsNumber s.clients c → ⊥) → (world_of s).records c ≡ []
 unfolding world_of own_seen
@@ -57,7 +57,7 @@ none_between (suc j) (suc k) = refl
 
 none_kept : (s : StateValue) (n c i : ℕ) → ShapeInvariant s → (IsNumber s.clients c → ⊥) → contains (touched_kept (world_of s) n c) i ≡ false
 unfolding records_between
-none_kept s n c i shape other = grind (arith, world_of, kept_at_failure, no_records, none_between, contains, touched, all_effects)
+none_kept s n c i shape other = grind (arith, no_records)
 
 -- ---- the inodes that are listed are those that the records touch which are left
 
@@ -107,27 +107,17 @@ of_filled nodes n zero k low high from = absurd (omega (arith, low, high))
 of_filled nodes n (suc m) k low high from =
     elim (cases_eq k (suc m)) [
       | inl last ↦
-          grind (arith, is_number, donor_of, standing_of, eq-eqb, filled_from, among_last)
+          grind (arith, among_last)
       | inr other ↦
-          grind (
-            arith,
-            of_filled nodes n m k low (omega (arith, high, other)) from,
-            filled_from,
-            cases_Bool,
-            is_number,
-            donor_of,
-            standing_of,
-            among_prefix,
-            append-nil,
-          )
+          grind (arith, of_filled nodes n m k low (omega (arith, high, other)) from, among_prefix, append-nil)
     ]
 
 stands_somehow : (nodes : List Standing) (k n : ℕ) → donor_of (standing_of nodes k) ≡ Some n → (1 ≤ k) × (k ≤ length nodes)
-stands_somehow nodes k n from = grind (arith, standing_of, donor_of, none-some, numbers)
+stands_somehow nodes k n from = grind (arith, numbers)
 
 module _ (s : StateValue) (n : ℕ) (nodes : List ℕ) (listed : nodes ≡ filled_from (standings s) n (length s.nodes)) where
   pub filled_only : (k : ℕ) → Among nodes k → donor_of (standing_of (standings s) k) ≡ Some n
   filled_only k there = filled_of (standings s) n (length s.nodes) k (subst (λ ks. Among ks k) listed there)
 
   pub filled_all : ShapeInvariant s → (k : ℕ) → donor_of (standing_of (standings s) k) ≡ Some n → Among nodes k
-  filled_all shape k from = grind (arith, standings, stands_somehow, of_filled)
+  filled_all shape k from = grind (arith, stands_somehow, of_filled)

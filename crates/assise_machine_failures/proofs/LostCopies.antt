@@ -4,7 +4,7 @@ use Rattle.assise_machine_failures.proofs.Common.{arith, Option, Some, None, inl
 use Rattle.assise_machine_failures.proofs.Common.{Among, Content, is_returning, stale_of, standing_of, Rests, LosesCopies, world_of, ShapeInvariant, StateValue}
 use Rattle.assise_machine_failures.proofs.Common.{standings, hot_capacities, AllLose, AreReturning, LosesStale}
 use Rattle.std.specs.FinSet as set
-use Rattle.assise_machine_failures.proofs.DroppedCopies.{lost_count, lost_else, lost_here, lost_hot, lost_is, lost_rests, lost_shaped, rests_more, rests_still}
+use Rattle.assise_machine_failures.proofs.DroppedCopies.{lost_count, lost_else, lost_here, lost_hot, lost_is, lost_rests, lost_shaped, rests_still}
 
 -- all of the state is as it was but what nodes have that aren't full
 pub record StillLosing (t u : StateValue) : Type 0 where
@@ -31,7 +31,7 @@ pub still_same : (t : StateValue) → ShapeInvariant t → StillLosing t t
 still_same t shape = assumption (rests_still (world_of t))
 
 pub still_twice : (t v u : StateValue) → StillLosing t v → StillLosing v u → StillLosing t u
-still_twice t v u a b = grind (arith, rests_more, world_of)
+still_twice t v u a b = grind arith
 
 pub all_still : (t : StateValue) (ks : List ℕ) (u : StateValue) → ShapeInvariant t → AllLoseAt t ks u → StillLosing t u
 all_still t [] u shape lose = subst (StillLosing t) (sym lose) (still_same t shape)
@@ -73,7 +73,7 @@ one_loses t [] u k i stale lose there is = elim there [ ]
 one_loses t (j ∷ ks) u k i stale (v, (first, rest)) there is =
     elim (cases_eq k j) [
       | inl same ↦
-          grind (arith, keeps_lost, world_of, same_stale, lost_now)
+          grind (arith, keeps_lost)
       | inr other ↦
           one_loses v ks u k i stale rest (elim there [ inl same ↦ absurd (other same) | inr later ↦ later ]) (same_stale t v k stale first.still is)
           ∙ ap (lost (set.contains stale i)) (first.elsewhere k i other)

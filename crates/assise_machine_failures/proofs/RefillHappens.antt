@@ -1,20 +1,19 @@
 -- A node that comes back gets an inode from the node that it is filled from, as the laws have it.
 use Rattle.assise_machine_failures.proofs.Common.{◌≡◌, ◌≢◌, ◌<◌, arith, ℕ, false, List, [], length, Option, Some, None, Result, Ok, Err, IfOk, IsOk, inl, inr}
-use Rattle.assise_machine_failures.proofs.Common.{refl, ap, sym, subst, ◌∙◌, append-nil, true≢false, option_map, nat_cmp, len-empty, cases_eq, none-some}
-use Rattle.assise_machine_failures.proofs.Common.{same_Some, Refusal, OutOfMemory, Content, RegionValue, with_inode, IsLowest, IsLowestOf, copied_by, copied_as}
-use Rattle.assise_machine_failures.proofs.Common.{donor_of, filling_fault, filling_fault_of, stale_of, IsMembership, Membership, Standing, down, full}
-use Rattle.assise_machine_failures.proofs.Common.{returning, standing_of, Refills, Answer, left, refused, IsRefilled, Refilling, count_of, after_inode}
-use Rattle.assise_machine_failures.proofs.Common.{after_members, region_in, with_region, is_full_in, observed, world_of, IsNumber, CutsInvariant}
-use Rattle.assise_machine_failures.proofs.Common.{ShapeInvariant, StateValue, leases_of, standings, value_of, node_number, inode_else, inode_here, inode_rests}
-use Rattle.assise_machine_failures.proofs.Common.{inode_shaped, members_areas, members_rest, members_shaped, region_keeps, full_as, same_count}
-use Rattle.assise_machine_failures.proofs.Common.{refilling_answer}
+use Rattle.assise_machine_failures.proofs.Common.{refl, ap, sym, subst, ◌∙◌, append-nil, true≢false, option_map, nat_cmp, len-empty, none-some, same_Some}
+use Rattle.assise_machine_failures.proofs.Common.{Refusal, OutOfMemory, Content, RegionValue, with_inode, IsLowest, IsLowestOf, copied_by, copied_as, donor_of}
+use Rattle.assise_machine_failures.proofs.Common.{filling_fault, filling_fault_of, stale_of, IsMembership, Membership, Standing, down, full, returning}
+use Rattle.assise_machine_failures.proofs.Common.{standing_of, Refills, Answer, left, refused, IsRefilled, Refilling, count_of, after_inode, after_members}
+use Rattle.assise_machine_failures.proofs.Common.{region_in, with_region, is_full_in, observed, world_of, IsNumber, CutsInvariant, ShapeInvariant, StateValue}
+use Rattle.assise_machine_failures.proofs.Common.{leases_of, standings, value_of, node_number, inode_else, inode_here, inode_rests, inode_shaped, members_areas}
+use Rattle.assise_machine_failures.proofs.Common.{members_rest, members_shaped, region_keeps, full_as, same_count, refilling_answer}
 use Rattle.std.specs.FinMap as map
 use Rattle.std.specs.FinSet as set
 use Rattle.assise_manager.proofs.Lawful.{donor_full}
-use Rattle.assise_model_events.specs.MemberEvents.Refilling.{is_refilled, is_refused, is_whole, lacks_memory}
+use Rattle.assise_model_events.specs.MemberEvents.Refilling.{is_refused, lacks_memory}
 use Rattle.assise_machine_state.specs.declared.sound.SoundOf.{SoundOf}
 use Rattle.assise_machine_failures.proofs.DroppedCopies.{not_full, rests_more}
-use Rattle.assise_machine_failures.proofs.ComingBack.{counted, still_full}
+use Rattle.assise_machine_failures.proofs.ComingBack.{still_full}
 use Rattle.assise_machine_failures.proofs.RefusedFailures.{IsFaultOr}
 
 -- ---- it is refused
@@ -39,7 +38,7 @@ lowest_of o stale i is low = subst (λ p. IsLowestOf p (Some i)) is low
 -- where there is a lowest inode it may lack some
 some_stale : (o : Option (set.FinSet nat_cmp)) (i : ℕ) → IsLowestOf o (Some i) → 0 < count_of o
 some_stale None i low = absurd low
-some_stale (Some inodes) i low = grind (arith, cases_eq, true≢false, set.empty_of_len, set.contains-empty, nat_cmp)
+some_stale (Some inodes) i low = grind (arith, set.empty_of_len, set.contains-empty)
 
 -- node n comes back, and is filled from node d
 pub record IsFilledFrom (s : StateValue) (n d : ℕ) : Type 0 where
@@ -86,7 +85,7 @@ module _ {s : StateValue} {n d : ℕ} (fills : IsFilledFrom s n d) where
   -- it lacks nothing
   pub whole_so : IsLowestOf (stale_of (standing_of (standings s) n)) None → Refilling (observed s) n (left 0) (observed s)
   unfolding observed
-  whole_so none = grind (arith, stale_of, filled_from, is_whole, filled_fine, count_of, len-empty, nat_cmp)
+  whole_so none = grind (arith, len-empty)
 
 -- ---- it gets the lowest inode
 
@@ -165,7 +164,7 @@ module _ {s : StateValue} {n d : ℕ} {rs : List RegionValue} {m : Membership} (
 
   refill_happens : (count : ℕ) → option_map set.len (stale_of (standing_of m.nodes n)) ≡ Some count → Refilling (observed s) n (left count) (observed w)
   unfolding observed
-  refill_happens count some = grind (arith, observed, left, same, is_refilled, filled_fine, counted, stale_of, standing_of, refilled_so)
+  refill_happens count some = grind (arith, refilled_so)
 
   pub refill_answers : (r : Result ℕ Refusal) → IsOk r → IfOk r (λ count. option_map set.len (stale_of (standing_of m.nodes n)) ≡ Some count) →
       Refilling (observed s) n (refilling_answer r) (observed w)

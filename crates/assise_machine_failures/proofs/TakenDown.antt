@@ -1,11 +1,11 @@
 -- A full node that is taken down: its logs are gone, and those of its clients are cut where they are kept.
 use Rattle.assise_machine_failures.proofs.Common.{◌≡◌, ◌≢◌, ℕ, zero, suc, ◌<◌, ◌≤◌, ◌==◌, true, List, [], ◌∷◌, ◌++◌, length, Some, inl, inr, refl, arith}
-use Rattle.assise_machine_failures.proofs.Common.{slice_index_or, le_prop, ∥∥₁_elim, ∥∥₁_map, cases_Bool, ne_eqb, nat_cmp, EntryValue, fails, RegionValue}
-use Rattle.assise_machine_failures.proofs.Common.{Asked, TwoLevels, failed, Membership, full, standing_of, kept_at_failure, WorldInvariant, World}
-use Rattle.assise_machine_failures.proofs.Common.{received_by_all, kept_low, losses_of, MachineInvariant, after_failure, with_clients_cut, with_clients_failed}
-use Rattle.assise_machine_failures.proofs.Common.{ClientValue, client_in, failed_at, with_client, HasLog, IsUndigestedFrom, log_in, region_in, with_tails_cut}
-use Rattle.assise_machine_failures.proofs.Common.{without_logs, is_full_in, observed, world_of, IsNumber, ShapeInvariant, StateValue, standings, node_number}
-use Rattle.assise_machine_failures.proofs.Common.{seen_full, log_away, region_else, region_here, less_one, kept_in, kept_to}
+use Rattle.assise_machine_failures.proofs.Common.{le_prop, ∥∥₁_elim, ∥∥₁_map, cases_Bool, nat_cmp, EntryValue, fails, RegionValue, Asked, TwoLevels, failed}
+use Rattle.assise_machine_failures.proofs.Common.{Membership, full, standing_of, kept_at_failure, WorldInvariant, World, received_by_all, kept_low, losses_of}
+use Rattle.assise_machine_failures.proofs.Common.{MachineInvariant, after_failure, with_clients_cut, with_clients_failed, ClientValue, client_in, failed_at}
+use Rattle.assise_machine_failures.proofs.Common.{with_client, HasLog, IsUndigestedFrom, log_in, with_tails_cut, without_logs, is_full_in, observed, world_of}
+use Rattle.assise_machine_failures.proofs.Common.{IsNumber, ShapeInvariant, StateValue, standings, node_number, seen_full, log_away, region_else, region_here}
+use Rattle.assise_machine_failures.proofs.Common.{kept_in, kept_to}
 use Rattle.std.specs.FinSet as set
 use Rattle.assise_names.specs.declared.limits.TheConstants.{MOST_CLIENTS}
 use Rattle.assise_machine_failures.proofs.KeptPlaces.{kept_place}
@@ -26,7 +26,7 @@ sound_so s holds = ∥∥₁_map holds (λ h. h.sound)
 
 pub place_in : (w : World) (n m c : ℕ) (ks : List ℕ) → ks ≡ kept_to w n m → 0 < c → c ≤ m → kept_in ks c ≡ kept_at_failure w n c
 place_in w n m zero ks is some low = absurd (omega (arith, some))
-place_in w n m (suc c) ks is some low = grind (arith, kept_in, slice_index_or, kept_to, less_one, kept_place)
+place_in w n m (suc c) ks is some low = grind (arith, kept_place)
 
 -- what is cut depends on the places of clients 1 to m alone
 pub same_cuts : (n : ℕ) (cs : List ClientValue) (f g : ℕ → ℕ) (m : ℕ) (rs : List RegionValue) → ((c : ℕ) → 0 < c → c ≤ m → f c ≡ g c) →
@@ -59,19 +59,10 @@ module _ (s : StateValue) (n : ℕ) (shape : ShapeInvariant s) (stands : standin
 
   -- the failed node has no log
   other_node : (k c : ℕ) → HasLog (without_logs s.nodes n) k c → k ≢ n
-  other_node k c has same = grind (arith, region_in, without_logs, region_here, number)
+  other_node k c has same = grind (arith, region_here, number)
 
   is_full_there : (k c : ℕ) → HasLog (without_logs s.nodes n) k c → is_full_in (standings s) k ≡ true
-  is_full_there k c has = grind (
-    arith,
-    cases_Bool (is_full_in (standings s) k),
-    other_node k c has,
-    region_in (without_logs s.nodes n) k,
-    region_in s.nodes k,
-    region_in s.nodes n,
-    region_else,
-    number,
-  )
+  is_full_there k c has = grind (arith, other_node k c has, region_else, number)
 
   digested_low : (k c : ℕ) → is_full_in (standings s) k ≡ true → (world_of s).digested k c ≤ kept_at_failure (world_of s) n c
   digested_low k c f =
@@ -87,16 +78,9 @@ module _ (s : StateValue) (n : ℕ) (shape : ShapeInvariant s) (stands : standin
   undigested ks is k c client home has = grind (
     arith,
     other_node k c has,
-    log_in (without_logs s.nodes n) k c,
-    log_in s.nodes k c,
     log_away,
-    region_in s.nodes n,
     number,
-    client_in s.clients c,
-    ne_eqb,
-    kept_at_failure (world_of s) n c,
     digested_low k c (is_full_there k c has),
-    kept_in ks c,
     place_in (world_of s) n
         (length s.clients) c ks is client.some client.there,
   )

@@ -79,8 +79,7 @@ insert_ascending xs i x s within below above = grind
 
 -- a number put in anywhere
 pub insert_set : (xs : List ℕ) (i x : ℕ) → i ≤ length xs → set.from_list {R = nat_cmp} (insert xs i x) ≡ set.insert (set.from_list xs) x
-insert_set xs i x within = same_list (insert xs i x) (x ∷ xs)
-    (grind (arith, list_any-append, take-append-drop i xs))
+insert_set xs i x within = grind (arith, same_list (insert xs i x) (x ∷ xs) (grind (arith, list_any-append, take-append-drop i xs)))
 
 same_truth : (a b : Bool) → (a ≡ true → b ≡ true) → (b ≡ true → a ≡ true) → a ≡ b
 same_truth true b p q = sym (p refl)

@@ -1,8 +1,8 @@
 -- Sets of numbers, and the lists that they are made from.
-use Rattle.assise_manager.proofs.Common.{◌≡◌, ℕ, ◌+◌, ◌<◌, Bool, true, false, cond, ◌||◌, List, [], ◌∷◌, ◌++◌, map, take, length, get_or, refl, sym, ap, ◌∙◌}
-use Rattle.assise_manager.proofs.Common.{rules, add-one, list_any, nat_cmp, eq_by_cmp, members, same_set, nat_cmp-IsAntisymmetric, contains-from_list}
-use Rattle.assise_manager.proofs.Common.{from_list_push, nat_cmp_total, unsigned_tied, nat_eq, list_any-append, IsPermutation, take-suc, map-append, insert_key}
-use Rattle.assise_manager.proofs.Common.{all_inodes}
+use Rattle.assise_manager.proofs.Common.{◌≡◌, ℕ, ◌+◌, ◌<◌, Bool, true, ◌||◌, List, [], ◌∷◌, ◌++◌, map, take, length, get_or, refl, sym, ap, ◌∙◌, rules, add-one}
+use Rattle.assise_manager.proofs.Common.{list_any, nat_cmp, eq_by_cmp, members, same_set, nat_cmp-IsAntisymmetric, contains-from_list, from_list_push}
+use Rattle.assise_manager.proofs.Common.{nat_cmp_total, unsigned_tied, nat_eq, list_any-append, IsPermutation, take-suc, map-append, insert_key, all_inodes}
+use Rattle.assise_manager.proofs.Common.{arith}
 use Rattle.std.specs.FinSet as set
 use Rattle.std.proofs.lemmas.List.Sorted.{list_any-IsPermutation}
 
@@ -40,12 +40,7 @@ insert_there s k there = same _ _ (λ q. grind (members, rules))
 
 -- a list that takes a number in unless it has it
 pub listed_insert : (xs : List ℕ) (k : ℕ) → set.from_list {R = nat_cmp} (insert_key nat_eq xs k) ≡ set.insert (set.from_list xs) k
-listed_insert xs k =
-    elim (list_any (nat_eq k) xs) as (λ b. list_any (nat_eq k) xs ≡ b → set.from_list {R = nat_cmp} (cond b xs (xs ++ k ∷ [])) ≡ set.insert (set.from_list xs)
-    k) [
-      | true ↦ λ there. sym (insert_there _ k (there_any xs k there))
-      | false ↦ λ _. push xs k
-    ] refl
+listed_insert xs k = grind (arith, list_any, nat_eq, set.from_list, nat_cmp, insert_there, there_any, push)
 
 -- the numbers of two lists
 pub from_append : (xs ys : List ℕ) → set.from_list {R = nat_cmp} (xs ++ ys) ≡ set.union (set.from_list xs) (set.from_list ys)

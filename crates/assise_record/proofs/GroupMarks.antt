@@ -84,6 +84,9 @@ marked (g ∷ gs) (suc k) h low =
           grind (
             arith,
             marked gs (suc k - length (coalesced_group g)) h.1 (omega (arith, past, low, length-append (coalesced_group g) (all_coalesced gs))),
+            coalesced_group,
+            length-append,
+            all_coalesced,
             get_or-append_right,
             length-marks,
           )

@@ -1,7 +1,7 @@
 -- Frames that are carried, one after another.
 use Rattle.assise_rounds.proofs.Common.{◌≡◌, ◌≤◌, ℕ, ◌+◌, Bool, true, false, List, [], ◌∷◌, ◌++◌, map, None, Some, Result, Ok, Err, is_ok, refl, ap, sym, subst}
-use Rattle.assise_rounds.proofs.Common.{◌∙◌, append_assoc, append-nil, arith, length-append, Refusal, LogFrame, level_of, newest, outgoing, received, refused}
-use Rattle.assise_rounds.proofs.Common.{sent, AllHappen, Machine, Delivering, Sending, Told, AreCarried, AreSame, Carried, DeliversOver, IsSame, Replicates}
+use Rattle.assise_rounds.proofs.Common.{◌∙◌, append-nil, arith, length-append, Refusal, LogFrame, level_of, newest, outgoing, received, refused, sent}
+use Rattle.assise_rounds.proofs.Common.{AllHappen, Machine, Delivering, Sending, Told, AreCarried, AreSame, Carried, DeliversOver, IsSame, Replicates}
 use Rattle.assise_rounds.proofs.Common.{deliveries, delivery, is_taken_in, letter, taken}
 use Rattle.std.proofs.lemmas.List.Elements.{filter-append}
 use Rattle.assise_machine.specs.Answers.{delivery_answer}
@@ -12,7 +12,7 @@ happen_then m v m' (e ∷ es) fs (u, (first, rest)) h = (u, (first, happen_then 
 
 deliveries-more : (cs : List Carried) (c : Carried) → deliveries (cs ++ c ∷ []) ≡ deliveries cs ++ delivery c.node c.came
 deliveries-more [] c = append-nil (delivery c.node c.came)
-deliveries-more (b ∷ cs) c = grind (arith, deliveries-more cs c, delivery, append_assoc, deliveries)
+deliveries-more (b ∷ cs) c = grind (arith, deliveries-more cs c)
 
 letters-more : (cs : List Carried) (c : Carried) → map letter (cs ++ c ∷ []) ≡ map letter cs ++ letter c ∷ []
 letters-more [] c = refl
@@ -63,7 +63,7 @@ module _ {F G : Type 0} (stays : F → G) {m v m' : Machine} {frames : List (Log
 -- what a node sent was carried
 pub carried_turn : (F : Type 0) (m v : Machine) (n count : ℕ) (frames : List (LogFrame × ℕ)) → Sending m n (sent frames) m →
     (h : AreCarried F frames count m v) → Replicates F n count m ((outgoing n, sent (map letter h.carried)) ∷ deliveries h.carried) v
-carried_turn F m v n count frames sends h = grind (arith, sent, letter)
+carried_turn F m v n count frames sends h = grind arith
 
 pub all_carried : (F : Type 0) (m v : Machine) (n count : ℕ) (frames : List (LogFrame × ℕ)) → Sending m n (sent frames) m → AreCarried F frames count m v →
     (es : Told) × Replicates F n count m es v

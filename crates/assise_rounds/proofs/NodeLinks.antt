@@ -11,7 +11,7 @@ module _ {L : Type 0} (f : L → Kind) where
   -- the link of node n
   pub at_node : (links : List L) (n : ℕ) (d : L) → FaithfulAt (map f links) n → f (slice_index_or links (n - 1) d) ≡ perfect
   at_node links zero d h = absurd h
-  at_node links (suc k) d h = grind (arith, slice_index_or, perfect, at_place links k d h)
+  at_node links (suc k) d h = grind (arith, at_place links k d h)
 
   -- a link is used, and stays of its kind
   pub set_same : (links : List L) (k : ℕ) (d now : L) → f now ≡ f (slice_index_or links k d) → map f (slice_set links k now) ≡ map f links

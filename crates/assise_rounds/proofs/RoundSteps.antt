@@ -14,11 +14,11 @@ use Rattle.assise_rounds.proofs.Traces.{both, event}
 last_does : (Does : ℕ → Machine → Told → Machine → Type 0) (n : ℕ) (m v m' : Machine) (es fs : Told) → (n ≡ 0 → ⊥) → EachFull Does (n - 1) m es v →
     IfFull Does n v fs m' → EachFull Does n m (es ++ fs) m'
 last_does Does zero m v m' es fs some before now = absurd (some refl)
-last_does Does (suc n) m v m' es fs some before now = grind (arith, both)
+last_does Does (suc n) m v m' es fs some before now = grind arith
 
 next_does : (Does : ℕ → Machine → Told → Machine → Type 0) (n : ℕ) (m v m' : Machine) (es fs : Told) → 1 ≤ n → EachFull Does (n - 1) m es v →
     IfFull Does n v fs m' → EachFull Does (n + 1 - 1) m (es ++ fs) m'
-next_does Does n m v m' es fs some before now = grind (arith, last_does)
+next_does Does n m v m' es fs some before now = grind arith
 
 pub full_does : (fault : Option Refusal) (Does : Machine → Told → Machine → Type 0) (m : Machine) (es : Told) (m' : Machine) → is_none fault ≡ true →
     Does m es m' → UnlessAtFault fault Does m es m'

@@ -1,7 +1,7 @@
 use Rattle.assise_machine_calls.proofs.Common.{◌≡◌, ◌+◌, ◌<◌, ◌∙◌, [], ◌∷◌, ◌++◌, None, suc, length, refl, ap, subst, sym, arith, ∥∥₁_map, MOST_CLIENTS}
 use Rattle.assise_machine_calls.proofs.Common.{levels_of, EnrolsAt, opens, Opening, is_refused, lacks_memory, opened, open_client, refused, open_fault}
 use Rattle.assise_machine_calls.proofs.Common.{MachineInvariant, event_keeps, after_open, with_logs_ended, observed, CutsInvariant, ShapeInvariant, value_of}
-use Rattle.assise_machine_calls.proofs.Common.{open_noted}
+use Rattle.assise_machine_calls.proofs.Common.{open_noted, opened_on}
 use Rattle.assise_machine_calls.proofs.OpenFaults.{fine_few}
 use Rattle.assise_machine_calls.proofs.Opened.{done, is_event, keeps_shape, stranger, undone}
 use Rattle.assise_machine_calls.proofs.SyncChanges.{Gives}
@@ -21,9 +21,10 @@ undone_now g c =
 
 -- what is opened, with the invariant after it
 opened_now : (g : over.Over) (c : goal.After-push g) →
+    c.open.new.self ≡ (value_of c.begin.new.state).clients ++ opened_on c.args.node c.args.durability ∷ [] →
     Gives (λ w. Opening (observed (value_of c.args.sound.now.state)) c.args.node c.args.durability (opened (c.len.result + 1)) (observed w))
     (record (value_of c.begin.new.state) { clients = c.open.new.self; levels = levels_of c.enrol.new.self; history = c.push.new.self.events })
-opened_now g c =
+opened_now g c more =
     let s = value_of c.args.sound.now.state in
     let v = value_of c.begin.new.state in
     let x = c.args.sound.now.invariant in
@@ -31,7 +32,7 @@ opened_now g c =
     let fine : open_fault (observed s) c.args.node ≡ None = sym c.open_refusal.ensures ∙ c.in_default.is in
     let number : c.len.result + 1 ≡ suc (length s.clients) = omega (arith, c.len.ensures) in
     let told = c.push.ensures.grown ∙ ap (λ e. v.history ++ e ∷ []) (c.open-2.ensures ∙ ap (λ k. opens k c.args.node c.args.durability) number) in
-    let same = done s v c.args.node c.args.durability c.open.new.self levels c.push.new.self.events c.in_default-begin.ensures.ok c.open.ensures told in
+    let same = done s v c.args.node c.args.durability c.open.new.self levels c.push.new.self.events c.in_default-begin.ensures.ok more told in
     let enrols : EnrolsAt s.levels levels (suc (length s.clients)) c.args.node =
     subst (λ t. EnrolsAt (levels_of t) levels (suc (length s.clients)) c.args.node) c.begin.ensures.revokers
     (subst (λ k. EnrolsAt (levels_of c.begin.new.state.leases) levels k c.args.node) number c.in_default-enrol.ensures.ok) in
@@ -96,7 +97,8 @@ open-requires g c =
 
 pub invariant_of-sound-2 : goal.invariant_of-sound-2
 invariant_of-sound-2 g c =
-    record { invariant = record { holds = (opened_now g c).holds; shape = (opened_now g c).shape; noted = (opened_now g c).noted } }
+    let given = opened_now g c c.open.ensures in
+    record { invariant = record { holds = given.holds; shape = given.shape; noted = given.noted } }
 
 pub returns-clause-happens : goal.returns-clause-happens
-returns-clause-happens g c = (opened_now g c.before).happens
+returns-clause-happens g c = (opened_now g c.before c.open.ensures).happens
