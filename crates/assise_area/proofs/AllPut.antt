@@ -2,7 +2,7 @@
 use Rattle.assise_area.proofs.Common.{◌≡◌, ◌≤◌, ◌<◌, ◌+◌, ◌-◌, ℕ, Bool, true, false, cond, Some, None, refl, sym, ap, ◌∙◌, eqb, nat_eq, is_some, arith}
 use Rattle.assise_area.proofs.Common.{eqb-true, nat_cmp_total, option_or, Content, InodeMap, alike, Entries, value_in}
 use Rattle.std.specs.FinMap as map
-use Rattle.assise_area.proofs.Seen.{turned}
+use Rattle.assise_area.proofs.Shared.Seen.{turned}
 
 -- where one is there, there are some
 pub some_there : (m : InodeMap) (k : ℕ) (v : Content) → map.get m k ≡ Some v → 0 < map.len m

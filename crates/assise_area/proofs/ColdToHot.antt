@@ -3,7 +3,7 @@ use Rattle.assise_area.proofs.Common.{◌≡◌, ◌≤◌, ◌<◌, ◌-◌, �
 use Rattle.assise_area.proofs.Common.{sym, ap, subst, ◌∙◌, eqb, nat_eq, arith, option_to_list, option_map, cond_both, eqb-true, eq-eqb, false_from_ne_true}
 use Rattle.assise_area.proofs.Common.{option_or, option_map_or, AllByRecursion, IsDistinct, slice_get, lookup_entry, keys_of, remove_entry, LruCache, IsValid}
 use Rattle.assise_area.proofs.Common.{Content, lookup-append, Entries, AreDisjoint, HoldSame, IsPushed, IsWarmed, hot_at, cold_at}
-use Rattle.assise_area.proofs.Seen.{turned, some≢none}
+use Rattle.assise_area.proofs.Shared.Seen.{turned, some≢none}
 use Rattle.assise_area.proofs.HotUse.{found}
 use Rattle.assise_area.proofs.WrittenValues.{disjoint_at}
 

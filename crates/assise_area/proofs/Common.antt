@@ -16,9 +16,9 @@ pub use Rattle.assise_area.specs.Hot.{AreaValue, with_capacity, IsTouched, after
 pub use Rattle.assise_area.specs.Parts.{Entries, value_in, HoldSame, IsPushed, IsWarmed, hot_at, cold_at, AreWritten, IsCooled, both_parts, area_seen}
 pub use Rattle.assise_area.specs.Parts.{AreaInvariant}
 unfoldable pub use Rattle.assise_area.specs.Parts.{AreDisjoint}
-pub use Rattle.assise_inode_table.proofs.LiveSlots.{lookup-append, or_none, or_cond}
-pub use Rattle.assise_inode_table.proofs.MapView.{alike}
-pub use Rattle.assise_inode_table.proofs.TableView.{on_err, is_there}
+pub use Rattle.assise_inode_table.proofs.Shared.LiveSlots.{lookup-append, or_none, or_cond}
+pub use Rattle.assise_inode_table.proofs.Shared.MapView.{alike}
+pub use Rattle.assise_inode_table.proofs.Shared.TableView.{on_err, is_there}
 pub use Rattle.assise_inode_table.specs.Contents.{Content, InodeMap, regular}
 pub use Rattle.assise_inode_table.specs.Effects.{with_value, AsksForMemory, changed}
 pub use Rattle.indexmap.specs.IndexMap.{spare}

@@ -5,7 +5,7 @@ use Rattle.assise_area.proofs.Common.{length-take-le, take-append-drop, take_mor
 use Rattle.assise_area.proofs.Common.{LruCache, lru_cache, Content, AreaValue, with_capacity, Entries, AreDisjoint, AreWritten, HoldSame, IsCooled, hot_at}
 use Rattle.assise_area.proofs.Common.{cold_at, area_seen}
 use Rattle.std.proofs.lemmas.List.Folds.{list_any-append}
-use Rattle.assise_area.proofs.Seen.{some_or, some≢none, from_some, same_joined, is_some-lookup}
+use Rattle.assise_area.proofs.Shared.Seen.{some_or, some≢none, from_some, same_joined, is_some-lookup}
 use Rattle.assise_area.proofs.WrittenValues.{disjoint_at}
 use Rattle.assise_area.proofs.ColdToHot.{hot-append, keys_take}
 

@@ -3,7 +3,7 @@ use Rattle.assise_area.proofs.Common.{◌≡◌, ◌≤◌, ◌-◌, ℕ, suc, B
 use Rattle.assise_area.proofs.Common.{◌∙◌, inr, eqb, nat_eq, is_some, true≢false, arith, take_all, eqb-true, length-map, list_any, lookup_entry, keys_of}
 use Rattle.assise_area.proofs.Common.{remove_entry, LruCache, lru_cache, promoted, Content, AreaValue, IsTouched, after_use, used, without_number, Entries}
 use Rattle.assise_area.proofs.Common.{AreDisjoint, AreaInvariant, IsWarmed, hot_at, cold_at, area_seen}
-use Rattle.assise_area.proofs.Seen.{some≢none, same_joined, hot_now, is_some-lookup, value_of_hot, value_of_cold}
+use Rattle.assise_area.proofs.Shared.Seen.{some≢none, same_joined, hot_now, is_some-lookup, value_of_hot, value_of_cold}
 use Rattle.assise_area.proofs.WrittenValues.{keys-removed, disjoint_same}
 
 removed_other : (n q : ℕ) (es : Entries) → eqb q n ≡ false → hot_at (remove_entry (nat_eq n) es) q ≡ hot_at es q

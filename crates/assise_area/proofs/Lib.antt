@@ -1,7 +1,7 @@
 mod Common
-pub mod Seen
-pub mod WrittenValues
-pub mod HotUse
-pub mod ColdToHot
-pub mod Cooled
-pub mod AllPut
+pub mod Shared
+mod WrittenValues
+mod HotUse
+mod ColdToHot
+mod Cooled
+mod AllPut

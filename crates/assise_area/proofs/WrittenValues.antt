@@ -4,7 +4,7 @@ use Rattle.assise_area.proofs.Common.{eqb-true, lookup-set_value, lookup-remove_
 use Rattle.assise_area.proofs.Common.{remove_entry, LruCache, lru_cache, Content, with_value, or_cond, AreaValue, with_inodes, without_number, removed, Entries}
 use Rattle.assise_area.proofs.Common.{AreDisjoint, AreaInvariant, value_in, hot_at, cold_at, area_seen, arith}
 use Rattle.std.specs.FinMap as map
-use Rattle.assise_area.proofs.Seen.{some≢none, with_value-joined}
+use Rattle.assise_area.proofs.Shared.Seen.{some≢none, with_value-joined}
 
 pub one_class : (k x y : ℕ) → nat_eq k x ≡ true → nat_eq k y ≡ nat_eq x y
 one_class k x y e = ap (λ j. nat_eq j y) (eqb-true k x e)

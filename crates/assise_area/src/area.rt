@@ -1,12 +1,11 @@
 //! The inodes of a node: the recently used ones in a hot part, the others in a cold one.
-ghost use Rattle.std.specs.Prelude.{◌≡◌, ◌≤◌, ◌<◌, ℕ, IfOk, IsOk, IsOkUnless, None, OnErr, OnOk, length, nat_eq, option_copied, option_map};
+ghost use Rattle.std.specs.Prelude.{◌≡◌, ◌≤◌, ◌<◌, ℕ, IfOk, IsOk, None, OnErr, OnOk, length, nat_eq, option_copied, option_map};
 ghost use Rattle.std.specs.FinMap as map;
 ghost use Rattle.std.specs.List.{IsDistinct};
 ghost use Rattle.std.specs.Option.{option_or};
 ghost use Rattle.assise_area.specs.Hot.{IsTouched, after_effect, is_hot, removed, with_capacity, with_inodes, without_inodes};
 ghost use Rattle.assise_inode_table.specs.Effects.{AsksForMemory, TakesAway, all_applied, changed, with_value};
 ghost use Rattle.assise_inode_table.specs.Whole.{CanBeMadeWhole, OnlyTakeAway};
-ghost use Rattle.assise_names.specs.declared.refusal.Refusal.TheVariants.{OutOfMemory};
 ghost use Rattle.assise_record.specs.Touched.{touched_by};
 
 use crate::cooling::cool;
@@ -18,11 +17,10 @@ use assise_inode_table::inodes::Inodes;
 use assise_inode_table::store::InodeStore;
 use assise_inode_table::table::InodeTable;
 use assise_inode_table::whole::apply_all;
-use assise_names::refusal::Refusal;
 use assise_record::effect::Effect;
 use indexmap::IndexMap;
 use lru::LruCache;
-use std::alloc::Global;
+use std::alloc::{AllocError, Global};
 use std::marker::Model;
 use std::mem;
 
@@ -68,12 +66,11 @@ impl Area {
     ghost use mathlib.Core.Option.{none};
     ghost use Rattle.assise_area.specs.contracts.area.Area.{the_row};
 
-    /// An area without inodes, of which 1 to 4,096 may be hot. The one refusal is [`Refusal::OutOfMemory`].
-    pub fn new(alloc: Global, capacity: usize) -> Result<Area, Refusal>
+    /// An area without inodes, of which 1 to 4,096 may be hot.
+    pub fn new(alloc: Global, capacity: usize) -> Result<Area, AllocError>
         requires least { 1 ≤ capacity }
         requires most { capacity ≤ 4096 }
         ensures empty { IfOk result (λ area. area ≡ without_inodes capacity) }
-        ensures only_memory { IsOkUnless result OutOfMemory }
     {
         let hot = LruCache::sparse(alloc, hot_places(capacity))?;
         Ok(Area {
@@ -93,16 +90,15 @@ impl Area {
     }
 
     /// Sets how many inodes may be hot, from 1 to 4,096. Of more hot inodes the longest unused ones are cold then, and the
-    /// others are hot as before. No inode changes. The one refusal is [`Refusal::OutOfMemory`], where more were hot than
-    /// may be, and it leaves the area as it was.
-    pub fn set_hot_capacity(&mut self, capacity: usize) -> Result<(), Refusal>
+    /// others are hot as before. No inode changes. It asks for memory where more were hot than may be; without it, it
+    /// leaves the area as it was.
+    pub fn set_hot_capacity(&mut self, capacity: usize) -> Result<(), AllocError>
         requires least { 1 ≤ capacity }
         requires most { capacity ≤ 4096 }
         ensures ok { OnOk result (self.new ≡ with_capacity self.old capacity) }
         ensures err { OnErr result (self.new ≡ self.old) }
         ensures asked { OnErr result (capacity < length self.old.hot) }
         ensures smaller { OnErr result (capacity < self.old.capacity) }
-        ensures only_memory { IsOkUnless result OutOfMemory }
     {
         cool(self.alloc, &mut self.hot, &mut self.cold, capacity)?;
         self.hot.resize(hot_places(capacity));
@@ -162,15 +158,14 @@ impl Area {
         self.peek(inode)
     }
 
-    /// Gives a number an inode, and gives back the one that it had. What was hot is hot as before, and a new inode is
-    /// cold. The one refusal is [`Refusal::OutOfMemory`], where the number had none, and it leaves the area as it was.
-    pub fn put(&mut self, inode: u64, content: Inode) -> Result<Option<Inode>, Refusal>
+    /// Gives a number an inode, and gives back the one that it had. What was hot is hot as before, and a new inode is cold.
+    /// It asks for memory where the number had none; without it, it leaves the area as it was.
+    pub fn put(&mut self, inode: u64, content: Inode) -> Result<Option<Inode>, AllocError>
         ensures ok { OnOk result (self.new ≡ with_inodes self.old
             (map.insert self.old.inodes inode content)) }
         ensures replaced { IfOk result (λ had. had ≡ map.get self.old.inodes inode) }
         ensures err { OnErr result (self.new ≡ self.old) }
         ensures asked { OnErr result (map.get self.old.inodes inode ≡ None) }
-        ensures only_memory { IsOkUnless result OutOfMemory }
     {
         let Some(held) = self.hot.peek_mut(&inode) else {
             return Ok(self.cold.insert(inode, content)?);
@@ -179,9 +174,9 @@ impl Area {
     }
 
     /// Moves all inodes of a table in, or none: each stands in place of what its number had. What was hot is hot as before,
-    /// and a new inode is cold. The one refusal is [`Refusal::OutOfMemory`], where there is an inode to move: it leaves the
-    /// area and the table as they were.
-    pub fn put_all(&mut self, inodes: &mut InodeTable) -> Result<(), Refusal>
+    /// and a new inode is cold. It asks for memory where there is an inode to move: it leaves the area and the table as
+    /// they were.
+    pub fn put_all(&mut self, inodes: &mut InodeTable) -> Result<(), AllocError>
         ensures values { OnOk result ((i : ℕ) → map.get self.new.inodes i ≡ option_or
             (map.get inodes.old i) (map.get self.old.inodes i)) }
         ensures moved { OnOk result (inodes.new ≡ map.empty) }
@@ -190,7 +185,6 @@ impl Area {
         ensures err { OnErr result (self.new ≡ self.old) }
         ensures kept { OnErr result (inodes.new ≡ inodes.old) }
         ensures asked { OnErr result (0 < map.len inodes.old) }
-        ensures only_memory { IsOkUnless result OutOfMemory }
     {
         self.cold.reserve(inodes.len())?;
         put_all_reserved(&mut self.hot, &mut self.cold, inodes);
@@ -209,18 +203,17 @@ impl Area {
         }
     }
 
-    /// Makes an effect: a new file or directory stands in place of what its number had, a freed inode is gone, and
-    /// each other effect changes the inode that it touches, where there is one of its kind. No other inode changes, and
-    /// none becomes hot. The one refusal is [`Refusal::OutOfMemory`], where a number that has none gets an inode, a file
-    /// gets bytes or an entry gets a new name, and it leaves the area as it was. What only takes away takes no memory,
-    /// and neither does an effect for the other kind or on an inode that isn't there.
-    pub fn apply(&mut self, effect: &Effect) -> Result<(), Refusal>
+    /// Makes an effect: a new file or directory stands in place of what its number had, a freed inode is gone, and each
+    /// other effect changes the inode that it touches, where there is one of its kind. No other inode changes, and none
+    /// becomes hot. It asks for memory where a number that has none gets an inode, a file gets bytes or an entry gets a new
+    /// name; without it, it leaves the area as it was. What only takes away takes no memory, and neither does an effect for
+    /// the other kind or on an inode that isn't there.
+    pub fn apply(&mut self, effect: &Effect) -> Result<(), AllocError>
         ensures ok { OnOk result (self.new ≡ after_effect self.old effect.now) }
         ensures taken_away { TakesAway effect.now → IsOk result }
         ensures err { OnErr result (self.new ≡ self.old) }
         ensures asked { OnErr result (AsksForMemory effect.now
             (map.get self.old.inodes (touched_by effect.now))) }
-        ensures only_memory { IsOkUnless result OutOfMemory }
     {
         match effect {
             Effect::NewFile { inode } => {
@@ -238,20 +231,19 @@ impl Area {
     }
 
     /// Makes the effects of a call, all of them in their order or none, without a copy of what they change (see
-    /// [`apply_all`]). The one refusal is [`Refusal::OutOfMemory`], and it leaves the inodes as they were.
-    pub fn apply_all(&mut self, effects: &[Effect]) -> Result<(), Refusal>
+    /// [`apply_all`]). Without memory it leaves the inodes as they were.
+    pub fn apply_all(&mut self, effects: &[Effect]) -> Result<(), AllocError>
         requires whole { CanBeMadeWhole effects.now }
         ensures ok { OnOk result (self.new.inodes ≡ all_applied self.old.inodes effects.now) }
         ensures taken_away { OnlyTakeAway effects.now → IsOk result }
         ensures err { OnErr result (self.new.inodes ≡ self.old.inodes) }
         ensures capacity { self.new.capacity ≡ self.old.capacity }
-        ensures only_memory { IsOkUnless result OutOfMemory }
     {
         apply_all(self, effects)
     }
 
     /// Changes the inode that an effect touches, where there is one.
-    fn change(&mut self, effect: &Effect) -> Result<(), Refusal>
+    fn change(&mut self, effect: &Effect) -> Result<(), AllocError>
         ensures taken_away { TakesAway effect.now → IsOk result }
         ensures ok { let inode = touched_by effect.now in let had = map.get self.old.inodes inode in
             OnOk result (self.new ≡ with_inodes self.old
@@ -260,7 +252,6 @@ impl Area {
         ensures err { OnErr result (self.new ≡ self.old) }
         ensures asked { OnErr result (AsksForMemory effect.now
             (map.get self.old.inodes (touched_by effect.now))) }
-        ensures only_memory { IsOkUnless result OutOfMemory }
     {
         let Some(held) = self.hot.peek_mut(&effect.touches()) else {
             return change_cold(&mut self.cold, effect);
@@ -285,7 +276,7 @@ impl InodeStore for Area {
         self.alloc
     }
 
-    fn insert(&mut self, inode: u64, content: Inode) -> Result<Option<Inode>, Refusal> {
+    fn insert(&mut self, inode: u64, content: Inode) -> Result<Option<Inode>, AllocError> {
         Area::put(self, inode, content)
     }
 
@@ -293,7 +284,7 @@ impl InodeStore for Area {
         Area::remove(self, inode)
     }
 
-    fn apply(&mut self, effect: &Effect) -> Result<(), Refusal> {
+    fn apply(&mut self, effect: &Effect) -> Result<(), AllocError> {
         Area::apply(self, effect)
     }
 }

@@ -1,16 +1,14 @@
 //! Hot inodes that become cold, the longest unused ones first.
-ghost use Rattle.std.specs.Prelude.{◌≡◌, ◌<◌, ℕ, IfOk, IsOkUnless, IsSome, None, OnErr, OnOk, Some, [], drop, false, length, nat_eq, take, true};
+ghost use Rattle.std.specs.Prelude.{◌≡◌, ◌<◌, ℕ, IfOk, IsSome, None, OnErr, OnOk, Some, [], drop, false, length, nat_eq, take, true};
 ghost use Rattle.std.specs.List.{list_any};
 ghost use Rattle.std.specs.Map.{keys_of};
 ghost use Rattle.std.specs.Option.{option_or};
 ghost use Rattle.assise_area.specs.Parts.{AreDisjoint, AreWritten, IsCooled, cold_at, hot_at};
 ghost use Rattle.assise_inode_table.specs.Contents.{regular};
-ghost use Rattle.assise_names.specs.declared.refusal.Refusal.TheVariants.{OutOfMemory};
 ghost use Rattle.lru.specs.LruCache.{lru_cache};
 
 use crate::parts::overwrite;
 use assise_inode_table::inode::Inode;
-use assise_names::refusal::Refusal;
 use indexmap::IndexMap;
 use lru::LruCache;
 use std::alloc::{AllocError, Global};
@@ -22,7 +20,7 @@ pub(crate) fn cool(
     hot: &mut LruCache<u64, Inode>,
     cold: &mut IndexMap<u64, Inode>,
     most: usize,
-) -> Result<(), Refusal>
+) -> Result<(), AllocError>
     requires disjoint { AreDisjoint hot.old.entries cold.old.entries }
     ensures ok { OnOk result (IsCooled most hot.old hot.new cold.old.entries cold.new.entries) }
     ensures err { OnErr result (hot.new ≡ hot.old) }
@@ -30,7 +28,6 @@ pub(crate) fn cool(
         cold_at cold.new.entries q ≡ cold_at cold.old.entries q) }
     ensures asked { OnErr result (most < length hot.old.entries) }
     ensures smaller { OnErr result (most < hot.old.cap) }
-    ensures only_memory { IsOkUnless result OutOfMemory }
 {
     if hot.len() <= most {
         return Ok(());
@@ -61,13 +58,12 @@ fn make_places(
     alloc: Global,
     cold: &mut IndexMap<u64, Inode>,
     numbers: &[u64],
-) -> Result<(), Refusal>
+) -> Result<(), AllocError>
     requires absent { (q : ℕ) → list_any (nat_eq q) numbers.now ≡ true →
         cold_at cold.old.entries q ≡ None }
     ensures ok { OnOk result (AreWritten numbers.now
         (Some (regular [])) cold.old.entries cold.new.entries) }
     ensures err { OnErr result ((q : ℕ) → cold_at cold.new.entries q ≡ cold_at cold.old.entries q) }
-    ensures only_memory { IsOkUnless result OutOfMemory }
 {
     let made = put_places(alloc, cold, numbers);
     if made.is_err() {
@@ -81,12 +77,11 @@ fn put_places(
     alloc: Global,
     cold: &mut IndexMap<u64, Inode>,
     numbers: &[u64],
-) -> Result<(), Refusal>
+) -> Result<(), AllocError>
     ensures ok { OnOk result (AreWritten numbers.now
         (Some (regular [])) cold.old.entries cold.new.entries) }
     ensures others { (q : ℕ) → list_any (nat_eq q) numbers.now ≡ false →
         cold_at cold.new.entries q ≡ cold_at cold.old.entries q }
-    ensures only_memory { IsOkUnless result OutOfMemory }
 {
     for number in numbers {
         cold.insert(*number, Inode::new_file(alloc))?;

@@ -1,15 +1,13 @@
 //! Inodes that move between the hot part and the cold one.
-ghost use Rattle.std.specs.Prelude.{◌≡◌, ◌-◌, ℕ, IfOk, IsOkUnless, IsSome, None, OnErr, OnOk, Some, cond, nat_eq, option_map, slice_get};
+ghost use Rattle.std.specs.Prelude.{◌≡◌, ◌-◌, ℕ, IfOk, IsSome, None, OnErr, OnOk, Some, cond, nat_eq, option_map, slice_get};
 ghost use Rattle.assise_area.specs.Parts.{AreDisjoint, IsPushed, IsWarmed, cold_at, hot_at};
-ghost use Rattle.assise_names.specs.declared.refusal.Refusal.TheVariants.{OutOfMemory};
 ghost use Rattle.lru.specs.LruCache.{IsValid};
 
 use crate::parts::overwrite;
 use assise_inode_table::inode::Inode;
-use assise_names::refusal::Refusal;
 use indexmap::IndexMap;
 use lru::LruCache;
-use std::alloc::Global;
+use std::alloc::{AllocError, Global};
 use std::mem;
 
 /// The inode that cools once another one gets hot: at the capacity the one that is longest unused.
@@ -33,7 +31,7 @@ fn push_hot(
     hot: &mut LruCache<u64, Inode>,
     cold: &mut IndexMap<u64, Inode>,
     inode: u64,
-) -> Result<Option<(u64, Inode)>, Refusal>
+) -> Result<Option<(u64, Inode)>, AllocError>
     requires absent { hot_at hot.old.entries inode ≡ None }
     requires there { IsSome (cold_at cold.old.entries inode) }
     ensures left { IfOk result (λ left. left ≡ slice_get hot.old.entries (hot.old.cap - 1)) }
@@ -43,7 +41,6 @@ fn push_hot(
     ensures err { OnErr result (hot.new ≡ hot.old) }
     ensures err_cold { OnErr result ((q : ℕ) →
         cold_at cold.new.entries q ≡ cold_at cold.old.entries q) }
-    ensures only_memory { IsOkUnless result OutOfMemory }
 {
     let Some(slot) = cold.get_mut(&inode) else {
         unreachable!()
@@ -56,7 +53,7 @@ fn push_hot(
         }
         Err(failed) => {
             overwrite(cold, failed.value);
-            Err(Refusal::OutOfMemory)
+            Err(AllocError)
         }
     }
 }
@@ -69,7 +66,7 @@ fn trade(
     cold: &mut IndexMap<u64, Inode>,
     last: u64,
     inode: u64,
-) -> Result<(), Refusal>
+) -> Result<(), AllocError>
     requires disjoint { AreDisjoint hot.old.entries cold.old.entries }
     requires valid { IsValid nat_eq hot.old }
     requires last { Some last ≡ option_map (λ e. e.0)
@@ -80,7 +77,6 @@ fn trade(
     ensures err { OnErr result (hot.new ≡ hot.old) }
     ensures err_cold { OnErr result ((q : ℕ) →
         cold_at cold.new.entries q ≡ cold_at cold.old.entries q) }
-    ensures only_memory { IsOkUnless result OutOfMemory }
 {
     cold.insert(last, Inode::new_file(alloc))?;
     match push_hot(alloc, hot, cold, inode) {
@@ -103,7 +99,7 @@ pub(crate) fn warm(
     hot: &mut LruCache<u64, Inode>,
     cold: &mut IndexMap<u64, Inode>,
     inode: u64,
-) -> Result<(), Refusal>
+) -> Result<(), AllocError>
     requires disjoint { AreDisjoint hot.old.entries cold.old.entries }
     requires absent { hot_at hot.old.entries inode ≡ None }
     requires there { IsSome (cold_at cold.old.entries inode) }
@@ -111,7 +107,6 @@ pub(crate) fn warm(
     ensures err { OnErr result (hot.new ≡ hot.old) }
     ensures err_cold { OnErr result ((q : ℕ) →
         cold_at cold.new.entries q ≡ cold_at cold.old.entries q) }
-    ensures only_memory { IsOkUnless result OutOfMemory }
 {
     let Some(last) = leaving(hot) else {
         push_hot(alloc, hot, cold, inode)?;

@@ -1,21 +1,23 @@
 //! What is done to one of the two parts.
-ghost use Rattle.std.specs.Prelude.{◌≡◌, ◌≤◌, ℕ, IsOk, IsOkUnless, IsSome, OnErr, OnOk, Some, cond, nat_eq, option_map};
+ghost use Rattle.std.specs.Prelude.{◌≡◌, ◌≤◌, ℕ, IsOk, IsSome, OnErr, OnOk, Some, cond, nat_eq, option_map};
 ghost use Rattle.std.specs.NonZero.{non_zero_usize_get};
 ghost use Rattle.assise_area.specs.Parts.{cold_at};
 ghost use Rattle.assise_inode_table.specs.Effects.{AsksForMemory, TakesAway, changed};
-ghost use Rattle.assise_names.specs.declared.refusal.Refusal.TheVariants.{OutOfMemory};
 ghost use Rattle.assise_record.specs.Touched.{touched_by};
 ghost use Rattle.lru.specs.LruCache.{IsValid};
 
 use assise_inode_table::inode::Inode;
-use assise_names::refusal::Refusal;
 use assise_record::effect::Effect;
 use indexmap::IndexMap;
 use lru::LruCache;
+use std::alloc::AllocError;
 use std::num::NonZeroUsize;
 
 /// Changes the cold inode that an effect touches, where there is one.
-pub(crate) fn change_cold(cold: &mut IndexMap<u64, Inode>, effect: &Effect) -> Result<(), Refusal>
+pub(crate) fn change_cold(
+    cold: &mut IndexMap<u64, Inode>,
+    effect: &Effect,
+) -> Result<(), AllocError>
     ensures taken_away { TakesAway effect.now → IsOk result }
     ensures ok { let inode = touched_by effect.now in let had = cold_at cold.old.entries inode in
         OnOk result ((q : ℕ) → cold_at cold.new.entries q ≡ cond (nat_eq inode q)
@@ -23,7 +25,6 @@ pub(crate) fn change_cold(cold: &mut IndexMap<u64, Inode>, effect: &Effect) -> R
     ensures err { OnErr result (cold.new.entries ≡ cold.old.entries) }
     ensures asked { OnErr result (AsksForMemory effect.now
         (cold_at cold.old.entries (touched_by effect.now))) }
-    ensures only_memory { IsOkUnless result OutOfMemory }
 {
     let Some(inode) = cold.get_mut(&effect.touches()) else {
         return Ok(());

@@ -3,7 +3,7 @@ use Rattle.assise_chain.proofs.Common.{◌≡◌, ℕ, zero, suc, ◌+◌, ◌-�
 use Rattle.assise_chain.proofs.Common.{◌∙◌, refl, arith, true, length-drop, length-take, length-take-le, LogRecord, LogFrame, IsNumberedLog, NumberedLog, end}
 use Rattle.assise_chain.proofs.Common.{is_border, records_from, count_sent, first_sent, frame_of, last_marks, log_records_between, sent}
 use Rattle.assise_private_log.specs.Borders.{whole_count}
-use Rattle.assise_private_log.proofs.Borders.{is_whole, some_whole}
+use Rattle.assise_private_log.proofs.Shared.Borders.{is_whole, some_whole}
 
 -- the first item of a prefix
 pub taken_first : {X : Type 0} (n m : ℕ) (xs ys : List X) (x : X) → m + 1 ≡ n → xs ≡ x ∷ ys → take n xs ≡ x ∷ take m ys

@@ -8,7 +8,7 @@ use assise_names::refusal::Refusal;
 use assise_private_log::log::Log;
 use assise_record::frame::{Frame, MOST_RECORDS};
 use assise_record::record::Record;
-use std::alloc::Global;
+use std::alloc::{AllocError, Global};
 
 /// A frame of the records of a log that are numbered from `from` on, or from the log's first where that is later, and below
 /// `to`: whole groups of them, as many as have at most 64 records together, with their marks in version 2 or without in version
@@ -44,10 +44,9 @@ pub fn message(
 }
 
 /// Of each of `count` records from a number on, whether it is the last of its group.
-fn last_marks(alloc: Global, log: &Log, first: u64, count: usize) -> Result<Vec<bool>, Refusal>
+fn last_marks(alloc: Global, log: &Log, first: u64, count: usize) -> Result<Vec<bool>, AllocError>
     requires fits { first + count < 2 ^ 64 }
     ensures marks { IfOk result (λ marks. marks.items ≡ last_marks log.now first count) }
-    ensures only_memory { IsOkUnless result OutOfMemory }
 {
     let mut marks = Vec::with_capacity(alloc, count)?;
     for place in 0..count {

@@ -7,9 +7,9 @@ use Rattle.assise_console.proofs.Common.{is_nowhere, is_out, is_refused, lacks_r
 use Rattle.assise_fault_script.specs.declared.command.Command as commands
 use Rattle.assise_fault_script.specs.declared.command.Command.TheVariants.{Cluster, Manual, Open, Call, Carry, Link, Hot, Digest, Release, Crash, Fail, Back}
 use Rattle.assise_fault_script.specs.declared.command.Command.TheVariants.{Refill, Join, Raise, Tree, History, Check}
-use Rattle.assise_model_events.proofs.StartKeeps.{begun_holds}
-use Rattle.assise_rounds.proofs.ReturnTrace.{return_trace}
-use Rattle.assise_rounds.proofs.Traces.{trace_legal, trace_of, trace_then, trace_told, event_trace, tries_trace}
+use Rattle.assise_model_events.proofs.Shared.StartKeeps.{begun_holds}
+use Rattle.assise_rounds.proofs.Shared.ReturnTrace.{return_trace}
+use Rattle.assise_rounds.proofs.Shared.Traces.{trace_legal, trace_of, trace_then, trace_told, event_trace, tries_trace}
 
 -- ---- one command
 

@@ -31,7 +31,7 @@ pub use Rattle.assise_fault_script.specs.declared.parse.NumberedCommand.{Numbere
 pub use Rattle.assise_history.specs.Legal.{IsLegal, durability_of}
 pub use Rattle.assise_link.specs.Kinds.{Kind, perfect}
 pub use Rattle.assise_link.specs.TestLinks.{kind_of_link}
-pub use Rattle.assise_machine.proofs.Few.{few_nodes, few_clients}
+pub use Rattle.assise_machine.proofs.Shared.Few.{few_nodes, few_clients}
 pub use Rattle.assise_machine.specs.Clusters.{machine, revokers}
 pub use Rattle.assise_machine.specs.Running.{IsServed, happens, stock_after, opened_answer}
 pub use Rattle.assise_machine.specs.declared.cluster.ClusterOf.{ClusterOf}

@@ -6,7 +6,7 @@ use Rattle.assise_console.proofs.Common.{SettingHot, node_refused}
 use Rattle.std.proofs.Common.{slice_get}
 use Rattle.std.proofs.Math.Bool.{and-false}
 use Rattle.assise_names.specs.declared.call.Op.TheVariants.{Create, Mkdir, Read, Write, Truncate, Rename, Unlink, Rmdir, List as ListCall, Stat, Fsync, Dsync}
-use Rattle.assise_model_events.proofs.SyncKeeps.{dsync_refused, fsync_refused}
+use Rattle.assise_model_events.proofs.Shared.SyncKeeps.{dsync_refused, fsync_refused}
 use Rattle.assise_model_events.specs.ClientEvents.{Crashing, Opening, is_refused}
 use Rattle.assise_model_events.specs.MemberEvents.{Failing, Joining, Raising, Refilling, Returning, is_refused as member_refused}
 use Rattle.assise_manager.specs.Changes.{failure_fault_of, filling_fault_of, join_fault_of, raise_fault_of, return_fault_of}

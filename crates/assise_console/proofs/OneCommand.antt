@@ -15,6 +15,7 @@ use Rattle.assise_rounds.specs.Rounds.{Replicates}
 use Rattle.assise_rounds.specs.Trying.{TriesOften, is_settled}
 use Rattle.assise_console.proofs.Numbers.{comes_nowhere, crashes_nobody, digests_nowhere, fails_nowhere, fills_nowhere, joins_nowhere, no_node, opens_nowhere}
 use Rattle.assise_console.proofs.Numbers.{raises_nowhere, sets_nowhere, tries_nobody}
+use Rattle.assise_console.proofs.SmallNumbers.{no_client_so_large, no_node_so_large}
 
 -- ---- links
 
@@ -250,3 +251,7 @@ shows_refusal m n k r res same is faulty memory = rw (sym same) (by_case (node_f
 
 pub shows_nothing : (m : Machine) (n : ℕ) → length m.members.nodes < n → Shows n (Refused BadNode) m
 shows_nothing m n far = is_refused BadNode (no_node m n far) refl
+
+-- ---- a number that names nothing is refused
+
+pub ruleset names_none = (digests_none, crashes_none, fails_none, comes_none, refills_none, joins_none, raises_none, no_client_so_large, no_node_so_large)

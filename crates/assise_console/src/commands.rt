@@ -1,4 +1,6 @@
 //! Commands that open no client and make no call, on a cluster alone.
+#![tactic(auto, using(crate::proofs::OneCommand::names_none))]
+
 ghost use Rattle.assise_model_events.specs.Events.{back, crash, digest, fail, join, raise, refill, release_ready};
 ghost use Rattle.assise_machine.specs.Clusters.{machine};
 ghost use Rattle.assise_rounds.specs.Traces.{Told};

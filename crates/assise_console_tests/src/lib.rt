@@ -2,22 +2,4 @@
 #![tactic(auto)]
 
 #[cfg(test)]
-mod by_threads;
-#[cfg(test)]
-mod command_line;
-#[cfg(test)]
-mod failing;
-#[cfg(test)]
-mod failures;
-#[cfg(test)]
-mod faults;
-#[cfg(test)]
-mod links;
-#[cfg(test)]
-mod made;
-#[cfg(test)]
-mod rows;
-#[cfg(test)]
-mod scripts;
-#[cfg(test)]
-mod stock;
+mod tests;

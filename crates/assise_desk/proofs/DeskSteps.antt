@@ -1,24 +1,20 @@
 -- What the request of a desk does to its cluster.
-use Rattle.assise_desk.proofs.Common.{◌≡◌, ◌≤◌, arith, inl, inr, ℕ, ℤ, List, Option, Some, Result, refl, sym, ap, subst, ◌∙◌, Kind, BadNode, Refused, Refusal}
-use Rattle.assise_desk.proofs.Common.{Machine, Told, cluster_seen, kinds_seen, links_seen, Files, ClusterCall, Open, Crash, Fail, Back, SetHot, Raise, SetLink}
-use Rattle.assise_desk.proofs.Common.{Redo, DeskFault, DeskRequest, AnswersAlone, AnswersRequest, DoesAt, IsOutOfRange, IsServedAt, ServesHot, ServesLink}
-use Rattle.assise_desk.proofs.Common.{ServesOpen, ShowsLosses, TellsRedo, answers_alone, done_told, has_no_cluster, is_no_request, number_told, opens_as, owned}
+use Rattle.assise_desk.proofs.Common.{◌≡◌, ◌≤◌, arith, inl, inr, ℕ, ℤ, Option, Some, Result, refl, sym, ap, subst, ◌∙◌, Kind, BadNode, Refused, Refusal}
+use Rattle.assise_desk.proofs.Common.{Machine, Told, cluster_seen, kinds_seen, links_seen, Files}
+use Rattle.assise_desk.proofs.Common.{DeskFault, DeskRequest, AnswersAlone, AnswersRequest, IsOutOfRange, IsServedAt, ServesHot, ServesLink}
+use Rattle.assise_desk.proofs.Common.{ServesOpen, answers_alone, done_told, has_no_cluster, is_no_request, number_told, opens_as, owned}
 use Rattle.assise_desk.proofs.Common.{request_calls, request_frees, request_makes, request_manages, request_pages, request_prints, request_queries}
 use Rattle.assise_desk.proofs.Common.{result_shown, links_no_node, sets_hot, sets_link, request_renews, request_shows_listed}
-use Rattle.std.specs.Global.{Box, Vec}
-use Rattle.std.specs.Prelude.{◌+◌, ◌-◌, ◌↔◌, [], IsOk, IsOkUnless, IsSome, OnErr, OnOk, Ok, Err, slice_set, ⊤}
+use Rattle.std.specs.Global.{Box}
+use Rattle.std.specs.Prelude.{◌+◌, ◌-◌, ◌↔◌, IsOk, IsOkUnless, IsSome, OnErr, OnOk, Ok, Err, slice_set, ⊤}
 use Rattle.assise_lease_table.specs.Tables.{Enrols}
 use Rattle.assise_manager.specs.Standings.{standing_of}
-use Rattle.assise_machine_calls.specs.Answers.{crashing_answer}
 use Rattle.assise_names.specs.declared.durability.Durability.{Durability}
 use Rattle.assise_names.specs.declared.limits.TheConstants.{MOST_NODES}
-use Rattle.assise_model_events.specs.ClientEvents.{Crashing, Opening}
-use Rattle.assise_model_events.specs.MemberEvents.{Failing, Raising}
+use Rattle.assise_model_events.specs.ClientEvents.{Opening}
 use Rattle.assise_model_events.specs.NodeEvents.{SettingHot}
-use Rattle.assise_machine_failures.specs.Answers.{failing_answer}
-use Rattle.assise_machine.specs.Answers.{raising_answer, setting_answer}
+use Rattle.assise_machine.specs.Answers.{setting_answer}
 use Rattle.assise_machine.specs.Running.{opened_answer}
-use Rattle.assise_rounds.specs.Returning.{ComesBack}
 use Rattle.assise_files.specs.declared.cut_kind.CutKind.{CutKind}
 use Rattle.assise_desk.specs.declared.caller_desk.CallerDesk.{CallerDesk}
 use Rattle.assise_desk.specs.declared.desk_call.DeskCall.{DeskCall}
@@ -43,49 +39,6 @@ pub hot_set : (r : DeskRequest) (result : Result ℕ DeskFault) (told : Result �
     SettingHot m r.node r.first (setting_answer told) m' → (es : Told) × ServesHot r result m es m'
 hot_set r result told m m' least most result_is h =
     (_, sets_hot least most record { told = told; result_is = result_is; event = record { told = refl; happens = h } })
-
-pub opening_told : (call : ClusterCall) (r : DeskRequest) (result : Result ℕ DeskFault) (before out : List ℕ) (files left : Files) → call ≡ Open →
-    (es : Told) × ServesOpen r result files es left →
-    (es : Told) × DoesAt call r result before out files es left
-opening_told call r result before out files left is h = rw is h
-
-pub hot_told : (call : ClusterCall) (r : DeskRequest) (result : Result ℕ DeskFault) (before out : List ℕ) (files left : Files) → call ≡ SetHot →
-    (es : Told) × ServesHot r result (cluster_seen files) es (cluster_seen left) → (es : Told) × DoesAt call r result before out files es left
-hot_told call r result before out files left is h = rw is h
-
-pub raising_told : (call : ClusterCall) (r : DeskRequest) (result : Result ℕ DeskFault) (before out : List ℕ) (told : Result ⊤ Refusal) (files left : Files) →
-    call ≡ Raise → result ≡ done_told told →
-    Raising (cluster_seen files) r.node (raising_answer told) (cluster_seen left) → (es : Told) × DoesAt call r result before out files es left
-raising_told call r result before out told files left is result_is h =
-    rw is (_, record { told = told; result_is = result_is; event = record { told = refl; happens = h } })
-
-pub crashing_told : (call : ClusterCall) (r : DeskRequest) (result : Result ℕ DeskFault) (before out : List ℕ) (told : Result ⊤ Refusal) (files left : Files) →
-    call ≡ Crash → result ≡ done_told told →
-    Crashing (cluster_seen files) r.client (crashing_answer told) (cluster_seen left) → (es : Told) × DoesAt call r result before out files es left
-crashing_told call r result before out told files left is result_is h =
-    rw is (_, record { told = told; result_is = result_is; event = record { told = refl; happens = h } })
-
-pub failing_told : (call : ClusterCall) (r : DeskRequest) (result : Result ℕ DeskFault) (before out : List ℕ) (told : Result (Vec (ℕ × ℕ)) Refusal)
-    (files left : Files) → call ≡ Fail →
-    ShowsLosses told result before out → Failing (cluster_seen files) r.node (failing_answer told) (cluster_seen left) →
-    (es : Told) × DoesAt call r result before out files es left
-failing_told call r result before out told files left is shown h =
-    rw is (_, record { failed = told; shown = shown; event = record { told = refl; happens = h } })
-
-pub return_told : (call : ClusterCall) (r : DeskRequest) (result : Result ℕ DeskFault) (before out : List ℕ) (told : Result ⊤ Refusal) (files left : Files) →
-    call ≡ Back → result ≡ done_told told →
-    (es : Told) × ComesBack r.node told (cluster_seen files) es (cluster_seen left) → (es : Told) × DoesAt call r result before out files es left
-return_told call r result before out told files left is result_is (es, h) = rw is (es, record { returned = told; result_is = result_is; comes_back = h })
-
-pub redo_told : (call : ClusterCall) (r : DeskRequest) (result : Result ℕ DeskFault) (before out : List ℕ) (files left : Files) → call ≡ Redo →
-    (es : Told) × TellsRedo r result before out files es left →
-    (es : Told) × DoesAt call r result before out files es left
-redo_told call r result before out files left is h = rw is h
-
-pub link_told : (call : ClusterCall) (r : DeskRequest) (result : Result ℕ DeskFault) (before out : List ℕ) (files left : Files) → call ≡ SetLink →
-    ServesLink r result files left →
-    cluster_seen left ≡ cluster_seen files → (es : Told) × DoesAt call r result before out files es left
-link_told call r result before out files left is h same = rw is ([], record { serves = h; nothing = record { told = refl; stays = same } })
 
 -- a link is set, or there is no such node
 pub link_set : (r : DeskRequest) (told : Result ⊤ Refusal) (kind : Kind) (files left : Files) → link_named r.kind r.first ≡ Some kind →

@@ -4,10 +4,10 @@ use Rattle.assise_desk.proofs.Common.{Fail, Back, Round, SetHot, Raise, SetLink,
 use Rattle.assise_desk.proofs.Common.{asks_for_none, is_called, names_no_durability, names_no_kind, opens_as, sets_hot, sets_nothing}
 use Rattle.assise_names.specs.declared.reply.Reply.{Reply}
 use Rattle.assise_rounds.specs.NodeLinks.{FaithfulAt}
-use Rattle.assise_rounds.proofs.ReturnTrace.{return_trace}
-use Rattle.assise_rounds.proofs.Traces.{event_trace, nothing_trace, round_trace}
-use Rattle.assise_rounds.proofs.CallTrace.{call_trace}
-use Rattle.assise_files.proofs.TriesTrace.{redo_trace}
+use Rattle.assise_rounds.proofs.Shared.ReturnTrace.{return_trace}
+use Rattle.assise_rounds.proofs.Shared.Traces.{event_trace, nothing_trace, round_trace}
+use Rattle.assise_rounds.proofs.Shared.CallTrace.{call_trace}
+use Rattle.assise_files.proofs.Shared.TriesTrace.{redo_trace}
 
 opening_trace : (r : DeskRequest) (result : Result ℕ DeskFault) (files : Files) (es : Told) (left : Files) → ServesOpen r result files es left →
     IsEventTrace (cluster_seen files) es (cluster_seen left)

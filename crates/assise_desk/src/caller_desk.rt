@@ -141,13 +141,8 @@ fn make(
 ) -> Result<u64, DeskFault>
     ensures { MakesCluster request.now (owned files.old) result (owned files.new) }
 {
-    match make_cluster(alloc, request) {
-        Ok(made) => {
-            *files = Some(made);
-            Ok(0)
-        }
-        Err(fault) => Err(fault),
-    }
+    *files = Some(make_cluster(alloc, request)?);
+    Ok(0)
 }
 
 /// Lets a desk's cluster go, and its text.
@@ -175,14 +170,10 @@ fn keep(
     let Some(files) = files else {
         return Err(DeskFault::NoCluster);
     };
-    match print(alloc, files, text, request.node) {
-        Ok(text) => {
-            let length = text.len() as u64;
-            *kept = Some(text);
-            Ok(length)
-        }
-        Err(fault) => Err(fault),
-    }
+    let printed = print(alloc, files, text, request.node)?;
+    let length = printed.len() as u64;
+    *kept = Some(printed);
+    Ok(length)
 }
 
 /// The cluster that a request asks for.
@@ -311,20 +302,15 @@ fn set_hot(files: &mut Files, request: &DeskRequest) -> Result<u64, DeskFault>
 fn number_told(client: Result<u32, Refusal>) -> Result<u64, DeskFault>
     ensures { result ≡ number_told client }
 {
-    match client {
-        Ok(client) => Ok(u64::from(client)),
-        Err(refusal) => Err(DeskFault::Refused(refusal)),
-    }
+    Ok(u64::from(client?))
 }
 
 /// Zero for what is done, or why it isn't.
 fn done_told(what: Result<(), Refusal>) -> Result<u64, DeskFault>
     ensures { result ≡ done_told what }
 {
-    match what {
-        Ok(()) => Ok(0),
-        Err(refusal) => Err(DeskFault::Refused(refusal)),
-    }
+    what?;
+    Ok(0)
 }
 
 /// Who lost calls, in a desk's bytes, and how many bytes these are.
@@ -334,13 +320,9 @@ fn show_losses(
 ) -> Result<u64, DeskFault>
     ensures { ShowsLosses losses result out.old out.new }
 {
-    match losses {
-        Ok(losses) => match place_losses(losses.as_slice(), out) {
-            Ok(count) => Ok(count as u64),
-            Err(fault) => Err(fault),
-        },
-        Err(refusal) => Err(DeskFault::Refused(refusal)),
-    }
+    let losses = losses?;
+    let count = place_losses(losses.as_slice(), out)?;
+    Ok(count as u64)
 }
 
 /// What a node sends goes over a link that a request asks for.
@@ -407,20 +389,15 @@ fn make_call(
     ensures turns { most_tries files.new ≡ most_tries files.old }
     ensures links { links_seen files.new ≡ links_seen files.old }
 {
-    match request.op_at(alloc, call, bytes) {
-        Ok(op) => replied_at(files.call(alloc, request.client, &op)),
-        Err(fault) => Err(fault),
-    }
+    let op = request.op_at(alloc, call, bytes)?;
+    replied_at(files.call(alloc, request.client, &op))
 }
 
 /// The reply of a call, or why there is none.
 fn replied_at(reply: Result<Reply, Refusal>) -> Result<Reply, DeskFault>
     ensures { result ≡ replied_at reply }
 {
-    match reply {
-        Ok(reply) => Ok(reply),
-        Err(refusal) => Err(DeskFault::Refused(refusal)),
-    }
+    Ok(reply?)
 }
 
 /// A call of a client is served, and its reply shown.
@@ -436,8 +413,6 @@ fn serve_client(
         files.old result files.new }
     ensures turns { most_tries files.new ≡ most_tries files.old }
 {
-    match make_call(alloc, files, call, request, bytes) {
-        Ok(reply) => show_reply(&reply, request.first, bytes, stands),
-        Err(fault) => Err(fault),
-    }
+    let reply = make_call(alloc, files, call, request, bytes)?;
+    show_reply(&reply, request.first, bytes, stands)
 }

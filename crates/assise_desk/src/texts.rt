@@ -25,10 +25,10 @@ pub(crate) fn print(
             let history = files.history();
             format!(in alloc; "{history}")?
         }
-        DeskText::Tree => match files.tree(alloc, node) {
-            Ok(tree) => format!(in alloc; "{tree}")?,
-            Err(refusal) => return Err(DeskFault::Refused(refusal)),
-        },
+        DeskText::Tree => {
+            let tree = files.tree(alloc, node)?;
+            format!(in alloc; "{tree}")?
+        }
     };
     Ok(Box::new(alloc, printed)?)
 }

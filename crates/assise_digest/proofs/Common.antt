@@ -15,7 +15,7 @@ pub use Rattle.std.specs.List.{AllByRecursion, flat_map, slice_get, cons_option,
 pub use Rattle.std.specs.Option.{option_map_or, option_or, IfSome, option_copied}
 pub use Rattle.std.specs.Ordering.{nat_cmp, match_ordering}
 pub use Rattle.std.specs.Prelude.{ok_or}
-pub use Rattle.assise_area.proofs.Seen.{ok_map}
+pub use Rattle.assise_area.proofs.Shared.Seen.{ok_map}
 pub use Rattle.assise_digest.specs.Ahead.{last_touch}
 pub use Rattle.assise_digest.specs.Invariant.{LogsInvariant, LogInvariant, seen_log, StandsHere, seen_logs}
 pub use Rattle.assise_digest.specs.Pending.{KeepsNoMore, Lays, all_held, overlaid, overlaid_with, pending_seen, HasAllNumbers, IsNew, forgotten, held}
@@ -27,11 +27,11 @@ pub use Rattle.assise_digest.specs.Region.{from_number, up_to_number, with_more,
 pub use Rattle.assise_digest.specs.Targets.{linked, targets}
 pub use Rattle.assise_digest.specs.declared.pending.Pending.{Pending}
 pub use Rattle.assise_digest.specs.declared.received.Received.{Received}
-pub use Rattle.assise_inode_table.proofs.EffectLists.{append_applied, get-all_applied, same_inodes, values-all_applied}
-pub use Rattle.assise_inode_table.proofs.EffectValues.{untouched, value_after-append, contains-both, get-with_value, same_number}
-pub use Rattle.assise_inode_table.proofs.Grouped.{ComeToSame, same_both, same_group, same_none}
-pub use Rattle.assise_inode_table.proofs.MapView.{remove-absent, alike, get-numbers, insert-numbers, remove-numbers}
-pub use Rattle.assise_inode_table.proofs.TableView.{on_err, is_there}
+pub use Rattle.assise_inode_table.proofs.Shared.EffectLists.{append_applied, get-all_applied, same_inodes, values-all_applied}
+pub use Rattle.assise_inode_table.proofs.Shared.EffectValues.{untouched, value_after-append, contains-both, get-with_value, same_number}
+pub use Rattle.assise_inode_table.proofs.Shared.Grouped.{ComeToSame, same_both, same_group, same_none}
+pub use Rattle.assise_inode_table.proofs.Shared.MapView.{remove-absent, alike, get-seen, insert-seen, remove-numbers}
+pub use Rattle.assise_inode_table.proofs.Shared.TableView.{on_err, is_there}
 pub use Rattle.assise_inode_table.specs.Contents.{Content, InodeMap, regular, directory, Links, Values, values}
 pub use Rattle.assise_inode_table.specs.Effects.{all_applied, contains, touched, value_after, with_value}
 pub use Rattle.assise_inode_table.specs.Reach.{Shape, folder, shape_of_tree, link_of, shape_of}
@@ -40,12 +40,12 @@ pub use Rattle.assise_inode_table.specs.Whole.{CanBeMadeWhole}
 pub use Rattle.assise_private_log.specs.Groups.{groups_from, regrouped}
 pub use Rattle.assise_private_log.specs.NumberedLog.{NumberedLog, records_from, IsNumberedLog, end, is_border, record_at, with_grouped, without_prefix}
 pub use Rattle.assise_private_log.specs.NumberedLog.{without_tail, HasOpenGroup, nearest}
-pub use Rattle.assise_record.proofs.Records.{all_effects-append}
+pub use Rattle.assise_record.proofs.Shared.Records.{all_effects-append}
 pub use Rattle.assise_record.specs.Groups.{all_records, coalesced_group, groups_of, all_marks, begun_by, left_in, left_of, AllHaveEffects}
 pub use Rattle.assise_record.specs.LogRecord.{LogRecord}
 pub use Rattle.assise_record.specs.Records.{all_effects, record_of}
 pub use Rattle.assise_record.specs.Touched.{touched_by}
 pub use Rattle.assise_record.specs.declared.effect.Effect.{Effect}
-pub use Rattle.assise_seq_tree.proofs.Sets.{find_below, find_first, found_later}
+pub use Rattle.assise_seq_tree.proofs.Shared.Sets.{find_below, find_first, found_later}
 pub use Rattle.assise_seq_tree.specs.Tree.{Tree, dir, Entries, no_entries, entry, insert, replace, names_of, IsBelow, file, find, AreOrdered}
 unfoldable pub use Rattle.assise_seq_tree.specs.Tree.{put}

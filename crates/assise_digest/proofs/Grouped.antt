@@ -6,7 +6,7 @@ use Rattle.assise_digest.proofs.Common.{ReceivedLog, RegionValue, TouchDisjoint,
 use Rattle.assise_digest.proofs.Common.{no_log, LogsInvariant, LogInvariant, seen_log, Received}
 use Rattle.std.specs.FinMap as map
 use Rattle.assise_private_log.specs.Borders.{group_end, whole_count}
-use Rattle.assise_private_log.proofs.Borders.{border_end, is_whole, next_border}
+use Rattle.assise_private_log.proofs.Shared.Borders.{border_end, is_whole, next_border}
 use Rattle.assise_digest.proofs.DigestKeepsReads.{ahead_further, begun_further, quiet_prefix}
 use Rattle.assise_digest.proofs.RegionLogs.{log_there, region, sound_beside, sound_others, with_one}
 use Rattle.assise_digest.proofs.ReceivedLogs.{count_ahead}

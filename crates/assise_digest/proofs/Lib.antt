@@ -1,18 +1,18 @@
 mod Common
-pub mod KeptInodes
-pub mod KeptStands
-pub mod MovedInodes
-pub mod ReceivedLogs
-pub mod RegroupedKept
-pub mod RegionLogs
-pub mod DigestKeepsReads
-pub mod InodesUnderRecords
-pub mod RebuiltInodes
-pub mod Forests
-pub mod Pieces
-pub mod Listed
-pub mod Grouped
-pub mod CoalescedLogs
-pub mod RegroupedLogs
+pub mod Shared
+mod KeptInodes
+mod MovedInodes
+mod ReceivedLogs
+mod RegroupedKept
+mod RegionLogs
+mod DigestKeepsReads
+mod InodesUnderRecords
+mod RebuiltInodes
+mod Forests
+mod Pieces
+mod Listed
+mod Grouped
+mod CoalescedLogs
+mod RegroupedLogs
 mod DirectoryGrowth
-pub mod PostorderTrees
+mod PostorderTrees

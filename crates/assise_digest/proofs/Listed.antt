@@ -5,9 +5,9 @@ use Rattle.assise_digest.proofs.Common.{Entries, no_entries, entry, find, names_
 use Rattle.assise_digest.proofs.Common.{Values, Shape, link_of, shape_of, shape_of_tree, SpellsFrom, postorder, subtrees, subtrees_of, linked, targets}
 use Rattle.std.specs.FinMap as map
 use Rattle.assise_names.specs.declared.reply.TreeError.TheVariants.{NoEnt}
-use Rattle.assise_inode_table.proofs.ReachedSpelling.{Child, child, shape_here, reached_is_there}
-use Rattle.assise_inode_table.proofs.DirectoryNames.{same_found}
-use Rattle.assise_inode_table.proofs.SpellingUnique.{spelled_is_ordered}
+use Rattle.assise_inode_table.proofs.Shared.ReachedSpelling.{Child, child, shape_here, reached_is_there}
+use Rattle.assise_inode_table.proofs.Shared.DirectoryNames.{same_found}
+use Rattle.assise_inode_table.proofs.Shared.SpellingUnique.{spelled_is_ordered}
 use Rattle.assise_digest.proofs.Forests.{forest, forest_ends}
 
 -- ---- inodes, each with the tree that it spells

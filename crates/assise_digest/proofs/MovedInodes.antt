@@ -5,7 +5,7 @@ use Rattle.assise_digest.proofs.Common.{KeepsNoMore, overlaid, Pending, end, Log
 use Rattle.std.specs.Map.{lookup, keys_of}
 use Rattle.std.specs.FinMap as map
 use Rattle.assise_digest.proofs.InodesUnderRecords.{get-overlaid}
-use Rattle.assise_digest.proofs.KeptStands.{stands_for_none}
+use Rattle.assise_digest.proofs.Shared.KeptStands.{stands_for_none}
 
 -- ---- numbers without an inode
 

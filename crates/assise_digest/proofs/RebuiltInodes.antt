@@ -3,7 +3,7 @@ use Rattle.assise_digest.proofs.Common.{◌≡◌, ◌≤◌, ◌<◌, ◌+◌, 
 use Rattle.assise_digest.proofs.Common.{append-nil, min, arith, LogRecord, all_effects, InodeMap, values, all_applied, get-all_applied, same_inodes}
 use Rattle.assise_digest.proofs.Common.{values-all_applied, Lays, StandsFor, overlaid, ReceivedLog, RegionValue, ahead_below, all_ahead, alone, no_log, Pending}
 use Rattle.assise_digest.proofs.InodesUnderRecords.{get-overlaid, laid_over}
-use Rattle.assise_digest.proofs.KeptStands.{seen_after}
+use Rattle.assise_digest.proofs.Shared.KeptStands.{seen_after}
 
 -- what stands for records gives the map after them
 pub stood_over : (p : Pending) (m : InodeMap) (n : ℕ) (rs : List LogRecord) → StandsFor p m n rs → overlaid m p ≡ all_applied m (all_effects rs)

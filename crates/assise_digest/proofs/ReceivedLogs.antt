@@ -6,7 +6,7 @@ use Rattle.assise_digest.proofs.Common.{with_grouped, without_prefix, without_ta
 use Rattle.assise_digest.proofs.Common.{ahead, digested_further, first_effects, from_number, next_effects, with_more, LogInvariant, StandsHere, seen_log}
 use Rattle.assise_digest.proofs.Common.{Pending, Received}
 use Rattle.std.proofs.lemmas.List.{length-append}
-use Rattle.assise_digest.proofs.KeptStands.{next_is_new, stands_for_one_more, stands_for_the_rest}
+use Rattle.assise_digest.proofs.Shared.KeptStands.{next_is_new, stands_for_one_more, stands_for_the_rest}
 
 -- ---- lists
 

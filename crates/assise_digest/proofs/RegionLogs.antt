@@ -7,7 +7,7 @@ use Rattle.assise_digest.proofs.Common.{ReceivedLog, RegionValue, ahead, log_at,
 use Rattle.assise_digest.proofs.Common.{seen_log, seen_logs, Pending, Received}
 use Rattle.std.specs.FinMap as map
 use Rattle.assise_digest.proofs.ReceivedLogs.{ahead_next, whole_drop}
-use Rattle.assise_digest.proofs.KeptStands.{seen_after, stands_beside, stands_for_none}
+use Rattle.assise_digest.proofs.Shared.KeptStands.{seen_after, stands_beside, stands_for_none}
 
 abbrev pub region : InodeMap → ℕ → List Received → RegionValue
 region m hot xs = record { inodes = m; logs = seen_logs xs; capacity = hot }

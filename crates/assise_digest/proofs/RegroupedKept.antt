@@ -5,7 +5,7 @@ use Rattle.assise_digest.proofs.Common.{value_after, ComeToSame, contains-both, 
 use Rattle.std.specs.Option.{is_some}
 use Rattle.std.specs.FinMap as map
 use Rattle.assise_digest.proofs.KeptInodes.{get-noted}
-use Rattle.assise_digest.proofs.KeptStands.{is_touched}
+use Rattle.assise_digest.proofs.Shared.KeptStands.{is_touched}
 
 get-all_noted : (l : map.FinMap nat_cmp ℕ) (n : ℕ) (rs : List LogRecord) (i : ℕ) → map.get (all_noted l n rs) i ≡ option_or (last_touch n rs i) (map.get l i)
 get-all_noted l n [] i = refl

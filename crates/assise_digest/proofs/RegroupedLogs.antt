@@ -8,13 +8,13 @@ use Rattle.assise_digest.proofs.Common.{records_from, HasAllNumbers, StandsFor, 
 use Rattle.assise_digest.proofs.Common.{ahead, log_of, read_by, regrouped_from, with_log, LogInvariant, StandsHere, seen_log, Pending, Received}
 use Rattle.std.specs.FinMap as map
 use Rattle.std.proofs.lemmas.List.{length-append}
-use Rattle.assise_inode_table.proofs.LeftWhole.{whole_left}
-use Rattle.assise_private_log.proofs.LogGroups.{regrouped_all}
+use Rattle.assise_inode_table.proofs.Shared.LeftWhole.{whole_left}
+use Rattle.assise_private_log.proofs.Shared.LogGroups.{regrouped_all}
 use Rattle.assise_digest.proofs.CoalescedLogs.{groups_come}
 use Rattle.assise_digest.proofs.KeptInodes.{get-noted}
 use Rattle.assise_digest.proofs.ReceivedLogs.{whole_both, whole_drop, whole_take}
 use Rattle.assise_digest.proofs.RegroupedKept.{renoted}
-use Rattle.assise_digest.proofs.KeptStands.{is_touched}
+use Rattle.assise_digest.proofs.Shared.KeptStands.{is_touched}
 
 -- ---- numbers of records
 

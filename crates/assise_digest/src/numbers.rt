@@ -1,13 +1,11 @@
 //! Numbers of records by inodes.
-ghost use Rattle.std.specs.Prelude.{◌≡◌, ◌&&◌, ℕ, IfOk, IsOkUnless, IsSome, None, OnErr, OnOk, is_some, nat_eq, not};
+ghost use Rattle.std.specs.Prelude.{◌≡◌, ◌&&◌, ℕ, IfOk, IsSome, None, OnErr, OnOk, is_some, nat_eq, not};
 ghost use Rattle.std.specs.List.{list_any};
 ghost use Rattle.std.specs.FinMap as map;
-ghost use Rattle.assise_names.specs.declared.refusal.Refusal.TheVariants.{OutOfMemory};
 
 use assise_inode_table::table::InodeTable;
-use assise_names::refusal::Refusal;
 use indexmap::IndexMap;
-use std::alloc::Global;
+use std::alloc::{AllocError, Global};
 use std::marker::Model;
 
 /// The number of a record for each of some inodes. A contract sees the finite map.
@@ -53,13 +51,11 @@ impl Numbers {
         self.numbers.get(&inode).copied()
     }
 
-    /// Gives an inode a number. The one refusal is [`Refusal::OutOfMemory`], where it had none, and it leaves the
-    /// numbers as they were.
-    pub fn insert(&mut self, inode: u64, number: u64) -> Result<(), Refusal>
+    /// Gives an inode a number. It asks for memory where it had none; without it, it leaves the numbers as they were.
+    pub fn insert(&mut self, inode: u64, number: u64) -> Result<(), AllocError>
         ensures ok { OnOk result (self.new ≡ map.insert self.old inode number) }
         ensures err { OnErr result (self.new ≡ self.old) }
         ensures asked { OnErr result (map.get self.old inode ≡ None) }
-        ensures only_memory { IsOkUnless result OutOfMemory }
     {
         self.numbers.insert(inode, number)?;
         Ok(())
@@ -76,11 +72,10 @@ impl Numbers {
         *known = number;
     }
 
-    /// The inodes that have a number, but none of these. The one refusal is [`Refusal::OutOfMemory`].
-    pub fn beyond(&self, alloc: Global, inodes: &InodeTable) -> Result<Vec<u64>, Refusal>
+    /// The inodes that have a number, but none of these.
+    pub fn beyond(&self, alloc: Global, inodes: &InodeTable) -> Result<Vec<u64>, AllocError>
         ensures which { IfOk result (λ beyond. (i : ℕ) → list_any (nat_eq i) beyond.items ≡
             (is_some (map.get self.now i) && not (is_some (map.get inodes.now i)))) }
-        ensures only_memory { IsOkUnless result OutOfMemory }
     {
         let mut beyond = Vec::new(alloc);
         for inode in self.numbers.keys() {

@@ -1,8 +1,7 @@
 //! Inodes with what records make of them.
-ghost use Rattle.std.specs.Prelude.{◌≡◌, IfOk, IsOkUnless};
+ghost use Rattle.std.specs.Prelude.{◌≡◌, IfOk};
 ghost use Rattle.assise_inode_table.specs.Contents.{values};
 ghost use Rattle.assise_inode_table.specs.Spelled.{SpellsFrom};
-ghost use Rattle.assise_names.specs.declared.refusal.Refusal.TheVariants.{OutOfMemory};
 ghost use Rattle.assise_seq_tree.specs.Tree.{Tree as PlainTree};
 ghost use Rattle.assise_digest.specs.Pending.{overlaid};
 
@@ -12,9 +11,8 @@ use assise_area::area::Area;
 use assise_inode_table::inode::Inode;
 use assise_inode_table::inodes::Inodes;
 use assise_inode_table::table::ROOT;
-use assise_names::refusal::Refusal;
 use assise_seq_tree::tree::Tree;
-use std::alloc::Global;
+use std::alloc::{AllocError, Global};
 use std::marker::Model;
 
 /// The inodes of a region after some records that aren't digested: what the records make of an inode stands in place of
@@ -44,13 +42,11 @@ impl<'a> Overlay<'a> {
         Overlay { area, pending }
     }
 
-    /// The tree that the inodes spell from the root on. Each byte of a file is copied once. The one refusal is
-    /// [`Refusal::OutOfMemory`].
-    pub(crate) fn tree(&self, alloc: Global) -> Result<Tree, Refusal>
+    /// The tree that the inodes spell from the root on. Each byte of a file is copied once.
+    pub(crate) fn tree(&self, alloc: Global) -> Result<Tree, AllocError>
         ghost t: { PlainTree }
         requires spelled { SpellsFrom (values self.now) 0 t }
         ensures tree { IfOk result (λ tree. tree ≡ t) }
-        ensures only_memory { IsOkUnless result OutOfMemory }
     {
         tree_of(alloc, self, ROOT)
     }

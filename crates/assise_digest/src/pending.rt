@@ -15,7 +15,7 @@ use assise_inode_table::table::InodeTable;
 use assise_names::refusal::Refusal;
 use assise_private_log::records::Records;
 use assise_record::effect::Effect;
-use std::alloc::Global;
+use std::alloc::{AllocError, Global};
 
 /// The inodes that some records touch, as they are after them: one that is gone has a number and no value. Beside each
 /// stands the number of the last record that touches it.
@@ -96,9 +96,9 @@ impl Pending {
         }
         let value = copy_of(alloc, area.peek(inode))?;
         set_value(&mut self.inodes, inode, value)?;
-        if let Err(refusal) = self.last.insert(inode, number) {
+        if let Err(error) = self.last.insert(inode, number) {
             discard(&mut self.inodes, inode);
-            return Err(refusal);
+            return Err(error.into());
         }
         Ok(())
     }
@@ -125,7 +125,7 @@ impl Pending {
         for effect in effects {
             self.hold(alloc, area, number, effect.touches())?;
         }
-        self.inodes.apply_all(effects)
+        Ok(self.inodes.apply_all(effects)?)
     }
 
     /// Takes the effects of one more record in: all of them in their order, or none. The one refusal is
@@ -166,9 +166,9 @@ impl Pending {
         }
     }
 
-    /// Moves all that is kept into the area, in place of what it has there: each inode with a value, or none. The one refusal
-    /// is [`Refusal::OutOfMemory`], and it leaves all as it was.
-    pub(crate) fn settle(&mut self, alloc: Global, area: &mut Area) -> Result<(), Refusal>
+    /// Moves all that is kept into the area, in place of what it has there: each inode with a value, or none. Without
+    /// memory it leaves all as it was.
+    pub(crate) fn settle(&mut self, alloc: Global, area: &mut Area) -> Result<(), AllocError>
         requires no_more { KeepsNoMore self.old }
         ensures moved { OnOk result (area.new.inodes ≡ overlaid area.old.inodes self.old) }
         ensures inodes { OnOk result (self.new.inodes ≡ map.empty) }
@@ -176,7 +176,6 @@ impl Pending {
         ensures capacity { area.new.capacity ≡ area.old.capacity }
         ensures err { OnErr result (self.new ≡ self.old) }
         ensures err_area { OnErr result (area.new ≡ area.old) }
-        ensures only_memory { IsOkUnless result OutOfMemory }
     {
         let gone = self.last.beyond(alloc, &self.inodes)?;
         area.put_all(&mut self.inodes)?;
@@ -227,11 +226,10 @@ fn remove_all(area: &mut Area, inodes: &[u64])
 }
 
 /// Gives a number that has no inode this one, if there is one.
-fn set_value(inodes: &mut InodeTable, inode: u64, value: Option<Inode>) -> Result<(), Refusal>
+fn set_value(inodes: &mut InodeTable, inode: u64, value: Option<Inode>) -> Result<(), AllocError>
     requires none { map.get inodes.old inode ≡ None }
     ensures ok { OnOk result (inodes.new ≡ with_value inodes.old inode value) }
     ensures err { OnErr result (inodes.new ≡ inodes.old) }
-    ensures only_memory { IsOkUnless result OutOfMemory }
 {
     match value {
         Some(content) => replace(inodes, inode, content),
@@ -240,10 +238,9 @@ fn set_value(inodes: &mut InodeTable, inode: u64, value: Option<Inode>) -> Resul
 }
 
 /// Gives a number an inode, and lets the one that it had go.
-fn replace(inodes: &mut InodeTable, inode: u64, content: Inode) -> Result<(), Refusal>
+fn replace(inodes: &mut InodeTable, inode: u64, content: Inode) -> Result<(), AllocError>
     ensures ok { OnOk result (inodes.new ≡ map.insert inodes.old inode content) }
     ensures err { OnErr result (inodes.new ≡ inodes.old) }
-    ensures only_memory { IsOkUnless result OutOfMemory }
 {
     inodes.insert(inode, content)?;
     Ok(())

@@ -18,7 +18,7 @@ use assise_names::refusal::Refusal;
 use assise_private_log::log::Log;
 use assise_record::effect::Effect;
 use assise_record::record::Record;
-use std::alloc::Global;
+use std::alloc::{AllocError, Global};
 
 /// What a node received of a client's log.
 #[derive(Debug, Drop)]
@@ -143,9 +143,9 @@ impl Received {
         self.pending.is_some() && count > 0 && self.log.end() - self.digested == count as u64
     }
 
-    /// Counts all records as digested, of a client that lives here: what they make moves into the area. The one refusal is
-    /// [`Refusal::OutOfMemory`], and it leaves all as it was.
-    pub(crate) fn settle(&mut self, alloc: Global, area: &mut Area) -> Result<(), Refusal>
+    /// Counts all records as digested, of a client that lives here: what they make moves into the area. Without memory it
+    /// leaves all as it was.
+    pub(crate) fn settle(&mut self, alloc: Global, area: &mut Area) -> Result<(), AllocError>
         requires at_home { is_some self.old.pending ≡ true }
         requires sound { LogInvariant area.old.inodes self.old }
         ensures moved { OnOk result (area.new.inodes ≡
@@ -156,7 +156,6 @@ impl Received {
         ensures sound { OnOk result (LogInvariant area.new.inodes self.new) }
         ensures err { OnErr result (self.new ≡ self.old) }
         ensures err_area { OnErr result (area.new ≡ area.old) }
-        ensures only_memory { IsOkUnless result OutOfMemory }
     {
         let Some(pending) = &mut self.pending else {
             unreachable!()
@@ -167,12 +166,15 @@ impl Received {
     }
 
     /// Equal effects of the next `count` records. The bytes of writes are shared.
-    pub(crate) fn effects_ahead(&self, alloc: Global, count: usize) -> Result<Vec<Effect>, Refusal>
+    pub(crate) fn effects_ahead(
+        &self,
+        alloc: Global,
+        count: usize,
+    ) -> Result<Vec<Effect>, AllocError>
         requires begun { IsBegun (seen_log self.now) }
         requires there { count ≤ length (ahead (seen_log self.now)) }
         ensures effects { IfOk result (λ effects. effects.items ≡
             all_effects (take count (ahead (seen_log self.now)))) }
-        ensures only_memory { IsOkUnless result OutOfMemory }
     {
         let mut effects = Vec::new(alloc);
         for record in self.log.since(self.digested).take(count) {
@@ -276,9 +278,8 @@ impl Received {
 }
 
 /// Adds equal effects. Where memory runs out, some of them may be added.
-fn push_copies(effects: &mut Vec<Effect>, added: &[Effect]) -> Result<(), Refusal>
+fn push_copies(effects: &mut Vec<Effect>, added: &[Effect]) -> Result<(), AllocError>
     ensures ok { OnOk result (effects.new.items ≡ effects.old.items ++ added.now) }
-    ensures only_memory { IsOkUnless result OutOfMemory }
 {
     for effect in added {
         effects.push(effect.copy()?)?;

@@ -26,7 +26,7 @@ use assise_names::refusal::Refusal;
 use assise_private_log::log::Log;
 use assise_record::record::Record;
 use assise_seq_tree::tree::Tree;
-use std::alloc::Global;
+use std::alloc::{AllocError, Global};
 use std::marker::Model;
 
 /// What one node has of the file system: its inodes, and for each client, from number 1 on, the log that it received. A
@@ -65,13 +65,12 @@ impl Model for Region {
 
 impl Region {
     /// The region of a new node: the root as a directory without entries, no clients, and 1 to 4,096 inodes that may be
-    /// hot. The one refusal is [`Refusal::OutOfMemory`].
-    pub fn new(alloc: Global, hot_capacity: usize) -> Result<Region, Refusal>
+    /// hot.
+    pub fn new(alloc: Global, hot_capacity: usize) -> Result<Region, AllocError>
         requires least { 1 ≤ hot_capacity }
         requires most { hot_capacity ≤ 4096 }
         ensures opening { IfOk result (λ region.
             region ≡ record { inodes = opening_inodes; logs = []; capacity = hot_capacity }) }
-        ensures only_memory { IsOkUnless result OutOfMemory }
     {
         let mut area = Area::new(alloc, hot_capacity)?;
         area.put(ROOT, Inode::new_directory(alloc))?;
@@ -144,16 +143,15 @@ impl Region {
         self.area.hot_capacity()
     }
 
-    /// Sets how many inodes may be hot, 1 to 4,096: of more than that the longest unused ones are cold then. The one
-    /// refusal is [`Refusal::OutOfMemory`], where fewer may be hot than before and some have to cool, and it leaves the
-    /// region as it was, and as many hot.
-    pub fn set_hot_capacity(&mut self, capacity: usize) -> Result<(), Refusal>
+    /// Sets how many inodes may be hot, 1 to 4,096: of more than that the longest unused ones are cold then. It asks for
+    /// memory where fewer may be hot than before and some have to cool, and it leaves the region as it was, and as many
+    /// hot.
+    pub fn set_hot_capacity(&mut self, capacity: usize) -> Result<(), AllocError>
         requires least { 1 ≤ capacity }
         requires most { capacity ≤ 4096 }
         ensures ok { OnOk result (self.new ≡ with_hot_capacity self.old capacity) }
         ensures err { OnErr result (self.new ≡ self.old) }
         ensures asked { OnErr result (capacity < self.old.capacity) }
-        ensures only_memory { IsOkUnless result OutOfMemory }
     {
         self.area.set_hot_capacity(capacity)
     }
@@ -195,7 +193,7 @@ impl Region {
         ensures only_memory { IsOkUnless result OutOfMemory }
     {
         let ahead = self.all_ahead(alloc, acked)?;
-        Overlay::new(&self.area, &ahead).tree(alloc)
+        Ok(Overlay::new(&self.area, &ahead).tree(alloc)?)
     }
 
     /// What the records make that aren't digested and are replicated, client by client.
@@ -284,15 +282,14 @@ impl Region {
         self.area.remove(inode);
     }
 
-    /// Gives a number the inode that it has on another node, or none. No client that lives here has a record that
-    /// touches it and isn't digested. The one refusal is [`Refusal::OutOfMemory`], where a number that has none gets an
-    /// inode, and it leaves the region as it was.
-    pub fn refill_one(&mut self, inode: u64, value: Option<Inode>) -> Result<(), Refusal>
+    /// Gives a number the inode that it has on another node, or none. No client that lives here has a record that touches
+    /// it and isn't digested. It asks for memory where a number that has none gets an inode; without it, it leaves the
+    /// region as it was.
+    pub fn refill_one(&mut self, inode: u64, value: Option<Inode>) -> Result<(), AllocError>
         requires quiet { IsQuiet self.old inode }
         ensures ok { OnOk result (self.new ≡ with_inode self.old inode value) }
         ensures err { OnErr result (self.new ≡ self.old) }
         ensures asked { OnErr result (map.get self.old.inodes inode ≡ None) }
-        ensures only_memory { IsOkUnless result OutOfMemory }
     {
         match value {
             Some(content) => self.put(inode, content),
@@ -304,12 +301,11 @@ impl Region {
     }
 
     /// Gives a number an inode.
-    fn put(&mut self, inode: u64, content: Inode) -> Result<(), Refusal>
+    fn put(&mut self, inode: u64, content: Inode) -> Result<(), AllocError>
         requires quiet { IsQuiet self.old inode }
         ensures ok { OnOk result (self.new ≡ with_inode self.old inode (Some content)) }
         ensures err { OnErr result (self.new ≡ self.old) }
         ensures asked { OnErr result (map.get self.old.inodes inode ≡ None) }
-        ensures only_memory { IsOkUnless result OutOfMemory }
     {
         self.area.put(inode, content)?;
         Ok(())
@@ -454,14 +450,13 @@ impl Region {
 
     /// Puts all records that aren't digested of a client that lives here into the inodes: what they make is kept beside its
     /// log, and moves.
-    fn settle(&mut self, client: usize) -> Result<(), Refusal>
+    fn settle(&mut self, client: usize) -> Result<(), AllocError>
         requires client { HasClient self.old client }
         requires at_home { (log_of self.old client).at_home ≡ true }
         requires disjoint { TouchDisjoint self.old }
         ensures ok { OnOk result (self.new ≡
             digested_by self.old client (length (ahead (log_of self.old client)))) }
         ensures err { OnErr result (self.new ≡ self.old) }
-        ensures only_memory { IsOkUnless result OutOfMemory }
     {
         let alloc = self.area.allocator();
         self.logs[client - 1].settle(alloc, &mut self.area)
@@ -487,7 +482,7 @@ impl Region {
         ensures only_memory { IsOkUnless result OutOfMemory }
     {
         if count == 1 {
-            return self.digest_next(client);
+            return Ok(self.digest_next(client)?);
         }
         self.digest_on_copies(client, count)
     }
@@ -520,13 +515,12 @@ impl Region {
     }
 
     /// Puts the next record of a client into the inodes: whole, or not at all.
-    fn digest_next(&mut self, client: usize) -> Result<(), Refusal>
+    fn digest_next(&mut self, client: usize) -> Result<(), AllocError>
         requires client { HasClient self.old client }
         requires disjoint { TouchDisjoint self.old }
         requires more { (log_of self.old client).digested < end (log_of self.old client).log }
         ensures ok { OnOk result (self.new ≡ digested_by self.old client 1) }
         ensures err { OnErr result (self.new ≡ self.old) }
-        ensures only_memory { IsOkUnless result OutOfMemory }
     {
         let received = &self.logs[client - 1];
         let Some(next) = received.log.get(received.digested) else {

@@ -1,6 +1,5 @@
 //! From the inodes that spell a tree, the tree.
-ghost use Rattle.std.specs.Prelude.{◌≡◌, ◌≤◌, ◌++◌, IfOk, IsOkUnless, Ok, OnOk, Some, length, map, reverse};
-ghost use Rattle.assise_names.specs.declared.refusal.Refusal.TheVariants.{OutOfMemory};
+ghost use Rattle.std.specs.Prelude.{◌≡◌, ◌≤◌, ◌++◌, IfOk, Ok, OnOk, Some, length, map, reverse};
 ghost use Rattle.assise_seq_tree.specs.Tree.{Tree as PlainTree};
 ghost use Rattle.assise_inode_table.specs.Contents.{values};
 ghost use Rattle.assise_inode_table.specs.Reach.{folder, shape_of};
@@ -13,9 +12,8 @@ use assise_inode_table::file_bytes::FileBytes;
 use assise_inode_table::inode::Inode;
 use assise_inode_table::inodes::Inodes;
 use assise_names::name_list::NameList;
-use assise_names::refusal::Refusal;
 use assise_seq_tree::tree::Tree;
-use std::alloc::Global;
+use std::alloc::{AllocError, Global};
 
 /// How many bytes of a file are read at a time: as many as the blocks have that inodes hold, so that a read shares one.
 const PIECE: u64 = 4096;
@@ -27,24 +25,21 @@ enum Place {
     Directory(NameList),
 }
 
-/// The tree that the inodes spell from one of them on. Each byte of a file is copied once. The one refusal is
-/// [`Refusal::OutOfMemory`].
-pub(crate) fn tree_of<I: Inodes>(alloc: Global, inodes: &I, inode: u64) -> Result<Tree, Refusal>
+/// The tree that the inodes spell from one of them on. Each byte of a file is copied once.
+pub(crate) fn tree_of<I: Inodes>(alloc: Global, inodes: &I, inode: u64) -> Result<Tree, AllocError>
     ghost t: { PlainTree }
     requires spelled { SpellsFrom (values (I.contents inodes.now)) inode t }
     ensures tree { IfOk result (λ tree. tree ≡ t) }
-    ensures only_memory { IsOkUnless result OutOfMemory }
 {
     let places = places_of(alloc, inodes, inode)?;
     assembled(alloc, places)
 }
 
 /// What stands at the places of the tree that the inodes spell from one of them on, the last of the postorder first.
-fn places_of<I: Inodes>(alloc: Global, inodes: &I, inode: u64) -> Result<Vec<Place>, Refusal>
+fn places_of<I: Inodes>(alloc: Global, inodes: &I, inode: u64) -> Result<Vec<Place>, AllocError>
     ghost t: { PlainTree }
     requires spelled { SpellsFrom (values (I.contents inodes.now)) inode t }
     ensures places { IfOk result (λ places. reverse (map shape places.items) ≡ postorder t) }
-    ensures only_memory { IsOkUnless result OutOfMemory }
 {
     let mut places = Vec::new(alloc);
     let mut pending = Vec::new(alloc);
@@ -60,10 +55,9 @@ fn places_of<I: Inodes>(alloc: Global, inodes: &I, inode: u64) -> Result<Vec<Pla
 }
 
 /// What stands at an inode. The inodes that it links to are pending after the others.
-fn place_of(alloc: Global, inode: &Inode, pending: &mut Vec<u64>) -> Result<Place, Refusal>
+fn place_of(alloc: Global, inode: &Inode, pending: &mut Vec<u64>) -> Result<Place, AllocError>
     ensures place { IfOk result (λ place. shape_of (Some inode.now) ≡ Ok (shape place)) }
     ensures pending { OnOk result (pending.new.items ≡ pending.old.items ++ targets inode.now) }
-    ensures only_memory { IsOkUnless result OutOfMemory }
 {
     if let Ok(bytes) = inode.file() {
         return Ok(Place::File(bytes_of(alloc, bytes)?));
@@ -77,9 +71,8 @@ fn place_of(alloc: Global, inode: &Inode, pending: &mut Vec<u64>) -> Result<Plac
 }
 
 /// The bytes of a file, each copied once.
-fn bytes_of(alloc: Global, file: &FileBytes) -> Result<Vec<u8>, Refusal>
+fn bytes_of(alloc: Global, file: &FileBytes) -> Result<Vec<u8>, AllocError>
     ensures bytes { IfOk result (λ bytes. bytes.items ≡ file.now) }
-    ensures only_memory { IsOkUnless result OutOfMemory }
 {
     let mut bytes = Vec::with_capacity(alloc, file.len())?;
     while bytes.len() < file.len() {
@@ -94,10 +87,9 @@ fn push_linked(
     directory: &Directory,
     names: &NameList,
     pending: &mut Vec<u64>,
-) -> Result<(), Refusal>
+) -> Result<(), AllocError>
     ensures ok { OnOk result (pending.new.items ≡ pending.old.items ++
         linked directory.now names.now) }
-    ensures only_memory { IsOkUnless result OutOfMemory }
 {
     for name in names.as_slice() {
         if let Some(inode) = directory.get(name) {
@@ -108,11 +100,10 @@ fn push_linked(
 }
 
 /// The tree of which these are the places, the last of the postorder first.
-fn assembled(alloc: Global, mut places: Vec<Place>) -> Result<Tree, Refusal>
+fn assembled(alloc: Global, mut places: Vec<Place>) -> Result<Tree, AllocError>
     ghost t: { PlainTree }
     requires { reverse (map shape places.items) ≡ postorder t }
     ensures tree { IfOk result (λ tree. tree ≡ t) }
-    ensures only_memory { IsOkUnless result OutOfMemory }
 {
     let mut trees = Vec::new(alloc);
     while let Some(place) = places.pop() {
@@ -126,11 +117,10 @@ fn assembled(alloc: Global, mut places: Vec<Place>) -> Result<Tree, Refusal>
 }
 
 /// The tree of a place. The subtrees of a directory are the last of the trees, which it takes.
-fn grown(alloc: Global, place: Place, trees: &mut Vec<Tree>) -> Result<Tree, Refusal>
+fn grown(alloc: Global, place: Place, trees: &mut Vec<Tree>) -> Result<Tree, AllocError>
     requires { degree (shape place) ≤ length trees.old.items }
     ensures tree { IfOk result (λ tree. TakesLast
         (shape place) tree trees.old.items trees.new.items) }
-    ensures only_memory { IsOkUnless result OutOfMemory }
 {
     match place {
         Place::File(bytes) => Ok(Tree::of_bytes(bytes)),
@@ -139,11 +129,10 @@ fn grown(alloc: Global, place: Place, trees: &mut Vec<Tree>) -> Result<Tree, Ref
 }
 
 /// A directory of the last trees, one under each name.
-fn directory_of(alloc: Global, names: &NameList, trees: &mut Vec<Tree>) -> Result<Tree, Refusal>
+fn directory_of(alloc: Global, names: &NameList, trees: &mut Vec<Tree>) -> Result<Tree, AllocError>
     requires { length names.now ≤ length trees.old.items }
     ensures tree { IfOk result (λ tree. TakesLast
         (folder names.now) tree trees.old.items trees.new.items) }
-    ensures only_memory { IsOkUnless result OutOfMemory }
 {
     let mut tree = Tree::new(alloc);
     let mut rest = names.as_slice();

@@ -1,9 +1,9 @@
 mod Common
-pub mod ClusterFirst
-pub mod Digits
-pub mod Hex
-pub mod Letters
-pub mod Lines
-pub mod Rows
-pub mod Spaces
-pub mod Steps
+mod ClusterFirst
+mod Digits
+mod Hex
+mod Letters
+mod Lines
+mod Rows
+mod Spaces
+mod Steps

@@ -1,5 +1,7 @@
 -- The first fault of a text, and what is printed of a fault.
-use Rattle.std.specs.Prelude.{◌≡◌, ◌⊎◌, ℕ, List, ◌++◌, Option, Some, None, Result, Ok, Err, codes}
+use Rattle.std.specs.Prelude.{◌≡◌, ◌⊎◌, ℕ, if◌then◌else◌, List, [], ◌∷◌, ◌++◌, Option, Some, None, Result, Ok, Err, codes}
+use Rattle.std.specs.Bool.{nat_eq}
+use Rattle.std.specs.Cmp.Lexicographic.{pointwise}
 use Rattle.assise_names.specs.Text.{path_fault_text}
 use Rattle.assise_fault_script.specs.declared.fault.ScriptFault.{ScriptFault}
 use Rattle.assise_fault_script.specs.declared.fault.ScriptFault.TheVariants.{NotUtf8, UnknownCommand, WrongCount, BadNumber, BadPath, BadData, BadKind, NoCluster, SecondCluster, BadLimit, Memory, BadLink, BadMode}
@@ -9,6 +11,11 @@ infixl 10 ◌>>=◌
 abbrev pub ◌>>=◌ : {A B : Type 0} → Result A ScriptFault → (A → Result B ScriptFault) → Result B ScriptFault
 (Ok x) >>= f = f x
 (Err e) >>= f = Err e
+
+-- what a word names in a table of names, and the fault where it names nothing
+abbrev pub look_up : {A : Type 0} → ScriptFault → List (List ℕ × A) → List ℕ → Result A ScriptFault
+look_up fault [] word = Err fault
+look_up fault ((name, x) ∷ rest) word = if pointwise nat_eq word name then Ok x else look_up fault rest word
 
 -- what is wanted was given, or memory ran out
 abbrev pub GivesCommand : {X : Type 0} → Result X ScriptFault → Result X ScriptFault → Type 0

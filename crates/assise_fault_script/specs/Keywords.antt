@@ -15,51 +15,29 @@ use Rattle.assise_fault_script.specs.declared.command.RevokerKind.{RevokerKind}
 use Rattle.assise_fault_script.specs.declared.command.RevokerKind.TheVariants.{Least, Whole, Eights}
 use Rattle.assise_fault_script.specs.declared.fault.ScriptFault.{ScriptFault}
 use Rattle.assise_fault_script.specs.declared.fault.ScriptFault.TheVariants.{UnknownCommand, WrongCount, BadKind, BadLink, BadMode}
-use Rattle.assise_fault_script.specs.Fault.{◌>>=◌}
+use Rattle.assise_fault_script.specs.Fault.{◌>>=◌, look_up}
 use Rattle.assise_fault_script.specs.Number.{limited, number_of}
 
 -- the keyword that a word is
 abbrev pub keyword_of : List ℕ → Result first.Keyword ScriptFault
-keyword_of word =
-    if pointwise nat_eq word (codes "cluster") then Ok for_cluster
-    else (if pointwise nat_eq word (codes "manual") then Ok for_manual
-    else (if pointwise nat_eq word (codes "open") then Ok for_open
-    else (if pointwise nat_eq word (codes "carry") then Ok for_carry
-    else (if pointwise nat_eq word (codes "digest") then Ok for_digest
-    else (if pointwise nat_eq word (codes "release") then Ok for_release
-    else (if pointwise nat_eq word (codes "crash") then Ok for_crash
-    else (if pointwise nat_eq word (codes "fail") then Ok for_fail
-    else (if pointwise nat_eq word (codes "back") then Ok for_back
-    else (if pointwise nat_eq word (codes "refill") then Ok for_refill
-    else (if pointwise nat_eq word (codes "join") then Ok for_join
-    else (if pointwise nat_eq word (codes "raise") then Ok for_raise
-    else (if pointwise nat_eq word (codes "link") then Ok for_link
-    else (if pointwise nat_eq word (codes "hot") then Ok for_hot
-    else (if pointwise nat_eq word (codes "tree") then Ok for_tree
-    else (if pointwise nat_eq word (codes "history") then Ok for_history
-    else (if pointwise nat_eq word (codes "check") then Ok for_check
-    else Err UnknownCommand))))))))))))))))
+keyword_of = look_up UnknownCommand
+    ((codes "cluster", for_cluster) ∷ (codes "manual", for_manual) ∷ (codes "open", for_open) ∷ (codes "carry", for_carry) ∷
+    (codes "digest", for_digest) ∷ (codes "release", for_release) ∷ (codes "crash", for_crash) ∷ (codes "fail", for_fail) ∷
+    (codes "back", for_back) ∷ (codes "refill", for_refill) ∷ (codes "join", for_join) ∷ (codes "raise", for_raise) ∷
+    (codes "link", for_link) ∷ (codes "hot", for_hot) ∷ (codes "tree", for_tree) ∷ (codes "history", for_history) ∷
+    (codes "check", for_check) ∷ [])
 
 -- the revoker that a word names
 abbrev pub kind_of : List ℕ → Result RevokerKind ScriptFault
-kind_of word =
-    if pointwise nat_eq word (codes "least") then Ok Least
-    else (if pointwise nat_eq word (codes "whole") then Ok Whole
-    else (if pointwise nat_eq word (codes "eights") then Ok Eights
-    else Err BadKind))
+kind_of = look_up BadKind ((codes "least", Least) ∷ (codes "whole", Whole) ∷ (codes "eights", Eights) ∷ [])
 
 abbrev pub says_cut : List ℕ → Bool
 says_cut word = pointwise nat_eq word (codes "cut")
 
 -- the kind of link that a word names, but for `cut`
 abbrev pub link_kind_of : List ℕ → Result LinkKind ScriptFault
-link_kind_of word =
-    if pointwise nat_eq word (codes "perfect") then Ok Perfect
-    else (if pointwise nat_eq word (codes "lose") then Ok Lose
-    else (if pointwise nat_eq word (codes "repeat") then Ok Repeat
-    else (if pointwise nat_eq word (codes "delay") then Ok Delay
-    else (if pointwise nat_eq word (codes "fault") then Ok Fault
-    else Err BadLink))))
+link_kind_of = look_up BadLink
+    ((codes "perfect", Perfect) ∷ (codes "lose", Lose) ∷ (codes "repeat", Repeat) ∷ (codes "delay", Delay) ∷ (codes "fault", Fault) ∷ [])
 
 -- a number of nodes, a log of 8 to 4,096 and 1 to 4,096 hot
 abbrev pub cluster_of : List ℕ → List ℕ → List ℕ → Result Command ScriptFault
@@ -80,30 +58,6 @@ abbrev pub opening_of : List (List ℕ) → Result Command ScriptFault
 opening_of (node ∷ kind ∷ []) = open_of node kind
 opening_of (node ∷ kind ∷ mode ∷ []) = open_in_mode_of node kind mode
 opening_of _ = Err WrongCount
-
-abbrev pub carry_of : List ℕ → Result Command ScriptFault
-carry_of node = number_of node >>= λ n. Ok (Carry n)
-
-abbrev pub digest_of : List ℕ → Result Command ScriptFault
-digest_of node = number_of node >>= λ n. Ok (Digest n)
-
-abbrev pub crash_of : List ℕ → Result Command ScriptFault
-crash_of client = number_of client >>= λ n. Ok (Crash n)
-
-abbrev pub fail_of : List ℕ → Result Command ScriptFault
-fail_of node = number_of node >>= λ n. Ok (Fail n)
-
-abbrev pub back_of : List ℕ → Result Command ScriptFault
-back_of node = number_of node >>= λ n. Ok (Back n)
-
-abbrev pub refill_of : List ℕ → Result Command ScriptFault
-refill_of node = number_of node >>= λ n. Ok (Refill n)
-
-abbrev pub join_of : List ℕ → Result Command ScriptFault
-join_of node = number_of node >>= λ n. Ok (Join n)
-
-abbrev pub raise_of : List ℕ → Result Command ScriptFault
-raise_of node = number_of node >>= λ n. Ok (Raise n)
 
 -- any kind but `cut`, which wants one word more
 abbrev pub uncut_link_of : List ℕ → List ℕ → Result Command ScriptFault
@@ -127,26 +81,23 @@ abbrev pub hot_of : List (List ℕ) → Result Command ScriptFault
 hot_of (node ∷ capacity ∷ []) = hot_capacity_of node capacity
 hot_of _ = Err WrongCount
 
-abbrev pub tree_command : List ℕ → Result Command ScriptFault
-tree_command node = number_of node >>= λ n. Ok (Tree n)
-
 -- a row for each keyword: the count of its words, and what they mean
 abbrev pub keyword_command : first.Keyword → List (List ℕ) → Result Command ScriptFault
 keyword_command for_cluster (nodes ∷ log ∷ hot ∷ []) = cluster_of nodes log hot
 keyword_command for_manual [] = Ok Manual
 keyword_command for_open words = opening_of words
-keyword_command for_carry (node ∷ []) = carry_of node
-keyword_command for_digest (node ∷ []) = digest_of node
+keyword_command for_carry (node ∷ []) = number_of node >>= λ n. Ok (Carry n)
+keyword_command for_digest (node ∷ []) = number_of node >>= λ n. Ok (Digest n)
 keyword_command for_release [] = Ok Release
-keyword_command for_crash (client ∷ []) = crash_of client
-keyword_command for_fail (node ∷ []) = fail_of node
-keyword_command for_back (node ∷ []) = back_of node
-keyword_command for_refill (node ∷ []) = refill_of node
-keyword_command for_join (node ∷ []) = join_of node
-keyword_command for_raise (node ∷ []) = raise_of node
+keyword_command for_crash (client ∷ []) = number_of client >>= λ n. Ok (Crash n)
+keyword_command for_fail (node ∷ []) = number_of node >>= λ n. Ok (Fail n)
+keyword_command for_back (node ∷ []) = number_of node >>= λ n. Ok (Back n)
+keyword_command for_refill (node ∷ []) = number_of node >>= λ n. Ok (Refill n)
+keyword_command for_join (node ∷ []) = number_of node >>= λ n. Ok (Join n)
+keyword_command for_raise (node ∷ []) = number_of node >>= λ n. Ok (Raise n)
 keyword_command for_link words = node_link_of words
 keyword_command for_hot words = hot_of words
-keyword_command for_tree (node ∷ []) = tree_command node
+keyword_command for_tree (node ∷ []) = number_of node >>= λ n. Ok (Tree n)
 keyword_command for_history [] = Ok History
 keyword_command for_check [] = Ok Check
 keyword_command _ _ = Err WrongCount

@@ -1,6 +1,6 @@
 //! A row for each call of a client.
 ghost use Rattle.std.specs.Prelude.{◌≡◌, map};
-ghost use Rattle.assise_fault_script.specs.Calls.{call_command, call_word, create_of, list_of, mkdir_of, path_word, read_of, rename_of, rmdir_of, stat_of, truncate_of, unlink_of, write_of};
+ghost use Rattle.assise_fault_script.specs.Calls.{call_command, call_word, path_word, read_of, rename_of, truncate_of, write_of};
 ghost use Rattle.assise_fault_script.specs.declared.fault.ScriptFault.{ScriptFault};
 ghost use Rattle.assise_fault_script.specs.Fault.{Answers};
 
@@ -45,16 +45,16 @@ pub fn call<'a>(
     ensures { Answers result (call_command name (map (λ w. w.now) words.now)) }
 {
     match (name, words) {
-        (CallWord::Create, [path]) => create(alloc, recent, path),
-        (CallWord::Mkdir, [path]) => mkdir(alloc, recent, path),
+        (CallWord::Create, [word]) => Ok(Op::Create(path(alloc, recent, word)?)),
+        (CallWord::Mkdir, [word]) => Ok(Op::Mkdir(path(alloc, recent, word)?)),
         (CallWord::Read, [path, offset, length]) => read(alloc, recent, path, offset, length),
         (CallWord::Write, [path, offset, data]) => write(alloc, recent, path, offset, data),
         (CallWord::Truncate, [path, size]) => truncate(alloc, recent, path, size),
         (CallWord::Rename, [from, to]) => rename(alloc, recent, from, to),
-        (CallWord::Unlink, [path]) => unlink(alloc, recent, path),
-        (CallWord::Rmdir, [path]) => rmdir(alloc, recent, path),
-        (CallWord::List, [path]) => list(alloc, recent, path),
-        (CallWord::Stat, [path]) => stat(alloc, recent, path),
+        (CallWord::Unlink, [word]) => Ok(Op::Unlink(path(alloc, recent, word)?)),
+        (CallWord::Rmdir, [word]) => Ok(Op::Rmdir(path(alloc, recent, word)?)),
+        (CallWord::List, [word]) => Ok(Op::List(path(alloc, recent, word)?)),
+        (CallWord::Stat, [word]) => Ok(Op::Stat(path(alloc, recent, word)?)),
         (CallWord::Fsync, []) => Ok(Op::Fsync),
         (CallWord::Dsync, []) => Ok(Op::Dsync),
         _ => Err(ScriptFault::WrongCount),
@@ -68,20 +68,6 @@ fn path<'a>(alloc: Global, recent: &mut RecentPaths<'a>, word: &'a str) -> Resul
         Some(path) => Ok(path),
         None => Err(ScriptFault::Memory),
     }
-}
-
-fn create<'a>(alloc: Global, recent: &mut RecentPaths<'a>, word: &'a str) -> Result<Op, ScriptFault>
-    ensures { Answers result (create_of word.now) }
-{
-    let path = path(alloc, recent, word)?;
-    Ok(Op::Create(path))
-}
-
-fn mkdir<'a>(alloc: Global, recent: &mut RecentPaths<'a>, word: &'a str) -> Result<Op, ScriptFault>
-    ensures { Answers result (mkdir_of word.now) }
-{
-    let path = path(alloc, recent, word)?;
-    Ok(Op::Mkdir(path))
 }
 
 fn read<'a>(
@@ -144,32 +130,4 @@ fn rename<'a>(
     let from = from.ok_or(ScriptFault::Memory)?;
     let to = to.ok_or(ScriptFault::Memory)?;
     Ok(Op::Rename(from, to))
-}
-
-fn unlink<'a>(alloc: Global, recent: &mut RecentPaths<'a>, word: &'a str) -> Result<Op, ScriptFault>
-    ensures { Answers result (unlink_of word.now) }
-{
-    let path = path(alloc, recent, word)?;
-    Ok(Op::Unlink(path))
-}
-
-fn rmdir<'a>(alloc: Global, recent: &mut RecentPaths<'a>, word: &'a str) -> Result<Op, ScriptFault>
-    ensures { Answers result (rmdir_of word.now) }
-{
-    let path = path(alloc, recent, word)?;
-    Ok(Op::Rmdir(path))
-}
-
-fn list<'a>(alloc: Global, recent: &mut RecentPaths<'a>, word: &'a str) -> Result<Op, ScriptFault>
-    ensures { Answers result (list_of word.now) }
-{
-    let path = path(alloc, recent, word)?;
-    Ok(Op::List(path))
-}
-
-fn stat<'a>(alloc: Global, recent: &mut RecentPaths<'a>, word: &'a str) -> Result<Op, ScriptFault>
-    ensures { Answers result (stat_of word.now) }
-{
-    let path = path(alloc, recent, word)?;
-    Ok(Op::Stat(path))
 }

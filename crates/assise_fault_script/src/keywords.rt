@@ -1,6 +1,6 @@
 //! A row for each command that begins with a keyword.
 ghost use Rattle.std.specs.Prelude.{◌≡◌, map};
-ghost use Rattle.assise_fault_script.specs.Keywords.{back_of, carry_of, cluster_of, crash_of, cut_link_of, digest_of, fail_of, hot_capacity_of, hot_of, join_of, keyword_command, keyword_of, kind_of, link_kind_of, mode_of, node_link_of, open_in_mode_of, open_of, opening_of, raise_of, refill_of, tree_command, uncut_link_of};
+ghost use Rattle.assise_fault_script.specs.Keywords.{cluster_of, cut_link_of, hot_capacity_of, hot_of, keyword_command, keyword_of, kind_of, link_kind_of, mode_of, node_link_of, open_in_mode_of, open_of, opening_of, uncut_link_of};
 
 use crate::command::{Command, Keyword, LinkKind, RevokerKind};
 use crate::fault::ScriptFault;
@@ -42,18 +42,18 @@ pub fn keyword_command(keyword: Keyword, words: &[&str]) -> Result<Command, Scri
         (Keyword::Cluster, [nodes, log, hot]) => cluster(nodes, log, hot),
         (Keyword::Manual, []) => Ok(Command::Manual),
         (Keyword::Open, words) => opening(words),
-        (Keyword::Carry, [node]) => carry(node),
-        (Keyword::Digest, [node]) => digest(node),
+        (Keyword::Carry, [node]) => number(node).map(|node| Command::Carry { node }),
+        (Keyword::Digest, [node]) => number(node).map(|node| Command::Digest { node }),
         (Keyword::Release, []) => Ok(Command::Release),
-        (Keyword::Crash, [client]) => crash(client),
-        (Keyword::Fail, [node]) => fail(node),
-        (Keyword::Back, [node]) => back(node),
-        (Keyword::Refill, [node]) => refill(node),
-        (Keyword::Join, [node]) => join(node),
-        (Keyword::Raise, [node]) => raise(node),
+        (Keyword::Crash, [client]) => number(client).map(|client| Command::Crash { client }),
+        (Keyword::Fail, [node]) => number(node).map(|node| Command::Fail { node }),
+        (Keyword::Back, [node]) => number(node).map(|node| Command::Back { node }),
+        (Keyword::Refill, [node]) => number(node).map(|node| Command::Refill { node }),
+        (Keyword::Join, [node]) => number(node).map(|node| Command::Join { node }),
+        (Keyword::Raise, [node]) => number(node).map(|node| Command::Raise { node }),
         (Keyword::Link, words) => link(words),
         (Keyword::Hot, words) => hot(words),
-        (Keyword::Tree, [node]) => tree(node),
+        (Keyword::Tree, [node]) => number(node).map(|node| Command::Tree { node }),
         (Keyword::History, []) => Ok(Command::History),
         (Keyword::Check, []) => Ok(Command::Check),
         _ => Err(ScriptFault::WrongCount),
@@ -115,62 +115,6 @@ fn durability(mode: &str) -> Result<Durability, ScriptFault>
     }
 }
 
-fn carry(node: &str) -> Result<Command, ScriptFault>
-    ensures { result ≡ carry_of node.now }
-{
-    let node = number(node)?;
-    Ok(Command::Carry { node })
-}
-
-fn digest(node: &str) -> Result<Command, ScriptFault>
-    ensures { result ≡ digest_of node.now }
-{
-    let node = number(node)?;
-    Ok(Command::Digest { node })
-}
-
-fn crash(client: &str) -> Result<Command, ScriptFault>
-    ensures { result ≡ crash_of client.now }
-{
-    let client = number(client)?;
-    Ok(Command::Crash { client })
-}
-
-fn fail(node: &str) -> Result<Command, ScriptFault>
-    ensures { result ≡ fail_of node.now }
-{
-    let node = number(node)?;
-    Ok(Command::Fail { node })
-}
-
-fn back(node: &str) -> Result<Command, ScriptFault>
-    ensures { result ≡ back_of node.now }
-{
-    let node = number(node)?;
-    Ok(Command::Back { node })
-}
-
-fn refill(node: &str) -> Result<Command, ScriptFault>
-    ensures { result ≡ refill_of node.now }
-{
-    let node = number(node)?;
-    Ok(Command::Refill { node })
-}
-
-fn join(node: &str) -> Result<Command, ScriptFault>
-    ensures { result ≡ join_of node.now }
-{
-    let node = number(node)?;
-    Ok(Command::Join { node })
-}
-
-fn raise(node: &str) -> Result<Command, ScriptFault>
-    ensures { result ≡ raise_of node.now }
-{
-    let node = number(node)?;
-    Ok(Command::Raise { node })
-}
-
 /// A node and its link: three words where the second is `cut`, else two.
 fn link(words: &[&str]) -> Result<Command, ScriptFault>
     ensures { result ≡ node_link_of (map (λ w. w.now) words.now) }
@@ -222,13 +166,6 @@ fn hot_capacity(node: &str, capacity: &str) -> Result<Command, ScriptFault>
     let node = number(node)?;
     let capacity = within(1, 4096, capacity)?;
     Ok(Command::Hot { node, capacity })
-}
-
-fn tree(node: &str) -> Result<Command, ScriptFault>
-    ensures { result ≡ tree_command node.now }
-{
-    let node = number(node)?;
-    Ok(Command::Tree { node })
 }
 
 fn kind(word: &str) -> Result<RevokerKind, ScriptFault>

@@ -10,8 +10,8 @@ pub use Rattle.assise_files.specs.LostChanges.{TakesLastKept, change_of, is_chan
 pub use Rattle.assise_files.specs.LostSearch.{AreFound, IsNumbered, is_call_to, are_taken, is_taken_from}
 pub use Rattle.assise_files.specs.Redo.{MakesEach, MakesAgain, makes_all, stops_at, unmade, finds_none}
 pub use Rattle.assise_files.specs.declared.redo.LostChange.{LostChange}
-pub use Rattle.assise_history.proofs.ClientCounts.{made_before, number_in}
-pub use Rattle.assise_history.proofs.Runs.{is_lost-append, kept-call, tree_after-push}
+pub use Rattle.assise_history.proofs.Shared.ClientCounts.{made_before, number_in}
+pub use Rattle.assise_history.proofs.Shared.Runs.{is_lost-append, kept-call, tree_after-push}
 pub use Rattle.assise_history.specs.Entries.{EntryValue, opens, calls, crashes, fails, returns}
 pub use Rattle.assise_history.specs.Kept.{IsRun, is_lost, kept, loses, tree_after}
 pub use Rattle.assise_history.specs.Legal.{IsLegal, is_failure_of, calls_made}
@@ -25,8 +25,8 @@ pub use Rattle.assise_names.specs.declared.limits.TheConstants.{MOST_NODES}
 pub use Rattle.assise_names.specs.declared.refusal.Refusal.{Refusal}
 pub use Rattle.assise_names.specs.declared.reply.Reply.{Reply}
 pub use Rattle.assise_names.specs.declared.reply.Reply.TheVariants.{Done}
-pub use Rattle.assise_rounds.proofs.CallTrace.{call_trace}
-pub use Rattle.assise_rounds.proofs.Traces.{trace_of, trace_told, nothing_trace, then_trace}
+pub use Rattle.assise_rounds.proofs.Shared.CallTrace.{call_trace}
+pub use Rattle.assise_rounds.proofs.Shared.Traces.{trace_of, trace_told, nothing_trace, then_trace}
 pub use Rattle.assise_rounds.specs.CallTries.{IsTriedOut, ends_full, ends_waiting, settles_at_last, spends_all, FindsFull, InVain, MakesRoom, TriesInVain}
 pub use Rattle.assise_rounds.specs.CallTries.{WaitsOnce, full_in_vain, waits_in_vain}
 pub use Rattle.assise_rounds.specs.NodeLinks.{FaithfulAt}

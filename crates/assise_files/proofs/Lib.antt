@@ -1,8 +1,8 @@
 mod Common
+pub mod Shared
 mod AlwaysLegal
 mod LostTree
 mod LostWalk
 mod MadeAgain
 mod QuietRounds
-pub mod TriesTrace
 mod Links

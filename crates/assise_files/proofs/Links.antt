@@ -6,7 +6,7 @@ use Rattle.assise_manager.specs.declared.phase.Phase.{Phase}
 use Rattle.assise_manager.specs.Standings.{Standing, phase_of, standing_of}
 use Rattle.assise_machine.specs.Clusters.{machine}
 use Rattle.assise_machine.specs.declared.cluster.ClusterOf.{ClusterOf}
-use Rattle.assise_machine.proofs.Few.{few_nodes}
+use Rattle.assise_machine.proofs.Shared.Few.{few_nodes}
 
 -- the place of a node's link is below the most nodes
 named : (nodes : List Standing) (n : ℕ) (p : Phase) → Ok p ≡ phase_of (standing_of nodes n) → n - 1 < length nodes

@@ -11,9 +11,9 @@ use Rattle.assise_names.specs.declared.durability.Durability.{Durability}
 use Rattle.assise_names.specs.declared.reply.TreeError.{TreeError}
 use Rattle.assise_names.specs.declared.reply.TreeError.TheVariants.{TooBig}
 use Rattle.assise_history.specs.declared.call.Loss.{Loss}
-use Rattle.assise_history.proofs.Legality.{fits_in, legal-last, legal-prefix, legal_run}
-use Rattle.assise_history.proofs.LivesOneMore.{one_place}
-use Rattle.assise_history.proofs.Lost.{kept-append, taken}
+use Rattle.assise_history.proofs.Shared.Legality.{fits_in, legal-last, legal-prefix, legal_run}
+use Rattle.assise_history.proofs.Shared.LivesOneMore.{one_place}
+use Rattle.assise_history.proofs.Shared.Lost.{kept-append, taken}
 
 -- ---- tests
 

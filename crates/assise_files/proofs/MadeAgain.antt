@@ -2,9 +2,10 @@
 use Rattle.assise_files.proofs.Common.{◌≡◌, ◌∙◌, ℕ, [], ◌∷◌, ◌++◌, List, Result, Ok, Err, reverse, refl, ap, sym, subst, append_assoc, append-nil, ⊤, ∥∥₁_elim}
 use Rattle.assise_files.proofs.Common.{Op, Refusal, Reply, Done, answer, EntryValue, IsLegal, calls_made, number_in, Machine, Told, LostChange, IsTriedOut}
 use Rattle.assise_files.proofs.Common.{ends_full, ends_waiting, settles_at_last, spends_all, IsNumbered, tree_with, MakesEach, MakesAgain, makes_all, stops_at}
-use Rattle.assise_files.proofs.Common.{unmade}
+use Rattle.assise_files.proofs.Common.{unmade, FaithfulAt}
 use Rattle.std.proofs.lemmas.List.{reverse-append, reverse-reverse}
 use Rattle.std.proofs.Math.Nat.{ℕ_set}
+use Rattle.assise_link.specs.Kinds.{Kind}
 use Rattle.assise_files.proofs.QuietRounds.{call_tree, machine_tree, vain_tree}
 
 pub numbered : (h : List EntryValue) → ∥ IsLegal h ∥₁ → IsNumbered h
@@ -30,6 +31,11 @@ made_more faithful turns c [] x m v m' es fs none h = (
 made_more faithful turns c (y ∷ ys) x m v m' es fs made h =
     let rest = made_more faithful turns c ys x made.between v m' made.after fs made.second h in
     (made.before ++ rest.0, record { between = made.between; before = made.before; after = rest.0; told = refl; first = made.first; second = rest.1 })
+
+-- a call is tried over links and as often as it is where they are the same
+pub tried_as : (links kept : List Kind) (turns left c : ℕ) (op : Op) (r : Result Reply Refusal) (m m' : Machine) → kept ≡ links → left ≡ turns →
+    (es : Told) × IsTriedOut (FaithfulAt kept) left c op r m es m' → (es : Told) × IsTriedOut (FaithfulAt links) turns c op r m es m'
+tried_as links kept turns left c op r m m' over often h = rw (sym over, sym often) h
 
 -- these are made, and those that are left stand behind them, the last first
 pub record AreMadeSoFar (faithful : ℕ → Type 0) (turns c : ℕ) (xs left : List LostChange) (m v : Machine) : Type 0 where

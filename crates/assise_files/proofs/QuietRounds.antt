@@ -8,7 +8,7 @@ use Rattle.assise_model_events.specs.Events.{Answer, ClusterEvent, all_entries, 
 use Rattle.assise_model_events.specs.Events.{not_yet, opened, outgoing, raised, received, refused, release_ready, released, replied, sent, try_call}
 use Rattle.assise_model_events.specs.Faults.{node_fault}
 use Rattle.assise_machine.specs.Running.{happens}
-use Rattle.assise_machine.proofs.EventLists.{served_told}
+use Rattle.assise_machine.proofs.Shared.EventLists.{served_told}
 use Rattle.assise_rounds.specs.Rounds.{Carried, DigestsOnce, EachFull, IsRound, ReleasesOnce, RoundsOver, TakesTurn, UnlessAtFault, deliveries, delivery}
 use Rattle.assise_rounds.specs.Rounds.{is_refused, replicates}
 use Rattle.assise_machine_state.specs.Observed.{observed}

@@ -2,9 +2,9 @@
 use Rattle.assise_history.proofs.Common.{◌≡◌, ℕ, ◌+◌, ◌<◌, true, false, List, [], ◌∷◌, ◌++◌, length, take, drop, get_or, refl, ap, sym, subst, ◌∙◌, take_more}
 use Rattle.assise_history.proofs.Common.{take-append-drop, opening, EntryValue, kept, kept_more, IsRun, IsLegal, Fits, follows, summary, summed_from}
 use Rattle.assise_history.proofs.Common.{summary_after, Summary, arith}
-use Rattle.assise_history.proofs.Runs.{kept-push}
-use Rattle.assise_history.proofs.Legality.{legal-push, legal-prefix, legal-last}
-use Rattle.assise_history.proofs.SummaryAgrees.{may_follow, is_allowed}
+use Rattle.assise_history.proofs.Shared.Runs.{kept-push}
+use Rattle.assise_history.proofs.Shared.Legality.{legal-push, legal-prefix, legal-last}
+use Rattle.assise_history.proofs.Shared.SummaryAgrees.{may_follow, is_allowed}
 
 summed_from-push : (s : Summary) (es : List EntryValue) (e : EntryValue) → summed_from s (es ++ e ∷ []) ≡ summary_after (summed_from s es) e
 summed_from-push s [] e = refl

@@ -2,7 +2,7 @@
 use Rattle.assise_history.proofs.Common.{◌≡◌, ◌↔◌, Bool, true, false, [], ◌∷◌, ◌++◌, refl, Bor, IsTrue, map-append, opening, answer, Call, Goes, IsPlayed}
 use Rattle.assise_history.proofs.Common.{played_calls, arith}
 use Rattle.assise_history.specs.declared.played.Played.{Played}
-use Rattle.assise_history.proofs.Runs.{played_right, played_wrong}
+use Rattle.assise_history.proofs.Shared.Runs.{played_right, played_wrong}
 
 pub goes_play : (p q : Played) (x : Bor Call) (reply : _) (same : Bool) → IsPlayed p → q.calls.items ≡ p.calls.items ++ x ∷ [] →
     (reply, q.tree) ≡ answer p.tree x.now.op → (IsTrue same ↔ (reply ≡ x.now.reply)) → Goes same (played_calls p ++ x.now ∷ []) q

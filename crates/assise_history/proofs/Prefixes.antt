@@ -4,7 +4,7 @@ use Rattle.assise_history.proofs.Common.{sym, subst, ◌∙◌, ◌⊎◌, inl, 
 use Rattle.assise_history.proofs.Common.{length-map, length-append, list_any-append, Durability, Loss, ClientSummary, EntryValue, opens, calls, crashes, fails}
 use Rattle.assise_history.proofs.Common.{returns, Summary, nothing_yet, newly_opened, summary_with_call, with_crash, with_failure, summary_after, summed_from}
 use Rattle.assise_history.proofs.Common.{summary, is_down, comes_next, is_crash_of, is_failure_of, is_return_of, clients_opened, IsDown}
-use Rattle.assise_history.proofs.TestedElements.{list_any-map}
+use Rattle.assise_history.proofs.Shared.TestedElements.{list_any-map}
 
 -- what an entry changes of what is known of a client
 abbrev pub with_entry : EntryValue → ClientSummary → ClientSummary

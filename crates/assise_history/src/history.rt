@@ -1,13 +1,11 @@
 //! What happened, in order.
-ghost use Rattle.std.specs.Prelude.{◌≡◌, ◌<◌, ◌-◌, ◌^◌, [], ◌∷◌, ◌++◌, IsOk, IsOkUnless, OnOk, Some, length, min};
+ghost use Rattle.std.specs.Prelude.{◌≡◌, ◌<◌, ◌-◌, ◌^◌, [], ◌∷◌, ◌++◌, IsOk, OnOk, Some, length, min};
 ghost use Rattle.assise_history.specs.Payload.{payloads};
 ghost use Rattle.assise_history.specs.Text.{history_text};
-ghost use Rattle.assise_names.specs.declared.refusal.Refusal.TheVariants.{OutOfMemory};
 
 use crate::entry::Entry;
 use crate::payload::payload;
-use assise_names::refusal::Refusal;
-use std::alloc::Global;
+use std::alloc::{AllocError, Global};
 use std::fmt;
 use std::fmt::{Display, Formatter};
 use std::marker::Model;
@@ -55,12 +53,10 @@ impl History {
         self.payload
     }
 
-    /// Makes room for an entry, or answers [`Refusal::OutOfMemory`]. Where there is room already, it takes no memory. There
-    /// are never 2^63 entries.
-    pub fn reserve(&mut self) -> Result<(), Refusal>
+    /// Makes room for an entry. Where there is room already, it takes no memory. There are never 2^63 entries.
+    pub fn reserve(&mut self) -> Result<(), AllocError>
         ensures room { OnOk result (0 < self.new.room) }
         ensures granted { 0 < self.old.room → IsOk result }
-        ensures only_memory { IsOkUnless result OutOfMemory }
         ensures same { self.new.events ≡ self.old.events }
         ensures few { length self.new.events < 2 ^ 63 }
     {

@@ -1,27 +1,23 @@
 //! The calls that no later failure loses.
-ghost use Rattle.std.specs.Prelude.{◌≡◌, IfOk, IsOkUnless, OnOk, false, map, filter, not};
+ghost use Rattle.std.specs.Prelude.{◌≡◌, IfOk, OnOk, false, map, filter, not};
 ghost use Rattle.assise_history.specs.Kept.{kept, kept_more, loses};
-ghost use Rattle.assise_names.specs.declared.refusal.Refusal.TheVariants.{OutOfMemory};
 
 use crate::call::{Call, Loss};
 use crate::entry::{Entry, EntryKind};
 use crate::history::History;
-use assise_names::refusal::Refusal;
-use std::alloc::Global;
+use std::alloc::{AllocError, Global};
 
-/// The calls of a history that no later failure loses, in order, or [`Refusal::OutOfMemory`]. It costs the
-/// history's length, and for each failure the calls before it times the clients that lose calls.
-pub fn kept<'a>(alloc: Global, history: &'a History) -> Result<Vec<&'a Call>, Refusal>
+/// The calls of a history that no later failure loses, in order. It costs the history's length, and for each failure the
+/// calls before it times the clients that lose calls.
+pub fn kept<'a>(alloc: Global, history: &'a History) -> Result<Vec<&'a Call>, AllocError>
     ensures ok { IfOk result (λ calls. map (λ call. call.now) calls.items ≡
         kept history.now.events) }
-    ensures only_memory { IsOkUnless result OutOfMemory }
 {
     kept_of(alloc, history.entries())
 }
 
-fn kept_of<'a>(alloc: Global, entries: &'a [Entry]) -> Result<Vec<&'a Call>, Refusal>
+fn kept_of<'a>(alloc: Global, entries: &'a [Entry]) -> Result<Vec<&'a Call>, AllocError>
     ensures ok { IfOk result (λ calls. map (λ call. call.now) calls.items ≡ kept entries.now) }
-    ensures only_memory { IsOkUnless result OutOfMemory }
 {
     let mut calls = Vec::new(alloc);
     for entry in entries {
@@ -31,10 +27,9 @@ fn kept_of<'a>(alloc: Global, entries: &'a [Entry]) -> Result<Vec<&'a Call>, Ref
 }
 
 /// What is kept after an entry more.
-fn keep<'a>(calls: &mut Vec<&'a Call>, entry: &'a Entry) -> Result<(), Refusal>
+fn keep<'a>(calls: &mut Vec<&'a Call>, entry: &'a Entry) -> Result<(), AllocError>
     ensures ok { OnOk result (map (λ call. call.now) calls.new.items ≡ kept_more
         (map (λ call. call.now) calls.old.items) entry.now) }
-    ensures only_memory { IsOkUnless result OutOfMemory }
 {
     match entry.kind() {
         EntryKind::Call(call) => {

@@ -31,7 +31,7 @@ pub fn replay(alloc: Global, calls: &[&Call]) -> Result<Option<Tree>, Refusal>
 }
 
 /// Whether the reply is the one that the call was answered with.
-#[tactic(auto, using(crate::proofs::Replies::equal_replies))]
+#[tactic(auto, using(crate::proofs::Shared::Replies::equal_replies))]
 pub(crate) fn is_answer(reply: &Reply, call: &Call) -> bool
     ensures { IsTrue result ↔ (reply.now ≡ call.now.reply) }
 {

@@ -13,7 +13,7 @@ pub use Rattle.assise_inode_plan.specs.declared.plan.Planned.{Planned}
 pub use Rattle.assise_inode_plan.specs.declared.walk.Entry.{Entry}
 pub use Rattle.assise_inode_plan.specs.declared.walk.Stop.{Stop}
 pub use Rattle.assise_inode_plan.specs.declared.walk.Stop.TheVariants.{Fault}
-pub use Rattle.assise_inode_table.proofs.TableView.{on_err}
+pub use Rattle.assise_inode_table.proofs.Shared.TableView.{on_err}
 pub use Rattle.assise_inode_table.specs.Calls.{then_or_error, walk, as_links, room_among, make_call, interaction, step, as_regular, write_effects, write_call}
 pub use Rattle.assise_inode_table.specs.Calls.{truncate_call, stat_reply, read_call, list_call, stat_call, walk_to_entry, without_links, unlink_call}
 pub use Rattle.assise_inode_table.specs.Calls.{rmdir_call, content_may_replace, move_effects, replace_target, receive, move_to, rename_call, walk_from}
@@ -32,7 +32,7 @@ pub use Rattle.assise_names.specs.declared.reply.TreeError.{TreeError}
 pub use Rattle.assise_names.specs.declared.reply.TreeError.TheVariants.{Exists, TooBig, IsDir, Invalid, NotEmpty, NoEnt}
 pub use Rattle.assise_record.specs.declared.effect.Effect.{Effect}
 pub use Rattle.assise_record.specs.declared.effect.Effect.TheVariants.{Link, SetLen, Unlink, Free}
-pub use Rattle.assise_seq_tree.proofs.Checks.{same_is}
+pub use Rattle.assise_seq_tree.proofs.Shared.Checks.{same_is}
 pub use Rattle.assise_seq_tree.specs.Answer.{parent_of, answer, last_name}
 pub use Rattle.assise_seq_tree.specs.Contents.{is_within, bytes_from}
 pub use Rattle.assise_seq_tree.specs.Tree.{Tree}

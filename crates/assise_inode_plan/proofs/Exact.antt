@@ -4,9 +4,9 @@ use Rattle.assise_inode_plan.proofs.Common.{inl, inr, append_assoc, append-nil, 
 use Rattle.assise_inode_plan.proofs.Common.{visit, finish, visits_of, reply_of, effects_of, Step, step_by, CanBeMadeWhole, LeaseView, for_reading}
 use Rattle.assise_inode_plan.proofs.Common.{first_missing, PlanAnswers, effects_planned, plan_lacking, visited_plan_of, ready, shown, plan_from, Planned}
 use Rattle.assise_inode_table.specs.Spelled.{Spells}
-use Rattle.assise_inode_table.proofs.CallEnds.{few_effects}
-use Rattle.assise_inode_table.proofs.CallSteps.{step_replies, step_spells}
-use Rattle.assise_inode_table.proofs.Wholeness.{effects_whole}
+use Rattle.assise_inode_table.proofs.Shared.CallEnds.{few_effects}
+use Rattle.assise_inode_table.proofs.Shared.CallSteps.{step_replies, step_spells}
+use Rattle.assise_inode_table.proofs.Shared.Wholeness.{effects_whole}
 
 -- the step after some visits
 after_visits : List ℕ → Values → Interaction → Step

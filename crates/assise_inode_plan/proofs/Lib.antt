@@ -1,15 +1,14 @@
 mod Common
-pub mod WalkRest
-pub mod WalkEnds
-pub mod WalkTwice
-pub mod WriteLeases
-pub mod QuietPlans
-pub mod FileChanging
-pub mod CreatePlans
-pub mod RemovePlans
-pub mod RenamePlans
+pub mod Shared
+mod WalkRest
+mod WalkEnds
+mod WalkTwice
+mod QuietPlans
+mod FileChanging
+mod CreatePlans
+mod RemovePlans
+mod RenamePlans
 mod SamePlaces
-pub mod Exact
-pub mod WholeStepPlan
-pub mod LackedLeases
-pub mod FirstVisit
+mod Exact
+mod WholeStepPlan
+mod FirstVisit

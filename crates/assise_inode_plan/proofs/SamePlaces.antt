@@ -3,7 +3,7 @@ use Rattle.assise_inode_plan.proofs.Common.{◌≡◌, ◌≤◌, ◌-◌, ◌&&
 use Rattle.assise_inode_plan.proofs.Common.{parent_of, same_is, arith}
 use Rattle.std.specs.Cmp.{unsigned_Decides}
 use Rattle.std.specs.Cmp.Lexicographic.{pointwise, pointwise_decides}
-use Rattle.assise_seq_tree.proofs.Moves.{parent_and_last}
+use Rattle.assise_seq_tree.proofs.Shared.Moves.{parent_and_last}
 use Rattle.assise_inode_plan.proofs.WalkEnds.{name_is}
 
 both_true : (b c : Bool) → (b && c) ≡ true → (b ≡ true) × (c ≡ true)

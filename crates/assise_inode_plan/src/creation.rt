@@ -1,12 +1,11 @@
 //! Plans of the calls that make an inode.
-ghost use Rattle.std.specs.Prelude.{◌≡◌, ◌∷◌, IfOk, IsOkUnless, OnErr, []};
+ghost use Rattle.std.specs.Prelude.{◌≡◌, ◌∷◌, IfOk, OnErr, []};
 ghost use Rattle.assise_inode_plan.specs.Leased.{NotesAVisit};
 ghost use Rattle.assise_inode_plan.specs.Planning.{shown};
 ghost use Rattle.assise_inode_plan.specs.Walking.{plan_from};
 ghost use Rattle.assise_inode_table.specs.Calls.{create_call, make_call, mkdir_call};
 ghost use Rattle.assise_inode_table.specs.Contents.{values};
 ghost use Rattle.assise_inode_table.specs.Interaction.{visits_of};
-ghost use Rattle.assise_names.specs.declared.refusal.Refusal.TheVariants.{OutOfMemory};
 ghost use Rattle.assise_record.specs.declared.effect.Effect.TheVariants.{Link};
 
 use crate::ending::{answered, finished, stopped};
@@ -14,10 +13,9 @@ use crate::plan::{Planned, Visits};
 use crate::view::View;
 use crate::walk::walk;
 use assise_names::name::Name;
-use assise_names::refusal::Refusal;
 use assise_names::reply::{Reply, TreeError};
 use assise_record::effect::Effect;
-use std::alloc::Global;
+use std::alloc::{AllocError, Global};
 
 /// Makes a file without bytes, the inode `fresh`.
 pub(crate) fn plan_create<V: View>(
@@ -25,12 +23,11 @@ pub(crate) fn plan_create<V: View>(
     view: &V,
     names: &[Name],
     fresh: u64,
-) -> Result<Planned, Refusal>
+) -> Result<Planned, AllocError>
     ensures exact { IfOk result (λ p. shown p ≡ plan_from (V.leased view.now)
         (values (V.contents view.now)) [] (create_call names.now fresh)) }
     ensures asked { OnErr result (NotesAVisit (V.leased view.now)
         (visits_of (values (V.contents view.now)) (create_call names.now fresh))) }
-    ensures only_memory { IsOkUnless result OutOfMemory }
 {
     let new = Effect::NewFile { inode: fresh };
     plan_new(alloc, view, names, &new, fresh)
@@ -42,12 +39,11 @@ pub(crate) fn plan_mkdir<V: View>(
     view: &V,
     names: &[Name],
     fresh: u64,
-) -> Result<Planned, Refusal>
+) -> Result<Planned, AllocError>
     ensures exact { IfOk result (λ p. shown p ≡ plan_from (V.leased view.now)
         (values (V.contents view.now)) [] (mkdir_call names.now fresh)) }
     ensures asked { OnErr result (NotesAVisit (V.leased view.now)
         (visits_of (values (V.contents view.now)) (mkdir_call names.now fresh))) }
-    ensures only_memory { IsOkUnless result OutOfMemory }
 {
     let new = Effect::NewDir { inode: fresh };
     plan_new(alloc, view, names, &new, fresh)
@@ -60,12 +56,11 @@ fn plan_new<V: View>(
     names: &[Name],
     new: &Effect,
     fresh: u64,
-) -> Result<Planned, Refusal>
+) -> Result<Planned, AllocError>
     ensures exact { IfOk result (λ p. shown p ≡ plan_from (V.leased view.now)
         (values (V.contents view.now)) [] (make_call new.now names.now fresh)) }
     ensures asked { OnErr result (NotesAVisit (V.leased view.now)
         (visits_of (values (V.contents view.now)) (make_call new.now names.now fresh))) }
-    ensures only_memory { IsOkUnless result OutOfMemory }
 {
     let mut reads = Visits::new(alloc);
     let [parent @ .., name] = names else {
@@ -93,10 +88,9 @@ fn new_inode_effects(
     directory: u64,
     name: &Name,
     fresh: u64,
-) -> Result<Vec<Effect>, Refusal>
+) -> Result<Vec<Effect>, AllocError>
     ensures effects { IfOk result (λ effects. effects.items ≡
         new.now ∷ Link directory name.now fresh ∷ []) }
-    ensures only_memory { IsOkUnless result OutOfMemory }
 {
     let mut effects = Vec::with_capacity(alloc, 2)?;
     effects.push(new.copy()?)?;

@@ -1,12 +1,11 @@
 //! Plans of the calls that change a file's bytes.
-ghost use Rattle.std.specs.Prelude.{◌≡◌, ◌∷◌, ◌+◌, ◌≤◌, IfOk, IsOkUnless, OnErr, [], length};
+ghost use Rattle.std.specs.Prelude.{◌≡◌, ◌∷◌, ◌+◌, ◌≤◌, IfOk, OnErr, [], length};
 ghost use Rattle.assise_inode_plan.specs.Leased.{NotesAVisit};
 ghost use Rattle.assise_inode_plan.specs.Planning.{shown};
 ghost use Rattle.assise_inode_plan.specs.Walking.{plan_from};
 ghost use Rattle.assise_inode_table.specs.Calls.{truncate_call, write_call, write_effects};
 ghost use Rattle.assise_inode_table.specs.Contents.{values};
 ghost use Rattle.assise_inode_table.specs.Interaction.{visits_of};
-ghost use Rattle.assise_names.specs.declared.refusal.Refusal.TheVariants.{OutOfMemory};
 ghost use Rattle.assise_record.specs.declared.effect.Effect.TheVariants.{SetLen};
 
 use crate::ending::{answered, finished, stopped};
@@ -14,12 +13,12 @@ use crate::plan::{Planned, Visits};
 use crate::view::View;
 use crate::walk::walk;
 use assise_names::byte_string::ByteString;
+use assise_names::limits::MOST_FILE_BYTES;
 use assise_names::name::Name;
-use assise_names::refusal::Refusal;
 use assise_names::reply::{Reply, TreeError};
 use assise_record::effect::{Effect, Extent, FileSize};
-use assise_seq_tree::contents::{MOST_FILE_BYTES, is_within};
-use std::alloc::Global;
+use assise_seq_tree::contents::is_within;
+use std::alloc::{AllocError, Global};
 
 /// Writes bytes at an offset.
 pub(crate) fn plan_write<V: View>(
@@ -28,13 +27,12 @@ pub(crate) fn plan_write<V: View>(
     names: &[Name],
     offset: u64,
     new: &ByteString,
-) -> Result<Planned, Refusal>
+) -> Result<Planned, AllocError>
     requires one_write { length new.now ≤ 65536 }
     ensures exact { IfOk result (λ p. shown p ≡ plan_from (V.leased view.now)
         (values (V.contents view.now)) [] (write_call names.now offset new.now)) }
     ensures asked { OnErr result (NotesAVisit (V.leased view.now)
         (visits_of (values (V.contents view.now)) (write_call names.now offset new.now))) }
-    ensures only_memory { IsOkUnless result OutOfMemory }
 {
     let mut reads = Visits::new(alloc);
     let (file, inode) = match walk(view, names, &mut reads)? {
@@ -57,12 +55,11 @@ pub(crate) fn plan_truncate<V: View>(
     view: &V,
     names: &[Name],
     size: u64,
-) -> Result<Planned, Refusal>
+) -> Result<Planned, AllocError>
     ensures exact { IfOk result (λ p. shown p ≡ plan_from (V.leased view.now)
         (values (V.contents view.now)) [] (truncate_call names.now size)) }
     ensures asked { OnErr result (NotesAVisit (V.leased view.now)
         (visits_of (values (V.contents view.now)) (truncate_call names.now size))) }
-    ensures only_memory { IsOkUnless result OutOfMemory }
 {
     let mut reads = Visits::new(alloc);
     let (file, inode) = match walk(view, names, &mut reads)? {
@@ -85,11 +82,10 @@ fn write_effects(
     inode: u64,
     offset: u64,
     new: &ByteString,
-) -> Result<Vec<Effect>, Refusal>
+) -> Result<Vec<Effect>, AllocError>
     requires few_bytes { length new.now ≤ 65536 }
     requires ends_in_the_file { offset + length new.now ≤ 1048576 }
     ensures effects { IfOk result (λ effects. effects.items ≡ write_effects inode offset new.now) }
-    ensures only_memory { IsOkUnless result OutOfMemory }
 {
     let mut effects = Vec::new(alloc);
     if !new.is_empty() {
@@ -100,10 +96,9 @@ fn write_effects(
 }
 
 /// The new size of a file.
-fn size_effects(alloc: Global, inode: u64, size: u64) -> Result<Vec<Effect>, Refusal>
+fn size_effects(alloc: Global, inode: u64, size: u64) -> Result<Vec<Effect>, AllocError>
     requires fits { size ≤ 1048576 }
     ensures effects { IfOk result (λ effects. effects.items ≡ SetLen inode size ∷ []) }
-    ensures only_memory { IsOkUnless result OutOfMemory }
 {
     let size = FileSize::new(size as u32);
     let mut effects = Vec::new(alloc);

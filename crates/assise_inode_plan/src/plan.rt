@@ -26,7 +26,7 @@ use assise_names::refusal::Refusal;
 use assise_names::reply::Reply;
 use assise_record::effect::Effect;
 use smallvec::SmallVec;
-use std::alloc::Global;
+use std::alloc::{AllocError, Global};
 
 /// How many visits lie in the value itself: few calls make more.
 const USUAL_VISITS: usize = 8;
@@ -118,13 +118,13 @@ pub fn plan<V: View>(alloc: Global, view: &V, op: &Op, fresh: u64) -> Result<Pla
 /// leased for reading; the value of an inode that isn't leased is never looked at. Else it is [`Planned::Ready`], with all
 /// that [`plan`] says; [`first_unleased`] then names what it changes and isn't leased for writing.
 ///
-/// The one refusal is [`Refusal::OutOfMemory`], where [`plan`] has it.
+/// It asks for memory where [`plan`] has it.
 pub fn plan_by_visits<V: View>(
     alloc: Global,
     view: &V,
     op: &Op,
     fresh: u64,
-) -> Result<Planned, Refusal>
+) -> Result<Planned, AllocError>
     requires one_write { IsWritable op.now }
     ensures exact { IfOk result (λ p. shown p ≡ visited_plan_of (V.leased view.now)
         (step (values (V.contents view.now)) op.now fresh)) }
@@ -137,7 +137,6 @@ pub fn plan_by_visits<V: View>(
     ensures whole { IfOk result (λ p. CanBeMadeWhole (effects_planned (shown p))) }
     ensures asked { OnErr result (NotesAVisit (V.leased view.now)
         (step (values (V.contents view.now)) op.now fresh).visits) }
-    ensures only_memory { IsOkUnless result OutOfMemory }
 {
     plan_call(alloc, view, op, fresh)
 }
@@ -156,13 +155,12 @@ fn plan_changes<V: View>(view: &V, planned: Planned) -> Planned
 }
 
 /// Plans a call from its first visit on.
-fn plan_call<V: View>(alloc: Global, view: &V, op: &Op, fresh: u64) -> Result<Planned, Refusal>
+fn plan_call<V: View>(alloc: Global, view: &V, op: &Op, fresh: u64) -> Result<Planned, AllocError>
     requires one_write { IsWritable op.now }
     ensures exact { IfOk result (λ p. shown p ≡ plan_from (V.leased view.now)
         (values (V.contents view.now)) [] (interaction op.now fresh)) }
     ensures asked { OnErr result (NotesAVisit (V.leased view.now)
         (visits_of (values (V.contents view.now)) (interaction op.now fresh))) }
-    ensures only_memory { IsOkUnless result OutOfMemory }
 {
     match op {
         Op::Create(path) => plan_create(alloc, view, path.names(), fresh),

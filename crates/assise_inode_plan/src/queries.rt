@@ -1,21 +1,19 @@
 //! Plans of the calls that change nothing.
-ghost use Rattle.std.specs.Prelude.{◌≡◌, IfOk, IsOkUnless, OnErr, []};
+ghost use Rattle.std.specs.Prelude.{◌≡◌, IfOk, OnErr, []};
 ghost use Rattle.assise_inode_plan.specs.Leased.{NotesAVisit};
 ghost use Rattle.assise_inode_plan.specs.Planning.{shown};
 ghost use Rattle.assise_inode_plan.specs.Walking.{plan_from};
 ghost use Rattle.assise_inode_table.specs.Calls.{list_call, read_call, stat_call};
 ghost use Rattle.assise_inode_table.specs.Contents.{values};
 ghost use Rattle.assise_inode_table.specs.Interaction.{visits_of};
-ghost use Rattle.assise_names.specs.declared.refusal.Refusal.TheVariants.{OutOfMemory};
 
 use crate::ending::{answered, stopped};
 use crate::plan::{Planned, Visits};
 use crate::view::View;
 use crate::walk::walk;
 use assise_names::name::Name;
-use assise_names::refusal::Refusal;
 use assise_names::reply::Reply;
-use std::alloc::Global;
+use std::alloc::{AllocError, Global};
 
 /// Reads at most `length` bytes, from an offset on.
 pub(crate) fn plan_read<V: View>(
@@ -24,12 +22,11 @@ pub(crate) fn plan_read<V: View>(
     names: &[Name],
     offset: u64,
     length: u64,
-) -> Result<Planned, Refusal>
+) -> Result<Planned, AllocError>
     ensures exact { IfOk result (λ p. shown p ≡ plan_from (V.leased view.now)
         (values (V.contents view.now)) [] (read_call names.now offset length)) }
     ensures asked { OnErr result (NotesAVisit (V.leased view.now)
         (visits_of (values (V.contents view.now)) (read_call names.now offset length))) }
-    ensures only_memory { IsOkUnless result OutOfMemory }
 {
     let mut reads = Visits::new(alloc);
     let (_, inode) = match walk(view, names, &mut reads)? {
@@ -50,12 +47,11 @@ pub(crate) fn plan_list<V: View>(
     alloc: Global,
     view: &V,
     names: &[Name],
-) -> Result<Planned, Refusal>
+) -> Result<Planned, AllocError>
     ensures exact { IfOk result (λ p. shown p ≡ plan_from (V.leased view.now)
         (values (V.contents view.now)) [] (list_call names.now)) }
     ensures asked { OnErr result (NotesAVisit (V.leased view.now)
         (visits_of (values (V.contents view.now)) (list_call names.now))) }
-    ensures only_memory { IsOkUnless result OutOfMemory }
 {
     let mut reads = Visits::new(alloc);
     let (_, inode) = match walk(view, names, &mut reads)? {
@@ -76,12 +72,11 @@ pub(crate) fn plan_stat<V: View>(
     alloc: Global,
     view: &V,
     names: &[Name],
-) -> Result<Planned, Refusal>
+) -> Result<Planned, AllocError>
     ensures exact { IfOk result (λ p. shown p ≡ plan_from (V.leased view.now)
         (values (V.contents view.now)) [] (stat_call names.now)) }
     ensures asked { OnErr result (NotesAVisit (V.leased view.now)
         (visits_of (values (V.contents view.now)) (stat_call names.now))) }
-    ensures only_memory { IsOkUnless result OutOfMemory }
 {
     let mut reads = Visits::new(alloc);
     match walk(view, names, &mut reads)? {

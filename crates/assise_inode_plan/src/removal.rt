@@ -1,12 +1,11 @@
 //! Plans of the calls that remove an entry.
-ghost use Rattle.std.specs.Prelude.{◌≡◌, ◌∷◌, IfOk, IsOkUnless, OnErr, []};
+ghost use Rattle.std.specs.Prelude.{◌≡◌, ◌∷◌, IfOk, OnErr, []};
 ghost use Rattle.assise_inode_plan.specs.Leased.{NotesAVisit};
 ghost use Rattle.assise_inode_plan.specs.Planning.{shown};
 ghost use Rattle.assise_inode_plan.specs.Walking.{plan_from};
 ghost use Rattle.assise_inode_table.specs.Calls.{rmdir_call, unlink_call};
 ghost use Rattle.assise_inode_table.specs.Contents.{values};
 ghost use Rattle.assise_inode_table.specs.Interaction.{visits_of};
-ghost use Rattle.assise_names.specs.declared.refusal.Refusal.TheVariants.{OutOfMemory};
 ghost use Rattle.assise_record.specs.declared.effect.Effect.TheVariants.{Free, Unlink};
 
 use crate::ending::{answered, finished, stopped};
@@ -14,22 +13,20 @@ use crate::plan::{Planned, Visits};
 use crate::view::View;
 use crate::walk::walk_to_entry;
 use assise_names::name::Name;
-use assise_names::refusal::Refusal;
 use assise_names::reply::{Reply, TreeError};
 use assise_record::effect::Effect;
-use std::alloc::Global;
+use std::alloc::{AllocError, Global};
 
 /// Removes a file.
 pub(crate) fn plan_unlink<V: View>(
     alloc: Global,
     view: &V,
     names: &[Name],
-) -> Result<Planned, Refusal>
+) -> Result<Planned, AllocError>
     ensures exact { IfOk result (λ p. shown p ≡ plan_from (V.leased view.now)
         (values (V.contents view.now)) [] (unlink_call names.now)) }
     ensures asked { OnErr result (NotesAVisit (V.leased view.now)
         (visits_of (values (V.contents view.now)) (unlink_call names.now))) }
-    ensures only_memory { IsOkUnless result OutOfMemory }
 {
     let mut reads = Visits::new(alloc);
     let [parent @ .., name] = names else {
@@ -51,12 +48,11 @@ pub(crate) fn plan_rmdir<V: View>(
     alloc: Global,
     view: &V,
     names: &[Name],
-) -> Result<Planned, Refusal>
+) -> Result<Planned, AllocError>
     ensures exact { IfOk result (λ p. shown p ≡ plan_from (V.leased view.now)
         (values (V.contents view.now)) [] (rmdir_call names.now)) }
     ensures asked { OnErr result (NotesAVisit (V.leased view.now)
         (visits_of (values (V.contents view.now)) (rmdir_call names.now))) }
-    ensures only_memory { IsOkUnless result OutOfMemory }
 {
     let mut reads = Visits::new(alloc);
     let [parent @ .., name] = names else {
@@ -83,10 +79,9 @@ pub(crate) fn removal_effects(
     directory: u64,
     name: &Name,
     inode: u64,
-) -> Result<Vec<Effect>, Refusal>
+) -> Result<Vec<Effect>, AllocError>
     ensures effects { IfOk result (λ effects. effects.items ≡
         Unlink directory name.now ∷ Free inode ∷ []) }
-    ensures only_memory { IsOkUnless result OutOfMemory }
 {
     let mut effects = Vec::with_capacity(alloc, 2)?;
     effects.push(Effect::Unlink {

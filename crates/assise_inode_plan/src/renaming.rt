@@ -1,5 +1,5 @@
 //! Plans of renames.
-ghost use Rattle.std.specs.Prelude.{◌≡◌, ◌==◌, ◌&&◌, ◌<◌, ◌≤◌, ◌+◌, ◌++◌, IfOk, IsOkUnless, MatchResult, OnErr, OnOk, [], length, take, true, ℕ};
+ghost use Rattle.std.specs.Prelude.{◌≡◌, ◌==◌, ◌&&◌, ◌<◌, ◌≤◌, ◌+◌, ◌++◌, IfOk, MatchResult, OnErr, OnOk, [], length, take, true, ℕ};
 ghost use Rattle.std.specs.Cmp.Lexicographic.{pointwise};
 ghost use Rattle.std.specs.FinMap as map;
 ghost use Rattle.assise_inode_plan.specs.Moving.{effects_of_move};
@@ -10,7 +10,6 @@ ghost use Rattle.assise_inode_table.specs.Calls.{content_may_replace, move_to, r
 ghost use Rattle.assise_inode_table.specs.Contents.{Content, values};
 ghost use Rattle.assise_inode_table.specs.Interaction.{Interaction, visits_of};
 ghost use Rattle.assise_names.specs.declared.mode.Mode.TheVariants.{Read};
-ghost use Rattle.assise_names.specs.declared.refusal.Refusal.TheVariants.{OutOfMemory};
 ghost use Rattle.assise_seq_tree.specs.Answer.{parent_of};
 ghost use Rattle.smallvec.specs.SmallVec.{HasRoomFor};
 
@@ -25,11 +24,10 @@ use assise_inode_table::table::ROOT;
 use assise_names::mode::Mode;
 use assise_names::name::Name;
 use assise_names::path::Path;
-use assise_names::refusal::Refusal;
 use assise_names::reply::{Reply, TreeError};
 use assise_record::effect::Effect;
 use assise_seq_tree::answer::MOST_ENTRIES;
-use std::alloc::Global;
+use std::alloc::{AllocError, Global};
 
 /// An entry, and the place that it is moved to.
 #[derive(Clone, Copy, Debug)]
@@ -50,12 +48,11 @@ pub(crate) fn plan_rename<V: View>(
     view: &V,
     from: &Path,
     to: &Path,
-) -> Result<Planned, Refusal>
+) -> Result<Planned, AllocError>
     ensures exact { IfOk result (λ p. shown p ≡ plan_from (V.leased view.now)
         (values (V.contents view.now)) [] (rename_call from.now to.now)) }
     ensures asked { OnErr result (NotesAVisit (V.leased view.now)
         (visits_of (values (V.contents view.now)) (rename_call from.now to.now))) }
-    ensures only_memory { IsOkUnless result OutOfMemory }
 {
     let mut reads = Visits::new(alloc);
     let (names, new_names) = (from.names(), to.names());
@@ -79,12 +76,11 @@ fn make_room_for_walks<V: View>(
     from: &Path,
     to: &Path,
     reads: &mut Visits,
-) -> Result<(), Refusal>
+) -> Result<(), AllocError>
     ensures same { reads.new.items ≡ reads.old.items }
     ensures room { OnOk result (V.leased view.now 0 Read ≡ true →
         HasRoomFor reads.new (length from.now + length to.now + 1)) }
     ensures asked { OnErr result (V.leased view.now 0 Read ≡ true) }
-    ensures only_memory { IsOkUnless result OutOfMemory }
 {
     if view.leases(ROOT, Mode::Read) {
         reads.reserve(from.names().len() + to.names().len() + 1)?;
@@ -100,7 +96,7 @@ fn plan_move<V: View>(
     to: &[Name],
     entry: &Entry,
     mut reads: Visits,
-) -> Result<Planned, Refusal>
+) -> Result<Planned, AllocError>
     requires from { 0 < length from.now }
     requires to { 0 < length to.now }
     requires walked { EndsAt (V.leased view.now) (values (V.contents view.now)) []
@@ -110,7 +106,6 @@ fn plan_move<V: View>(
     ensures exact { IfOk result (λ p. shown p ≡ plan_from (V.leased view.now)
         (values (V.contents view.now)) reads.items
         (move_to from.now to.now entry.now.directory entry.now.inode entry.now.content.now)) }
-    ensures only_memory { IsOkUnless result OutOfMemory }
 {
     let ([from_parent @ .., name], [to_parent @ .., new_name]) = (from, to) else {
         unreachable!();
@@ -143,7 +138,7 @@ fn walk_to_taker<'a, V: View>(
     taker: &[Name],
     entry: &Entry<'a>,
     reads: &mut Visits,
-) -> Result<Result<(u64, &'a Inode), Stop>, Refusal>
+) -> Result<Result<(u64, &'a Inode), Stop>, AllocError>
     requires walked { stays ≡ true → EndsAt (V.leased view.now) (values (V.contents view.now)) []
         taker.now (take entry.now.visits reads.old.items)
         entry.now.directory entry.now.parent.now }
@@ -154,7 +149,6 @@ fn walk_to_taker<'a, V: View>(
         (V.leased view.now) (values (V.contents view.now)) reads.new.items (next r.0 r.1.now))
         (λ stop. plan_from (V.leased view.now) (values (V.contents view.now)) reads.old.items
         (walk taker.now next) ≡ plan_stopped reads.new.items stop)) }
-    ensures only_memory { IsOkUnless result OutOfMemory }
 {
     if stays {
         repeat(reads, entry.visits)?;
@@ -164,11 +158,10 @@ fn walk_to_taker<'a, V: View>(
 }
 
 /// Repeats the first `count` visits behind the others.
-fn repeat(visits: &mut Visits, count: usize) -> Result<(), Refusal>
+fn repeat(visits: &mut Visits, count: usize) -> Result<(), AllocError>
     requires { count ≤ length visits.old.items }
     ensures ok { OnOk result (visits.new.items ≡
         visits.old.items ++ take count visits.old.items) }
-    ensures only_memory { IsOkUnless result OutOfMemory }
 {
     visits.reserve(count)?;
     for place in 0..count {
@@ -193,13 +186,12 @@ fn plan_receiving<V: View>(
     stays: bool,
     links: &Directory,
     reads: Visits,
-) -> Result<Planned, Refusal>
+) -> Result<Planned, AllocError>
     ensures exact { IfOk result (λ p. shown p ≡ plan_from (V.leased view.now)
         (values (V.contents view.now)) reads.items
         (receive moving.now.from.content.now stays moving.now.directory links.now
         moving.now.new_name.now (effects_of_move moving.now)
         (map.get links.now moving.now.new_name.now))) }
-    ensures only_memory { IsOkUnless result OutOfMemory }
 {
     if let Some(target) = links.get(moving.new_name) {
         return plan_replacing(alloc, view, moving, target, reads);
@@ -219,12 +211,11 @@ fn plan_replacing<V: View>(
     moving: &Move,
     target: u64,
     mut reads: Visits,
-) -> Result<Planned, Refusal>
+) -> Result<Planned, AllocError>
     ensures exact { IfOk result (λ p. shown p ≡ plan_from (V.leased view.now)
         (values (V.contents view.now)) reads.items
         (replace_target moving.now.from.content.now moving.now.directory moving.now.new_name.now
         (effects_of_move moving.now) target)) }
-    ensures only_memory { IsOkUnless result OutOfMemory }
 {
     let replaced = match reach(view, target, &mut reads)? {
         Ok(replaced) => replaced,
@@ -255,10 +246,9 @@ fn may_replace(moved: &Inode, target: &Inode) -> Result<(), TreeError>
 }
 
 /// Appends what moves an entry: it is taken out of its directory, and then it is an entry of the other.
-fn push_move(effects: &mut Vec<Effect>, moving: &Move) -> Result<(), Refusal>
+fn push_move(effects: &mut Vec<Effect>, moving: &Move) -> Result<(), AllocError>
     ensures moved { OnOk result (effects.new.items ≡ effects.old.items ++
         effects_of_move moving.now) }
-    ensures only_memory { IsOkUnless result OutOfMemory }
 {
     effects.push(Effect::Unlink {
         directory: moving.from.directory,

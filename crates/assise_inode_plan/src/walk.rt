@@ -1,12 +1,11 @@
 //! Walks along paths over leased inodes.
-ghost use Rattle.std.specs.Prelude.{◌≡◌, ◌≤◌, ◌++◌, ◌∷◌, IfOk, IsOkUnless, MatchResult, OnErr, Option, [], length, option_copied, take, true, ℕ};
+ghost use Rattle.std.specs.Prelude.{◌≡◌, ◌≤◌, ◌++◌, ◌∷◌, IfOk, MatchResult, OnErr, Option, [], length, option_copied, take, true, ℕ};
 ghost use Rattle.assise_inode_plan.specs.Walking.{EndsAt, plan_from, plan_stopped};
 ghost use Rattle.assise_inode_table.specs.Calls.{walk, walk_from, walk_to_entry};
 ghost use Rattle.assise_inode_table.specs.Contents.{Content, values};
 ghost use Rattle.assise_inode_table.specs.Interaction.{Interaction, visit};
 ghost use Rattle.assise_inode_table.specs.Reach.{link_of};
 ghost use Rattle.assise_names.specs.declared.mode.Mode.TheVariants.{Read};
-ghost use Rattle.assise_names.specs.declared.refusal.Refusal.TheVariants.{OutOfMemory};
 
 use crate::plan::Visits;
 use crate::view::{View, look_at};
@@ -14,8 +13,8 @@ use assise_inode_table::inode::Inode;
 use assise_inode_table::table::ROOT;
 use assise_names::mode::Mode;
 use assise_names::name::Name;
-use assise_names::refusal::Refusal;
 use assise_names::reply::TreeError;
+use std::alloc::AllocError;
 
 /// Why a walk ends early.
 #[derive(Clone, Copy, Debug)]
@@ -46,7 +45,7 @@ pub(crate) fn walk<'a, V: View>(
     view: &'a V,
     names: &[Name],
     reads: &mut Visits,
-) -> Result<Result<(u64, &'a Inode), Stop>, Refusal>
+) -> Result<Result<(u64, &'a Inode), Stop>, AllocError>
     ensures left { IfOk result (λ end. (next : ℕ → Content → Interaction) →
         MatchResult end (λ r. plan_from (V.leased view.now)
         (values (V.contents view.now)) reads.old.items (walk names.now next) ≡ plan_from
@@ -55,7 +54,6 @@ pub(crate) fn walk<'a, V: View>(
         (walk names.now next) ≡ plan_stopped reads.new.items stop)) }
     ensures seen { IfOk result (λ end. IfOk end (λ _. V.leased view.now 0 Read ≡ true)) }
     ensures asked { OnErr result (V.leased view.now 0 Read ≡ true) }
-    ensures only_memory { IsOkUnless result OutOfMemory }
 {
     let mut at = ROOT;
     for name in names {
@@ -80,7 +78,7 @@ pub(crate) fn walk_to_entry<'a, V: View>(
     parent: &[Name],
     name: &Name,
     reads: &mut Visits,
-) -> Result<Result<Entry<'a>, Stop>, Refusal>
+) -> Result<Result<Entry<'a>, Stop>, AllocError>
     ensures left { IfOk result (λ end. (next : ℕ → ℕ → Content → Interaction) →
         MatchResult end (λ e. plan_from (V.leased view.now)
         (values (V.contents view.now)) reads.old.items (walk_to_entry parent.now name.now next) ≡
@@ -94,7 +92,6 @@ pub(crate) fn walk_to_entry<'a, V: View>(
     ensures visits { IfOk result (λ end. IfOk end (λ e. e.visits ≤ length reads.new.items)) }
     ensures seen { IfOk result (λ end. IfOk end (λ _. V.leased view.now 0 Read ≡ true)) }
     ensures asked { OnErr result (V.leased view.now 0 Read ≡ true) }
-    ensures only_memory { IsOkUnless result OutOfMemory }
 {
     let (directory, found) = match walk(view, parent, reads)? {
         Ok(reached) => reached,
@@ -122,7 +119,7 @@ pub(crate) fn reach<'a, V: View>(
     view: &'a V,
     inode: u64,
     reads: &mut Visits,
-) -> Result<Result<&'a Inode, Stop>, Refusal>
+) -> Result<Result<&'a Inode, Stop>, AllocError>
     ensures left { IfOk result (λ end. (next : ℕ → Content → Interaction) →
         MatchResult end (λ r. plan_from (V.leased view.now)
         (values (V.contents view.now)) reads.old.items (walk_from inode [] next) ≡ plan_from
@@ -133,7 +130,6 @@ pub(crate) fn reach<'a, V: View>(
         (λ _. reads.new.items ≡ reads.old.items ++ inode ∷ [])) }
     ensures seen { IfOk result (λ end. IfOk end (λ _. V.leased view.now inode Read ≡ true)) }
     ensures asked { OnErr result (V.leased view.now inode Read ≡ true) }
-    ensures only_memory { IsOkUnless result OutOfMemory }
 {
     match visit(view, inode, reads)? {
         Ok(Some(content)) => Ok(Ok(content)),
@@ -147,7 +143,7 @@ fn visit<'a, V: View>(
     view: &'a V,
     inode: u64,
     reads: &mut Visits,
-) -> Result<Result<Option<&'a Inode>, Stop>, Refusal>
+) -> Result<Result<Option<&'a Inode>, Stop>, AllocError>
     ensures left { IfOk result (λ end. (next : Option Content → Interaction) →
         MatchResult end (λ value. plan_from (V.leased view.now)
         (values (V.contents view.now)) reads.old.items (visit inode next) ≡ plan_from
@@ -159,7 +155,6 @@ fn visit<'a, V: View>(
         (λ _. reads.new.items ≡ reads.old.items ++ inode ∷ [])) }
     ensures seen { IfOk result (λ end. IfOk end (λ _. V.leased view.now inode Read ≡ true)) }
     ensures asked { OnErr result (V.leased view.now inode Read ≡ true) }
-    ensures only_memory { IsOkUnless result OutOfMemory }
 {
     if !view.leases(inode, Mode::Read) {
         return Ok(Err(Stop::Unleased(inode)));

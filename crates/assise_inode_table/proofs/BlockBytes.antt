@@ -2,7 +2,7 @@
 use Rattle.assise_inode_table.proofs.Common.{◌≡◌, ℕ, zero, suc, ◌+◌, ◌-◌, ◌*◌, ◌<◌, ◌≤◌, List, [], ◌∷◌, ◌++◌, length, take, drop, refl, ap, sym, ◌∙◌, get_or}
 use Rattle.assise_inode_table.proofs.Common.{arith, append-nil, length-append, take_at, take-append-drop, take_all, drop_all, drop_at, drop_more, length-take}
 use Rattle.assise_inode_table.proofs.Common.{length-drop, concat-append, take-add, concat, IsCut, bytes_from}
-use Rattle.assise_seq_tree.proofs.BytesOverwritten.{take-append}
+use Rattle.assise_seq_tree.proofs.Shared.BytesOverwritten.{take-append}
 
 -- ---- the shape
 pub cut_take : (bs : List (List ℕ)) (k : ℕ) → IsCut bs → IsCut (take k bs)

@@ -2,7 +2,7 @@
 use Rattle.assise_inode_table.proofs.Common.{◌≡◌, ℕ, ◌+◌, ◌-◌, ◌<◌, ◌≤◌, ◌⊎◌, List, get_or, length, arith, max, length-append, same_number_lists}
 use Rattle.assise_inode_table.proofs.Common.{get_or_append_left, get_or-append_right, get_or-take, get_or-drop, get_or-replicate, get_or_past, length-take}
 use Rattle.assise_inode_table.proofs.Common.{overwritten, resized, length-overwritten}
-use Rattle.assise_seq_tree.proofs.FileResized.{length-resized}
+use Rattle.assise_seq_tree.proofs.Shared.FileResized.{length-resized}
 
 abbrev pub byte : List ℕ → ℕ → ℕ
 byte xs p = get_or xs p 0

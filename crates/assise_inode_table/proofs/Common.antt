@@ -67,18 +67,19 @@ pub use Rattle.assise_names.specs.declared.reply.Reply.{Reply}
 pub use Rattle.assise_names.specs.declared.reply.Reply.TheVariants.{Done, Bytes, Names, Error, File, Dir}
 pub use Rattle.assise_names.specs.declared.reply.TreeError.{TreeError}
 pub use Rattle.assise_names.specs.declared.reply.TreeError.TheVariants.{NoEnt, Exists, IsDir, Invalid, TooBig, NotDir, DirFull, NotEmpty}
-pub use Rattle.assise_record.proofs.GroupRest.{group-effects, group-begins, group-ascending, group-shorter}
+pub use Rattle.assise_record.proofs.Shared.GroupRest.{group-effects, group-begins, group-ascending, group-shorter}
 pub use Rattle.assise_record.specs.Coalesced.{covers, is_write_within, is_of_entry, overrides, overridden, coalesced}
 pub use Rattle.assise_record.specs.Groups.{AreGroups, all_records, all_coalesced, are_whole, were, coalesced_group, left_of}
 pub use Rattle.assise_record.specs.Touched.{touched_by}
 pub use Rattle.assise_record.specs.declared.effect.Effect.{Effect}
 pub use Rattle.assise_record.specs.declared.effect.Effect.TheVariants.{NewFile, NewDir, Write, SetLen, Link, Unlink, Free}
-pub use Rattle.assise_seq_tree.proofs.BytesRead.{length-overwritten}
-pub use Rattle.assise_seq_tree.proofs.Checks.{no_error, then_ok, same_is, not_begins}
-pub use Rattle.assise_seq_tree.proofs.Moves.{Path, Disjoint, at-without_disjoint, without-put, ordered-without, parent_and_last, find_replace_there}
-pub use Rattle.assise_seq_tree.proofs.Sets.{same_entries, one_name, tied, same_itself, shadowed, find-set, find-remove, ordered-remove, ordered-set, swapped}
-pub use Rattle.assise_seq_tree.proofs.Sets.{not_both, find_below, find_first, found_later}
-pub use Rattle.assise_seq_tree.proofs.TreePut.{at-put, put-put, at_step, put_step}
+pub use Rattle.assise_seq_tree.proofs.Shared.BytesRead.{length-overwritten}
+pub use Rattle.assise_seq_tree.proofs.Shared.Checks.{no_error, then_ok, same_is, not_begins}
+pub use Rattle.assise_seq_tree.proofs.Shared.Moves.{Path, Disjoint, at-without_disjoint, without-put, ordered-without, parent_and_last, find_replace_there}
+pub use Rattle.assise_seq_tree.proofs.Shared.Sets.{same_entries, one_name, tied, same_itself, shadowed}
+pub use Rattle.assise_seq_tree.proofs.Shared.Sets.{find-set, find-remove, ordered-remove, ordered-set, swapped}
+pub use Rattle.assise_seq_tree.proofs.Shared.Sets.{not_both, find_below, find_first, found_later}
+pub use Rattle.assise_seq_tree.proofs.Shared.TreePut.{at-put, put-put, at_step, put_step}
 pub use Rattle.assise_seq_tree.specs.Answer.{parent_of, last_name, answer, ◌>>=◌, as_directory, room_for, room_at, reply_and_tree, create_answer, mkdir_answer}
 pub use Rattle.assise_seq_tree.specs.Answer.{read_answer, list_answer, stat_answer, file_at, entries_at, unlink_answer, rmdir_answer, may_receive}
 pub use Rattle.assise_seq_tree.specs.Answer.{may_replace as tree_may_replace, tree_after_rename, rename_answer, tree_after_write, write_answer, truncate_answer}

@@ -10,8 +10,8 @@ use Rattle.assise_seq_tree.specs.Tree.{set}
 use Rattle.assise_inode_table.proofs.Prefixes.{past, past-Some}
 use Rattle.assise_inode_table.proofs.PathReach.{reach_step, reach-append, same_reach}
 use Rattle.assise_inode_table.proofs.TreeShows.{put_entry, without_entry}
-use Rattle.assise_inode_table.proofs.SpellingUnique.{spelled_is_ordered}
-use Rattle.assise_inode_table.proofs.ReachedSpelling.{Below, Directory, descend, directory_at}
+use Rattle.assise_inode_table.proofs.Shared.SpellingUnique.{spelled_is_ordered}
+use Rattle.assise_inode_table.proofs.Shared.ReachedSpelling.{Below, Directory, descend, directory_at}
 use Rattle.assise_inode_table.proofs.Leaves.{LeadsNowhere}
 use Rattle.assise_inode_table.proofs.EntryUnlinked.{outside_reached}
 use Rattle.assise_inode_table.proofs.EntryFreed.{keeps, freed}

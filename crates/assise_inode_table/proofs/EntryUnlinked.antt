@@ -8,9 +8,9 @@ use Rattle.std.specs.FinMap as map
 use Rattle.assise_inode_table.proofs.Prefixes.{past, past_prefix, past_itself, past-Some}
 use Rattle.assise_inode_table.proofs.PathReach.{reach_step, reach-append, once_below, Away, no_way_back, Keeps, away_keeps, same_reach, kept_spells}
 use Rattle.assise_inode_table.proofs.TreeShows.{without_entry}
-use Rattle.assise_inode_table.proofs.DirectoryNames.{names_are_keys, same_found}
-use Rattle.assise_inode_table.proofs.SpellingUnique.{spelled_is_ordered}
-use Rattle.assise_inode_table.proofs.ReachedSpelling.{descend, Directory, directory_at}
+use Rattle.assise_inode_table.proofs.Shared.DirectoryNames.{names_are_keys, same_found}
+use Rattle.assise_inode_table.proofs.Shared.SpellingUnique.{spelled_is_ordered}
+use Rattle.assise_inode_table.proofs.Shared.ReachedSpelling.{descend, Directory, directory_at}
 use Rattle.assise_inode_table.proofs.EntryRelinked.{Relinks, relinked, relinked_shows}
 use Rattle.assise_inode_table.proofs.InodeRegrown.{detour, IsOwn, regrown, still_reached}
 

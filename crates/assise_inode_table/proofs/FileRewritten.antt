@@ -1,7 +1,7 @@
 -- The bytes of a file change.
 use Rattle.assise_inode_table.proofs.Common.{◌≡◌, ℕ, Bool, true, false, List, [], Some, IsSome, is_some, Ok, refl, sym, ap, ◌∙◌, inl, eqb, eqb-true, eqb-false}
 use Rattle.assise_inode_table.proofs.Common.{Tree, file, put, Path, regular, Values, children, reach, Spells, SpellsFrom, AgreeBut}
-use Rattle.assise_inode_table.proofs.ReachedSpelling.{Below, descend}
+use Rattle.assise_inode_table.proofs.Shared.ReachedSpelling.{Below, descend}
 use Rattle.assise_inode_table.proofs.Leaves.{alone, file_nowhere, file_spells}
 use Rattle.assise_inode_table.proofs.InodeRegrown.{IsOwn, regrown, still_reached}
 

@@ -3,7 +3,7 @@ use Rattle.assise_inode_table.proofs.Common.{◌≡◌, ◌≢◌, ℕ, List, []
 use Rattle.assise_inode_table.proofs.Common.{dir, no_entries, at, ◌>>=◌, Path, then_ok, regular, directory, Links, Values, Children, children, reach, link_of}
 use Rattle.assise_inode_table.proofs.Common.{folder, shape_of, shown_from, shown_in, SpellsFrom, arith}
 use Rattle.std.specs.FinMap as map
-use Rattle.assise_inode_table.proofs.DirectoryNames.{names_are_keys}
+use Rattle.assise_inode_table.proofs.Shared.DirectoryNames.{names_are_keys}
 
 abbrev pub LeadsNowhere : Children → ℕ → Type 0
 LeadsNowhere c i = (name : List ℕ) (j : ℕ) → c i name ≢ Ok j

@@ -1,54 +1,35 @@
 mod Common
-pub mod BlockWrites
-pub mod BlockBytes
-pub mod EffectValues
-pub mod Local
-pub mod PairwiseLists
-pub mod Lateness
-pub mod WalkMeets
-pub mod MeetingEntries
-pub mod CallsAgree
-pub mod QuietCalls
-pub mod WritingCalls
-pub mod MakingCalls
-pub mod RemovingCalls
-pub mod CallSteps
-pub mod CallsRemoved
-pub mod Prefixes
-pub mod PathReach
-pub mod TreeShows
-pub mod DirectoryNames
-pub mod SpellingUnique
-pub mod MapView
-pub mod KeyOrder
-pub mod LiveSlots
-pub mod PieceSlots
-pub mod PieceChanges
-pub mod PieceLinks
-pub mod PieceSearch
-pub mod TableView
-pub mod ReachedSpelling
-pub mod Leaves
-pub mod InodeRegrown
-pub mod FileRewritten
-pub mod EntryRelinked
-pub mod SubtreeLinked
-pub mod NewInodeLinked
-pub mod EntryUnlinked
-pub mod EntryFreed
-pub mod EntryMoved
-pub mod EntryReplaced
-pub mod RenamingCalls
-pub mod CallEnds
-pub mod AtOpening
-pub mod InodeNumbers
-pub mod EffectLists
-pub mod LinkingFirst
-pub mod Wholeness
-pub mod FewChanges
-pub mod MapChanges
-pub mod Bytes
-pub mod Grouped
-pub mod LeftWhole
-pub mod EffectOverrides
-pub mod WrongRule
+pub mod Shared
+mod BlockWrites
+mod BlockBytes
+mod WalkMeets
+mod MeetingEntries
+mod CallsAgree
+mod QuietCalls
+mod WritingCalls
+mod MakingCalls
+mod RemovingCalls
+mod Prefixes
+mod PathReach
+mod TreeShows
+mod KeyOrder
+mod PieceSlots
+mod PieceChanges
+mod PieceLinks
+mod PieceSearch
+mod Leaves
+mod InodeRegrown
+mod FileRewritten
+mod EntryRelinked
+mod SubtreeLinked
+mod NewInodeLinked
+mod EntryUnlinked
+mod EntryFreed
+mod EntryMoved
+mod EntryReplaced
+mod RenamingCalls
+mod LinkingFirst
+mod FewChanges
+mod Bytes
+mod EffectOverrides
+mod WrongRule

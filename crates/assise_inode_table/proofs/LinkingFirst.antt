@@ -5,7 +5,7 @@ use Rattle.assise_inode_table.proofs.Common.{same_from_push, filter-append, and_
 use Rattle.assise_inode_table.proofs.Common.{Free, same_name, one_name, Content, regular, directory, Links, InodeMap, TakesAway, all_applied, applied}
 use Rattle.assise_inode_table.proofs.Common.{effect_on, value_after, CanBeChangedWhole, OnlyFirstAsks, OnlyTakeAway, is_link, leaves_entry, takes_away}
 use Rattle.std.specs.FinMap as map
-use Rattle.assise_inode_table.proofs.EffectLists.{append_applied, get-all_applied, same_inodes}
+use Rattle.assise_inode_table.proofs.Shared.EffectLists.{append_applied, get-all_applied, same_inodes}
 use Rattle.assise_inode_table.proofs.EffectOverrides.{same_links}
 
 -- ---- the entries of one directory

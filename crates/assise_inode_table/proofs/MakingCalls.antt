@@ -11,7 +11,7 @@ use Rattle.assise_inode_table.proofs.NewInodeLinked.{created as made}
 use Rattle.assise_inode_table.proofs.Leaves.{LeadsNowhere, file_nowhere, file_spells, empty_nowhere, empty_spells}
 use Rattle.assise_inode_table.proofs.WalkMeets.{settled, walk_fails, walk_to_file, walk_to_directory, Meets, nothing, a_file, a_directory, FindsDirectory}
 use Rattle.assise_inode_table.proofs.WalkMeets.{meets, same_count}
-use Rattle.assise_inode_table.proofs.DirectoryNames.{is_some-find}
+use Rattle.assise_inode_table.proofs.Shared.DirectoryNames.{is_some-find}
 
 -- ---- the checks
 

@@ -3,7 +3,7 @@ use Rattle.assise_inode_table.proofs.Common.{◌≡◌, ℕ, List, [], ◌∷◌
 use Rattle.assise_inode_table.proofs.Common.{NoEnt, ◌>>=◌, Path, then_ok, Content, directory, Links, Values, Interaction, then_or_error, walk_from, arith}
 use Rattle.assise_inode_table.proofs.Common.{walk_to_entry, Children, children, reach, link_of}
 use Rattle.std.specs.FinMap as map
-use Rattle.assise_inode_table.proofs.ReachedSpelling.{LinkTo, link_to}
+use Rattle.assise_inode_table.proofs.Shared.ReachedSpelling.{LinkTo, link_to}
 use Rattle.assise_inode_table.proofs.WalkMeets.{settled, found, walk_fails, walk_finds, found_there}
 
 -- ---- the last step of a path

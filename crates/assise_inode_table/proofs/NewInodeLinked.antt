@@ -2,7 +2,7 @@
 use Rattle.assise_inode_table.proofs.Common.{◌≡◌, ◌≢◌, ℕ, Bool, true, false, List, [], ◌∷◌, ◌++◌, None, IsSome, is_some, Ok, refl, sym, ap, ◌∙◌, eqb, eqb-true}
 use Rattle.assise_inode_table.proofs.Common.{eqb-false, Tree, put, Path, Links, Values, children, reach, Spells, SpellsFrom, ShareNone, AgreeBut, AddsLink}
 use Rattle.assise_inode_table.proofs.PathReach.{Keeps, away_keeps, same_reach, kept_spells}
-use Rattle.assise_inode_table.proofs.ReachedSpelling.{none_is_away}
+use Rattle.assise_inode_table.proofs.Shared.ReachedSpelling.{none_is_away}
 use Rattle.assise_inode_table.proofs.Leaves.{LeadsNowhere, alone}
 use Rattle.assise_inode_table.proofs.SubtreeLinked.{linked, old_reached, held_reached}
 

@@ -6,7 +6,7 @@ use Rattle.std.proofs.Common.{remove}
 use Rattle.std.proofs.lemmas.List.{length-append}
 use Rattle.std.proofs.lemmas.Slice.Zip.{length-zip, get_or-zip}
 use Rattle.assise_inode_table.proofs.KeyOrder.{sorted_without}
-use Rattle.assise_inode_table.proofs.LiveSlots.{live-append, keys-append}
+use Rattle.assise_inode_table.proofs.Shared.LiveSlots.{live-append, keys-append}
 use Rattle.assise_inode_table.proofs.PieceSlots.{three_parts, slots-append}
 
 -- ---- a piece in two

@@ -5,7 +5,7 @@ use Rattle.assise_inode_table.proofs.Common.{IsStrictlySortedBy, IsSearchInRange
 use Rattle.assise_inode_table.proofs.Common.{IsTotalOrder, IsAntisymmetric, slice_cmp, nat_list_cmp_total, exact_bytes, Less-from_sorted, cases_lt, length-take}
 use Rattle.assise_inode_table.proofs.Common.{length-drop, take_all, get_or-take, get_or-drop, take-map, drop-map, take_more, recursion_from_All, live_entry}
 use Rattle.assise_inode_table.proofs.Common.{live, slot_link, IsSlotOf, IsGapFor}
-use Rattle.assise_inode_table.proofs.LiveSlots.{live-append, keys-append}
+use Rattle.assise_inode_table.proofs.Shared.LiveSlots.{live-append, keys-append}
 use Rattle.assise_inode_table.proofs.PieceChanges.{length-side, keys-side, name-side, link-side}
 
 module _ {K : Type 0} {R : K → K → Ordering} (o : IsTotalOrder R) (same : IsAntisymmetric R) where

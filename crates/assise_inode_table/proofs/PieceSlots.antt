@@ -7,10 +7,11 @@ use Rattle.assise_inode_table.proofs.Common.{get_or-drop, length-set, length-dro
 use Rattle.assise_inode_table.proofs.Common.{slots_in, links_in, piece_at, slot_name, slot_link, slots_before, slots_behind, Ascend, AreFilled, IsDirectory}
 use Rattle.assise_inode_table.proofs.Common.{IsGapFor, IsPieceFor, StandsAt}
 use Rattle.std.specs.FinMap as map
-use Rattle.assise_inode_table.proofs.MapView.{remove-absent}
+use Rattle.assise_inode_table.proofs.Shared.MapView.{remove-absent}
 use Rattle.assise_inode_table.proofs.KeyOrder.{all_both, all_weaker, below_next, above_head, sorted_left, sorted_right, turned_back, is_greater}
-use Rattle.assise_inode_table.proofs.LiveSlots.{Parts, live-append, keys-append, parts_of_slot, slot_got, gap_got, slot_linked, gap_linked, slot_unlinked}
-use Rattle.assise_inode_table.proofs.LiveSlots.{slot_sorted, gap_sorted, count_linked, count_gone, count_relinked, live_keys, live_count, live_sorted}
+use Rattle.assise_inode_table.proofs.Shared.LiveSlots.{Parts, live-append, keys-append, parts_of_slot}
+use Rattle.assise_inode_table.proofs.Shared.LiveSlots.{slot_got, gap_got, slot_linked, gap_linked, slot_unlinked}
+use Rattle.assise_inode_table.proofs.Shared.LiveSlots.{slot_sorted, gap_sorted, count_linked, count_gone, count_relinked, live_keys, live_count, live_sorted}
 
 pub slots-append : (ps qs : List (List Slot)) → slots_in (ps ++ qs) ≡ slots_in ps ++ slots_in qs
 slots-append ps qs = flat_map-append (λ p. p) ps qs
@@ -165,46 +166,34 @@ module _ (name : List ℕ) (ps qs : List (List Slot)) (w at : ℕ) (is : StandsA
       (All-set (λ p. 0 < length p) ps w (set (piece_at ps w) at (slot_name (piece_at ps w) at, link))
       (omega (arith, length-set (piece_at ps w) at (slot_name (piece_at ps w) at, link), is.slot.within)) filled)
 
-  -- how many entries there are then
+  -- how many entries there are, and how many then
+  counted : (link : Option ℕ) → slot_link (piece_at ps w) at ≡ link
+      → length (live (slots_in ps)) ≡ length (live (slots_before ps w at ++ (name, link) ∷ slots_behind ps w (suc at)))
+  counted link held = ap (λ slots. length (live slots)) (old_slots name ps w at is)
+      ∙ ap (λ l. length (live (slots_before ps w at ++ (name, l) ∷ slots_behind ps w (suc at)))) held
+
+  counted_then : (link : Option ℕ) → qs ≡ set ps w (set (piece_at ps w) at (slot_name (piece_at ps w) at, link))
+      → length (live (slots_in qs)) ≡ length (live (slots_before ps w at ++ (name, link) ∷ slots_behind ps w (suc at)))
+  counted_then link new = ap (λ slots. length (live slots)) (new_slots name ps qs w at link is new)
+
   pub count_put : (v n : ℕ) → qs ≡ set ps w (set (piece_at ps w) at (slot_name (piece_at ps w) at, Some v)) → slot_link (piece_at ps w) at ≡ None
       → n ≡ length (live (slots_in ps)) → suc n ≡ length (live (slots_in qs))
   count_put v n new none count =
-      let old = ap (λ slots. length (live slots)) (old_slots name ps w at is)
-      ∙ ap (λ l. length (live (slots_before ps w at ++ (name, l) ∷ slots_behind ps w (suc at)))) none in
-      let now = ap (λ slots. length (live slots)) (new_slots name ps qs w at (Some v) is new) in
-      omega (
-        arith,
-        old,
-        now,
-        count,
-        count_gone name (slots_before ps w at) (slots_behind ps w (suc at)),
-        count_linked name v (slots_before ps w at)
-            (slots_behind ps w (suc at)),
-      )
+      let before = slots_before ps w at in
+      let behind = slots_behind ps w (suc at) in
+      omega (arith, count, counted None none, counted_then (Some v) new, count_gone name before behind, count_linked name v before behind)
 
   pub count_kept : (v u n : ℕ) → qs ≡ set ps w (set (piece_at ps w) at (slot_name (piece_at ps w) at, Some v)) → slot_link (piece_at ps w) at ≡ Some u
       → n ≡ length (live (slots_in ps)) → n ≡ length (live (slots_in qs))
   count_kept v u n new some count =
-      let old = ap (λ slots. length (live slots)) (old_slots name ps w at is)
-      ∙ ap (λ l. length (live (slots_before ps w at ++ (name, l) ∷ slots_behind ps w (suc at)))) some in
-      let now = ap (λ slots. length (live slots)) (new_slots name ps qs w at (Some v) is new) in
-      omega (arith, old, now, count, count_relinked name u v (slots_before ps w at) (slots_behind ps w (suc at)))
+      omega (arith, count, counted (Some u) some, counted_then (Some v) new, count_relinked name u v (slots_before ps w at) (slots_behind ps w (suc at)))
 
   pub count_cut : (u n : ℕ) → qs ≡ set ps w (set (piece_at ps w) at (slot_name (piece_at ps w) at, None)) → slot_link (piece_at ps w) at ≡ Some u
       → n ≡ length (live (slots_in ps)) → n ≡ suc (length (live (slots_in qs)))
   count_cut u n new some count =
-      let old = ap (λ slots. length (live slots)) (old_slots name ps w at is)
-      ∙ ap (λ l. length (live (slots_before ps w at ++ (name, l) ∷ slots_behind ps w (suc at)))) some in
-      let now = ap (λ slots. length (live slots)) (new_slots name ps qs w at None is new) in
-      omega (
-        arith,
-        old,
-        now,
-        count,
-        count_gone name (slots_before ps w at) (slots_behind ps w (suc at)),
-        count_linked name u (slots_before ps w at)
-            (slots_behind ps w (suc at)),
-      )
+      let before = slots_before ps w at in
+      let behind = slots_behind ps w (suc at) in
+      omega (arith, count, counted (Some u) some, counted_then None new, count_gone name before behind, count_linked name u before behind)
 
 -- ---- a new name in a gap
 module _ (name : List ℕ) (v : ℕ) (ps qs : List (List Slot)) (w at : ℕ) (s : Ascend (slots_in ps)) (filled : AreFilled ps) (is : IsPieceFor name ps w)

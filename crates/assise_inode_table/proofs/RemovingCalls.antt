@@ -4,7 +4,7 @@ use Rattle.assise_inode_table.proofs.Common.{eq-eqb, ne_eqb, eqb-true, eqb-false
 use Rattle.assise_inode_table.proofs.Common.{Invalid, Effect, Unlink, Free, Tree, without, ◌>>=◌, parent_of, last_name, file_at, entries_at, reply_and_tree}
 use Rattle.assise_inode_table.proofs.Common.{unlink_answer, rmdir_answer, Path, parent_and_last, Content, regular, directory, Values, after, Interaction}
 use Rattle.assise_inode_table.proofs.Common.{finish, then_or_error, as_regular, as_links, without_links, walk_to_entry, unlink_call, rmdir_call, children}
-use Rattle.assise_inode_table.proofs.Common.{Spells}
+use Rattle.assise_inode_table.proofs.Common.{Spells, Err, if◌then◌else◌}
 use Rattle.std.specs.FinMap as map
 use Rattle.assise_seq_tree.specs.Answer.{vacant as empty}
 use Rattle.assise_inode_table.proofs.CallsAgree.{Agrees, agrees, agrees_quietly}
@@ -101,28 +101,22 @@ pub whole : (p : Path) → (length p == 0) ≡ false → p ≡ parent_of p ++ la
 whole p deep = parent_and_last p (let no = eqb-false (length p) 0 deep in omega (arith, no))
 
 module _ (v : Values) (t : Tree) (p : Path) (fresh : ℕ) (s : Spells v t) where
+  -- a call that walks to the entry where the path has a name, and else is refused
+  by_name : (error : TreeError) (call : Interaction) (may : Path → Result (Unit {0}) TreeError)
+      → Agrees v fresh (settled v call) (if_it_may t (parent_of p ++ last_name p ∷ []) (may (parent_of p ++ last_name p ∷ [])))
+      → Agrees v fresh (settled v (if length p == 0 then finish (Error error) [] else call)) (if_it_may t p (if length p == 0 then Err error else may p))
+  by_name error call may below =
+      elim (cases_Bool (length p == 0)) [
+        | inl root ↦ rw root (agrees_quietly v t fresh _ _ (Error error) s refl refl)
+        | inr deep ↦ rw deep (subst (λ q. Agrees v fresh (settled v call) (if_it_may t q (may q))) (sym (whole p deep)) below)
+      ]
+
   pub unlink_agrees : Agrees v fresh (settled v (unlink_call p)) (unlink_answer t p)
   unfolding take_file unlinked
-  unlink_agrees =
-      elim (cases_Bool (length p == 0)) [
-        | inl root ↦ agrees_quietly v t fresh (settled v (unlink_call p)) (unlink_answer t p) (Error IsDir) s (rw root refl) (rw root refl)
-        | inr deep ↦
-            let below = unlink_below v t (parent_of p) (last_name p) fresh s in
-            let at_path = subst (λ q. Agrees v fresh
-            (settled v (walk_to_entry (parent_of p) (last_name p) (take_file v t (parent_of p) (last_name p) fresh s))) (unlinked_at t q))
-            (sym (whole p deep)) below in
-            rw deep at_path
-      ]
+  unlink_agrees = by_name IsDir (walk_to_entry (parent_of p) (last_name p) (take_file v t (parent_of p) (last_name p) fresh s))
+      (λ q. file_at t q >>= λ _. Ok tt) (unlink_below v t (parent_of p) (last_name p) fresh s)
 
   pub rmdir_agrees : Agrees v fresh (settled v (rmdir_call p)) (rmdir_answer t p)
   unfolding take_directory removed
-  rmdir_agrees =
-      elim (cases_Bool (length p == 0)) [
-        | inl root ↦ agrees_quietly v t fresh (settled v (rmdir_call p)) (rmdir_answer t p) (Error Invalid) s (rw root refl) (rw root refl)
-        | inr deep ↦
-            let below = rmdir_below v t (parent_of p) (last_name p) fresh s in
-            let at_path = subst (λ q. Agrees v fresh
-            (settled v (walk_to_entry (parent_of p) (last_name p) (take_directory v t (parent_of p) (last_name p) fresh s))) (removed_at t q))
-            (sym (whole p deep)) below in
-            rw deep at_path
-      ]
+  rmdir_agrees = by_name Invalid (walk_to_entry (parent_of p) (last_name p) (take_directory v t (parent_of p) (last_name p) fresh s))
+      (λ q. entries_at t q >>= λ es. empty es) (rmdir_below v t (parent_of p) (last_name p) fresh s)

@@ -10,8 +10,8 @@ use Rattle.assise_inode_table.proofs.Common.{reach, link_of, Spells, arith}
 use Rattle.std.specs.Prelude.{if◌then◌else◌}
 use Rattle.std.proofs.lemmas.List.{append_assoc, append-nil}
 use Rattle.std.specs.FinMap as map
-use Rattle.assise_seq_tree.proofs.Paths.{disjoint_from}
-use Rattle.assise_seq_tree.proofs.MovedTreeRoom.{entry_there}
+use Rattle.assise_seq_tree.proofs.Shared.Paths.{disjoint_from}
+use Rattle.assise_seq_tree.proofs.Shared.MovedTreeRoom.{entry_there}
 use Rattle.assise_inode_table.proofs.CallsAgree.{Agrees, agrees, agrees_quietly}
 use Rattle.assise_inode_table.proofs.EntryReplaced.{displaced_spells}
 use Rattle.assise_inode_table.proofs.Prefixes.{past, past-Some}
@@ -20,7 +20,7 @@ use Rattle.assise_inode_table.proofs.WalkMeets.{settled, walk_fails, walk_to_fil
 use Rattle.assise_inode_table.proofs.WalkMeets.{meets, same_count}
 use Rattle.assise_inode_table.proofs.MeetingEntries.{HasEntry, entry_at, walk_finds_entry, walk_fails_entry}
 use Rattle.assise_inode_table.proofs.EntryMoved.{moved_spells}
-use Rattle.assise_inode_table.proofs.DirectoryNames.{same_found}
+use Rattle.assise_inode_table.proofs.Shared.DirectoryNames.{same_found}
 use Rattle.assise_inode_table.proofs.PathReach.{reach_step, reach-append}
 use Rattle.assise_inode_table.proofs.RemovingCalls.{whole}
 

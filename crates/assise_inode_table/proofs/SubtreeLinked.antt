@@ -7,9 +7,9 @@ use Rattle.std.specs.FinMap as map
 use Rattle.assise_seq_tree.specs.Tree.{set}
 use Rattle.assise_inode_table.proofs.PathReach.{reach-append, once_below, Away, away_keeps, same_reach, same_shown}
 use Rattle.assise_inode_table.proofs.TreeShows.{put_entry}
-use Rattle.assise_inode_table.proofs.DirectoryNames.{names_are_keys, same_found}
-use Rattle.assise_inode_table.proofs.SpellingUnique.{spelled_is_ordered}
-use Rattle.assise_inode_table.proofs.ReachedSpelling.{Directory, directory_at}
+use Rattle.assise_inode_table.proofs.Shared.DirectoryNames.{names_are_keys, same_found}
+use Rattle.assise_inode_table.proofs.Shared.SpellingUnique.{spelled_is_ordered}
+use Rattle.assise_inode_table.proofs.Shared.ReachedSpelling.{Directory, directory_at}
 use Rattle.assise_inode_table.proofs.EntryRelinked.{Relinks, relinked, relinked_shows}
 use Rattle.assise_inode_table.proofs.InodeRegrown.{IsOwn, regrown, inside, still_reached}
 

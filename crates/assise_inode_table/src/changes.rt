@@ -13,7 +13,7 @@ use crate::store::InodeStore;
 use crate::whole::{discard, put_value};
 use assise_names::refusal::Refusal;
 use assise_record::effect::Effect;
-use std::alloc::Global;
+use std::alloc::{AllocError, Global};
 
 /// What an inode becomes.
 #[derive(Debug, Drop)]
@@ -37,9 +37,8 @@ pub(crate) fn place_of(changes: &[Change], inode: u64) -> Option<usize>
 }
 
 /// Makes of a value what an effect makes of it.
-fn change_value(alloc: Global, value: &mut Option<Inode>, effect: &Effect) -> Result<(), Refusal>
+fn change_value(alloc: Global, value: &mut Option<Inode>, effect: &Effect) -> Result<(), AllocError>
     ensures ok { OnOk result (value.new ≡ effect_on value.old effect.now) }
-    ensures only_memory { IsOkUnless result OutOfMemory }
 {
     match effect {
         Effect::NewFile { .. } => *value = Some(Inode::new_file(alloc)),
@@ -109,7 +108,7 @@ fn make<I: Inodes>(
 {
     let place = put_in(alloc, base, changes, effect.touches())?;
     let change = &mut changes[place];
-    change_value(alloc, &mut change.value, effect)
+    Ok(change_value(alloc, &mut change.value, effect)?)
 }
 
 /// What the inodes that effects touch become by them, each once. The inodes themselves stay as they are; each that is
@@ -136,12 +135,15 @@ pub fn changes_over<I: Inodes>(
 
 /// Sees that an inode is there: one that isn't is an empty file for now, and is noted. Without those that are noted, all
 /// inodes are as they were.
-fn make_place<S: InodeStore>(store: &mut S, made: &mut Vec<u64>, inode: u64) -> Result<(), Refusal>
+fn make_place<S: InodeStore>(
+    store: &mut S,
+    made: &mut Vec<u64>,
+    inode: u64,
+) -> Result<(), AllocError>
     ensures ok { OnOk result (S.contents store.new ≡ placed_one (S.contents store.old) inode) }
     ensures noted { map_without (S.contents store.new) made.new.items ≡ map_without
         (S.contents store.old) made.old.items }
     ensures setting { S.setting store.new ≡ S.setting store.old }
-    ensures only_memory { IsOkUnless result OutOfMemory }
 {
     if store.get(inode).is_some() {
         return Ok(());
@@ -162,11 +164,10 @@ fn take_out<S: InodeStore>(store: &mut S, mut inodes: Vec<u64>)
 }
 
 /// Sees that the inode of each change is there, so that none of the changes asks for memory.
-fn make_places<S: InodeStore>(store: &mut S, changes: &[Change]) -> Result<(), Refusal>
+fn make_places<S: InodeStore>(store: &mut S, changes: &[Change]) -> Result<(), AllocError>
     ensures ok { OnOk result (S.contents store.new ≡ placed (S.contents store.old) changes.now) }
     ensures err { OnErr result (S.contents store.new ≡ S.contents store.old) }
     ensures setting { S.setting store.new ≡ S.setting store.old }
-    ensures only_memory { IsOkUnless result OutOfMemory }
 {
     let mut made = Vec::new(store.allocator());
     for change in changes {
@@ -178,15 +179,14 @@ fn make_places<S: InodeStore>(store: &mut S, changes: &[Change]) -> Result<(), R
     Ok(())
 }
 
-/// Puts changes in, all of them or none: each of the inodes becomes what its change says, and no other changes. The
-/// one refusal is [`Refusal::OutOfMemory`], and it leaves all inodes as they were.
-pub fn put_all<S: InodeStore>(store: &mut S, mut changes: Vec<Change>) -> Result<(), Refusal>
+/// Puts changes in, all of them or none: each of the inodes becomes what its change says, and no other changes. Without
+/// memory it leaves all inodes as they were.
+pub fn put_all<S: InodeStore>(store: &mut S, mut changes: Vec<Change>) -> Result<(), AllocError>
     requires distinct { AreDistinctChanges changes.items }
     ensures ok { OnOk result ((i : ℕ) → map.get (S.contents store.new) i ≡ found changes.items i
         (map.get (S.contents store.old) i)) }
     ensures err { OnErr result (S.contents store.new ≡ S.contents store.old) }
     ensures setting { S.setting store.new ≡ S.setting store.old }
-    ensures only_memory { IsOkUnless result OutOfMemory }
 {
     make_places(store, changes.as_slice())?;
     while let Some(change) = changes.pop() {
@@ -205,5 +205,5 @@ pub fn apply_all_on_copies<S: InodeStore>(store: &mut S, effects: &[Effect]) -> 
     ensures only_memory { IsOkUnless result OutOfMemory }
 {
     let changes = changes_over(store.allocator(), store, effects)?;
-    put_all(store, changes)
+    Ok(put_all(store, changes)?)
 }

@@ -1,14 +1,12 @@
 //! The links of a directory.
-ghost use Rattle.std.specs.Prelude.{◌≡◌, ◌+◌, ◌<◌, ◌≤◌, ◌==◌, ◌++◌, IfErr, IfNone, IfOk, IfSome, IsOkUnless, None, OnErr, OnOk, Some, length, suc};
+ghost use Rattle.std.specs.Prelude.{◌≡◌, ◌+◌, ◌<◌, ◌≤◌, ◌==◌, ◌++◌, IfErr, IfNone, IfOk, IfSome, None, OnErr, OnOk, Some, length, suc};
 ghost use Rattle.std.specs.FinMap as map;
-ghost use Rattle.assise_names.specs.declared.refusal.Refusal.TheVariants.{OutOfMemory};
 ghost use Rattle.assise_inode_table.specs.Calls.{room_among};
 ghost use Rattle.assise_inode_table.specs.Pieces.{AddsSlot, AreFilled, Ascend, IsGapFor, IsPieceFor, Puts, StandsAt, slot_link, links_in, live, piece_at, slots_in};
 
 use crate::piece::{MOST_NAMES, Piece, shared};
 use assise_names::name::Name;
 use assise_names::name_list::NameList;
-use assise_names::refusal::Refusal;
 use assise_names::reply::TreeError;
 use assise_seq_tree::answer::MOST_ENTRIES;
 use std::alloc::{AllocError, Global};
@@ -80,10 +78,9 @@ impl Directory {
         self.len() == 0
     }
 
-    /// The names of the entries, which ascend by their bytes. The one refusal is [`Refusal::OutOfMemory`].
-    pub fn names(&self, alloc: Global) -> Result<NameList, Refusal>
+    /// The names of the entries, which ascend by their bytes.
+    pub fn names(&self, alloc: Global) -> Result<NameList, AllocError>
         ensures names { IfOk result (λ names. names ≡ map.keys self.now) }
-        ensures only_memory { IsOkUnless result OutOfMemory }
     {
         let mut names = Vec::with_capacity(alloc, self.len)?;
         for piece in &self.pieces {
@@ -106,13 +103,12 @@ impl Directory {
         Ok(())
     }
 
-    /// Links a name to an inode, in place of what it linked to before. The one refusal is [`Refusal::OutOfMemory`],
-    /// where the name is new, and it leaves the directory as it was.
-    pub fn insert(&mut self, name: Name, inode: u64) -> Result<(), Refusal>
+    /// Links a name to an inode, in place of what it linked to before. It asks for memory where the name is new; without
+    /// it, it leaves the directory as it was.
+    pub fn insert(&mut self, name: Name, inode: u64) -> Result<(), AllocError>
         ensures ok { OnOk result (self.new ≡ map.insert self.old name inode) }
         ensures err { OnErr result (self.new ≡ self.old) }
         ensures asked { OnErr result (map.get self.old name ≡ None) }
-        ensures only_memory { IsOkUnless result OutOfMemory }
     {
         let Some(name) = self.put(name, inode)? else {
             return Ok(());
@@ -121,16 +117,15 @@ impl Directory {
         match self.put(name, inode)? {
             None => Ok(()),
             // It isn't reached: the half that the name belongs in has room.
-            Some(_) => Err(Refusal::OutOfMemory),
+            Some(_) => Err(AllocError),
         }
     }
 
     /// As [`Directory::insert`], but a new name that belongs into a full piece comes back.
-    fn put(&mut self, name: Name, inode: u64) -> Result<Option<Name>, Refusal>
+    fn put(&mut self, name: Name, inode: u64) -> Result<Option<Name>, AllocError>
         ensures ok { IfOk result (Puts self.old name inode self.new) }
         ensures err { OnErr result (self.new ≡ self.old) }
         ensures asked { OnErr result (map.get self.old name ≡ None) }
-        ensures only_memory { IsOkUnless result OutOfMemory }
     {
         if self.pieces.is_empty() {
             // Most directories stay small: a vector's first growth would make room for four pieces.
@@ -144,7 +139,7 @@ impl Directory {
             Ok(at) => {
                 let gone = self.pieces[piece].link(at).is_none();
                 let Some(len) = self.len.checked_add(usize::from(gone)) else {
-                    return Err(Refusal::OutOfMemory);
+                    return Err(AllocError);
                 };
                 self.pieces[piece].set(at, Some(inode));
                 self.len = len;
@@ -152,7 +147,7 @@ impl Directory {
             }
             Err(at) => {
                 let Some(len) = self.len.checked_add(1) else {
-                    return Err(Refusal::OutOfMemory);
+                    return Err(AllocError);
                 };
                 match add(self.alloc, &mut self.pieces, piece, at, name, inode)? {
                     None => {
@@ -166,9 +161,8 @@ impl Directory {
     }
 
     /// Splits the piece that a name belongs in.
-    fn split(&mut self, name: &Name) -> Result<(), Refusal>
+    fn split(&mut self, name: &Name) -> Result<(), AllocError>
         ensures same { self.new ≡ self.old }
-        ensures only_memory { IsOkUnless result OutOfMemory }
     {
         if self.pieces.is_empty() {
             return Ok(());
@@ -180,30 +174,28 @@ impl Directory {
 
     /// As [`Directory::insert`], by a copy of the name. Where there can be no copy, a name that has an entry is linked in its
     /// place.
-    pub fn link(&mut self, name: &Name, inode: u64) -> Result<(), Refusal>
+    pub fn link(&mut self, name: &Name, inode: u64) -> Result<(), AllocError>
         ensures ok { OnOk result (self.new ≡ map.insert self.old name.now inode) }
         ensures err { OnErr result (self.new ≡ self.old) }
         ensures asked { OnErr result (map.get self.old name.now ≡ None) }
-        ensures only_memory { IsOkUnless result OutOfMemory }
     {
         match name.copy() {
             Ok(copied) => self.insert(copied, inode),
-            Err(refusal) => self.relink(name, inode, refusal),
+            Err(AllocError) => self.relink(name, inode),
         }
     }
 
-    /// Links a name that has an entry to an inode, in place of what it linked to. Without an entry the name is refused so.
-    fn relink(&mut self, name: &Name, inode: u64, refusal: Refusal) -> Result<(), Refusal>
+    /// Links a name that has an entry to an inode, in place of what it linked to.
+    fn relink(&mut self, name: &Name, inode: u64) -> Result<(), AllocError>
         ensures ok { OnOk result (self.new ≡ map.insert self.old name.now inode) }
         ensures err { OnErr result (self.new ≡ self.old) }
         ensures asked { OnErr result (map.get self.old name.now ≡ None) }
-        ensures refused { IfErr result (λ r. r ≡ refusal) }
     {
         let Some(place) = place_of(&self.pieces, name) else {
-            return Err(refusal);
+            return Err(AllocError);
         };
         if self.pieces[place.piece].link(place.at).is_none() {
-            return Err(refusal);
+            return Err(AllocError);
         }
         self.pieces[place.piece].set(place.at, Some(inode));
         Ok(())
@@ -224,10 +216,9 @@ impl Directory {
         let_go(&mut self.pieces, place.piece);
     }
 
-    /// An equal value, or [`Refusal::OutOfMemory`].
-    pub fn copy(&self) -> Result<Directory, Refusal>
+    /// An equal value.
+    pub fn copy(&self) -> Result<Directory, AllocError>
         ensures equal { IfOk result (λ copied. copied ≡ self.now) }
-        ensures only_memory { IsOkUnless result OutOfMemory }
     {
         Ok(Directory {
             alloc: self.alloc,

@@ -1,13 +1,11 @@
 //! The bytes of a file.
-ghost use Rattle.std.specs.Prelude.{◌≡◌, ◌+◌, ◌-◌, ◌^◌, ◌<◌, ◌≤◌, ◌==◌, IfOk, IsOk, IsOkUnless, OnErr, OnOk, [], length, take};
-ghost use Rattle.assise_names.specs.declared.refusal.Refusal.TheVariants.{OutOfMemory};
+ghost use Rattle.std.specs.Prelude.{◌≡◌, ◌+◌, ◌-◌, ◌^◌, ◌<◌, ◌≤◌, ◌==◌, IfOk, IsOk, OnErr, OnOk, [], length, take};
 ghost use Rattle.assise_seq_tree.specs.Contents.{bytes_from, overwritten, resized};
 
 use crate::shared_blocks::SharedBlocks;
 use assise_names::byte_string::ByteString;
-use assise_names::refusal::Refusal;
 use bytes::Bytes;
-use std::alloc::Global;
+use std::alloc::{AllocError, Global};
 use std::marker::Model;
 
 /// The bytes of a regular file. Offsets and lengths are counts of bytes. They are held in blocks of 4,096 bytes, and copies
@@ -55,13 +53,12 @@ impl FileBytes {
         self.size == 0
     }
 
-    /// The bytes from an offset on, up to a count: none at or past the end (POSIX.1-2017, read()). The one
-    /// refusal is [`Refusal::OutOfMemory`], where there is a byte to read.
+    /// The bytes from an offset on, up to a count: none at or past the end (POSIX.1-2017, read()). It asks for memory where
+    /// there is a byte to read.
     #[tactic(auto, using(crate::proofs::BlockWrites::read_within))]
-    pub fn read(&self, alloc: Global, offset: u64, most: u64) -> Result<ByteString, Refusal>
+    pub fn read(&self, alloc: Global, offset: u64, most: u64) -> Result<ByteString, AllocError>
         ensures bytes { IfOk result (λ read. read ≡ bytes_from offset most self.now) }
         ensures asked { OnErr result ((0 < most) × (offset < length self.now)) }
-        ensures only_memory { IsOkUnless result OutOfMemory }
     {
         let start = self.size.min(offset as usize);
         let end = start + (self.size - start).min(most as usize);
@@ -72,16 +69,14 @@ impl FileBytes {
         Ok(ByteString::from_bytes(alloc, piece)?)
     }
 
-    /// Writes bytes at an offset, and zeros before them where the file was shorter (POSIX.1-2017, write() and
-    /// lseek()). The one refusal is [`Refusal::OutOfMemory`], where there is a byte or a zero to write, and it leaves
-    /// the file as it was. The blocks that the write doesn't reach stay those that they were, those that it covers share
-    /// the new bytes, and copies keep theirs.
-    pub fn write(&mut self, offset: usize, new: &Bytes) -> Result<(), Refusal>
+    /// Writes bytes at an offset, and zeros before them where the file was shorter (POSIX.1-2017, write() and lseek()). It
+    /// asks for memory where there is a byte or a zero to write; without it, it leaves the file as it was. The blocks that
+    /// the write doesn't reach stay those that they were, those that it covers share the new bytes, and copies keep theirs.
+    pub fn write(&mut self, offset: usize, new: &Bytes) -> Result<(), AllocError>
         requires { offset + length new.now < 2 ^ 64 }
         ensures ok { OnOk result (self.new ≡ overwritten self.old offset new.now) }
         ensures err { OnErr result (self.new ≡ self.old) }
         ensures asked { OnErr result (0 < length new.now + (offset - length self.old)) }
-        ensures only_memory { IsOkUnless result OutOfMemory }
     {
         let start = self.size.min(offset);
         let end = offset + new.len();
@@ -93,13 +88,12 @@ impl FileBytes {
         Ok(())
     }
 
-    /// Cuts the file to a size, or fills it up to the size with zeros (POSIX.1-2017, ftruncate()). The one refusal
-    /// is [`Refusal::OutOfMemory`], where the file gets longer, and it leaves it as it was.
-    pub fn resize(&mut self, size: usize) -> Result<(), Refusal>
+    /// Cuts the file to a size, or fills it up to the size with zeros (POSIX.1-2017, ftruncate()). It asks for memory where
+    /// the file gets longer; without it, it leaves it as it was.
+    pub fn resize(&mut self, size: usize) -> Result<(), AllocError>
         ensures ok { OnOk result (self.new ≡ resized self.old size) }
         ensures err { OnErr result (self.new ≡ self.old) }
         ensures asked { OnErr result (length self.old < size) }
-        ensures only_memory { IsOkUnless result OutOfMemory }
     {
         if size <= self.size {
             self.blocks.cut(size);
@@ -109,11 +103,10 @@ impl FileBytes {
         self.write(size, &Bytes::new())
     }
 
-    /// An equal value, which shares the list of the blocks. The one refusal is [`Refusal::OutOfMemory`], where there are bytes.
-    pub fn copy(&self, alloc: Global) -> Result<FileBytes, Refusal>
+    /// An equal value, which shares the list of the blocks. It asks for memory where there are bytes.
+    pub fn copy(&self, alloc: Global) -> Result<FileBytes, AllocError>
         ensures equal { IfOk result (λ copied. copied ≡ self.now) }
         ensures asked { OnErr result (0 < length self.now) }
-        ensures only_memory { IsOkUnless result OutOfMemory }
     {
         if self.size == 0 {
             return Ok(FileBytes::new(alloc));

@@ -13,7 +13,7 @@ use assise_names::name::Name;
 use assise_names::refusal::Refusal;
 use assise_names::reply::{Reply, TreeError};
 use assise_record::effect::Effect;
-use std::alloc::Global;
+use std::alloc::{AllocError, Global};
 use std::marker::Model;
 
 /// The two kinds of inodes.
@@ -113,15 +113,14 @@ impl Inode {
         }
     }
 
-    /// Makes of the inode what an effect makes of its content. An effect for the other kind leaves it, and so do
-    /// those that make or free an inode. The one refusal is [`Refusal::OutOfMemory`], where a file gets bytes or an
-    /// entry gets a new name, and it leaves the inode as it was. What only takes away takes no memory.
-    pub fn change(&mut self, effect: &Effect) -> Result<(), Refusal>
+    /// Makes of the inode what an effect makes of its content. An effect for the other kind leaves it, and so do those that
+    /// make or free an inode. It asks for memory where a file gets bytes or an entry gets a new name; without it, it leaves
+    /// the inode as it was. What only takes away takes no memory.
+    pub fn change(&mut self, effect: &Effect) -> Result<(), AllocError>
         ensures taken_away { TakesAway effect.now → IsOk result }
         ensures ok { OnOk result (self.new ≡ changed self.old effect.now) }
         ensures err { OnErr result (self.new ≡ self.old) }
         ensures asked { OnErr result (AddsContent effect.now self.old) }
-        ensures only_memory { IsOkUnless result OutOfMemory }
     {
         match &mut self.kind {
             Kind::File(bytes) => change_file(bytes, effect),
@@ -143,12 +142,11 @@ impl Inode {
 }
 
 /// Makes of a file what an effect makes of it.
-fn change_file(bytes: &mut FileBytes, effect: &Effect) -> Result<(), Refusal>
+fn change_file(bytes: &mut FileBytes, effect: &Effect) -> Result<(), AllocError>
     ensures taken_away { TakesAway effect.now → IsOk result }
     ensures ok { OnOk result (regular bytes.new ≡ changed (regular bytes.old) effect.now) }
     ensures err { OnErr result (bytes.new ≡ bytes.old) }
     ensures asked { OnErr result (AddsContent effect.now (regular bytes.old)) }
-    ensures only_memory { IsOkUnless result OutOfMemory }
 {
     match effect {
         Effect::Write { extent, .. } => bytes.write(extent.offset() as usize, extent.payload()),
@@ -158,12 +156,11 @@ fn change_file(bytes: &mut FileBytes, effect: &Effect) -> Result<(), Refusal>
 }
 
 /// Makes of a directory what an effect makes of it.
-fn change_directory(links: &mut Directory, effect: &Effect) -> Result<(), Refusal>
+fn change_directory(links: &mut Directory, effect: &Effect) -> Result<(), AllocError>
     ensures taken_away { TakesAway effect.now → IsOk result }
     ensures ok { OnOk result (directory links.new ≡ changed (directory links.old) effect.now) }
     ensures err { OnErr result (links.new ≡ links.old) }
     ensures asked { OnErr result (AddsContent effect.now (directory links.old)) }
-    ensures only_memory { IsOkUnless result OutOfMemory }
 {
     match effect {
         Effect::Link { name, inode, .. } => links.link(name, *inode),

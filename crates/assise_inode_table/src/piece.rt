@@ -1,13 +1,11 @@
 //! A part of a directory.
-ghost use Rattle.std.specs.Prelude.{◌≡◌, ◌+◌, ◌-◌, ◌<◌, ◌≤◌, ◌++◌, ◌∷◌, ◌==◌, [], IfErr, IfOk, IsOkUnless, OnErr, OnOk, Some, drop, false, length, set, take, true};
+ghost use Rattle.std.specs.Prelude.{◌≡◌, ◌+◌, ◌-◌, ◌<◌, ◌≤◌, ◌++◌, ◌∷◌, ◌==◌, [], IfErr, IfOk, OnErr, OnOk, Some, drop, false, length, set, take, true};
 ghost use Rattle.std.specs.Arc.{arc_value};
 ghost use Rattle.std.specs.List.{insert};
 ghost use Rattle.std.specs.Map.{keys_of};
-ghost use Rattle.assise_names.specs.declared.refusal.Refusal.TheVariants.{OutOfMemory};
 ghost use Rattle.assise_inode_table.specs.Pieces.{Ascend, IsGapFor, IsSlotOf, slot_link, links_or_none, live, slot_name};
 
 use assise_names::name::Name;
-use assise_names::refusal::Refusal;
 use std::alloc::{AllocError, Global};
 use std::marker::Model;
 use std::sync::Arc;
@@ -169,9 +167,8 @@ impl Piece {
     }
 
     /// Adds the names whose entries aren't gone to a list.
-    pub fn list(&self, names: &mut Vec<Name>) -> Result<(), Refusal>
+    pub fn list(&self, names: &mut Vec<Name>) -> Result<(), AllocError>
         ensures ok { OnOk result (names.new.items ≡ names.old.items ++ keys_of (live self.now)) }
-        ensures only_memory { IsOkUnless result OutOfMemory }
     {
         for at in 0..self.names.len() {
             if !self.gone[at] {

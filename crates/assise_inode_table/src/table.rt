@@ -1,7 +1,6 @@
 //! A table of inodes.
-ghost use Rattle.std.specs.Prelude.{◌≡◌, IfNone, IfOk, IfSome, IsOk, IsOkUnless, None, OnErr, OnOk, Some, option_copied, option_map};
+ghost use Rattle.std.specs.Prelude.{◌≡◌, IfNone, IfOk, IfSome, IsOk, None, OnErr, OnOk, Some, option_copied, option_map};
 ghost use Rattle.std.specs.FinMap as map;
-ghost use Rattle.assise_names.specs.declared.refusal.Refusal.TheVariants.{OutOfMemory};
 ghost use Rattle.assise_inode_table.specs.Effects.{AsksForMemory, TakesAway, all_applied, applied, changed, with_value};
 ghost use Rattle.assise_inode_table.specs.Opening.{opening_inodes};
 ghost use Rattle.assise_inode_table.specs.Whole.{CanBeMadeWhole, OnlyTakeAway};
@@ -11,10 +10,9 @@ use crate::inode::Inode;
 use crate::inodes::Inodes;
 use crate::store::InodeStore;
 use crate::whole::apply_all;
-use assise_names::refusal::Refusal;
 use assise_record::effect::Effect;
 use indexmap::IndexMap;
-use std::alloc::Global;
+use std::alloc::{AllocError, Global};
 use std::marker::Model;
 
 /// The number of the root (POSIX.1-2017, base definitions, chapter 3: Root Directory).
@@ -59,11 +57,9 @@ impl InodeTable {
         }
     }
 
-    /// What stands at the opening of a file system: the root as a directory without entries, and nothing else. The
-    /// one refusal is [`Refusal::OutOfMemory`].
-    pub fn opening(alloc: Global) -> Result<InodeTable, Refusal>
+    /// What stands at the opening of a file system: the root as a directory without entries, and nothing else.
+    pub fn opening(alloc: Global) -> Result<InodeTable, AllocError>
         ensures root { IfOk result (λ table. table ≡ opening_inodes) }
-        ensures only_memory { IsOkUnless result OutOfMemory }
     {
         let mut table = InodeTable::new(alloc);
         table.insert(ROOT, Inode::new_directory(alloc))?;
@@ -77,14 +73,13 @@ impl InodeTable {
         self.inodes.get(&inode)
     }
 
-    /// Gives a number an inode, and gives back the one that it had. The one refusal is [`Refusal::OutOfMemory`], where
-    /// it had none, and it leaves the table as it was.
-    pub fn insert(&mut self, inode: u64, content: Inode) -> Result<Option<Inode>, Refusal>
+    /// Gives a number an inode, and gives back the one that it had. It asks for memory where it had none; without it, it
+    /// leaves the table as it was.
+    pub fn insert(&mut self, inode: u64, content: Inode) -> Result<Option<Inode>, AllocError>
         ensures ok { OnOk result (self.new ≡ map.insert self.old inode content) }
         ensures replaced { IfOk result (λ had. had ≡ map.get self.old inode) }
         ensures err { OnErr result (self.new ≡ self.old) }
         ensures asked { OnErr result (map.get self.old inode ≡ None) }
-        ensures only_memory { IsOkUnless result OutOfMemory }
     {
         Ok(self.inodes.insert(inode, content)?)
     }
@@ -114,18 +109,17 @@ impl InodeTable {
         self.inodes.swap_remove(&inode)
     }
 
-    /// Makes an effect: a new file or directory stands in place of what its number had, a freed inode is gone, and
-    /// each other effect changes the inode that it touches, where there is one of its kind. No other inode changes.
-    /// The one refusal is [`Refusal::OutOfMemory`], where a number that has none gets an inode, a file gets bytes or an
-    /// entry gets a new name, and it leaves the table as it was. What only takes away takes no memory, and neither does
-    /// an effect for the other kind or on an inode that isn't there.
-    pub fn apply(&mut self, effect: &Effect) -> Result<(), Refusal>
+    /// Makes an effect: a new file or directory stands in place of what its number had, a freed inode is gone, and each
+    /// other effect changes the inode that it touches, where there is one of its kind. No other inode changes. It asks for
+    /// memory where a number that has none gets an inode, a file gets bytes or an entry gets a new name; without it, it
+    /// leaves the table as it was. What only takes away takes no memory, and neither does an effect for the other kind or
+    /// on an inode that isn't there.
+    pub fn apply(&mut self, effect: &Effect) -> Result<(), AllocError>
         ensures ok { OnOk result (self.new ≡ applied self.old effect.now) }
         ensures taken_away { TakesAway effect.now → IsOk result }
         ensures err { OnErr result (self.new ≡ self.old) }
         ensures asked { OnErr result (AsksForMemory effect.now
             (map.get self.old (touched_by effect.now))) }
-        ensures only_memory { IsOkUnless result OutOfMemory }
     {
         match effect {
             Effect::NewFile { inode } => {
@@ -143,19 +137,18 @@ impl InodeTable {
     }
 
     /// Makes the effects of a call, all of them in their order or none, without a copy of what they change (see
-    /// [`apply_all`]). The one refusal is [`Refusal::OutOfMemory`], and it leaves the table as it was.
-    pub fn apply_all(&mut self, effects: &[Effect]) -> Result<(), Refusal>
+    /// [`apply_all`]). Without memory it leaves the table as it was.
+    pub fn apply_all(&mut self, effects: &[Effect]) -> Result<(), AllocError>
         requires whole { CanBeMadeWhole effects.now }
         ensures ok { OnOk result (self.new ≡ all_applied self.old effects.now) }
         ensures taken_away { OnlyTakeAway effects.now → IsOk result }
         ensures err { OnErr result (self.new ≡ self.old) }
-        ensures only_memory { IsOkUnless result OutOfMemory }
     {
         apply_all(self, effects)
     }
 
     /// Changes the inode that an effect touches, where there is one.
-    fn change(&mut self, effect: &Effect) -> Result<(), Refusal>
+    fn change(&mut self, effect: &Effect) -> Result<(), AllocError>
         ensures taken_away { TakesAway effect.now → IsOk result }
         ensures ok { let inode = touched_by effect.now in OnOk result
             (self.new ≡ with_value self.old inode
@@ -163,7 +156,6 @@ impl InodeTable {
         ensures err { OnErr result (self.new ≡ self.old) }
         ensures asked { OnErr result (AsksForMemory effect.now
             (map.get self.old (touched_by effect.now))) }
-        ensures only_memory { IsOkUnless result OutOfMemory }
     {
         let Some(inode) = self.inodes.get_mut(&effect.touches()) else {
             return Ok(());
@@ -188,7 +180,7 @@ impl InodeStore for InodeTable {
         self.alloc
     }
 
-    fn insert(&mut self, inode: u64, content: Inode) -> Result<Option<Inode>, Refusal> {
+    fn insert(&mut self, inode: u64, content: Inode) -> Result<Option<Inode>, AllocError> {
         InodeTable::insert(self, inode, content)
     }
 
@@ -196,7 +188,7 @@ impl InodeStore for InodeTable {
         InodeTable::remove(self, inode)
     }
 
-    fn apply(&mut self, effect: &Effect) -> Result<(), Refusal> {
+    fn apply(&mut self, effect: &Effect) -> Result<(), AllocError> {
         InodeTable::apply(self, effect)
     }
 }

@@ -1,32 +1,29 @@
 //! Effects of a call that are made all or none.
-ghost use Rattle.std.specs.Prelude.{◌≡◌, ◌++◌, ◌∷◌, [], IsOk, IsOkUnless, IsSome, OnErr, OnOk, true};
+ghost use Rattle.std.specs.Prelude.{◌≡◌, ◌++◌, ◌∷◌, [], IsOk, IsSome, OnErr, OnOk, true};
 ghost use Rattle.std.specs.FinMap as map;
 ghost use Rattle.std.specs.List.{list_all};
 ghost use Rattle.assise_inode_table.specs.Contents.{Content};
 ghost use Rattle.assise_inode_table.specs.Effects.{TakesAway, all_applied, applied, made_by, with_value};
 ghost use Rattle.assise_inode_table.specs.Whole.{CanBeChangedWhole, CanBeMadeWhole, OnlyFirstAsks, OnlyTakeAway, is_link, leaves_entry, takes_away};
-ghost use Rattle.assise_names.specs.declared.refusal.Refusal.TheVariants.{OutOfMemory};
 
 use crate::inode::Inode;
 use crate::store::InodeStore;
 use assise_names::name::Name;
-use assise_names::refusal::Refusal;
 use assise_record::effect::Effect;
-use std::alloc::Global;
+use std::alloc::{AllocError, Global};
 
-/// Makes the effects of a call, all of them in their order or none, without a copy of what they change. The one refusal
-/// is [`Refusal::OutOfMemory`], and it leaves all inodes as they were. Effects that only take away aren't refused.
+/// Makes the effects of a call, all of them in their order or none, without a copy of what they change. Without memory it
+/// leaves all inodes as they were. Effects that only take away aren't refused.
 ///
 /// Of the effects only the first may ask for memory; or the first makes an inode, and of the others only the first may;
 /// or the last one is a link, and the others only take away: what a call plans is of these forms.
-pub fn apply_all<S: InodeStore>(store: &mut S, effects: &[Effect]) -> Result<(), Refusal>
+pub fn apply_all<S: InodeStore>(store: &mut S, effects: &[Effect]) -> Result<(), AllocError>
     requires whole { CanBeMadeWhole effects.now }
     ensures ok { OnOk result (S.contents store.new ≡ all_applied
         (S.contents store.old) effects.now) }
     ensures taken_away { OnlyTakeAway effects.now → IsOk result }
     ensures err { OnErr result (S.contents store.new ≡ S.contents store.old) }
     ensures setting { S.setting store.new ≡ S.setting store.old }
-    ensures only_memory { IsOkUnless result OutOfMemory }
 {
     let [first, rest @ ..] = effects else {
         return Ok(());
@@ -44,13 +41,12 @@ fn apply_making<S: InodeStore>(
     inode: u64,
     made: Inode,
     rest: &[Effect],
-) -> Result<(), Refusal>
+) -> Result<(), AllocError>
     requires asks { OnlyFirstAsks rest.now }
     ensures ok { OnOk result (S.contents store.new ≡ all_applied
         (map.insert (S.contents store.old) inode made) rest.now) }
     ensures err { OnErr result (S.contents store.new ≡ S.contents store.old) }
     ensures setting { S.setting store.new ≡ S.setting store.old }
-    ensures only_memory { IsOkUnless result OutOfMemory }
 {
     let had = store.insert(inode, made)?;
     if let Err(refusal) = apply_in_order(store, rest) {
@@ -61,14 +57,13 @@ fn apply_making<S: InodeStore>(
 }
 
 /// Makes effects of which the first makes no inode: with their last one first where that is a link, and else in order.
-fn apply_changes<S: InodeStore>(store: &mut S, effects: &[Effect]) -> Result<(), Refusal>
+fn apply_changes<S: InodeStore>(store: &mut S, effects: &[Effect]) -> Result<(), AllocError>
     requires whole { CanBeChangedWhole effects.now }
     ensures ok { OnOk result (S.contents store.new ≡ all_applied
         (S.contents store.old) effects.now) }
     ensures taken_away { OnlyTakeAway effects.now → IsOk result }
     ensures err { OnErr result (S.contents store.new ≡ S.contents store.old) }
     ensures setting { S.setting store.new ≡ S.setting store.old }
-    ensures only_memory { IsOkUnless result OutOfMemory }
 {
     let [before @ .., last] = effects else {
         return Ok(());
@@ -81,14 +76,13 @@ fn apply_changes<S: InodeStore>(store: &mut S, effects: &[Effect]) -> Result<(),
 }
 
 /// Makes effects in order, of which only the first may be refused.
-fn apply_in_order<S: InodeStore>(store: &mut S, effects: &[Effect]) -> Result<(), Refusal>
+fn apply_in_order<S: InodeStore>(store: &mut S, effects: &[Effect]) -> Result<(), AllocError>
     requires asks { OnlyFirstAsks effects.now }
     ensures ok { OnOk result (S.contents store.new ≡ all_applied
         (S.contents store.old) effects.now) }
     ensures taken_away { OnlyTakeAway effects.now → IsOk result }
     ensures err { OnErr result (S.contents store.new ≡ S.contents store.old) }
     ensures setting { S.setting store.new ≡ S.setting store.old }
-    ensures only_memory { IsOkUnless result OutOfMemory }
 {
     let [first, rest @ ..] = effects else {
         return Ok(());
@@ -106,14 +100,13 @@ fn apply_link_first<S: InodeStore>(
     store: &mut S,
     before: &[Effect],
     link: &Effect,
-) -> Result<(), Refusal>
+) -> Result<(), AllocError>
     requires links { is_link link.now ≡ true }
     requires take_away { OnlyTakeAway before.now }
     ensures ok { OnOk result (S.contents store.new ≡ all_applied (S.contents store.old)
         (before.now ++ link.now ∷ [])) }
     ensures err { OnErr result (S.contents store.new ≡ S.contents store.old) }
     ensures setting { S.setting store.new ≡ S.setting store.old }
-    ensures only_memory { IsOkUnless result OutOfMemory }
 {
     let Effect::Link {
         directory,

@@ -3,7 +3,7 @@ use Rattle.assise_keeper.proofs.Common.{◌≡◌, ◌≢◌, ℕ, ◌+◌, ◌<
 use Rattle.assise_keeper.proofs.Common.{inr, ⊎_elim, Option, Some, None, ne_eqb, eq-eqb, arith, append-nil, some, some-ne-none, some-injective, get_elem?}
 use Rattle.assise_keeper.proofs.Common.{EntryValue, Half, Opens, Alone, OpensOnce, openings, openings_of, calls_by, client_after, MayAddAll, HalfFits, HasRight}
 use Rattle.assise_keeper.proofs.Common.{Opener}
-use Rattle.assise_keeper.proofs.PassAdds.{no_calls, was_or_opened, calls-append, openings-append, all-openings-append, opened-in, extends-further}
+use Rattle.assise_keeper.proofs.Shared.PassAdds.{no_calls, was_or_opened, calls-append, openings-append, all-openings-append, opened-in, extends-further}
 use Rattle.assise_keeper.proofs.Rights.{adds_none}
 
 pub at_snoc_place : {A : Type 0} (l : List A) (a b : A) (j : ℕ) → get_elem? (l ++ a ∷ []) j ≡ some b → (get_elem? l j ≡ some b) ⊎ ((j ≡ length l) × (a ≡ b))

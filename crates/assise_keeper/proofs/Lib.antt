@@ -1,7 +1,6 @@
 mod Common
-pub mod PassAdds
-pub mod Rights
-pub mod ClientOwners
-pub mod StepsKeepRule
-pub mod LedStates
-pub mod Stages
+pub mod Shared
+mod Rights
+mod ClientOwners
+mod StepsKeepRule
+mod Stages

@@ -1,7 +1,7 @@
 -- Who may open clients before and after a step.
 use Rattle.assise_keeper.proofs.Common.{◌≡◌, ℕ, List, [], Option, sym, refl, ap, ◌∙◌, EntryValue, Opens, Never, Alone, AmongOthers, openings_of, MayAddAll}
 use Rattle.assise_keeper.proofs.Common.{MayOpenClients, Opener, alone, anyone, HasRight, Owner}
-use Rattle.assise_keeper.proofs.PassAdds.{no_openings}
+use Rattle.assise_keeper.proofs.Shared.PassAdds.{no_openings}
 
 -- the half that may open alone
 abbrev lone : Owner → Opener → Owner

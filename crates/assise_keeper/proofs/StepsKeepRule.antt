@@ -10,10 +10,10 @@ use prog.Atomic.{either}
 use Rattle.atomic_table.proofs.Lists.{at_set, set_again, set_else, at_longer}
 use Rattle.assise_keeper.specs.declared.view.View.{View}
 use Rattle.assise_keeper.specs.Steps.{Sitting, taking, releasing, setting_up}
-use Rattle.assise_keeper.proofs.PassAdds.{was_or_opened, openings-append, opened-in, extends-same, drop-prefix}
+use Rattle.assise_keeper.proofs.Shared.PassAdds.{was_or_opened, openings-append, opened-in, extends-same, drop-prefix}
 use Rattle.assise_keeper.proofs.ClientOwners.{half_of, owns, owns_mine, fits_still, fits_on, at_snoc_place, no_side, no_side', same_seat}
 use Rattle.assise_keeper.proofs.Rights.{CanPart, opens_none, passes_on}
-use Rattle.assise_keeper.proofs.LedStates.{led_from}
+use Rattle.assise_keeper.proofs.Shared.LedStates.{led_from}
 
 -- the fact holds of each seat after one view was set
 seats : {S : Type 0} (K : ℕ → View S → Type 0) (vs : List (View S)) (me : ℕ) (w : View S) → K me w →
@@ -296,6 +296,11 @@ module _ {S : Type 0} (history : S → List EntryValue) (leads works : S → S �
     each = seats_one;
   }
 
+  -- owners and rights are others, and nothing else of what is known
+  other_rights : (s t : St) (r : Rule s) (owner : ℕ → ℕ × Bool) (who : Opener) → IsAt history t.words t.homes t.views r.h r.now r.place →
+      ((j : ℕ) (d : View S) → get_elem? t.views j ≡ some d → IsPassAt leads works r.place r.h r.now owner who j d) → Rule t
+  other_rights s t r owner who at each = record { h = r.h; now = r.now; place = r.place; owner = owner; who = who; is_at = at; each = each }
+
   -- a pass is cut in two, and its right is parted
   pub cuts_for : (o p : Opens) (id : ℕ) (v : View S) → CanPart v.own.opens o p → (o ≡ Alone → v.own.opens ≡ Alone) → (p ≡ Alone → v.own.opens ≡ Alone) →
       v.stage ≡ Idle → Splits Rule id v (with_right o v) (with_no_client p v)
@@ -306,23 +311,17 @@ module _ {S : Type 0} (history : S → List EntryValue) (leads works : S → S �
       let moved = part r.who (id, true) (n, true) mine.0.2 in
       let still : (j : ℕ) (side : Bool) (u : Half S) → (half_of j side ≡ half_of id true → ⊥) → HalfFits r.h r.owner r.who j side u →
       HalfFits r.h r.owner moved.who j side u = λ j side u other f. (f.0, f.1, moved.others (j, side) u.opens other f.2) in
-      record {
-        h = r.h;
-        now = r.now;
-        place = r.place;
-        owner = r.owner;
-        who = moved.who;
-        is_at = at_one_more s.words s.homes vs r.h r.now id (with_right o v) (with_no_client p v) (set_at s.views id (with_right o v) v at) idle r.place
-            (at_another s.words s.homes s.views r.h r.now id v (with_right o v) at idle r.place r.is_at);
-        each = λ j d e. ⊎_elim
-            (λ (a : get_elem? vs j ≡ some d). seats (IsPassAt leads works r.place r.h r.now r.owner moved.who) s.views id (with_right o v) (
-            grind arith
-            )
-            (λ k u other b. let ok = r.each k u b in
-            (still k true u.own (λ i. other (same_seat k id true true i)) ok.0, still k false u.guest (no_side k id) ok.1, ok.2, ok.3)) j d a)
-            (grind arith)
-            (at_snoc_place vs (with_no_client p v) d j e);
-      }
+      other_rights s _ r r.owner moved.who
+      (at_one_more s.words s.homes vs r.h r.now id (with_right o v) (with_no_client p v) (set_at s.views id (with_right o v) v at) idle r.place
+      (at_another s.words s.homes s.views r.h r.now id v (with_right o v) at idle r.place r.is_at))
+      (λ j d e. ⊎_elim
+      (λ (a : get_elem? vs j ≡ some d). seats (IsPassAt leads works r.place r.h r.now r.owner moved.who) s.views id (with_right o v) (
+      grind arith
+      )
+      (λ k u other b. let ok = r.each k u b in
+      (still k true u.own (λ i. other (same_seat k id true true i)) ok.0, still k false u.guest (no_side k id) ok.1, ok.2, ok.3)) j d a)
+      (grind arith)
+      (at_snoc_place vs (with_no_client p v) d j e))
 
   -- a half that is another than the one that moves keeps its owner and its right
   keeps_half : (h : List EntryValue) (owner : ℕ → ℕ × Bool) (was who : Opener) (at : ℕ × Bool) (c : Option ℕ) (from : ℕ × Bool) →
@@ -331,10 +330,16 @@ module _ {S : Type 0} (history : S → List EntryValue) (leads works : S → S �
   keeps_half h owner was who at c from had others j side v disjoint' f =
       let t = fits_still h owner was j side v at c (λ d is e. disjoint' (sym (f.1 d is).1 ∙ had d e)) f in (t.0, t.1, others (j, side) v.opens disjoint' f.2)
 
-  -- a half moves to another pass, or to its other side
-  moves_half : (h : List EntryValue) (owner : ℕ → ℕ × Bool) (was who : Opener) (j k : ℕ) (side to : Bool) (v : Half S) → HasRight who (k, to) v.opens →
-      HalfFits h owner was j side v → HalfFits h (owns owner (k, to) v.client) who k to v
-  moves_half h owner was who j k side to v right f = (f.0, (λ d is. ((f.1 d is).0, owns_mine owner (k, to) v.client d is)), right)
+  -- a half moves to another pass, or to its other side, and every other half keeps its owner and its right
+  moves_half : (h : List EntryValue) (owner : ℕ → ℕ × Bool) (was : Opener) (j k : ℕ) (side to : Bool) (v : Half S) → HalfFits h owner was j side v →
+      (who : Opener) × HalfFits h (owns owner (k, to) v.client) who k to v
+      × ((i : ℕ) (at : Bool) (u : Half S) → (half_of i at ≡ (j, side) → ⊥) → HalfFits h owner was i at u → HalfFits h (owns owner (k, to) v.client) who i at u)
+  moves_half h owner was j k side to v f =
+      let moved = passes_on v.opens was (j, side) (k, to) f.2 in (
+        moved.who,
+        (f.0, (λ d is. ((f.1 d is).0, owns_mine owner (k, to) v.client d is)), moved.second),
+        keeps_half h owner was moved.who (k, to) v.client (j, side) (λ d is. (f.1 d is).1) moved.others,
+      )
 
   -- two passes that met part
   pub parts_for : (id : ℕ) (v : View S) → v.stage ≡ Idle → Splits Rule id v (own_of v) (guest_of v)
@@ -343,30 +348,21 @@ module _ {S : Type 0} (history : S → List EntryValue) (leads works : S → S �
       let vs = set s.views id (own_of v) in
       let n : ℕ = length vs in
       let to : ℕ → ℕ × Bool = owns r.owner (n, true) v.guest.client in
-      let moved = passes_on v.guest.opens r.who (id, false) (n, true) mine.1.2 in
-      let was : (d : ℕ) → v.guest.client ≡ Some d → r.owner d ≡ (id, false) = λ d i. (mine.1.1 d i).1 in
-      let still : (j : ℕ) (side : Bool) (u : Half S) → (half_of j side ≡ (id, false) → ⊥) → HalfFits r.h r.owner r.who j side u →
-      HalfFits r.h to moved.who j side u = keeps_half r.h r.owner r.who moved.who (n, true) v.guest.client (id, false) was moved.others in
-      record {
-        h = r.h;
-        now = r.now;
-        place = r.place;
-        owner = to;
-        who = moved.who;
-        is_at = at_one_more s.words s.homes vs r.h r.now id (own_of v) (guest_of v) (set_at s.views id (own_of v) v at) idle r.place
-            (at_another s.words s.homes s.views r.h r.now id v (own_of v) at idle r.place r.is_at);
-        each = λ j d e. ⊎_elim
-            (λ (a : get_elem? vs j ≡ some d). seats (IsPassAt leads works r.place r.h r.now to moved.who) s.views id (own_of v) (
-            search (no_side', fits_nobody, arith) parts 3
-            )
-            (λ k u other b. let ok = r.each k u b in
-            (still k true u.own (no_side' k id) ok.0, still k false u.guest (λ i. other (same_seat k id false false i)) ok.1, ok.2, ok.3)) j d a)
-            (λ (a : (j ≡ n) × (guest_of v ≡ d)). subst (λ (z : ℕ × View S). IsPassAt leads works r.place r.h r.now to moved.who z.0 z.1)
-            (λ i. (sym a.0 i, a.1 i)) (
-            search (moves_half, fits_nobody, arith) parts 3
-            ))
-            (at_snoc_place vs (guest_of v) d j e);
-      }
+      let (who, fits, still) = moves_half r.h r.owner r.who id n false true v.guest mine.1 in
+      other_rights s _ r to who
+      (at_one_more s.words s.homes vs r.h r.now id (own_of v) (guest_of v) (set_at s.views id (own_of v) v at) idle r.place
+      (at_another s.words s.homes s.views r.h r.now id v (own_of v) at idle r.place r.is_at))
+      (λ j d e. ⊎_elim
+      (λ (a : get_elem? vs j ≡ some d). seats (IsPassAt leads works r.place r.h r.now to who) s.views id (own_of v) (
+      search (no_side', fits_nobody, arith) parts 3
+      )
+      (λ k u other b. let ok = r.each k u b in
+      (still k true u.own (no_side' k id) ok.0, still k false u.guest (λ i. other (same_seat k id false false i)) ok.1, ok.2, ok.3)) j d a)
+      (λ (a : (j ≡ n) × (guest_of v ≡ d)). subst (λ (z : ℕ × View S). IsPassAt leads works r.place r.h r.now to who z.0 z.1)
+      (λ i. (sym a.0 i, a.1 i)) (
+      search (fits, fits_nobody, arith) parts 3
+      ))
+      (at_snoc_place vs (guest_of v) d j e))
 
   -- one pass takes another in
   pub meets_for : (id : ℕ) (v : View S) (other : ℕ) (w : View S) → v.stage ≡ Idle → w.stage ≡ Idle → Joins Rule id v other w (together v w) spent
@@ -375,24 +371,15 @@ module _ {S : Type 0} (history : S → List EntryValue) (leads works : S → S �
       let mine = r.each id v at in
       let theirs = r.each other w at_other in
       let to : ℕ → ℕ × Bool = owns r.owner (id, false) w.own.client in
-      let moved = passes_on w.own.opens r.who (other, true) (id, false) theirs.0.2 in
-      let was : (d : ℕ) → w.own.client ≡ Some d → r.owner d ≡ (other, true) = λ d i. (theirs.0.1 d i).1 in
-      let still : (j : ℕ) (side : Bool) (u : Half S) → (half_of j side ≡ (other, true) → ⊥) → HalfFits r.h r.owner r.who j side u →
-      HalfFits r.h to moved.who j side u = keeps_half r.h r.owner r.who moved.who (id, false) w.own.client (other, true) was moved.others in
-      record {
-        h = r.h;
-        now = r.now;
-        place = r.place;
-        owner = to;
-        who = moved.who;
-        is_at = grind (arith, at_another);
-        each = seats (IsPassAt leads works r.place r.h r.now to moved.who) (set s.views id (together v w)) other spent (
-            grind arith
-            )
-            (λ j d not_other e. seats (λ (k : ℕ) (u : View S). ¬ (k ≡ other) → IsPassAt leads works r.place r.h r.now to moved.who k u) s.views id
-            (together v w)
-            (search (same_seat, moves_half, arith) parts 3)
-            (λ k u not_id b no_o. let ok = r.each k u b in
-            (still k true u.own (λ i. no_o (same_seat k other true true i)) ok.0, still k false u.guest (no_side k other) ok.1, ok.2, ok.3)) j d e
-            not_other);
-      }
+      let (who, fits, still) = moves_half r.h r.owner r.who other id true false w.own theirs.0 in
+      other_rights s _ r to who
+      (grind (arith, at_another))
+      (seats (IsPassAt leads works r.place r.h r.now to who) (set s.views id (together v w)) other spent (
+      grind arith
+      )
+      (λ j d not_other e. seats (λ (k : ℕ) (u : View S). ¬ (k ≡ other) → IsPassAt leads works r.place r.h r.now to who k u) s.views id
+      (together v w)
+      (search (same_seat, fits, arith) parts 3)
+      (λ k u not_id b no_o. let ok = r.each k u b in
+      (still k true u.own (λ i. no_o (same_seat k other true true i)) ok.0, still k false u.guest (no_side k other) ok.1, ok.2, ok.3)) j d e
+      not_other))

@@ -4,7 +4,7 @@ use Rattle.assise_lease_table.proofs.Common.{arith, append-nil, map_push, Read, 
 use Rattle.std.proofs.lemmas.Grind.{take_at_read}
 use Rattle.std.proofs.lemmas.List.Elements.{filter-append}
 use Rattle.assise_private_log.specs.NumberedLog.{NumberedLog}
-use Rattle.assise_lease_table.proofs.Elements.{among_push}
+use Rattle.assise_lease_table.proofs.Shared.Elements.{among_push}
 
 pub among_at : {X : Type 0} (xs : List X) (i : ℕ) (d : X) → i < length xs → Among xs (get_or xs i d)
 among_at [] i d h = absurd (omega arith)

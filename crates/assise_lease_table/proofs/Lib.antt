@@ -1,9 +1,5 @@
 mod Common
-pub mod Elements
-pub mod Compatibles
-pub mod AskLoop
-pub mod LeaseChanges
+pub mod Shared
+mod AskLoop
 mod Lists
-pub mod Retained
-pub mod Unasked
-pub mod Room
+mod Room

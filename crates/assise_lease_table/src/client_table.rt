@@ -13,7 +13,7 @@ use crate::views::Views;
 use assise_names::mode::Mode;
 use assise_names::refusal::Refusal;
 use indexmap::IndexMap;
-use std::alloc::Global;
+use std::alloc::{AllocError, Global};
 
 /// Which client holds which inode, and what each client stored to be asked (Assise, OSDI 2020, section 3). Two clients
 /// hold one inode only if both read, a client has at most one lease of it, and whoever holds one has a revoker.
@@ -100,15 +100,13 @@ impl<C: Revokes + Drop> ClientTableOf<C> {
         self.leases.is_any_chosen(test)
     }
 
-    /// Each chosen lease that is not revoked, once, with 0 as its cut: no revoker is called. It walks over all leases. The
-    /// one refusal is [`Refusal::OutOfMemory`].
-    pub fn unasked<T: Chooses>(&self, test: &T) -> Result<Vec<Asked>, Refusal>
+    /// Each chosen lease that is not revoked, once, with 0 as its cut: no revoker is called. It walks over all leases.
+    pub fn unasked<T: Chooses>(&self, test: &T) -> Result<Vec<Asked>, AllocError>
         ensures once { IfOk result (λ asked. are_once asked.items ≡ true) }
         ensures uncut { IfOk result (λ asked. are_uncut asked.items ≡ true) }
         ensures which { IfOk result (λ asked. (c i : ℕ) →
             is_asked asked.items c i ≡ list_any (λ l. is_own c l && is_to_ask (T.choice test.now) l)
             (client_leases self.now i)) }
-        ensures only_memory { IsOkUnless result OutOfMemory }
     {
         let asked = self.leases.unasked(test)?;
         Ok(asked)
@@ -141,14 +139,12 @@ impl<C: Revokes + Drop> ClientTableOf<C> {
         self.is_enrolled(client) && may_be_held(self.leases.leases(inode), client, mode)
     }
 
-    /// Makes room for a client's lease of an inode. The one refusal is [`Refusal::OutOfMemory`], which never comes where
-    /// the client has a lease of it.
-    pub fn reserve(&mut self, client: u32, inode: u64) -> Result<(), Refusal>
+    /// Makes room for a client's lease of an inode. It takes none where the client has a lease of it.
+    pub fn reserve(&mut self, client: u32, inode: u64) -> Result<(), AllocError>
         ensures same { SameLeases (client_leases self.old) (client_leases self.new) }
         ensures room { OnOk result (HasClientRoom self.new client inode) }
         ensures held { is_some (lease_of (client_leases self.old inode) client) ≡ true →
             IsOk result }
-        ensures only_memory { IsOkUnless result OutOfMemory }
         ensures revokers { SameRevokers (revoker_of self.old) (revoker_of self.new) }
     {
         self.leases.reserve(client, inode)?;
@@ -173,9 +169,8 @@ impl<C: Revokes + Drop> ClientTableOf<C> {
     }
 
     /// Gives a client a lease that no other client's stands against, in place of its old one, which is neither revoked nor
-    /// stronger. The one refusal is [`Refusal::OutOfMemory`], which leaves all leases as they were and never comes where
-    /// the client has a lease of the inode.
-    pub fn hold(&mut self, client: u32, inode: u64, mode: Mode) -> Result<(), Refusal>
+    /// stronger. Without memory all leases stay as they were; it takes none where the client has a lease of the inode.
+    pub fn hold(&mut self, client: u32, inode: u64, mode: Mode) -> Result<(), AllocError>
         requires enrolled { is_some (revoker_of self.old client) ≡ true }
         requires own { may_raise (lease_of (client_leases self.old inode) client) mode ≡ true }
         requires free { IsFree (client_leases self.old inode) client mode }
@@ -184,7 +179,6 @@ impl<C: Revokes + Drop> ClientTableOf<C> {
         ensures err { OnErr result (SameLeases (client_leases self.old) (client_leases self.new)) }
         ensures held { is_some (lease_of (client_leases self.old inode) client) ≡ true →
             IsOk result }
-        ensures only_memory { IsOkUnless result OutOfMemory }
         ensures revokers { SameRevokers (revoker_of self.old) (revoker_of self.new) }
     {
         self.reserve(client, inode)?;
@@ -228,14 +222,14 @@ impl<C: Revokes + Drop> ClientTableOf<C> {
         self.leases.revoke(inode, test);
     }
 
-    /// The answers of those whose leases are chosen and not revoked yet. Nothing is revoked. The one refusal is
-    /// [`Refusal::OutOfMemory`], which never comes where nobody is asked.
+    /// The answers of those whose leases are chosen and not revoked yet. Nothing is revoked. It takes no memory where
+    /// nobody is asked.
     pub fn answers<T: Chooses, V: Views>(
         &self,
         inode: u64,
         test: &T,
         views: &V,
-    ) -> Result<Vec<Asked>, Refusal>
+    ) -> Result<Vec<Asked>, AllocError>
         requires viewed { (l : _) → Among (client_leases self.now inode) l →
             is_to_ask (T.choice test.now) l ≡ true → is_some (V.view_of views.now l.holder) ≡ true }
         ensures answers { IfOk result (λ asked. AnswerAll C.answers (revoker_of self.now)
@@ -243,7 +237,6 @@ impl<C: Revokes + Drop> ClientTableOf<C> {
             (client_leases self.now inode) asked.items) }
         ensures nobody { list_any (is_to_ask (T.choice test.now)) (client_leases self.now inode) ≡
             false → IsOk result }
-        ensures only_memory { IsOkUnless result OutOfMemory }
     {
         let leases = self.leases.leases(inode);
         let asked = answers(self.alloc, &self.revokers, leases, inode, test, views)?;

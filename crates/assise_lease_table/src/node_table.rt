@@ -7,8 +7,7 @@ use crate::holders::{lease_of_holder, may_be_held, serves};
 use crate::lease::{Chooses, Lease, Own, Rivals, is_any_chosen};
 use crate::lease_map::LeaseMap;
 use assise_names::mode::Mode;
-use assise_names::refusal::Refusal;
-use std::alloc::Global;
+use std::alloc::{AllocError, Global};
 
 /// Which node holds which inode from the cluster manager (Assise, OSDI 2020, section 3). Two nodes hold one inode only if
 /// both read, and a node has at most one lease of it.
@@ -19,8 +18,7 @@ pub struct NodeTable {
 }
 
 impl NodeTable {
-    ghost use Rattle.std.specs.Prelude.{◌≡◌, ℕ, [], true, is_some, OnOk, OnErr, IsOk, IsOkUnless};
-    ghost use Rattle.assise_names.specs.declared.refusal.Refusal.TheVariants.{OutOfMemory};
+    ghost use Rattle.std.specs.Prelude.{◌≡◌, ℕ, [], true, is_some, OnOk, OnErr, IsOk};
     ghost use Rattle.assise_lease_table.specs.LeaseMaps.{LeaseHasRoom, Becomes, SameLeases};
     ghost use Rattle.assise_lease_table.specs.Leases.{with_lease, new_lease, without_holder, leave_out, revoke, is_own, is_rival, IsFree, compatible, lease_of, may_be_held, may_raise, raise_unopposed, serves};
     ghost use Rattle.assise_lease_table.specs.Tables.{node_leases, HasNodeRoom};
@@ -67,13 +65,11 @@ impl NodeTable {
         may_be_held(self.leases.leases(inode), node, mode)
     }
 
-    /// Makes room for a node's lease of an inode. The one refusal is [`Refusal::OutOfMemory`], which never comes where
-    /// the node has a lease of it.
-    pub fn reserve(&mut self, node: u32, inode: u64) -> Result<(), Refusal>
+    /// Makes room for a node's lease of an inode. It takes none where the node has a lease of it.
+    pub fn reserve(&mut self, node: u32, inode: u64) -> Result<(), AllocError>
         ensures same { SameLeases (node_leases self.old) (node_leases self.new) }
         ensures room { OnOk result (HasNodeRoom self.new node inode) }
         ensures held { is_some (lease_of (node_leases self.old inode) node) ≡ true → IsOk result }
-        ensures only_memory { IsOkUnless result OutOfMemory }
     {
         self.leases.reserve(node, inode)?;
         Ok(())
@@ -94,16 +90,15 @@ impl NodeTable {
         self.leases.put(inode, lease);
     }
 
-    /// Gives a node a lease that no other node's stands against. The one refusal is [`Refusal::OutOfMemory`], which
-    /// leaves all leases as they were and never comes where the node has a lease of the inode.
-    pub fn hold(&mut self, node: u32, inode: u64, mode: Mode) -> Result<(), Refusal>
+    /// Gives a node a lease that no other node's stands against. Without memory all leases stay as they were; it takes none
+    /// where the node has a lease of the inode.
+    pub fn hold(&mut self, node: u32, inode: u64, mode: Mode) -> Result<(), AllocError>
         requires own { may_raise (lease_of (node_leases self.old inode) node) mode ≡ true }
         requires free { IsFree (node_leases self.old inode) node mode }
         ensures ok { OnOk result (Becomes (node_leases self.old) (node_leases self.new) inode
             (with_lease (new_lease node mode) (node_leases self.old inode))) }
         ensures err { OnErr result (SameLeases (node_leases self.old) (node_leases self.new)) }
         ensures held { is_some (lease_of (node_leases self.old inode) node) ≡ true → IsOk result }
-        ensures only_memory { IsOkUnless result OutOfMemory }
     {
         self.reserve(node, inode)?;
         self.hold_reserved(node, inode, mode);

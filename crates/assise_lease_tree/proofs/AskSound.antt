@@ -4,7 +4,7 @@ use Rattle.assise_lease_tree.proofs.Common.{subst, list_any, cond_both, and_from
 use Rattle.assise_lease_tree.proofs.Common.{is_rival, revoked_if, revoke, leave_out, raise, raise_unopposed, raised_if, any_among, among_any, filter_among}
 use Rattle.assise_lease_tree.proofs.Common.{among_filter, map_among, among_map, raise_unopposed_compatible, compatible, leave_out_fits, revoke_fits, Homes}
 use Rattle.assise_lease_tree.proofs.Common.{lives, is_busy, carries, Under, AskedBelow, in_way, is_revoked, is_free, gives_up, nodes_asked, rivals_asked, arith}
-use Rattle.assise_lease_tree.proofs.ClientHomes.{carrier, not_given_up, lease_among, stronger_left, busy_from, busy_some}
+use Rattle.assise_lease_tree.proofs.Shared.ClientHomes.{carrier, not_given_up, lease_among, stronger_left, busy_from, busy_some}
 
 pub cond_right : (b x : Bool) → x ≡ true → cond b true x ≡ true
 cond_right true x e = refl

@@ -4,10 +4,10 @@ use Rattle.assise_lease_tree.proofs.Common.{dite, ℕ_discrete, Mode, Lease, Bec
 use Rattle.assise_lease_tree.proofs.Common.{in_way, raised_mode, clients_granted, nodes_granted, nodes_asked, levels_of, TwoLevels, LevelsInvariant}
 use Rattle.assise_lease_tree.proofs.Common.{is_free_for, IsGranted, IsAskedFor, arith}
 use Rattle.assise_lease_tree.specs.declared.lease_tree.LeaseTreeOf.{LeaseTreeOf}
-use Rattle.assise_lease_tree.proofs.ClientHomes.{carrier, strong_raised, lease_among, lease_found, one_home, lives_at}
-use Rattle.assise_lease_tree.proofs.Lookups.{with_own, with_other}
+use Rattle.assise_lease_tree.proofs.Shared.ClientHomes.{carrier, strong_raised, lease_among, lease_found, one_home, lives_at}
+use Rattle.assise_lease_tree.proofs.Shared.Lookups.{with_own, with_other}
 use Rattle.assise_lease_tree.proofs.AskSound.{some_revoked}
-use Rattle.assise_lease_tree.proofs.Steps.{granted_lawful}
+use Rattle.assise_lease_tree.proofs.Shared.Steps.{granted_lawful}
 
 abbrev LeasesOf : Type 0
 LeasesOf = ℕ → List Lease

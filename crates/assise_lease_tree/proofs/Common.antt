@@ -5,12 +5,14 @@ pub use Rattle.std.proofs.lemmas.Bool.{cases_Bool, cond_both, and_parts, and_fro
 pub use Rattle.std.proofs.lemmas.Bool.{false_from_ne_true, or_left, or_parts}
 pub use Rattle.std.specs.List.{list_any, list_all}
 pub use Rattle.std.specs.Prelude.{Result, Ok, Err, IsOk, OnOk, OnErr, IfOk}
-pub use Rattle.assise_lease_table.proofs.Compatibles.{raise_unopposed_compatible, one_lease, not_against, stronger_against, with_compatible, filter_compatible}
-pub use Rattle.assise_lease_table.proofs.Elements.{not_both, any_among, among_any, filter_among, among_filter, map_among, among_map, none_among, among_prefix}
-pub use Rattle.assise_lease_table.proofs.Elements.{among_last, among_push}
-pub use Rattle.assise_lease_table.proofs.LeaseChanges.{leave_out_fits, revoke_fits}
-pub use Rattle.assise_lease_table.proofs.Retained.{kept_after, all_held, nothing_left, none_at, some_at, middle, lists_after, held_after, revoke_any}
-pub use Rattle.assise_lease_table.proofs.Unasked.{others, not_wanted, all_listed, once_in, unasked_in, uncut_in, which_in}
+pub use Rattle.assise_lease_table.proofs.Shared.Compatibles.{raise_unopposed_compatible, one_lease, not_against}
+pub use Rattle.assise_lease_table.proofs.Shared.Compatibles.{stronger_against, with_compatible, filter_compatible}
+pub use Rattle.assise_lease_table.proofs.Shared.Elements.{not_both, any_among, among_any, filter_among}
+pub use Rattle.assise_lease_table.proofs.Shared.Elements.{among_filter, map_among, among_map, none_among, among_prefix}
+pub use Rattle.assise_lease_table.proofs.Shared.Elements.{among_last, among_push}
+pub use Rattle.assise_lease_table.proofs.Shared.LeaseChanges.{leave_out_fits, revoke_fits}
+pub use Rattle.assise_lease_table.proofs.Shared.Retained.{kept_after, all_held, nothing_left, none_at, some_at, middle, lists_after, held_after, revoke_any}
+pub use Rattle.assise_lease_table.proofs.Shared.Unasked.{others, not_wanted, all_listed, once_in, unasked_in, uncut_in, which_in}
 pub use Rattle.assise_lease_table.specs.Cuts.{is_unasked, is_asked, are_once, are_uncut}
 pub use Rattle.assise_lease_table.specs.LeaseMaps.{Becomes, SameLeases}
 pub use Rattle.assise_lease_table.specs.Leases.{Among, lease_of, is_own_unasked, is_rival, revoked_if, revoke, leave_out, raise, raise_unopposed, raised_if}

@@ -4,7 +4,8 @@ use Rattle.assise_lease_tree.proofs.Common.{dite, ℕ_discrete, list_any, false_
 use Rattle.assise_lease_tree.proofs.Common.{lease_of, compatible, IsFree, is_rival, leave_out, without_holder, new_lease, among_any, none_among, filter_among}
 use Rattle.assise_lease_tree.proofs.Common.{among_filter, among_prefix, among_last, among_push, not_against, with_compatible, filter_compatible, Homes, lives}
 use Rattle.assise_lease_tree.proofs.Common.{carries, Under, AskedBelow, in_way, raised_mode, gives_up, clients_granted, nodes_granted}
-use Rattle.assise_lease_tree.proofs.ClientHomes.{carrier, not_given_up, lives_at, one_home, strong_raised, lease_among, lease_found, busy_from, busy_some}
+use Rattle.assise_lease_tree.proofs.Shared.ClientHomes.{carrier, not_given_up, lives_at, one_home}
+use Rattle.assise_lease_tree.proofs.Shared.ClientHomes.{strong_raised, lease_among, lease_found, busy_from, busy_some}
 
 module _ (home : Homes) (cs ns : List Lease) (c n : ℕ) (mode : Mode) (at_home : home c ≡ Some n)
     (fits_c : compatible cs ≡ true) (fits_n : compatible ns ≡ true) (under : Under home cs ns) (asked : AskedBelow home cs ns)

@@ -1,5 +1,5 @@
 mod Common
-pub mod ClientHomes
+pub mod Shared
 mod GrantSound
 mod AskSound
 mod ReleaseSound
@@ -7,5 +7,3 @@ mod CallsOnInode
 mod CallsOnLevels
 mod Lawful
 mod HolderLists
-pub mod Lookups
-pub mod Steps

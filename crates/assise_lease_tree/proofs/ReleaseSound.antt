@@ -5,7 +5,7 @@ use Rattle.assise_lease_tree.proofs.Common.{lease_of, compatible, revoked_if, wi
 use Rattle.assise_lease_tree.proofs.Common.{among_filter, map_among, among_map, Homes, is_node, lives, is_busy, carries, Under, AskedBelow, is_revoked}
 use Rattle.assise_lease_tree.proofs.Common.{nodes_released}
 use Rattle.std.proofs.lemmas.Option.{none-some}
-use Rattle.assise_lease_tree.proofs.ClientHomes.{carrier, home_of, lives_at, one_home, lease_found, busy_from, busy_some}
+use Rattle.assise_lease_tree.proofs.Shared.ClientHomes.{carrier, home_of, lives_at, one_home, lease_found, busy_from, busy_some}
 use Rattle.assise_lease_tree.proofs.AskSound.{cond_right}
 
 in_without : (h : ℕ) (ls : List Lease) (l : Lease) → Among ls l → l.holder ≢ h → Among (without_holder h ls) l

@@ -129,10 +129,10 @@ impl<C: Revokes + Drop> LeaseTreeOf<C> {
         self.leases.is_free(&self.homes, request)
     }
 
-    /// Grants a request that nobody stands in the way of. The one refusal is [`Refusal::OutOfMemory`], which leaves all leases
-    /// as they were; it never comes where a lease is raised in its place.
+    /// Grants a request that nobody stands in the way of. Without memory all leases stay as they were; a lease that is
+    /// raised in its place takes none.
     // All room is made before the first change.
-    pub fn grant(&mut self, request: Request) -> Result<(), Refusal>
+    pub fn grant(&mut self, request: Request) -> Result<(), AllocError>
         requires at_home { (levels_of self.old).home request.client ≡ Some request.node }
         requires free { is_free_for (levels_of self.old) request.client request.node request.inode
             request.mode ≡ true }
@@ -141,7 +141,6 @@ impl<C: Revokes + Drop> LeaseTreeOf<C> {
         ensures err { OnErr result (SameLevels (levels_of self.old) (levels_of self.new)) }
         ensures raised { is_some (lease_of ((levels_of self.old).clients request.inode)
             request.client) ≡ true → IsOk result }
-        ensures only_memory { IsOkUnless result OutOfMemory }
         ensures revokers { KeepsRevokers self.old self.new }
     {
         self.leases.grant(&self.homes, request)?;
@@ -172,11 +171,11 @@ impl<C: Revokes + Drop> LeaseTreeOf<C> {
         answers(self.alloc, &self.revokers, clients, inode, &way, views)
     }
 
-    /// Asks those who stand in the way of a request, and answers their cuts. Who was asked before isn't asked again. Where no other
-    /// node stands against the mode then, the manager raises the lease of the client's node at once, which takes no memory. The one
-    /// refusal is [`Refusal::OutOfMemory`], which leaves all leases as they were; it never comes where nobody is asked.
+    /// Asks those who stand in the way of a request, and answers their cuts. Who was asked before isn't asked again. Where
+    /// no other node stands against the mode then, the manager raises the lease of the client's node at once, which takes
+    /// no memory. Without memory all leases stay as they were; it takes none where nobody is asked.
     // All answers are there before the first lease is revoked.
-    pub fn ask<V: Views>(&mut self, request: Request, views: &V) -> Result<Vec<Asked>, Refusal>
+    pub fn ask<V: Views>(&mut self, request: Request, views: &V) -> Result<Vec<Asked>, AllocError>
         requires at_home { (levels_of self.old).home request.client ≡ Some request.node }
         requires blocked { is_free_for (levels_of self.old) request.client request.node
             request.inode request.mode ≡ false }
@@ -193,7 +192,6 @@ impl<C: Revokes + Drop> LeaseTreeOf<C> {
         ensures nobody { list_any (is_to_ask (in_way (levels_of self.old).home
             ((levels_of self.old).nodes request.inode) request.client request.node request.mode))
             ((levels_of self.old).clients request.inode) ≡ false → IsOk result }
-        ensures only_memory { IsOkUnless result OutOfMemory }
         ensures revokers { KeepsRevokers self.old self.new }
     {
         let asked = self.answers(request, views)?;
@@ -297,28 +295,26 @@ impl<C: Revokes + Drop> LeaseTreeOf<C> {
         self.leases.revoke(&of_node);
     }
 
-    /// Each lease of a client that is not revoked, once, with 0 as its cut: no revoker is called. It walks over all leases of
-    /// clients. The one refusal is [`Refusal::OutOfMemory`].
-    pub fn unasked_of(&self, client: u32) -> Result<Vec<Asked>, Refusal>
+    /// Each lease of a client that is not revoked, once, with 0 as its cut: no revoker is called. It walks over all leases
+    /// of clients.
+    pub fn unasked_of(&self, client: u32) -> Result<Vec<Asked>, AllocError>
         ensures once { IfOk result (λ asked. are_once asked.items ≡ true) }
         ensures uncut { IfOk result (λ asked. are_uncut asked.items ≡ true) }
         ensures all { IfOk result (λ asked. (c i : ℕ) →
             is_asked asked.items c i ≡ ((c == client) && is_unasked
             (lease_of ((levels_of self.now).clients i) c))) }
-        ensures only_memory { IsOkUnless result OutOfMemory }
     {
         let asked = self.leases.unasked(&Own { holder: client })?;
         Ok(asked)
     }
 
     /// Each lease of a node's clients that is not revoked, as [`LeaseTreeOf::unasked_of`] lists those of one client.
-    pub fn unasked_below(&self, node: u32) -> Result<Vec<Asked>, Refusal>
+    pub fn unasked_below(&self, node: u32) -> Result<Vec<Asked>, AllocError>
         ensures once { IfOk result (λ asked. are_once asked.items ≡ true) }
         ensures uncut { IfOk result (λ asked. are_uncut asked.items ≡ true) }
         ensures all { IfOk result (λ asked. (c i : ℕ) →
             is_asked asked.items c i ≡ (lives (levels_of self.now).home c node && is_unasked
             (lease_of ((levels_of self.now).clients i) c))) }
-        ensures only_memory { IsOkUnless result OutOfMemory }
     {
         let of_node = OfNode {
             homes: &self.homes,

@@ -3,12 +3,12 @@ pub use Rattle.std.proofs.Common.{◌≡◌, ◌≢◌, ℕ, ◌≤◌, arith, B
 pub use Rattle.std.proofs.Common.{ap, ◌+◌, length, append_assoc, append-nil, add-zero, length-append, suc, ◌<◌, inl, inr, of_calls, rules}
 pub use Rattle.std.proofs.Math.Logic.{∥∥₁_elim, ∥∥₁_map}
 pub use Rattle.std.specs.Prelude.{not, nat_le, IfErr, IfOk, OnErr}
-pub use Rattle.assise_history.proofs.ClientCounts.{next_opened, opened_within, early}
-pub use Rattle.assise_history.proofs.Legality.{fits_in, prefix_in}
+pub use Rattle.assise_history.proofs.Shared.ClientCounts.{next_opened, opened_within, early}
+pub use Rattle.assise_history.proofs.Shared.Legality.{fits_in, prefix_in}
 pub use Rattle.assise_history.specs.Entries.{opens, EntryValue, calls}
 pub use Rattle.assise_history.specs.Legal.{IsDown, IsOpenedOn, MayCall, clients_opened, durability_of, is_failure_of, calls_made, IsLegal}
-pub use Rattle.assise_keeper.proofs.LedStates.{led_from}
-pub use Rattle.assise_keeper.proofs.PassAdds.{all-openings-append, extends-same, extends_by_one, calls-append}
+pub use Rattle.assise_keeper.proofs.Shared.LedStates.{led_from}
+pub use Rattle.assise_keeper.proofs.Shared.PassAdds.{all-openings-append, extends-same, extends_by_one, calls-append}
 pub use Rattle.assise_keeper.specs.Clients.{openings_of, Extends, ExtendsByOne, calls_by, calls_of, MayOpenClients}
 pub use Rattle.assise_keeper.specs.Passes.{seen, client}
 pub use Rattle.assise_libfs.specs.Calling.{IsCutOff, MakesInode, MayRefuseTry, WritesTooMuch, MayRefuse, ExtendsByOthers, SeesTry, Tries, told_call, answers}

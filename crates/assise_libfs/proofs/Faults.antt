@@ -9,12 +9,12 @@ use Rattle.std.specs.List.{list_any}
 use Rattle.std.specs.Coded.{Coded-set, coded_ℕ}
 use Rattle.std.proofs.lemmas.Bool.{and_from, and_parts, le-leb, leb-true, not-false, not-true}
 use Rattle.std.proofs.lemmas.Bool.Decides.{nat_tests}
-use Rattle.assise_model_events.proofs.Faultless.{first_none}
+use Rattle.assise_model_events.proofs.Shared.Faultless.{first_none}
 use Rattle.assise_names.specs.declared.call.Op.TheVariants.{Create, Mkdir, Write, Fsync, Dsync}
 use Rattle.assise_names.specs.declared.durability.Durability.TheVariants.{Pessimistic, Optimistic}
 use Rattle.assise_names.specs.declared.limits.TheConstants.{MOST_CLIENTS}
 use Rattle.assise_inode_table.specs.Numbers.{makes_inode}
-use Rattle.assise_inode_table.proofs.CallEnds.{makes_own}
+use Rattle.assise_inode_table.proofs.Shared.CallEnds.{makes_own}
 use Rattle.assise_manager.specs.Standings.{Standing, full, down, returning, standing_of}
 use Rattle.assise_model_world.specs.World.{IsClient, view}
 use Rattle.assise_model_history.specs.Numbered.{made_in}
@@ -24,7 +24,7 @@ use Rattle.assise_model_events.specs.Dsyncs.{Coalescing, is_coalesced, is_refuse
 use Rattle.assise_model_events.specs.Faults.{client_fault, fault_if, is_client, is_too_large, or_else, unless_full}
 use Rattle.assise_model_events.specs.Happenings.{Dsyncing, Fsyncing, Trying}
 use Rattle.assise_model_events.specs.Machine.{Machine, MachineInvariant}
-use Rattle.assise_model_events.proofs.Rejoined.{stands_is_node}
+use Rattle.assise_model_events.proofs.Shared.Rejoined.{stands_is_node}
 use Rattle.assise_libfs.specs.Opening.{MayRefuseOpen}
 
 -- ---- the faults of a client

@@ -1,8 +1,7 @@
 mod Common
-pub mod Faults
-pub mod Openings
-pub mod Refused
-pub mod Same
-pub mod Sights
-pub mod Tries
-pub mod TurnsAdd
+pub mod Shared
+mod Faults
+mod Openings
+mod Refused
+mod Sights
+mod TurnsAdd

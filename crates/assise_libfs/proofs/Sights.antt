@@ -2,7 +2,7 @@
 use Rattle.assise_libfs.proofs.Common.{◌≡◌, ℕ, List, Option, Some, Result, Ok, Err, refl, sym, ◌∙◌, subst, IfErr, Op, Refusal, Reply, EntryValue, calls_made}
 use Rattle.assise_libfs.proofs.Common.{Extends, ExtendsByOne, calls_by, calls_of, extends-same, extends_by_one, ExtendsByOthers, MayRefuseTry, SeesTry, Tries}
 use Rattle.assise_libfs.proofs.Common.{told_call}
-use Rattle.assise_libfs.proofs.Tries.{by_others, others_then_one}
+use Rattle.assise_libfs.proofs.Shared.Tries.{by_others, others_then_one}
 
 same_calls : (c : ℕ) (o : Option ℕ) (h old : List EntryValue) → o ≡ Some c → calls_of o h ≡ calls_of o old → calls_by c h ≡ calls_by c old
 same_calls c o h old is same = subst (λ (z : Option ℕ). calls_of z h ≡ calls_of z old) is same

@@ -2,7 +2,7 @@
 -- Assise (OSDI 2020), section 3 (CC-NVM: prefix crash consistency); POSIX.1-2017, section 2.9.7 (each call appears as made at once).
 use Rattle.std.specs.Prelude.{◌≡◌, ℕ, ◌<◌, List, [], ◌∷◌, ◌++◌, length, Option, Some, None, Result, Ok, Err}
 use Rattle.assise_names.specs.declared.call.Op.{Op}
-use Rattle.assise_names.specs.declared.call.Op.TheVariants.{Create, Mkdir, Read, Write, Truncate, Rename, Unlink, Rmdir, List as ListCall, Stat, Fsync, Dsync}
+use Rattle.assise_names.specs.declared.call.Op.TheVariants.{Create, Mkdir, Write}
 use Rattle.assise_names.specs.declared.refusal.Refusal.{Refusal}
 use Rattle.assise_names.specs.declared.refusal.Refusal.TheVariants.{OutOfMemory, Busy, NodeDown, ClientGone, InodesSpent, TooLarge, LastNode, BadNode, BadClient, WrongPhase, StaleMessage, LogFull}
 use Rattle.assise_names.specs.declared.reply.Reply.{Reply}
@@ -57,31 +57,12 @@ SeesCall c op old (Err refusal) new = ExtendsByOthers c old new
 abbrev pub MakesInode : Op → Type 0
 MakesInode (Create p) = Unit {0}
 MakesInode (Mkdir p) = Unit {0}
-MakesInode (Read p offset most) = ⊥
-MakesInode (Write p offset bytes) = ⊥
-MakesInode (Truncate p size) = ⊥
-MakesInode (Rename p q) = ⊥
-MakesInode (Unlink p) = ⊥
-MakesInode (Rmdir p) = ⊥
-MakesInode (ListCall p) = ⊥
-MakesInode (Stat p) = ⊥
-MakesInode Fsync = ⊥
-MakesInode Dsync = ⊥
+MakesInode _ = ⊥
 
 -- it writes more than 65,536 bytes
 abbrev pub WritesTooMuch : Op → Type 0
-WritesTooMuch (Create p) = ⊥
-WritesTooMuch (Mkdir p) = ⊥
-WritesTooMuch (Read p offset most) = ⊥
 WritesTooMuch (Write p offset bytes) = 65536 < length bytes
-WritesTooMuch (Truncate p size) = ⊥
-WritesTooMuch (Rename p q) = ⊥
-WritesTooMuch (Unlink p) = ⊥
-WritesTooMuch (Rmdir p) = ⊥
-WritesTooMuch (ListCall p) = ⊥
-WritesTooMuch (Stat p) = ⊥
-WritesTooMuch Fsync = ⊥
-WritesTooMuch Dsync = ⊥
+WritesTooMuch _ = ⊥
 
 -- the client's node has failed since it was opened, and it hasn't crashed
 abbrev pub IsCutOff : ℕ → List EntryValue → Type 0

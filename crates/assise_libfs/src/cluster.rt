@@ -35,10 +35,9 @@ impl<C: Revokes + Drop> Served for ClusterOf<C> {
     }
 
     fn try_call(&mut self, alloc: Global, client: u32, op: &Op) -> Result<Option<Reply>, Refusal> {
-        match ClusterOf::try_call(self, alloc, client, op) {
-            Ok(Turn::Answered(reply)) => Ok(Some(reply)),
-            Ok(Turn::NotYet) => Ok(None),
-            Err(refusal) => Err(refusal),
+        match ClusterOf::try_call(self, alloc, client, op)? {
+            Turn::Answered(reply) => Ok(Some(reply)),
+            Turn::NotYet => Ok(None),
         }
     }
 

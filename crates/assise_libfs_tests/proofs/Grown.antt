@@ -7,10 +7,10 @@ use Rattle.std.proofs.Math.Bridge.{le_prop}
 use Rattle.std.proofs.Math.Logic.{∥∥₁_elim, ∥∥₁_map}
 use Rattle.assise_names.specs.declared.durability.Durability.{Durability}
 use Rattle.assise_history.specs.Legal.{IsDown, IsOpenedOn, MayCall, calls_made, clients_opened}
-use Rattle.assise_history.proofs.ClientCounts.{next_opened, opened_within}
-use Rattle.assise_history.proofs.Legality.{fits_in, legal-nil}
-use Rattle.assise_history.proofs.OneMore.{legal-call, legal-open}
-use Rattle.assise_history.proofs.LivesOneMore.{down-last, down-nil, may_call-opened, may_call-push, opened-push, opened-still}
+use Rattle.assise_history.proofs.Shared.ClientCounts.{next_opened, opened_within}
+use Rattle.assise_history.proofs.Shared.Legality.{fits_in, legal-nil}
+use Rattle.assise_history.proofs.Shared.OneMore.{legal-call, legal-open}
+use Rattle.assise_history.proofs.Shared.LivesOneMore.{down-last, down-nil, may_call-opened, may_call-push, opened-push, opened-still}
 use Rattle.assise_libfs_tests.specs.Ledgers.{IsLedger}
 
 ledger-nil : IsLedger 0 []

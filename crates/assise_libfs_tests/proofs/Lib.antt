@@ -1,2 +1,2 @@
 mod Common
-pub mod Grown
+mod Grown

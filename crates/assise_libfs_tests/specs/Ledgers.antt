@@ -5,7 +5,7 @@ use Rattle.std.proofs.Math.Logic.{∥∥₁_elim}
 use Rattle.assise_history.specs.Entries.{EntryValue}
 use Rattle.assise_history.specs.Legal.{IsDown, IsLegal, MayCall, clients_opened}
 use Rattle.assise_history.specs.Opened.{OpensOnce}
-use Rattle.assise_history.proofs.ClientCounts.{opens_once}
+use Rattle.assise_history.proofs.Shared.ClientCounts.{opens_once}
 
 -- it is legal, clients 1 to n were opened and may call, and no node is down
 pub record IsLedger (n : ℕ) (h : List EntryValue) : Type 0 where

@@ -2,8 +2,8 @@
 use Rattle.assise_link.proofs.Common.{◌≡◌, ◌∙◌, ℕ, ◌≤◌, List, [], ◌++◌, take, drop, append-nil, ap, sym, subst, BeginsWith, SpellsFrame}
 use Rattle.std.proofs.lemmas.List.{take-append-drop}
 use Rattle.assise_record.specs.LogFrame.{LogFrame}
-use Rattle.assise_record.proofs.Unique.{no_more, one_frame}
-use Rattle.assise_record.proofs.Versions.{later_spells}
+use Rattle.assise_record.proofs.Shared.Unique.{no_more, one_frame}
+use Rattle.assise_record.proofs.Shared.Versions.{later_spells}
 
 -- what bytes are read as is the frame that they spell
 pub same_frame : (newest k : ℕ) (bytes : List ℕ) (came sent : LogFrame) → newest ≤ 2 → BeginsWith newest bytes came k → SpellsFrame 2 bytes sent → came ≡ sent

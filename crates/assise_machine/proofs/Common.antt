@@ -36,15 +36,15 @@ pub use Rattle.assise_machine.specs.Running.{stock_after, stock_left, all_opened
 pub use Rattle.assise_machine.specs.declared.answer.Answer.{Answer as Answered}
 pub use Rattle.assise_machine.specs.declared.cluster.ClusterOf.{ClusterOf}
 pub use Rattle.assise_machine.specs.declared.event.Event.{Event}
-pub use Rattle.assise_machine_failures.proofs.RefusedFailures.{never}
-pub use Rattle.assise_machine_failures.proofs.TakenDown.{sound_so}
-pub use Rattle.assise_machine_state.proofs.Fullness.{seen_full, has_log, same_first, full_seen, full_number}
-pub use Rattle.assise_machine_state.proofs.HotCapacities.{log_keeps, region_keeps}
-pub use Rattle.assise_machine_state.proofs.ItemSeen.{length-with, less_one, seen_nothing, seen_past}
-pub use Rattle.assise_machine_state.proofs.Marks.{border_inside, so_many_marks}
-pub use Rattle.assise_machine_state.proofs.Noted.{still_noted}
-pub use Rattle.assise_machine_state.proofs.ReadObserved.{alone_same, ahead_first}
-pub use Rattle.assise_machine_state.proofs.Standings.{listed_is_full, lowest_listed, stands_so}
+pub use Rattle.assise_machine_failures.proofs.Shared.RefusedFailures.{never}
+pub use Rattle.assise_machine_failures.proofs.Shared.TakenDown.{sound_so}
+pub use Rattle.assise_machine_state.proofs.Shared.Fullness.{seen_full, has_log, same_first, full_seen, full_number}
+pub use Rattle.assise_machine_state.proofs.Shared.HotCapacities.{log_keeps, region_keeps}
+pub use Rattle.assise_machine_state.proofs.Shared.ItemSeen.{length-with, less_one, seen_nothing, seen_past}
+pub use Rattle.assise_machine_state.proofs.Shared.Marks.{border_inside, so_many_marks}
+pub use Rattle.assise_machine_state.proofs.Shared.Noted.{still_noted}
+pub use Rattle.assise_machine_state.proofs.Shared.ReadObserved.{alone_same, ahead_first}
+pub use Rattle.assise_machine_state.proofs.Shared.Standings.{listed_is_full, lowest_listed, stands_so}
 pub use Rattle.assise_machine_state.specs.Changes.{after_delivery, after_hot, drops_to}
 pub use Rattle.assise_machine_state.specs.ClientValues.{ClientValue, no_client, cut_of}
 unfoldable pub use Rattle.assise_machine_state.specs.ClientValues.{client_in}
@@ -65,9 +65,9 @@ pub use Rattle.assise_manager.specs.NodeLevels.{level_of, newest, sends_marks}
 pub use Rattle.assise_manager.specs.Standings.{Standing, standing_of, full_nodes, down, full, returning, phase_of, is_full}
 pub use Rattle.assise_manager.specs.Whole.{has_room_for, membership}
 pub use Rattle.assise_manager.specs.declared.phase.Phase.{Phase}
-pub use Rattle.assise_model_events.proofs.EachEvent.{event_keeps, event_leads, event_told, hot_holds}
-pub use Rattle.assise_model_events.proofs.LeaseSteps.{full_after, clients_after, logs_after, nodes_after}
-pub use Rattle.assise_model_events.proofs.Whatever.{safe, then_leads, handed_over_replicated}
+pub use Rattle.assise_model_events.proofs.Shared.EachEvent.{event_keeps, event_leads, event_told, hot_holds}
+pub use Rattle.assise_model_events.proofs.Shared.LeaseSteps.{full_after, clients_after, logs_after, nodes_after}
+pub use Rattle.assise_model_events.proofs.Shared.Whatever.{safe, then_leads, handed_over_replicated}
 pub use Rattle.assise_model_events.specs.ClientEvents.{Calling, Crashing, Noting, Opening, Syncing, Gets, Granted, IsTried, KeepsGranted, call_of_client}
 pub use Rattle.assise_model_events.specs.ClientEvents.{last_world}
 pub use Rattle.assise_model_events.specs.Dsyncs.{Coalescing}
@@ -84,8 +84,9 @@ pub use Rattle.assise_model_events.specs.NodeEvents.{is_set, Digesting, Gone, Le
 pub use Rattle.assise_model_events.specs.NodeEvents.Digesting.{is_digested}
 pub use Rattle.assise_model_history.specs.Traces.{numbered_replicated, IsLasting}
 pub use Rattle.assise_model_members.specs.Returns.{DigestsNoted}
-pub use Rattle.assise_model_world.proofs.FailureKeeps.{contains-filter, kept_low}
-pub use Rattle.assise_model_world.proofs.WorldObserved.{received_by_all-below, received_by_all-border, digested_by_all-below, least_of-above, least_of-end}
+pub use Rattle.assise_model_world.proofs.Shared.FailureKeeps.{contains-filter, kept_low}
+pub use Rattle.assise_model_world.proofs.Shared.WorldObserved.{received_by_all-below, received_by_all-border}
+pub use Rattle.assise_model_world.proofs.Shared.WorldObserved.{digested_by_all-below, least_of-above, least_of-end}
 pub use Rattle.assise_model_world.specs.Chances.{MayDeliver, MayDigest}
 pub use Rattle.assise_model_world.specs.Invariant.{IsOrdered, WorldInvariant}
 unfoldable pub use Rattle.assise_model_world.specs.Invariant.{Compatible, Guarded, WritesAreHeld}
@@ -101,7 +102,7 @@ pub use Rattle.assise_names.specs.declared.limits.TheConstants.{MOST_CLIENTS, MO
 pub use Rattle.assise_names.specs.declared.refusal.Refusal.{Refusal}
 pub use Rattle.assise_names.specs.declared.refusal.Refusal.TheVariants.{OutOfMemory, StaleMessage, BadClient, WrongPhase}
 pub use Rattle.assise_names.specs.declared.reply.Reply.{Reply}
-pub use Rattle.assise_private_log.proofs.Borders.{border_first, border_end, whole_here}
+pub use Rattle.assise_private_log.proofs.Shared.Borders.{border_first, border_end, whole_here}
 pub use Rattle.assise_private_log.specs.NumberedLog.{NumberedLog, end as log_end, is_border, records_from, record_at}
 pub use Rattle.assise_record.specs.LogFrame.{LogFrame}
 pub use Rattle.assise_record.specs.LogRecord.{LogRecord}

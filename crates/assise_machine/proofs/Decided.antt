@@ -2,10 +2,10 @@
 use Rattle.assise_machine.proofs.Common.{◌≡◌, ◌⊎◌, List, [], ◌∷◌, inl, inr, refl, ∥∥₁_elim, Op, Reply, answer, AreAnswered, Tree, EntryValue, Fits, IsLegal}
 use Rattle.assise_machine.proofs.Common.{arith}
 use Rattle.assise_names.specs.contracts.reply.ReplyPartialEq.TheImpl.{eq-value}
-use Rattle.assise_history.proofs.SummaryAgrees.{is_allowed, may_follow}
-use Rattle.assise_history.proofs.Legality.{legal-prefix, legal-last, legal-nil, legal-push}
-use Rattle.assise_history.proofs.TestedElements.{by_ends}
-use Rattle.assise_history.proofs.Replies.{equal_replies}
+use Rattle.assise_history.proofs.Shared.SummaryAgrees.{is_allowed, may_follow}
+use Rattle.assise_history.proofs.Shared.Legality.{legal-prefix, legal-last, legal-nil, legal-push}
+use Rattle.assise_history.proofs.Shared.TestedElements.{by_ends}
+use Rattle.assise_history.proofs.Shared.Replies.{equal_replies}
 
 same_reply : (a b : Reply) → (a ≡ b) ⊎ (a ≡ b → ⊥)
 same_reply a b = grind (arith, equal_replies a b (eq-value.it a b) refl)

@@ -8,9 +8,9 @@ use Rattle.assise_machine.proofs.Common.{with_log_in, with_records, is_full_in, 
 use Rattle.assise_machine.proofs.Common.{StateValue, leases_of, standings, machine_of, value_of, SoundOf, has_log, seen_full, border_inside, so_many_marks}
 use Rattle.assise_machine.proofs.Common.{still_noted, log_keeps, level_of, newest}
 use Rattle.assise_model_events.specs.Events.{received as told}
-use Rattle.assise_machine_state.proofs.OwnLogs.{own_log as has_own_log}
-use Rattle.assise_machine_state.proofs.ReceiptObserved.{HasPrefix, delivered_prefix, delivery_shaped, has_prefix, other_areas}
-use Rattle.assise_machine_state.proofs.RecordsTaken.{none_taken}
+use Rattle.assise_machine_state.proofs.Shared.OwnLogs.{own_log as has_own_log}
+use Rattle.assise_machine_state.proofs.Shared.ReceiptObserved.{HasPrefix, delivered_prefix, delivery_shaped, has_prefix, other_areas}
+use Rattle.assise_machine_state.proofs.Shared.RecordsTaken.{none_taken}
 use Rattle.assise_machine.specs.Taking.{HasRoomFor, IsNext, IsNextOf, lacking, own_log}
 use Rattle.assise_machine.proofs.DeliveryFaults.{fine_client, fine_full}
 

@@ -11,11 +11,11 @@ use Rattle.assise_machine.proofs.Common.{NoneListed, digests_some}
 use Rattle.std.specs.FinSet as set
 use Rattle.std.specs.FinSet.{contains-from_list_nat}
 use Rattle.assise_private_log.specs.Borders.{whole_count}
-use Rattle.assise_model_world.proofs.DigestKeeps.{digest_sound}
-use Rattle.assise_model_world.proofs.Logs.{contains-drop, contains-take}
-use Rattle.assise_manager.proofs.Sets.{union-empty}
-use Rattle.assise_machine_state.proofs.DigestSeen.{digest_shaped, noted_prefix}
-use Rattle.assise_machine_state.proofs.LogChanges.{log_back, log_here, region_here}
+use Rattle.assise_model_world.proofs.Shared.DigestKeeps.{digest_sound}
+use Rattle.assise_model_world.proofs.Shared.Logs.{contains-drop, contains-take}
+use Rattle.assise_manager.proofs.Shared.Sets.{union-empty}
+use Rattle.assise_machine_state.proofs.Shared.DigestSeen.{digest_shaped, noted_prefix}
+use Rattle.assise_machine_state.proofs.Shared.LogChanges.{log_back, log_here, region_here}
 use Rattle.assise_machine.proofs.Unlisted.{nothing_noted}
 
 -- ---- nothing is changed where nothing is digested

@@ -5,7 +5,7 @@ use Rattle.assise_machine.proofs.Common.{received_by_all, DigestsNoted, DigestsT
 use Rattle.assise_machine.proofs.Common.{is_full_in, world_of, IsNumber, ShapeInvariant, StateValue, standings, full_seen, seen_full, region_keeps}
 use Rattle.assise_machine.proofs.Common.{EndWithGroups, EndsWithGroup, NoneListed, digests_some, digests_to}
 use Rattle.std.specs.FinSet as set
-use Rattle.assise_model_events.proofs.Digestible.{same_received}
+use Rattle.assise_model_events.proofs.Shared.Digestible.{same_received}
 use Rattle.assise_machine.proofs.Digested.{has_here, next_shape, next_sound, none_digested, noted_so}
 use Rattle.assise_machine.proofs.Unlisted.{still_none}
 

@@ -7,7 +7,7 @@ use Rattle.assise_machine.proofs.Common.{MachineInvariant, Machine, for_node, fr
 use Rattle.assise_machine.proofs.Common.{log_in, is_full_in, observed, own_seen, stands_full, world_of, IsNumber, ShapeInvariant, StateValue, standings}
 use Rattle.assise_machine.proofs.Common.{less_one, has_log, same_first, seen_full, listed_is_full}
 use Rattle.assise_chain.specs.Messages.{frame_of, message_of}
-use Rattle.assise_inode_table.proofs.EffectValues.{contains-append}
+use Rattle.assise_inode_table.proofs.Shared.EffectValues.{contains-append}
 
 -- ---- a node at which nothing is wrong is full
 

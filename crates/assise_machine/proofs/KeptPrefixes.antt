@@ -3,7 +3,7 @@ use Rattle.assise_machine.proofs.Common.{◌≡◌, ◌≢◌, ℕ, ◌-◌, ◌
 use Rattle.assise_machine.proofs.Common.{length-take, take_all, Loss, donor_of, is_returning, full, standing_of, kept_at_failure, WorldInvariant, World, Full}
 use Rattle.assise_machine.proofs.Common.{undigested_records, undigested_below, end_of_log, records_between, kept_low, Answer, failed, MachineInvariant, Machine}
 use Rattle.assise_machine.proofs.Common.{Failing, IsFailed, full_after}
-use Rattle.assise_model_world.proofs.Views.{ahead_between}
+use Rattle.assise_model_world.proofs.Shared.Views.{ahead_between}
 use Rattle.assise_model_events.specs.MemberEvents as member
 use Rattle.assise_machine.proofs.Others.{dropped_ahead, leaves_all, leaves_nodes}
 

@@ -6,8 +6,8 @@ use Rattle.assise_machine.proofs.Common.{open_client, try_call, try_fsync, crash
 use Rattle.assise_machine.proofs.Common.{Machine, Answered, Event, AllServed, IsServed, all_opened, answer_seen, event_seen, last_first, opened_of, stock_after}
 use Rattle.assise_machine.proofs.Common.{stock_left, told}
 use Rattle.std.proofs.lemmas.List.Elements.{Contains-append_cases, Contains-append_left, Contains-append_right, Contains-push}
-use Rattle.assise_history.proofs.ClientCounts.{opened_append}
-use Rattle.assise_machine.proofs.EventLists.{served_keeps, served_told, told_now}
+use Rattle.assise_history.proofs.Shared.ClientCounts.{opened_append}
+use Rattle.assise_machine.proofs.Shared.EventLists.{served_keeps, served_told, told_now}
 
 -- ---- an answer
 

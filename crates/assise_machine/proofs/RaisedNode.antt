@@ -4,7 +4,7 @@ use Rattle.assise_machine.proofs.Common.{subst, ◌∙◌, append-nil, arith, �
 use Rattle.assise_machine.proofs.Common.{standing_of, raised, MachineInvariant, IsRaised, Raising, is_raised, log_in, region_in, observed, own_seen, world_of}
 use Rattle.assise_machine.proofs.Common.{CutsInvariant, ShapeInvariant, StateValue, leases_of, raising_answer}
 use Rattle.assise_model_events.specs.MemberEvents.{is_refused}
-use Rattle.assise_model_events.proofs.Raised.{raise_holds}
+use Rattle.assise_model_events.proofs.Shared.Raised.{raise_holds}
 
 -- what is to be shown of the state then
 pub record Raises (s : StateValue) (n : ℕ) (r : Result ⊤ Refusal) (t : StateValue) : Type 0 where

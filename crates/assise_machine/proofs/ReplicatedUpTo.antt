@@ -5,7 +5,7 @@ use Rattle.assise_machine.proofs.Common.{RegionValue, no_log, lowest_full, full_
 use Rattle.assise_machine.proofs.Common.{received_by_all, least_of-above, least_of-end, received_by_all-below, client_in, no_client, log_in, no_region}
 use Rattle.assise_machine.proofs.Common.{region_in, is_full_in, world_of, IsNumber, item_at, ShapeInvariant, StateValue, standings, full_number, full_seen}
 use Rattle.assise_machine.proofs.Common.{same_first, seen_full, seen_nothing, seen_past, lowest_listed, call_from, first_call, least_end, received_log}
-use Rattle.assise_model_world.proofs.Replicated.{log_of_home, log_of_left}
+use Rattle.assise_model_world.proofs.Shared.Replicated.{log_of_home, log_of_left}
 
 -- ---- the least place
 

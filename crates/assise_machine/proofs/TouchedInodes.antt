@@ -1,7 +1,7 @@
 -- The inodes that the first records of a list touch.
 use Rattle.assise_machine.proofs.Common.{◌≡◌, ℕ, ◌≤◌, List, length, drop, take, ap, ◌∙◌, arith, take-append_seam, length-take, take-append-drop, take-map}
 use Rattle.assise_machine.proofs.Common.{take-take, LogRecord, touched_by, all_effects, touched}
-use Rattle.assise_record.proofs.Records.{all_effects-append}
+use Rattle.assise_record.proofs.Shared.Records.{all_effects-append}
 
 -- of a prefix of a prefix
 

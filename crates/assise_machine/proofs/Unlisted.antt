@@ -2,8 +2,8 @@
 use Rattle.assise_machine.proofs.Common.{◌≡◌, ℕ, ◌≤◌, true, List, [], ◌∷◌, length, map, refl, ap, sym, ◌∙◌, arith, list_all, nat_cmp, noted, stale_again}
 use Rattle.assise_machine.proofs.Common.{with_written, Membership, Standing, down, full, full_nodes, is_full, returning, NoneListed}
 use Rattle.std.specs.FinSet as set
-use Rattle.assise_manager.proofs.Lawful.{length_with_written, stale_full}
-use Rattle.assise_manager.proofs.Nodes.{all_full_map, count_all_full, few_full}
+use Rattle.assise_manager.proofs.Shared.Lawful.{length_with_written, stale_full}
+use Rattle.assise_manager.proofs.Shared.Nodes.{all_full_map, count_all_full, few_full}
 
 -- ---- what is noted then
 

@@ -8,7 +8,7 @@ use Rattle.assise_lease_table.specs.Leases.{lease_of}
 use Rattle.assise_lease_tree.specs.Levels.{is_revoked}
 use Rattle.assise_model_events.specs.NodeEvents.Digesting.{lacks_memory}
 use Rattle.assise_machine.proofs.DigestedTo.{GoesTo, StillSame, none_to, same_as, trace_to}
-use Rattle.assise_machine_state.proofs.Dropped.{StillDropping, all_dropped, same_dropping}
+use Rattle.assise_machine_state.proofs.Shared.Dropped.{StillDropping, all_dropped, same_dropping}
 use Rattle.assise_machine.proofs.Frames.{fine_node}
 
 pub lists_of : (s : StateValue) → ∥ MachineInvariant (observed s) ∥₁ → NoneListed s.members

@@ -3,7 +3,7 @@ use Rattle.std.specs.Prelude.{◌≡◌, ℕ, suc, ◌<◌, List, length, slice_
 use Rattle.std.proofs.Math.Bridge.{le_prop}
 use Rattle.std.proofs.Math.Logic.{∥∥₁_elim}
 use Rattle.assise_history.specs.Opened.{OpensOnce}
-use Rattle.assise_history.proofs.ClientCounts.{opens_once}
+use Rattle.assise_history.proofs.Shared.ClientCounts.{opens_once}
 use Rattle.assise_digest.specs.Region.{RegionValue}
 use Rattle.assise_lease_tree.specs.Trees.{stored_by}
 use Rattle.assise_model_world.specs.World.{World, received_by_all}

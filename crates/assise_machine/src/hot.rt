@@ -68,5 +68,5 @@ pub(crate) fn set_hot<C: Revokes + Drop>(
     if let Some(refusal) = node_refusal(state, node) {
         return Err(refusal);
     }
-    state.nodes.set_hot_capacity(node, capacity)
+    Ok(state.nodes.set_hot_capacity(node, capacity)?)
 }

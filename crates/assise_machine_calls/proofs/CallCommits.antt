@@ -10,10 +10,10 @@ use Rattle.assise_machine_calls.proofs.Common.{is_too_large, or_else, MachineInv
 use Rattle.assise_machine_calls.proofs.Common.{with_call, with_client, HasLog, log_in, with_call_in, observed, own_seen, world_of, IsNumber, CutsInvariant}
 use Rattle.assise_machine_calls.proofs.Common.{ShapeInvariant, StateValue, leases_of, standings, call_areas, call_seen, call_shaped, lives_unfailed, call_keeps}
 use Rattle.assise_machine_calls.proofs.Common.{call_noted, home_log, own_of_unfailed, turn_answer, IsReady, next_call, room_fault}
-use Rattle.assise_inode_table.proofs.EffectValues.{contains-append}
+use Rattle.assise_inode_table.proofs.Shared.EffectValues.{contains-append}
 use Rattle.assise_model_world.specs.Chances.{MayMakeCall}
-use Rattle.assise_model_events.proofs.Answerable.{is_tried}
-use Rattle.assise_model_events.proofs.LackAnswerable.{full_can, memory_can, spent_can}
+use Rattle.assise_model_events.proofs.Shared.Answerable.{is_tried}
+use Rattle.assise_model_events.proofs.Shared.LackAnswerable.{full_can, memory_can, spent_can}
 use Rattle.assise_machine_calls.specs.declared.turn.Turn.{Turn}
 use Rattle.assise_machine_calls.proofs.SyncChanges.{call_leases, few_made, fine_number, made_counted, next_counted, next_low}
 

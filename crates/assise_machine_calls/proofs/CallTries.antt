@@ -12,10 +12,10 @@ use Rattle.assise_machine_calls.proofs.Common.{client_runs, after_leases, client
 use Rattle.assise_machine_calls.proofs.Common.{ShapeInvariant, SameRevoked, StateValue, leases_of, leases_noted, areas_stay, leases_held, AsksThem}
 use Rattle.assise_machine_calls.proofs.Common.{CutsAreAnswers, GotLeases, IsReady, IsVisited, NeverSyncs, next_call, next_step}
 use Rattle.std.specs.FinMap as map
-use Rattle.assise_inode_plan.proofs.LackedLeases.{ready_has_all}
+use Rattle.assise_inode_plan.proofs.Shared.LackedLeases.{ready_has_all}
 use Rattle.assise_inode_table.specs.Calls.{step}
 use Rattle.assise_inode_table.specs.Contents.{InodeMap, coded_content, values}
-use Rattle.assise_machine_state.proofs.ReadObserved.{read_at_home}
+use Rattle.assise_machine_state.proofs.Shared.ReadObserved.{read_at_home}
 use Rattle.assise_machine_calls.proofs.AnsweredCuts.{KeepsRevoked, revoked_later}
 use Rattle.assise_machine_calls.proofs.CallCommits.{call_client, call_number}
 use Rattle.assise_machine_calls.proofs.Granted.{granted_first}
@@ -279,22 +279,6 @@ module _ (s : StateValue) (c : ℕ) (op : Op) (shape : ShapeInvariant s) (holds 
       holds_then other = ∥∥₁_map holds
           (λ h. calling_keeps (observed s) (observed s') c op (refused OutOfMemory) h (other (durability_of c (observed s).history))
           (goes_on (refused OutOfMemory) (observed s') (lacking (observed s') c op fine_then)))
-
-      pub shape_then : ShapeInvariant s'
-      unfolding own_seen
-      shape_then = record {
-        nodes = shape.nodes;
-        few_nodes = shape.few_nodes;
-        logs = shape.logs;
-        no_logs = shape.no_logs;
-        at_home = shape.at_home;
-        limits =
-            shape.limits;
-        least_limit = shape.least_limit;
-        most_limit = shape.most_limit;
-        marked = shape.marked;
-        durabilities = shape.durabilities;
-      }
 
       revoked_same : SameRevoked s levels
       revoked_same = same_revoked s.levels levels c (client_in s.clients c).home i mode granted

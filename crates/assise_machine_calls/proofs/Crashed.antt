@@ -3,7 +3,7 @@ use Rattle.assise_machine_calls.proofs.Common.{◌≡◌, ℕ, ◌==◌, List, [
 use Rattle.assise_machine_calls.proofs.Common.{TwoLevels, end_of_log, Crashing, is_crashed, crash_event, crashed, client_fault, MachineInvariant, event_keeps}
 use Rattle.assise_machine_calls.proofs.Common.{client_runs, after_crash, ClientValue, client_in, crashed_at, with_client, observed, world_of, AreLeft}
 use Rattle.assise_machine_calls.proofs.Common.{CutsInvariant, ShapeInvariant, StateValue, crash_noted, noted_known, areas_stay}
-use Rattle.assise_machine_state.proofs.CrashObserved.{crash_seen, crash_shaped}
+use Rattle.assise_machine_state.proofs.Shared.CrashObserved.{crash_seen, crash_shaped}
 
 -- the event, with the invariant after it
 pub record Gives (s : StateValue) (c : ℕ) (s' : StateValue) : Type 0 where

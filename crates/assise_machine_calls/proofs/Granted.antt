@@ -7,7 +7,7 @@ use Rattle.assise_names.specs.declared.reply.Reply.{Reply}
 
 -- the machine with other leases, and all that is seen of them
 abbrev pub with_leases : Machine → World → Leases → Machine
-with_leases m w l = record { limit = m.limit; hot = m.hot; history = m.history; world = w; leases = l; members = m.members }
+with_leases m w l = record m { world = w; leases = l }
 
 module _ (m : Machine) (w : World) (l : Leases) (c : ℕ) (op : Op) (i : ℕ) (mode : Mode) (missing : IsMissing m.world m.leases (next_call m.world c op) i mode)
     (grants : Grants m.world m.leases c i mode w l) (others : OtherAreasStay m.world w) (fine : call_fault m c op ≡ None) where

@@ -9,9 +9,10 @@ use Rattle.assise_machine_calls.proofs.Common.{home_full, lives_unfailed, seen_f
 use Rattle.assise_record.specs.Groups.{AllHaveEffects}
 use Rattle.assise_model_world.specs.Invariant.{WorldInvariant}
 use Rattle.assise_model_events.specs.Dsyncs.{is_refused, is_synced, lacks_memory}
-use Rattle.assise_model_events.proofs.DsyncKeeps.{coalesced_holds}
-use Rattle.assise_model_events.proofs.Regroupable.{coalesced_high}
-use Rattle.assise_machine_state.proofs.CoalescingSeen.{coalesced_groups, coalesced_none, coalesced_shape, coalescing_areas, coalescing_noted, regrouped_shape}
+use Rattle.assise_model_events.proofs.Shared.DsyncKeeps.{coalesced_holds}
+use Rattle.assise_model_events.proofs.Shared.Regroupable.{coalesced_high}
+use Rattle.assise_machine_state.proofs.Shared.CoalescingSeen.{coalesced_groups, coalesced_none, coalesced_shape}
+use Rattle.assise_machine_state.proofs.Shared.CoalescingSeen.{coalescing_areas, coalescing_noted, regrouped_shape}
 use Rattle.assise_machine_calls.proofs.SyncChanges.{Gives, fine_lives, fine_number}
 
 -- a sync that all full nodes have all for coalesces nothing

@@ -3,7 +3,7 @@ use Rattle.assise_machine_calls.proofs.Common.{◌≡◌, ℕ, zero, suc, ◌+�
 use Rattle.assise_machine_calls.proofs.Common.{refl, ap, sym, subst, ◌∙◌, take_more, Op, Write, Effect, touched_by, touched, Step, AreLeased, LeaseView}
 use Rattle.assise_machine_calls.proofs.Common.{first_missing, for_writing, serves, KeepsRevokers, client_lease, Machine, CutsInvariant, ShapeInvariant}
 use Rattle.assise_machine_calls.proofs.Common.{machine_of, value_of, GotLeases}
-use Rattle.assise_inode_plan.proofs.WriteLeases.{LooksAt, all_leased, effect_lacks}
+use Rattle.assise_inode_plan.proofs.Shared.WriteLeases.{LooksAt, all_leased, effect_lacks}
 use Rattle.assise_machine_state.specs.declared.state.StateOf.{StateOf}
 
 -- what the first k effects change is leased

@@ -1,19 +1,20 @@
 mod Common
-pub mod OpenFaults
-pub mod Opened
-pub mod ClientFaults
-pub mod SyncChanges
-pub mod GroupedSyncs
-pub mod Crashed
-pub mod CallCommits
-pub mod Granted
-pub mod FewerLacked
-pub mod LeaseFacts
-pub mod AnsweredCuts
-pub mod RevokerAnswers
-pub mod LeasedChanges
-pub mod CallTries
-pub mod RipeReleases
-pub mod NodeFreed
-pub mod Released
-pub mod Ready
+mod OpenFaults
+mod Opened
+mod ClientFaults
+mod RefusedTurns
+mod SyncChanges
+mod GroupedSyncs
+mod Crashed
+mod CallCommits
+mod Granted
+mod FewerLacked
+mod LeaseFacts
+mod AnsweredCuts
+mod RevokerAnswers
+mod LeasedChanges
+mod CallTries
+mod RipeReleases
+mod NodeFreed
+mod Released
+mod Ready

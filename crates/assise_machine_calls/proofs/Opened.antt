@@ -6,7 +6,7 @@ use Rattle.assise_machine_calls.proofs.Common.{TwoLevels, Opening, is_opened, op
 use Rattle.assise_machine_calls.proofs.Common.{begun_log, no_region, region_in, with_logs_begun, with_logs_ended, without_log_of, is_full_in, observed}
 use Rattle.assise_machine_calls.proofs.Common.{world_of, item_at, CutsInvariant, ShapeInvariant, StateValue, leases_of, standings, seen_full, begun_keeps}
 use Rattle.assise_machine_calls.proofs.Common.{begun_at}
-use Rattle.assise_machine_state.proofs.OpenObserved.{open_areas, open_seen, open_shaped}
+use Rattle.assise_machine_state.proofs.Shared.OpenObserved.{open_areas, open_seen, open_shaped}
 use Rattle.assise_machine_calls.proofs.OpenFaults.{fine_full}
 
 -- ---- the event

@@ -8,11 +8,11 @@ use Rattle.assise_machine_calls.proofs.Common.{with_goals, ClientValue, client_i
 use Rattle.assise_machine_calls.proofs.Common.{IsNumber, AreAnswers, CutsInvariant, ShapeInvariant, StateValue, leases_of, standings, running_number}
 use Rattle.assise_machine_calls.proofs.Common.{has_own_log, length-with, areas_stay, AsksThem, CutsAreAnswers, clients_log, client_log}
 use Rattle.assise_private_log.specs.Touches.{Covers}
-use Rattle.assise_private_log.proofs.Borders.{next_border}
-use Rattle.assise_lease_tree.proofs.ClientHomes.{lease_found}
+use Rattle.assise_private_log.proofs.Shared.Borders.{next_border}
+use Rattle.assise_lease_tree.proofs.Shared.ClientHomes.{lease_found}
 use Rattle.assise_lease_tree.specs.declared.request.Request.{Request}
-use Rattle.assise_machine_state.proofs.AskingSeen.{asking_noted, asking_seen, asking_shaped, newly_answered}
-use Rattle.assise_machine_state.proofs.ShapeKept.{own_marked}
+use Rattle.assise_machine_state.proofs.Shared.AskingSeen.{asking_noted, asking_seen, asking_shaped, newly_answered}
+use Rattle.assise_machine_state.proofs.Shared.ShapeKept.{own_marked}
 use Rattle.assise_machine_calls.proofs.LeaseFacts.{are_leases}
 
 -- ---- own logs

@@ -6,9 +6,9 @@ use Rattle.assise_machine_calls.proofs.Common.{or_right, length-append, length-t
 use Rattle.assise_machine_calls.proofs.Common.{without_own, digested_by_all, end_of_log, HoldsAsLeased, ReleasesReady, AreLeases, IsRevokedLease}
 use Rattle.assise_machine_calls.proofs.Common.{OtherAreasStay, after_letting_go, ClientValue, client_in, cut_once_asked, are_once, cut_in, is_asked, is_of}
 use Rattle.assise_machine_calls.proofs.Common.{observed, own_seen, world_of, IsNumber, CutsInvariant, ShapeInvariant, StateValue, leases_of, number_client}
-use Rattle.assise_machine_calls.proofs.Common.{areas_stay, leases_held, LetsSomeGo, is_early, is_ripe}
+use Rattle.assise_machine_calls.proofs.Common.{areas_stay, leases_held, letting_go_shaped, LetsSomeGo, is_early, is_ripe}
 use Rattle.std.proofs.Common.{true≢false}
-use Rattle.assise_model_leases.proofs.LeasesGo.{release_keeps}
+use Rattle.assise_model_leases.proofs.Shared.LeasesGo.{release_keeps}
 
 -- ---- one answer among others
 
@@ -143,21 +143,6 @@ module _ (s : StateValue) (levels : TwoLevels) (a : Asked) (xs ys : List Asked) 
   pub leases_then : AreLeases (world_of s) (leases_of s) → AreLeases (world_of t) (leases_of t)
   leases_then leases = release_keeps (world_of s) (world_of t) (leases_of s) (leases_of t) a.client a.inode leases goes_now
 
-  pub shape_then : ShapeInvariant s → ShapeInvariant t
-  unfolding own_seen
-  shape_then shape = record {
-    nodes = shape.nodes;
-    few_nodes = shape.few_nodes;
-    logs = shape.logs;
-    no_logs = shape.no_logs;
-    at_home = shape.at_home;
-    limits = shape.limits;
-    least_limit = shape.least_limit;
-    most_limit = shape.most_limit;
-    marked = shape.marked;
-    durabilities = shape.durabilities;
-  }
-
   was_asked : (d j : ℕ) → is_asked (xs ++ ys) d j ≡ true → is_asked s.cuts d j ≡ true
   was_asked d j asked = ap (λ l. is_asked l d j) is ∙ asked_more xs ys a d j asked
 
@@ -283,7 +268,7 @@ module _ (s : StateValue) (place : ℕ) (a : Asked) (some : 0 < place) (low : pl
           (leases_then s levels a before behind split noted ripe here leases)
 
       pub shape_now : ShapeInvariant s → ShapeInvariant u
-      shape_now shape = subst (λ l. ShapeInvariant (after_letting_go s levels l)) (sym left) (shape_then s levels a before behind split noted ripe here shape)
+      shape_now = letting_go_shaped s levels cuts
 
       pub noted_now : CutsInvariant u
       noted_now = subst (λ l. CutsInvariant (after_letting_go s levels l)) (sym left) (noted_then s levels a before behind split noted ripe here)

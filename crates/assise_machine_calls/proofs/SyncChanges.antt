@@ -9,12 +9,12 @@ use Rattle.assise_machine_calls.proofs.Common.{client_runs, noting_keeps, syncin
 use Rattle.assise_machine_calls.proofs.Common.{with_call, with_client, with_goal, hot_capacities, log_in, with_call_in, observed, own_node, world_of, IsNumber}
 use Rattle.assise_machine_calls.proofs.Common.{CutsInvariant, ShapeInvariant, StateValue, leases_of, standings, call_seen, call_shaped, lives_number}
 use Rattle.assise_machine_calls.proofs.Common.{call_noted, goal_noted, own_end, client_here, client_same, length-with, areas_stay}
-use Rattle.assise_model_world.proofs.WorldObserved.{received_by_all-end}
+use Rattle.assise_model_world.proofs.Shared.WorldObserved.{received_by_all-end}
 use Rattle.assise_model_history.specs.Numbered.{made_in, plain_call}
-use Rattle.assise_model_history.proofs.InodeMakers.{nothing_done, sync_step}
+use Rattle.assise_model_history.proofs.Shared.InodeMakers.{nothing_done, sync_step}
 use Rattle.assise_machine_calls.specs.declared.sync.SyncCall.{SyncCall}
 use Rattle.assise_machine_calls.specs.declared.sync.SyncCall.TheVariants.{Fsync as OfFsync, Dsync as OfDsync}
-use Rattle.assise_machine_state.proofs.GoalObserved.{goal_raised, goal_shaped}
+use Rattle.assise_machine_state.proofs.Shared.GoalObserved.{goal_raised, goal_shaped}
 
 -- ---- the client
 

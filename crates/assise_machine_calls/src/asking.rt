@@ -1,6 +1,5 @@
 //! Those who stand in a call's way are asked for their leases.
-ghost use Rattle.std.specs.Prelude.{◌≡◌, ◌+◌, ◌≤◌, ◌++◌, None, OnErr, OnOk, IsOkUnless, false, length, vec_capacity};
-ghost use Rattle.assise_names.specs.declared.refusal.Refusal.TheVariants.{OutOfMemory};
+ghost use Rattle.std.specs.Prelude.{◌≡◌, ◌+◌, ◌≤◌, ◌++◌, None, OnErr, OnOk, false, length, vec_capacity};
 ghost use Rattle.assise_lease_table.specs.declared.lease.Asked.{Asked as Answer};
 ghost use Rattle.assise_lease_table.specs.Leases.{Among};
 ghost use Rattle.assise_lease_tree.specs.Trees.{KeepsRevokers, levels_of, stored_by};
@@ -19,15 +18,15 @@ use assise_lease_table::revoker::Revokes;
 use assise_lease_tree::request::Request;
 use assise_machine_state::clients::Clients;
 use assise_machine_state::state::StateOf;
-use assise_names::refusal::Refusal;
+use std::alloc::AllocError;
 use std::vec::IntoIter;
 
-/// Asks those who stand in the way of a client that lives: their leases are revoked with what their revokers answer for their own
-/// logs, and their logs are to be replicated up to there. The one refusal is [`Refusal::OutOfMemory`], and it leaves all as it was.
+/// Asks those who stand in the way of a client that lives: their leases are revoked with what their revokers answer for
+/// their own logs, and their logs are to be replicated up to there. Without memory it leaves all as it was.
 pub(crate) fn ask<C: Revokes + Drop>(
     state: &mut StateOf<C>,
     request: Request,
-) -> Result<(), Refusal>
+) -> Result<(), AllocError>
     requires fine { client_fault (machine_of state.old) request.client ≡ None }
     requires home { request.node ≡ (client_in state.old.clients request.client).home }
     requires blocked { is_free_for (levels_of state.old.leases) request.client request.node
@@ -39,7 +38,6 @@ pub(crate) fn ask<C: Revokes + Drop>(
         (machine_of state.old) (machine_of state.new) }
     ensures shape { ShapeInvariant (value_of state.new) }
     ensures noted { CutsInvariant (value_of state.new) }
-    ensures only_memory { IsOkUnless result OutOfMemory }
     ensures revokers { KeepsRevokers state.old.leases state.new.leases }
 {
     let holders = state.leases.leases(request.inode).len();
@@ -55,16 +53,14 @@ pub(crate) fn ask<C: Revokes + Drop>(
 }
 
 /// Notes answers, for which there is room: the clients' logs are to be replicated up to them.
-fn note_all(clients: &mut Clients, cuts: &mut Vec<Asked>, mut asked: IntoIter<Asked>)
+fn note_all(clients: &mut Clients, cuts: &mut Vec<Asked>, asked: IntoIter<Asked>)
     requires known { (a : Answer) → Among asked.rest.items a → IsNumber clients.old a.client }
     requires room { length cuts.old.items + length asked.rest.items ≤ vec_capacity cuts.old }
     ensures goals { clients.new ≡ with_goals asked.rest.items clients.old }
     ensures cuts { cuts.new.items ≡ cuts.old.items ++ asked.rest.items }
 {
-    let Some(answer) = asked.next() else {
-        return;
-    };
-    clients.raise_goal(answer.client, answer.cut);
-    cuts.push_reserved(answer);
-    note_all(clients, cuts, asked);
+    for answer in asked {
+        clients.raise_goal(answer.client, answer.cut);
+        cuts.push_reserved(answer);
+    }
 }

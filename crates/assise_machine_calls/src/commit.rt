@@ -1,5 +1,5 @@
 //! A call that has its leases is answered.
-ghost use Rattle.std.specs.Prelude.{◌≡◌, ◌==◌, ◌+◌, ◌<◌, ◌≤◌, ◌^◌, IsOkUnless, None, OnErr, OnOk, length, true};
+ghost use Rattle.std.specs.Prelude.{◌≡◌, ◌==◌, ◌+◌, ◌<◌, ◌≤◌, ◌^◌, None, OnErr, OnOk, length, true};
 ghost use Rattle.std.specs.List.{list_any};
 ghost use Rattle.assise_names.specs.declared.refusal.Refusal.TheVariants.{OutOfMemory};
 ghost use Rattle.assise_history.specs.Entries.{calls};
@@ -32,7 +32,7 @@ use assise_names::refusal::Refusal;
 use assise_names::reply::Reply;
 use assise_record::effect::Effect;
 use assise_record::record::Record;
-use std::alloc::Global;
+use std::alloc::{AllocError, Global};
 
 /// The most inodes that one client makes.
 pub const MOST_INODES: u64 = 1_048_576;
@@ -125,15 +125,15 @@ fn makes(effect: &Effect, number: u64) -> bool
     }
 }
 
-/// A call's effects, if it has some, are a record more of its client's log, which has room for it. The one refusal is
-/// [`Refusal::OutOfMemory`], and it leaves all as it was.
+/// A call's effects, if it has some, are a record more of its client's log, which has room for it. Without memory it leaves
+/// all as it was.
 fn add_record(
     nodes: &mut Nodes,
     home: u32,
     client: u32,
     call: u64,
     effects: Vec<Effect>,
-) -> Result<(), Refusal>
+) -> Result<(), AllocError>
     requires there { HasLog nodes.old home client }
     requires number_fits { end (log_in nodes.old home client).log + 1 < 2 ^ 64 }
     requires room { has_some effects.items ≡ true → LogHasRoom (log_in nodes.old home client) }
@@ -141,7 +141,6 @@ fn add_record(
     requires whole { CanBeMadeWhole effects.items }
     ensures ok { OnOk result (nodes.new ≡ with_call_in nodes.old home client call effects.items) }
     ensures err { OnErr result (nodes.new ≡ nodes.old) }
-    ensures only_memory { IsOkUnless result OutOfMemory }
     ensures nodes { length nodes.new ≡ length nodes.old }
 {
     if effects.is_empty() {
@@ -149,7 +148,7 @@ fn add_record(
     }
     match nodes.append(home, client, Record::new(call, effects)) {
         Ok(()) => Ok(()),
-        Err((_, _)) => Err(Refusal::OutOfMemory),
+        Err((_, _)) => Err(AllocError),
     }
 }
 

@@ -9,7 +9,7 @@ use Rattle.assise_machine_failures.proofs.Common.{LosesStale}
 use Rattle.std.specs.FinSet as set
 use Rattle.assise_model_events.specs.MemberEvents.Returning.{is_back, is_refused, lacks_memory}
 use Rattle.assise_machine_failures.proofs.DroppedCopies.{lost_else, lost_here, lost_hot, lost_is, lost_rests, lost_shaped, rests_more}
-use Rattle.assise_machine_failures.proofs.RefusedFailures.{IsFaultOr, same_after}
+use Rattle.assise_machine_failures.proofs.Shared.RefusedFailures.{IsFaultOr, same_after}
 
 -- ---- it is refused
 

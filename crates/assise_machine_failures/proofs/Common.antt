@@ -27,16 +27,16 @@ pub use Rattle.assise_lease_tree.specs.TwoLevels.{TwoLevels}
 pub use Rattle.assise_machine_failures.specs.Answers.{loss_of, refilling_answer, returning_answer, failing_answer, joining_answer}
 pub use Rattle.assise_machine_failures.specs.Copies.{LosesStale, nodes_without, without_copies, AllLose, AreReturning}
 pub use Rattle.assise_machine_failures.specs.Listing.{kept_inodes, kept_to, filled_from, is_number, kept_in}
-pub use Rattle.assise_machine_state.proofs.AwayObserved.{members_areas, members_rest, members_shaped, inode_else, inode_here, inode_rests, inode_shaped}
-pub use Rattle.assise_machine_state.proofs.CutSeen.{count_over, home_number}
-pub use Rattle.assise_machine_state.proofs.Fullness.{full_seen, node_number, seen_full, full_is, no_log_there}
-pub use Rattle.assise_machine_state.proofs.HotCapacities.{region_keeps, failure_keeps}
-pub use Rattle.assise_machine_state.proofs.ItemSeen.{client_else, less_one, length-with, with-with}
-pub use Rattle.assise_machine_state.proofs.Kept.{kept_from_first, kept_elsewhere}
-pub use Rattle.assise_machine_state.proofs.LogChanges.{beside_seen, count_seen, log_found, region_here, log_away, region_else, region_back}
-pub use Rattle.assise_machine_state.proofs.Noted.{failure_noted, noted_known, still_noted}
-pub use Rattle.assise_machine_state.proofs.OwnLogs.{own_end, listed_is, one_more, all_taken, next_log}
-pub use Rattle.assise_machine_state.proofs.Standings.{full_as, full_else, full_here, same_count, survivor_left, numbers}
+pub use Rattle.assise_machine_state.proofs.Shared.AwayObserved.{members_areas, members_rest, members_shaped, inode_else, inode_here, inode_rests, inode_shaped}
+pub use Rattle.assise_machine_state.proofs.Shared.CutSeen.{count_over, home_number}
+pub use Rattle.assise_machine_state.proofs.Shared.Fullness.{full_seen, node_number, seen_full, full_is, no_log_there}
+pub use Rattle.assise_machine_state.proofs.Shared.HotCapacities.{region_keeps, failure_keeps}
+pub use Rattle.assise_machine_state.proofs.Shared.ItemSeen.{client_else, less_one, length-with, with-with}
+pub use Rattle.assise_machine_state.proofs.Shared.Kept.{kept_from_first, kept_elsewhere}
+pub use Rattle.assise_machine_state.proofs.Shared.LogChanges.{beside_seen, count_seen, log_found, region_here, log_away, region_else, region_back}
+pub use Rattle.assise_machine_state.proofs.Shared.Noted.{failure_noted, noted_known, still_noted}
+pub use Rattle.assise_machine_state.proofs.Shared.OwnLogs.{own_end, listed_is, one_more, all_taken, next_log}
+pub use Rattle.assise_machine_state.proofs.Shared.Standings.{full_as, full_else, full_here, same_count, survivor_left, numbers}
 pub use Rattle.assise_machine_state.specs.Changes.{after_members, with_clients_cut, with_clients_failed, after_inode, after_failure, drops_to, after_join}
 pub use Rattle.assise_machine_state.specs.ClientValues.{ClientValue, client_in, failed_at, with_client}
 pub use Rattle.assise_machine_state.specs.Invariant.{CutsInvariant, ShapeInvariant, AreLeft}
@@ -56,16 +56,16 @@ pub use Rattle.assise_manager.specs.Changes.{filling_fault, join_fault, join_fau
 pub use Rattle.assise_manager.specs.Membership.{Membership, lowest_full, written_since, IsMembership}
 pub use Rattle.assise_manager.specs.Standings.{Standing, down, is_full, returning, standing_of, with_standing, full_nodes, full, phase_of}
 pub use Rattle.assise_manager.specs.Whole.{membership}
-pub use Rattle.assise_model_events.proofs.EachEvent.{event_keeps}
+pub use Rattle.assise_model_events.proofs.Shared.EachEvent.{event_keeps}
 pub use Rattle.assise_model_events.specs.Events.{Answer, began, refused, fail as fail_event, failed as failed_answer, left, joined, back as back_event}
 pub use Rattle.assise_model_events.specs.Events.{join as join_event, refill as refill_event}
 pub use Rattle.assise_model_events.specs.Machine.{MachineInvariant}
 pub use Rattle.assise_model_events.specs.MemberEvents.{IsBack, Returning, count_of, stale_at, Failing, IsFailed, is_failed, IsFailedAgain, is_failed_again}
 pub use Rattle.assise_model_events.specs.MemberEvents.{is_refused, lacks_memory, IsRefilled, Refilling, Joining}
 pub use Rattle.assise_model_history.specs.Lost.{is_cut, losses_to, losses_of}
-pub use Rattle.assise_model_members.proofs.NodeStandings.{down_is, set_here, mapped_at, set_else}
+pub use Rattle.assise_model_members.proofs.Shared.NodeStandings.{down_is, set_here, mapped_at, set_else}
 pub use Rattle.assise_model_members.specs.Returns.{BeginsReturn, LosesCopies, FailsWithMembers, Refills, Rejoins}
-pub use Rattle.assise_model_world.proofs.FailureKeeps.{fail_sound, kept_low}
+pub use Rattle.assise_model_world.proofs.Shared.FailureKeeps.{fail_sound, kept_low}
 pub use Rattle.assise_model_world.specs.Invariant.{WorldInvariant}
 pub use Rattle.assise_model_world.specs.NodeSteps.{Rests, Fails, Drops}
 unfoldable pub use Rattle.assise_model_world.specs.NodeSteps.{kept_at_failure}

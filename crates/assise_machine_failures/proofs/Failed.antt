@@ -9,13 +9,13 @@ use Rattle.assise_machine_failures.proofs.Common.{noted_known, still_noted, seen
 use Rattle.std.specs.FinSet as set
 use Rattle.assise_lease_table.specs.LeaseMaps.{SameLeases as SameLeasesOf}
 use Rattle.assise_lease_tree.specs.Levels.{is_revoked, lives}
-use Rattle.assise_model_world.proofs.ClientsStaying.{rest_sound}
+use Rattle.assise_model_world.proofs.Shared.ClientsStaying.{rest_sound}
 use Rattle.assise_model_leases.specs.Handing.{FailsWithLeases as LeasesFail}
-use Rattle.assise_machine_state.proofs.Dropped.{StillDropping, all_dropped, same_dropping}
-use Rattle.assise_machine_state.proofs.FailureSeen.{failure_areas, failure_seen, failure_shaped}
+use Rattle.assise_machine_state.proofs.Shared.Dropped.{StillDropping, all_dropped, same_dropping}
+use Rattle.assise_machine_state.proofs.Shared.FailureSeen.{failure_areas, failure_seen, failure_shaped}
 use Rattle.assise_machine_failures.proofs.FailSettled.{fails_settled}
 use Rattle.assise_machine_failures.proofs.LostCopies.{AllLoseAt, StillLosing, all_still, one_loses, others_stay}
-use Rattle.assise_machine_failures.proofs.TakenDown.{few_clients}
+use Rattle.assise_machine_failures.proofs.Shared.TakenDown.{few_clients}
 
 -- who holds what is the same where all is that it is made of
 same_leases : (t v : StateValue) → v.levels ≡ t.levels → v.cuts ≡ t.cuts → v.clients ≡ t.clients → leases_of v ≡ leases_of t

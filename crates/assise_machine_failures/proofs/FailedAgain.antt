@@ -6,9 +6,9 @@ use Rattle.assise_machine_failures.proofs.Common.{MachineInvariant, Failing, IsF
 use Rattle.assise_machine_failures.proofs.Common.{own_seen, world_of, CutsInvariant, ShapeInvariant, StateValue, leases_of, standings, still_noted}
 use Rattle.assise_machine_failures.proofs.Common.{members_rest, members_shaped, full_as, full_else, full_here, same_count}
 use Rattle.std.specs.FinSet as set
-use Rattle.assise_history.proofs.ClientCounts.{durability-still}
+use Rattle.assise_history.proofs.Shared.ClientCounts.{durability-still}
 use Rattle.assise_manager.specs.declared.phase.Phase.TheVariants.{Down}
-use Rattle.assise_model_history.proofs.NumberedCalls.{kept_fail_none}
+use Rattle.assise_model_history.proofs.Shared.NumberedCalls.{kept_fail_none}
 
 -- ---- how it stood
 

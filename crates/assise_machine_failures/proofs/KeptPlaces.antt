@@ -6,8 +6,8 @@ use Rattle.assise_machine_failures.proofs.Common.{end_of_log, least_of, client_i
 use Rattle.assise_machine_failures.proofs.Common.{standings, full_is, kept_elsewhere, listed_is, one_more, own_end, kept_to}
 use Rattle.std.proofs.lemmas.List.Elements.{filter-append}
 use Rattle.std.proofs.lemmas.Map.Views.{any-filter_same}
-use Rattle.assise_model_world.proofs.WorldObserved.{least_of-above, least_of-below, least_of-end}
-use Rattle.assise_model_history.proofs.FailureList.{cut_there}
+use Rattle.assise_model_world.proofs.Shared.WorldObserved.{least_of-above, least_of-below, least_of-end}
+use Rattle.assise_model_history.proofs.Shared.FailureList.{cut_there}
 
 -- ---- the others of a list
 

@@ -1,19 +1,18 @@
 mod Common
-pub mod DroppedCopies
-pub mod RefusedFailures
-pub mod ComingBack
-pub mod RefillHappens
-pub mod Codes
-pub mod Settled
-pub mod TakenIn
-pub mod CutOff
-pub mod Cuts
-pub mod FilledFrom
-pub mod KeptPlaces
-pub mod Listed
-pub mod LostCopies
-pub mod FailSettled
-pub mod Failed
-pub mod TakenDown
-pub mod FailedFull
-pub mod FailedAgain
+pub mod Shared
+mod DroppedCopies
+mod ComingBack
+mod RefillHappens
+mod Codes
+mod Settled
+mod TakenIn
+mod CutOff
+mod Cuts
+mod FilledFrom
+mod KeptPlaces
+mod Listed
+mod LostCopies
+mod FailSettled
+mod Failed
+mod FailedFull
+mod FailedAgain

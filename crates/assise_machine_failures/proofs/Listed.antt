@@ -6,8 +6,8 @@ use Rattle.assise_machine_failures.proofs.Common.{donor_of, Standing, standing_o
 use Rattle.assise_machine_failures.proofs.Common.{own_seen, world_of, IsNumber, item_at, ShapeInvariant, StateValue, standings, numbers, filled_from, is_number}
 use Rattle.assise_machine_failures.proofs.Common.{kept_inodes}
 use Rattle.std.specs.FinSet as set
-use Rattle.assise_inode_table.proofs.EffectValues.{contains-append}
-use Rattle.assise_lease_table.proofs.Elements.{among_prefix, among_last, among_push}
+use Rattle.assise_inode_table.proofs.Shared.EffectValues.{contains-append}
+use Rattle.assise_lease_table.proofs.Shared.Elements.{among_prefix, among_last, among_push}
 use Rattle.assise_machine_failures.proofs.Cuts.{touched_kept}
 
 -- ---- the inodes of kept records

@@ -9,12 +9,12 @@ use Rattle.assise_machine_failures.proofs.Common.{leases_of, standings, value_of
 use Rattle.assise_machine_failures.proofs.Common.{members_rest, members_shaped, region_keeps, full_as, same_count, refilling_answer}
 use Rattle.std.specs.FinMap as map
 use Rattle.std.specs.FinSet as set
-use Rattle.assise_manager.proofs.Lawful.{donor_full}
+use Rattle.assise_manager.proofs.Shared.Lawful.{donor_full}
 use Rattle.assise_model_events.specs.MemberEvents.Refilling.{is_refused, lacks_memory}
 use Rattle.assise_machine_state.specs.declared.sound.SoundOf.{SoundOf}
 use Rattle.assise_machine_failures.proofs.DroppedCopies.{not_full, rests_more}
 use Rattle.assise_machine_failures.proofs.ComingBack.{still_full}
-use Rattle.assise_machine_failures.proofs.RefusedFailures.{IsFaultOr}
+use Rattle.assise_machine_failures.proofs.Shared.RefusedFailures.{IsFaultOr}
 
 -- ---- it is refused
 

@@ -9,9 +9,9 @@ use Rattle.assise_machine_failures.proofs.Common.{CutsInvariant, ShapeInvariant,
 use Rattle.assise_machine_failures.proofs.Common.{length-with, with-with}
 use Rattle.std.specs.FinSet as set
 use Rattle.assise_model_events.specs.MemberEvents.Joining.{is_joined, is_refused, lacks_memory}
-use Rattle.assise_machine_state.proofs.JoinObserved.{join_shaped, node_rejoins}
+use Rattle.assise_machine_state.proofs.Shared.JoinObserved.{join_shaped, node_rejoins}
 use Rattle.assise_machine_failures.proofs.RefillHappens.{IsFilledFrom, filled_from, filled_stands}
-use Rattle.assise_machine_failures.proofs.RefusedFailures.{IsFaultOr}
+use Rattle.assise_machine_failures.proofs.Shared.RefusedFailures.{IsFaultOr}
 use Rattle.assise_machine_failures.proofs.Settled.{settled}
 
 -- ---- the state is as it was

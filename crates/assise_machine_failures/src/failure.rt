@@ -1,6 +1,5 @@
 //! What the failure of a full node comes to.
-ghost use Rattle.std.specs.Prelude.{◌<◌, ◌^◌, IfOk, IsOkUnless, length};
-ghost use Rattle.assise_names.specs.declared.refusal.Refusal.TheVariants.{OutOfMemory};
+ghost use Rattle.std.specs.Prelude.{◌<◌, ◌^◌, IfOk, length};
 ghost use Rattle.assise_machine_state.specs.Observed.{world_of};
 ghost use Rattle.assise_machine_state.specs.Invariant.{PartsInvariant};
 ghost use Rattle.assise_machine_state.specs.Whole.{value_of};
@@ -11,8 +10,7 @@ use assise_history::call::Loss;
 use assise_lease_table::lease::Asked;
 use assise_lease_table::revoker::Revokes;
 use assise_machine_state::state::StateOf;
-use assise_names::refusal::Refusal;
-use std::alloc::Global;
+use std::alloc::{AllocError, Global};
 
 /// What the failure of a full node comes to, listed before anything changes, so that nothing asks for memory afterwards.
 #[derive(Drop)]
@@ -32,16 +30,15 @@ pub(crate) struct Failure {
 }
 
 impl Failure {
-    /// Lists what a node's failure comes to. The one refusal is [`Refusal::OutOfMemory`].
+    /// Lists what a node's failure comes to.
     pub(crate) fn list<C: Revokes + Drop>(
         alloc: Global,
         state: &StateOf<C>,
         node: u32,
-    ) -> Result<Failure, Refusal>
+    ) -> Result<Failure, AllocError>
         requires few { length state.now.clients < 2 ^ 32 }
         requires parts { PartsInvariant (value_of state.now) }
         ensures listed { IfOk result (λ failure. IsListed (value_of state.now) node failure) }
-        ensures only_memory { IsOkUnless result OutOfMemory }
     {
         let kept = all_kept(alloc, state, node)?;
         let losses = losses(alloc, state, node, &kept)?;

@@ -1,6 +1,5 @@
 //! What a failure lists before anything changes.
-ghost use Rattle.std.specs.Prelude.{◌≡◌, ◌+◌, ◌^◌, ◌<◌, IfOk, IsOkUnless, length, map as mapped};
-ghost use Rattle.assise_names.specs.declared.refusal.Refusal.TheVariants.{OutOfMemory};
+ghost use Rattle.std.specs.Prelude.{◌≡◌, ◌+◌, ◌^◌, ◌<◌, IfOk, length, map as mapped};
 ghost use Rattle.assise_model_world.specs.NodeSteps.{kept_at_failure};
 ghost use Rattle.assise_model_history.specs.Lost.{losses_of};
 ghost use Rattle.assise_machine_state.specs.Observed.{world_of};
@@ -15,8 +14,7 @@ use assise_history::call::Loss;
 use assise_lease_table::revoker::Revokes;
 use assise_machine_state::state::StateOf;
 use assise_machine_state::touching::push_touched_from;
-use assise_names::refusal::Refusal;
-use std::alloc::Global;
+use std::alloc::{AllocError, Global};
 
 /// The place up to which a client's log is kept when a node fails: of a client that lives there what all other full nodes have, and
 /// of another all. It costs the nodes.
@@ -39,17 +37,16 @@ pub(crate) fn kept<C: Revokes + Drop>(state: &StateOf<C>, node: u32, client: u32
     least
 }
 
-/// These places of all clients, by their numbers. The one refusal is [`Refusal::OutOfMemory`].
+/// These places of all clients, by their numbers.
 pub(crate) fn all_kept<C: Revokes + Drop>(
     alloc: Global,
     state: &StateOf<C>,
     node: u32,
-) -> Result<Vec<u64>, Refusal>
+) -> Result<Vec<u64>, AllocError>
     requires few { length state.now.clients < 2 ^ 32 }
     requires shape { ShapeInvariant (value_of state.now) }
     ensures kept { IfOk result (λ kept. kept.items ≡ kept_to (world_of (value_of state.now)) node
         (length state.now.clients)) }
-    ensures only_memory { IsOkUnless result OutOfMemory }
 {
     let mut all = Vec::with_capacity(alloc, state.clients.len())?;
     for client in 1..=state.clients.len() as u32 {
@@ -58,21 +55,19 @@ pub(crate) fn all_kept<C: Revokes + Drop>(
     Ok(all)
 }
 
-/// Each client that loses a record when a node fails, by ascending number, with its first lost call. The one refusal is
-/// [`Refusal::OutOfMemory`].
+/// Each client that loses a record when a node fails, by ascending number, with its first lost call.
 pub(crate) fn losses<C: Revokes + Drop>(
     alloc: Global,
     state: &StateOf<C>,
     node: u32,
     kept: &[u64],
-) -> Result<Vec<(u32, u64)>, Refusal>
+) -> Result<Vec<(u32, u64)>, AllocError>
     requires kept { kept.now ≡ kept_to (world_of (value_of state.now)) node
         (length state.now.clients) }
     requires few { length state.now.clients < 2 ^ 32 }
     requires parts { PartsInvariant (value_of state.now) }
     ensures losses { IfOk result (λ losses. mapped loss_of losses.items ≡ losses_of
         (world_of (value_of state.now)) node) }
-    ensures only_memory { IsOkUnless result OutOfMemory }
 {
     let mut losses = Vec::new(alloc);
     for (place, end) in kept.iter().enumerate() {
@@ -86,9 +81,8 @@ pub(crate) fn losses<C: Revokes + Drop>(
 }
 
 /// The same as the history has them.
-pub(crate) fn entry_losses(alloc: Global, losses: &[(u32, u64)]) -> Result<Vec<Loss>, Refusal>
+pub(crate) fn entry_losses(alloc: Global, losses: &[(u32, u64)]) -> Result<Vec<Loss>, AllocError>
     ensures same { IfOk result (λ noted. noted.items ≡ mapped loss_of losses.now) }
-    ensures only_memory { IsOkUnless result OutOfMemory }
 {
     let mut noted = Vec::with_capacity(alloc, losses.len())?;
     for (client, first) in losses {
@@ -100,20 +94,19 @@ pub(crate) fn entry_losses(alloc: Global, losses: &[(u32, u64)]) -> Result<Vec<L
     Ok(noted)
 }
 
-/// The inodes that those records touch which are kept when a node fails. The one refusal is [`Refusal::OutOfMemory`].
+/// The inodes that those records touch which are kept when a node fails.
 pub(crate) fn touched_inodes<C: Revokes + Drop>(
     alloc: Global,
     state: &StateOf<C>,
     node: u32,
     kept: &[u64],
-) -> Result<Vec<u64>, Refusal>
+) -> Result<Vec<u64>, AllocError>
     requires kept { kept.now ≡ kept_to (world_of (value_of state.now)) node
         (length state.now.clients) }
     requires few { length state.now.clients < 2 ^ 32 }
     requires parts { PartsInvariant (value_of state.now) }
     ensures inodes { IfOk result (λ inodes. inodes.items ≡ kept_inodes
         (world_of (value_of state.now)) node (length state.now.clients)) }
-    ensures only_memory { IsOkUnless result OutOfMemory }
 {
     let mut inodes = Vec::new(alloc);
     for (place, end) in kept.iter().enumerate() {
@@ -124,16 +117,15 @@ pub(crate) fn touched_inodes<C: Revokes + Drop>(
     Ok(inodes)
 }
 
-/// The nodes that come back and are filled from a node, by ascending number. The one refusal is [`Refusal::OutOfMemory`].
+/// The nodes that come back and are filled from a node, by ascending number.
 pub(crate) fn filled_from<C: Revokes + Drop>(
     alloc: Global,
     state: &StateOf<C>,
     node: u32,
-) -> Result<Vec<u32>, Refusal>
+) -> Result<Vec<u32>, AllocError>
     requires shape { ShapeInvariant (value_of state.now) }
     ensures nodes { IfOk result (λ nodes. nodes.items ≡ filled_from
         (standings (value_of state.now)) node (length state.now.nodes)) }
-    ensures only_memory { IsOkUnless result OutOfMemory }
 {
     let mut nodes = Vec::new(alloc);
     for other in 1..=state.nodes.len() as u32 {

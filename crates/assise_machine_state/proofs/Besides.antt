@@ -3,8 +3,8 @@ use Rattle.assise_machine_state.proofs.Common.{◌≡◌, ℕ, ◌+◌, ◌<◌,
 use Rattle.assise_machine_state.proofs.Common.{get_or, refl, ap, ◌∙◌, arith, suc, cases_Bool, cases_eq, false≢true, ne_eqb, contains, log_end, full_nodes}
 use Rattle.assise_machine_state.proofs.Common.{received_by_all, contains-filter, filter-contains, besides, coalesced_from, full_elsewhere, most_of, most-above}
 use Rattle.assise_machine_state.proofs.Common.{most-below, client_in, log_in, world_of, IsNumber, ShapeInvariant, StateValue, standings}
-use Rattle.assise_machine_state.proofs.Fullness.{full_is}
-use Rattle.assise_machine_state.proofs.Standings.{is_listed, listed_is_full}
+use Rattle.assise_machine_state.proofs.Shared.Fullness.{full_is}
+use Rattle.assise_machine_state.proofs.Shared.Standings.{is_listed, listed_is_full}
 
 -- ---- one node after another
 

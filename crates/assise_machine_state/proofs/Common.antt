@@ -2,7 +2,7 @@
 pub use Rattle.std.proofs.Common.{◌≡◌, ◌≢◌, inl, inr, ℕ, zero, suc, ◌+◌, ◌-◌, ◌≤◌, max, ◌==◌, Bool, true, false, cond, not, ◌&&◌, ◌||◌, if◌then◌else◌, List, []}
 pub use Rattle.std.proofs.Common.{◌∷◌, ◌++◌, length, filter, drop, slice_get, Option, Some, None, refl, ap, sym, subst, ◌∙◌, arith, eq-eqb, ◌<◌, take, take-suc}
 pub use Rattle.std.proofs.Common.{get_or, map, ◌⊎◌, slice_index_or, min, true≢false, replicate, slice_set, set, nat_le, append-nil, Result, OnErr, OnOk, Ok}
-pub use Rattle.std.proofs.Common.{Err}
+pub use Rattle.std.proofs.Common.{Err, vec_capacity}
 pub use Rattle.std.proofs.Math.Bool.{and-true, or-false, and-false}
 pub use Rattle.std.proofs.Math.ListN.{get_or-map}
 pub use Rattle.std.proofs.Math.Logic.{∥∥₁_elim, ∥∥₁_map}
@@ -18,12 +18,12 @@ pub use Rattle.std.specs.List.{list_all, list_any}
 pub use Rattle.std.specs.Ordering.{nat_cmp}
 pub use Rattle.assise_digest.specs.Region.{RegionValue, no_log, with_inode, ReceivedLog, with_more, regrouped_from, up_to_number, ahead, digested_further}
 pub use Rattle.assise_digest.specs.Region.{HasClient, log_of, from_number, region_with_client, with_hot_capacity, digested_by, with_log}
-pub use Rattle.assise_digest.specs.Region.{region_with_client as with_client_log, ahead_below, all_ahead, alone, AreWhole, IsBegun, with_one}
-pub use Rattle.assise_history.proofs.ClientCounts.{durability-still, durability-opened, durability-other}
+pub use Rattle.assise_digest.specs.Region.{region_with_client as with_client_log, ahead_below, all_ahead, alone, AreWhole, IsBegun, with_one, without_clients}
+pub use Rattle.assise_history.proofs.Shared.ClientCounts.{durability-still, durability-opened, durability-other}
 pub use Rattle.assise_history.specs.Entries.{calls, EntryValue, crashes, fails}
 pub use Rattle.assise_history.specs.Legal.{durability_of}
-pub use Rattle.assise_inode_table.proofs.EffectLists.{get-all_applied}
-pub use Rattle.assise_inode_table.proofs.EffectValues.{get-with_value, touched-append}
+pub use Rattle.assise_inode_table.proofs.Shared.EffectLists.{get-all_applied}
+pub use Rattle.assise_inode_table.proofs.Shared.EffectValues.{get-with_value, touched-append}
 pub use Rattle.assise_inode_table.specs.Contents.{Content, values, InodeMap}
 pub use Rattle.assise_inode_table.specs.Effects.{contains, touched, all_applied, value_after}
 pub use Rattle.assise_inode_table.specs.Traces.{NumberedCall, below}
@@ -43,7 +43,7 @@ pub use Rattle.assise_machine_state.specs.Invariant.{AreAnswers, CutsInvariant, 
 pub use Rattle.assise_machine_state.specs.NodeValues.{HasLog, with_call_in, with_log_in, with_tails_cut, without_logs, AreDigested, IsDigestedTo}
 pub use Rattle.assise_machine_state.specs.NodeValues.{hot_capacities, no_region, begun_log, changed_in, new_regions, with_hot_in, with_logs_begun}
 pub use Rattle.assise_machine_state.specs.NodeValues.{with_prefixes_dropped, with_region, away, with_digested_in, with_records, AreTaken, HasGroupsOf, copied}
-pub use Rattle.assise_machine_state.specs.NodeValues.{with_next, new_region}
+pub use Rattle.assise_machine_state.specs.NodeValues.{with_next, new_region, with_copies, with_logs_ended, AreUndigested}
 unfoldable pub use Rattle.assise_machine_state.specs.NodeValues.{log_in, region_in}
 pub use Rattle.assise_machine_state.specs.Observed.{own_node, stands_full, inodes_read}
 unfoldable pub use Rattle.assise_machine_state.specs.Observed.{own_seen, world_of, is_full_in, full_in, observed}
@@ -56,22 +56,22 @@ pub use Rattle.assise_manager.specs.Changes.{noted, stale_again, failure_fault, 
 pub use Rattle.assise_manager.specs.Membership.{Membership, lowest_full, IsMembership, written_since}
 pub use Rattle.assise_manager.specs.Standings.{full_nodes, Standing, full, is_full, standing_of, returning, phase_of, down, full_from, with_standing}
 pub use Rattle.assise_manager.specs.Whole.{membership}
-pub use Rattle.assise_model_events.proofs.Regroupable.{most-above, most-below, between_length, coalesced_elsewhere, coalesced_first, coalesced_high}
+pub use Rattle.assise_model_events.proofs.Shared.Regroupable.{most-above, most-below, between_length, coalesced_elsewhere, coalesced_first, coalesced_high}
 pub use Rattle.assise_model_events.specs.Dsyncs.{besides, coalesced_from, full_elsewhere, most_of, new_groups}
 pub use Rattle.assise_model_events.specs.Machine.{Machine, with_hot, begun_as, MachineInvariant}
 pub use Rattle.assise_model_events.specs.NodeEvents.{border_marks}
-pub use Rattle.assise_model_history.proofs.NumberedCalls.{kept_call, kept_crash, kept_fail, kept_return, kept_open}
+pub use Rattle.assise_model_history.proofs.Shared.NumberedCalls.{kept_call, kept_crash, kept_fail, kept_return, kept_open}
 pub use Rattle.assise_model_history.specs.Numbered.{kept_numbered, made_in, numbered_in, plain_call}
 pub use Rattle.assise_model_history.specs.State.{down_from}
-pub use Rattle.assise_model_leases.proofs.LookUps.{revoke_of, revoked_held, revoked_one, held_one, still_revoked, written_one}
+pub use Rattle.assise_model_leases.proofs.Shared.LookUps.{revoke_of, revoked_held, revoked_one, held_one, still_revoked, written_one}
 pub use Rattle.assise_model_leases.specs.Handing.{Asks, asked_goal, is_newly_revoked, CrashesWith, FailsWithLeases, OpensAt, SameCuts, HoldsAsLeased}
 pub use Rattle.assise_model_leases.specs.Leases.{AreLeases, CoversFrom, Leases, client_lease, is_held, is_written}
 unfoldable pub use Rattle.assise_model_leases.specs.Leases.{client_records_from}
 pub use Rattle.assise_model_members.specs.Returns.{OtherAreasStay, DigestsNoted, Rejoins}
-pub use Rattle.assise_model_world.proofs.FailureKeeps.{contains-filter, filter-contains, kept_border, kept_high, kept_low}
-pub use Rattle.assise_model_world.proofs.Logs.{contains-all_effects, drop-of_drop}
-pub use Rattle.assise_model_world.proofs.WorldObserved.{end_is, digested_by_all-below, least_of-end, received_by_all-below, first-received_by_all}
-pub use Rattle.assise_model_world.proofs.WorldObserved.{least_of-below, least_of-above, digested_by_all-first, least_of-same}
+pub use Rattle.assise_model_world.proofs.Shared.FailureKeeps.{contains-filter, filter-contains, kept_border, kept_high, kept_low}
+pub use Rattle.assise_model_world.proofs.Shared.Logs.{contains-all_effects, drop-of_drop}
+pub use Rattle.assise_model_world.proofs.Shared.WorldObserved.{end_is, digested_by_all-below, least_of-end, received_by_all-below, first-received_by_all}
+pub use Rattle.assise_model_world.proofs.Shared.WorldObserved.{least_of-below, least_of-above, digested_by_all-first, least_of-same}
 pub use Rattle.assise_model_world.specs.Chances.{MayMakeCall, MayDigest, MayDeliver}
 pub use Rattle.assise_model_world.specs.ClientSteps.{RaisesGoals, MakesCall, Crashes, Opens}
 pub use Rattle.assise_model_world.specs.Invariant.{WorldInvariant}
@@ -84,8 +84,8 @@ unfoldable pub use Rattle.assise_model_world.specs.World.{undigested_records as 
 unfoldable pub use Rattle.assise_model_world.specs.World.{view, first_unreplicated}
 pub use Rattle.assise_names.specs.declared.durability.Durability.{Durability}
 pub use Rattle.assise_names.specs.declared.refusal.Refusal.{Refusal}
-pub use Rattle.assise_private_log.proofs.Borders.{border_end, border_first, border_grouped, border_marked, open_group}
-pub use Rattle.assise_private_log.proofs.LogGroups.{regrouped_all, regrouped_among, regrouped_before, regrouped_records, with_all}
+pub use Rattle.assise_private_log.proofs.Shared.Borders.{border_end, border_first, border_grouped, border_marked, open_group}
+pub use Rattle.assise_private_log.proofs.Shared.LogGroups.{regrouped_all, regrouped_among, regrouped_before, regrouped_records, with_all}
 pub use Rattle.assise_private_log.specs.NumberedLog.{NumberedLog, is_border, record_at, end as log_end, IsNumberedLog, records_from, without_tail, end}
 pub use Rattle.assise_private_log.specs.NumberedLog.{without_prefix, with_grouped, empty_log}
 pub use Rattle.assise_record.specs.Groups.{AllHaveEffects, all_coalesced, are_whole, groups_of, all_marks, all_records, marks_of}

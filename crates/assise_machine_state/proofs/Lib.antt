@@ -1,37 +1,9 @@
 mod Common
-pub mod Regions
-pub mod RecordsTaken
-pub mod ItemSeen
-pub mod HotCapacities
-pub mod StartObserved
-pub mod LogChanges
-pub mod Marks
-pub mod Standings
-pub mod Fullness
-pub mod OwnLogs
-pub mod Besides
-pub mod NodesAway
-pub mod ShapeKept
-pub mod SameObserved
-pub mod ShapedClients
-pub mod CutSeen
-pub mod Noted
-pub mod GoalObserved
-pub mod RegroupedMarks
-pub mod CoalescingSeen
-pub mod CrashObserved
-pub mod AskingSeen
-pub mod CallObserved
-pub mod OpenObserved
-pub mod ReadObserved
-pub mod ReceiptObserved
-pub mod DigestSeen
-pub mod Prefixes
-pub mod Dropped
-pub mod TouchedFrom
-pub mod AwayObserved
-pub mod JoinObserved
-pub mod Kept
-pub mod FailureSeen
-pub mod HotSeen
+pub mod Shared
+mod Regions
+mod StartObserved
+mod Besides
+mod SameObserved
+mod RegroupedMarks
+mod Prefixes
 mod Unreplicated

@@ -5,12 +5,12 @@ use Rattle.assise_machine_state.proofs.Common.{from_number, no_log, Drops, World
 use Rattle.assise_machine_state.proofs.Common.{digested_by_all-below, digested_by_all-first, least_of-end, least_of-same, received_by_all-below, after_drop}
 use Rattle.assise_machine_state.proofs.Common.{first_but, client_in, log_in, is_full_in, own_node, own_seen, world_of, IsNumber, IsMarked, ShapeInvariant}
 use Rattle.assise_machine_state.proofs.Common.{StateValue, standings}
-use Rattle.assise_model_events.proofs.LeaseSteps.{clients_after, full_after}
-use Rattle.assise_machine_state.proofs.Fullness.{full_seen, has_log, no_log_in, no_log_there, same_first, seen_full}
-use Rattle.assise_machine_state.proofs.ItemSeen.{each_number}
-use Rattle.assise_machine_state.proofs.LogChanges.{beside_seen, count_seen, inodes_seen, own_changes, own_changes_all, part_seen}
-use Rattle.assise_machine_state.proofs.Marks.{prefix_border, marked_prefix}
-use Rattle.assise_machine_state.proofs.ShapeKept.{AreMarked, kept_marks, shaped_all}
+use Rattle.assise_model_events.proofs.Shared.LeaseSteps.{clients_after, full_after}
+use Rattle.assise_machine_state.proofs.Shared.Fullness.{full_seen, has_log, no_log_in, no_log_there, same_first, seen_full}
+use Rattle.assise_machine_state.proofs.Shared.ItemSeen.{each_number}
+use Rattle.assise_machine_state.proofs.Shared.LogChanges.{beside_seen, count_seen, inodes_seen, own_changes, own_changes_all, part_seen}
+use Rattle.assise_machine_state.proofs.Shared.Marks.{prefix_border, marked_prefix}
+use Rattle.assise_machine_state.proofs.Shared.ShapeKept.{AreMarked, kept_marks, shaped_all}
 use Rattle.assise_machine_state.proofs.SameObserved.{clients_as, goals_as, leases_as}
 
 -- ---- prefixes are dropped

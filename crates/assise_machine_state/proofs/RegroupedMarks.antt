@@ -3,7 +3,7 @@ use Rattle.assise_machine_state.proofs.Common.{◌≡◌, ℕ, suc, ◌+◌, ◌
 use Rattle.assise_machine_state.proofs.Common.{cases_eq, length-append, length-map, length-take, all_marks, all_records, marks_of, LogRecord, NumberedLog}
 use Rattle.assise_machine_state.proofs.Common.{is_border, without_tail, border_first, border_marked, regrouped_all, with_all, border_marks, IsMarked}
 use Rattle.assise_private_log.specs.Groups.{groups_from, regrouped}
-use Rattle.assise_machine_state.proofs.Marks.{so_many_marks}
+use Rattle.assise_machine_state.proofs.Shared.Marks.{so_many_marks}
 
 marks_at : (f : ℕ → Bool) (k : ℕ) (ms : List Bool) (rs : List LogRecord) → length ms ≡ length rs → ((i : ℕ) → i < length rs → get_or ms i true ≡ f (k + i)) →
     ms ≡ border_marks f k rs

@@ -6,8 +6,8 @@ use Rattle.assise_machine_state.proofs.Common.{log_in, new_region, new_regions, 
 use Rattle.assise_machine_state.proofs.Common.{world_of, item_at, IsMarked, ShapeInvariant, StateValue, leases_of}
 use Rattle.assise_names.specs.declared.limits.TheConstants.{MOST_NODES}
 use Rattle.assise_model_world.specs.Runs.{begun}
-use Rattle.assise_machine_state.proofs.HotCapacities.{begun_capacities}
-use Rattle.assise_machine_state.proofs.ItemSeen.{seen_nothing}
+use Rattle.assise_machine_state.proofs.Shared.HotCapacities.{begun_capacities}
+use Rattle.assise_machine_state.proofs.Shared.ItemSeen.{seen_nothing}
 
 -- ---- what is seen of nodes
 

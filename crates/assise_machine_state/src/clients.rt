@@ -1,7 +1,6 @@
 //! What is known of all clients.
-ghost use Rattle.std.specs.Prelude.{◌≡◌, ◌==◌, ◌+◌, ◌^◌, ◌<◌, ◌≤◌, [], ◌∷◌, ◌++◌, IfOk, IsOkUnless, length, vec_capacity};
+ghost use Rattle.std.specs.Prelude.{◌≡◌, ◌==◌, ◌+◌, ◌^◌, ◌<◌, ◌≤◌, [], ◌∷◌, ◌++◌, IfOk, length, vec_capacity};
 ghost use Rattle.std.specs.Borrow.{Lends, sem};
-ghost use Rattle.assise_names.specs.declared.refusal.Refusal.TheVariants.{OutOfMemory};
 ghost use Rattle.assise_names.specs.declared.limits.TheConstants.{MOST_CLIENTS};
 ghost use Rattle.assise_machine_state.specs.ClientValues.{client_in, crashed_at, failed_at, opened_on, with_call, with_client, with_goal};
 ghost use Rattle.assise_machine_state.specs.Places.{IsNumber};
@@ -9,8 +8,7 @@ ghost use Rattle.assise_machine_state.specs.Places.{IsNumber};
 use crate::client::Client;
 use assise_names::durability::Durability;
 use assise_names::limits::MOST_CLIENTS;
-use assise_names::refusal::Refusal;
-use std::alloc::Global;
+use std::alloc::{AllocError, Global};
 use std::marker::Model;
 
 /// The clients that were opened, by their numbers, from 1 on. A contract sees their list.
@@ -36,10 +34,9 @@ impl Clients {
     ghost use Rattle.assise_machine_state.specs.contracts.client.Client.{the_row as client_row};
     ghost use Rattle.assise_machine_state.specs.contracts.clients.Clients.{the_row};
 
-    /// No clients, with room for all that may be opened. The one refusal is [`Refusal::OutOfMemory`].
-    pub fn new(alloc: Global) -> Result<Clients, Refusal>
+    /// No clients, with room for all that may be opened.
+    pub fn new(alloc: Global) -> Result<Clients, AllocError>
         ensures none { IfOk result (λ clients. clients ≡ []) }
-        ensures only_memory { IsOkUnless result OutOfMemory }
     {
         Ok(Clients {
             clients: Vec::with_capacity(alloc, MOST_CLIENTS as usize)?,

@@ -20,7 +20,7 @@ use assise_manager::members::Members;
 use assise_names::refusal::Refusal;
 use assise_private_log::log::Log;
 use assise_record::record::Record;
-use std::alloc::Global;
+use std::alloc::{AllocError, Global};
 use std::marker::Model;
 use std::vec::IntoIter;
 
@@ -45,13 +45,11 @@ impl Model for Nodes {
 }
 
 impl Nodes {
-    /// `count` nodes, each with an empty root and `hot_capacity` inodes that may be hot. The one refusal is
-    /// [`Refusal::OutOfMemory`].
-    pub fn new(alloc: Global, count: u32, hot_capacity: usize) -> Result<Nodes, Refusal>
+    /// `count` nodes, each with an empty root and `hot_capacity` inodes that may be hot.
+    pub fn new(alloc: Global, count: u32, hot_capacity: usize) -> Result<Nodes, AllocError>
         requires least { 1 ≤ hot_capacity }
         requires most { hot_capacity ≤ 4096 }
         ensures new { IfOk result (λ nodes. nodes ≡ new_regions count hot_capacity) }
-        ensures only_memory { IsOkUnless result OutOfMemory }
     {
         let mut regions = Vec::with_capacity(alloc, count as usize)?;
         for _ in 0..count {
@@ -246,16 +244,15 @@ impl Nodes {
         self.region_mut(node).touch(inode);
     }
 
-    /// Sets how many inodes may be hot at a node, 1 to 4,096. The one refusal is [`Refusal::OutOfMemory`], where fewer may be
-    /// hot than before, and it leaves all as it was, and as many hot.
-    pub fn set_hot_capacity(&mut self, node: u32, capacity: usize) -> Result<(), Refusal>
+    /// Sets how many inodes may be hot at a node, 1 to 4,096. It asks for memory where fewer may be hot than before, and it
+    /// leaves all as it was, and as many hot.
+    pub fn set_hot_capacity(&mut self, node: u32, capacity: usize) -> Result<(), AllocError>
         requires node { IsNumber self.old node }
         requires least { 1 ≤ capacity }
         requires most { capacity ≤ 4096 }
         ensures ok { OnOk result (self.new ≡ with_hot_in self.old node capacity) }
         ensures err { OnErr result (self.new ≡ self.old) }
         ensures asked { OnErr result (capacity < (region_in self.old node).capacity) }
-        ensures only_memory { IsOkUnless result OutOfMemory }
     {
         self.region_mut(node).set_hot_capacity(capacity)
     }
@@ -337,16 +334,19 @@ impl Nodes {
         self.region_mut(node).stale(inode);
     }
 
-    /// Gives a node an inode, or none. The one refusal is [`Refusal::OutOfMemory`], where it has none of that number, and it
-    /// changes nothing.
-    pub fn refill_one(&mut self, node: u32, inode: u64, value: Option<Inode>) -> Result<(), Refusal>
+    /// Gives a node an inode, or none. It asks for memory where it has none of that number, and it changes nothing.
+    pub fn refill_one(
+        &mut self,
+        node: u32,
+        inode: u64,
+        value: Option<Inode>,
+    ) -> Result<(), AllocError>
         requires node { IsNumber self.old node }
         requires quiet { IsQuiet (region_in self.old node) inode }
         ensures ok { OnOk result (self.new ≡ with_region self.old node
             (with_inode (region_in self.old node) inode value)) }
         ensures err { OnErr result (self.new ≡ self.old) }
         ensures asked { OnErr result (map.get (region_in self.old node).inodes inode ≡ None) }
-        ensures only_memory { IsOkUnless result OutOfMemory }
     {
         self.region_mut(node).refill_one(inode, value)
     }
@@ -441,11 +441,9 @@ fn end_log(region: &mut Region, client: u32)
 fn end_all(regions: &mut [Region], client: u32)
     ensures { regions.new ≡ with_logs_ended regions.old client }
 {
-    let Some((first, rest)) = regions.split_first_mut() else {
-        return;
-    };
-    end_log(first, client);
-    end_all(rest, client);
+    for region in regions.iter_mut() {
+        end_log(region, client);
+    }
 }
 
 /// Copies of all logs of a node, each with the number up to which it is digested.
@@ -465,19 +463,18 @@ fn copies_of(alloc: Global, region: &Region) -> Result<Vec<(Log, u64)>, Refusal>
 }
 
 /// A node gets these logs behind its own, of clients that live elsewhere, up to the first for which there is no memory.
-fn add_copies(region: &mut Region, mut copies: IntoIter<(Log, u64)>) -> Result<(), Refusal>
+fn add_copies(region: &mut Region, copies: IntoIter<(Log, u64)>) -> Result<(), Refusal>
     requires sound { AreTaken copies.rest.items }
     ensures ok { OnOk result (region.new ≡ with_copies region.old copies.rest.items) }
     ensures err { OnErr result (without_clients region.new ≡ without_clients region.old) }
     ensures only_memory { IsOkUnless result OutOfMemory }
 {
-    let Some((log, digested)) = copies.next() else {
-        return Ok(());
-    };
-    if region.add_client(log, digested).is_err() {
-        return Err(Refusal::OutOfMemory);
+    for (log, digested) in copies {
+        if region.add_client(log, digested).is_err() {
+            return Err(Refusal::OutOfMemory);
+        }
     }
-    add_copies(region, copies)
+    Ok(())
 }
 
 /// A node that has a log of a client lets its records below a place go.
@@ -497,11 +494,9 @@ fn drop_all(regions: &mut [Region], client: u32, to: u64)
     requires digested { AreDigested regions.old client to }
     ensures { regions.new ≡ with_prefixes_dropped regions.old client to }
 {
-    let Some((first, rest)) = regions.split_first_mut() else {
-        return;
-    };
-    drop_front(first, client, to);
-    drop_all(rest, client, to);
+    for region in regions.iter_mut() {
+        drop_front(region, client, to);
+    }
 }
 
 /// A node that has a log of a client lets its records from a place on go.
@@ -522,9 +517,7 @@ fn cut_all(regions: &mut [Region], client: u32, from: u64)
     requires elsewhere { AreUndigested regions.old client from }
     ensures { regions.new ≡ with_tails_cut regions.old client from }
 {
-    let Some((first, rest)) = regions.split_first_mut() else {
-        return;
-    };
-    cut_tail(first, client, from);
-    cut_all(rest, client, from);
+    for region in regions.iter_mut() {
+        cut_tail(region, client, from);
+    }
 }

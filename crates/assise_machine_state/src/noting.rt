@@ -5,13 +5,11 @@ use assise_lease_table::lease::Asked;
 use std::vec::IntoIter;
 
 /// Notes answers, for which there is room.
-pub fn note_all(cuts: &mut Vec<Asked>, mut asked: IntoIter<Asked>)
+pub fn note_all(cuts: &mut Vec<Asked>, asked: IntoIter<Asked>)
     requires room { length cuts.old.items + length asked.rest.items ≤ vec_capacity cuts.old }
     ensures { cuts.new.items ≡ cuts.old.items ++ asked.rest.items }
 {
-    let Some(answer) = asked.next() else {
-        return;
-    };
-    cuts.push_reserved(answer);
-    note_all(cuts, asked);
+    for answer in asked {
+        cuts.push_reserved(answer);
+    }
 }

@@ -8,7 +8,7 @@ use assise_history::history::History;
 use assise_lease_table::revoker::{Revoker, Revokes};
 use assise_manager::phase::Phase;
 use assise_names::refusal::Refusal;
-use std::alloc::Global;
+use std::alloc::{AllocError, Global};
 
 /// A state that keeps the invariant between events. An event that changes it gives it back so.
 #[derive(Drop)]
@@ -24,7 +24,7 @@ pub type Sound = SoundOf<Revoker>;
 impl<C: Revokes + Drop> SoundOf<C> {
     ghost use Rattle.std.specs.Prelude.{◌≡◌, ◌↔◌, ◌<◌, ◌≤◌, Err, IfOk, IsOk, IsOkUnless, None, OnOk, Some};
     ghost use Rattle.assise_names.specs.declared.refusal.Refusal.{Refusal as Refused};
-    ghost use Rattle.assise_names.specs.declared.refusal.Refusal.TheVariants.{BadClient, OutOfMemory};
+    ghost use Rattle.assise_names.specs.declared.refusal.Refusal.TheVariants.{BadClient};
     ghost use Rattle.assise_names.specs.declared.limits.TheConstants.{MOST_NODES};
     ghost use Rattle.assise_model_world.specs.World.{IsClient, first_unreplicated, received_by_all};
     ghost use Rattle.assise_model_events.specs.Faults.{node_fault};
@@ -33,14 +33,14 @@ impl<C: Revokes + Drop> SoundOf<C> {
     ghost use Rattle.assise_machine_state.specs.NodeValues.{new_regions, region_in};
     ghost use Rattle.assise_machine_state.specs.Places.{IsNumber};
 
-    /// A cluster in which nothing happened: 1 to `MOST_NODES` full nodes, whose clients' logs have 8 to 4,096 records at most, and 1 to
-    /// 4,096 inodes that may be hot. The one refusal is [`Refusal::OutOfMemory`].
+    /// A cluster in which nothing happened: 1 to `MOST_NODES` full nodes, whose clients' logs have 8 to 4,096 records at
+    /// most, and 1 to 4,096 inodes that may be hot.
     pub fn new(
         alloc: Global,
         nodes: u32,
         limit: usize,
         hot_capacity: usize,
-    ) -> Result<SoundOf<C>, Refusal>
+    ) -> Result<SoundOf<C>, AllocError>
         requires some_nodes { 0 < nodes }
         requires few_nodes { nodes ≤ MOST_NODES }
         requires least_limit { 8 ≤ limit }
@@ -50,7 +50,6 @@ impl<C: Revokes + Drop> SoundOf<C> {
         ensures begun { IfOk result
             (λ s. machine_of s.state ≡ begun_as nodes limit hot_capacity) }
         ensures regions { IfOk result (λ s. s.state.nodes ≡ new_regions nodes hot_capacity) }
-        ensures only_memory { IsOkUnless result OutOfMemory }
     {
         Ok(SoundOf {
             state: StateOf::new(alloc, nodes, limit, hot_capacity)?,

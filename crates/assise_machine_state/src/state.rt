@@ -1,6 +1,5 @@
 //! The whole state of a cluster.
-ghost use Rattle.std.specs.Prelude.{◌≡◌, ◌<◌, ◌≤◌, IfOk, IsOkUnless};
-ghost use Rattle.assise_names.specs.declared.refusal.Refusal.TheVariants.{OutOfMemory};
+ghost use Rattle.std.specs.Prelude.{◌≡◌, ◌<◌, ◌≤◌, IfOk};
 
 use crate::client_view::ClientView;
 use crate::clients::Clients;
@@ -10,9 +9,8 @@ use assise_lease_table::lease::Asked;
 use assise_lease_table::revoker::{Revoker, Revokes};
 use assise_lease_tree::lease_tree::LeaseTreeOf;
 use assise_manager::members::Members;
-use assise_names::refusal::Refusal;
 use assise_private_log::log::Log;
-use std::alloc::Global;
+use std::alloc::{AllocError, Global};
 
 /// The whole state of a cluster, level by level (Assise, OSDI 2020, section 3). Nodes and clients are numbered from 1.
 pub struct StateOf<C> {
@@ -51,8 +49,7 @@ impl<C: Drop> Drop for StateOf<C> {
 pub type State = StateOf<Revoker>;
 
 impl<C: Revokes + Drop> StateOf<C> {
-    ghost use Rattle.std.specs.Prelude.{◌≡◌, ◌<◌, ◌≤◌, IfOk, IsOkUnless, false};
-    ghost use Rattle.assise_names.specs.declared.refusal.Refusal.TheVariants.{OutOfMemory};
+    ghost use Rattle.std.specs.Prelude.{◌≡◌, ◌<◌, ◌≤◌, IfOk, false};
     ghost use Rattle.assise_names.specs.declared.limits.TheConstants.{MOST_NODES};
     ghost use Rattle.assise_digest.specs.Region.{AreWhole};
     ghost use Rattle.assise_private_log.specs.NumberedLog.{end};
@@ -68,14 +65,14 @@ impl<C: Revokes + Drop> StateOf<C> {
     ghost use Rattle.assise_machine_state.specs.Invariant.{CutsInvariant, ShapeInvariant};
     ghost use Rattle.assise_machine_state.specs.Whole.{machine_of, value_of};
 
-    /// A cluster in which nothing happened: 1 to `MOST_NODES` full nodes, whose clients' logs have 8 to 4,096 records at most, and 1 to
-    /// 4,096 inodes that may be hot. The one refusal is [`Refusal::OutOfMemory`].
+    /// A cluster in which nothing happened: 1 to `MOST_NODES` full nodes, whose clients' logs have 8 to 4,096 records at
+    /// most, and 1 to 4,096 inodes that may be hot.
     pub fn new(
         alloc: Global,
         nodes: u32,
         limit: usize,
         hot_capacity: usize,
-    ) -> Result<StateOf<C>, Refusal>
+    ) -> Result<StateOf<C>, AllocError>
         requires some_nodes { 0 < nodes }
         requires few_nodes { nodes ≤ MOST_NODES }
         requires least_limit { 8 ≤ limit }
@@ -86,7 +83,6 @@ impl<C: Revokes + Drop> StateOf<C> {
         ensures shape { IfOk result (λ s. ShapeInvariant (value_of s)) }
         ensures noted { IfOk result (λ s. CutsInvariant (value_of s)) }
         ensures regions { IfOk result (λ s. s.nodes ≡ new_regions nodes hot_capacity) }
-        ensures only_memory { IsOkUnless result OutOfMemory }
     {
         Ok(StateOf {
             nodes: Nodes::new(alloc, nodes, hot_capacity)?,

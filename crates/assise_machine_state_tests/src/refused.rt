@@ -7,7 +7,7 @@ use assise_machine_state::sound::Sound;
 use assise_names::durability::Durability;
 use assise_names::limits::MOST_CLIENTS;
 use assise_names::refusal::Refusal;
-use std::alloc::Global;
+use std::alloc::{AllocError, Global};
 
 /// A table of clients, with all that there may be.
 fn opens(alloc: Global) -> Result<bool, Refusal> {
@@ -28,8 +28,7 @@ fn refills(alloc: Global) -> Result<bool, Refusal> {
     }
     match nodes.refill_one(2, 9, Some(Inode::new_file(alloc))) {
         Ok(()) => Ok(!has_inode(&nodes, 1) && has_inode(&nodes, 2)),
-        Err(Refusal::OutOfMemory) => Ok(!has_inode(&nodes, 1) && !has_inode(&nodes, 2)),
-        Err(_) => Ok(false),
+        Err(AllocError) => Ok(!has_inode(&nodes, 1) && !has_inode(&nodes, 2)),
     }
 }
 

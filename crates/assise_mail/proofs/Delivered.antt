@@ -3,8 +3,8 @@ use Rattle.assise_mail.proofs.Common.{◌≡◌, ℕ, Bool, true, false, cond, �
 use Rattle.assise_mail.proofs.Common.{append-nil, arith, drop_of_length-le, ne_eqb, same_path, Done, TreeError, Exists, Call, IsRun, tree_after, ◌>>=◌, answer}
 use Rattle.assise_mail.proofs.Common.{as_directory, create_answer, last_name, parent_of, reply_and_tree, rename_answer, room_at, room_for, write_answer, Tree}
 use Rattle.assise_mail.proofs.Common.{Entries, at, dir, file, put, bytes_after, wrote, AllLeave, IsDelivery}
-use Rattle.assise_seq_tree.proofs.Paths.{put_stands}
-use Rattle.assise_seq_tree.proofs.Renamed.{stands_at_its_new_path}
+use Rattle.assise_seq_tree.proofs.Shared.Paths.{put_stands}
+use Rattle.assise_seq_tree.proofs.Shared.Renamed.{stands_at_its_new_path}
 use Rattle.assise_mail.proofs.Left.{all_leave}
 
 -- ---- the three calls

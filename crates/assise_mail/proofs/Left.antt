@@ -4,7 +4,7 @@ use Rattle.assise_mail.proofs.Common.{◌∙◌, arith, Contains-append_right, s
 use Rattle.assise_mail.proofs.Common.{Stat, Fsync, Dsync, Done, Error, TreeError, TooBig, Call, IsRun, tree_after, ◌>>=◌, answer, room_at, file_at, entries_at}
 use Rattle.assise_mail.proofs.Common.{may_rename, may_unlink, may_rmdir, reply_and_tree, overwritten, is_within, resized, Tree, file, dir, no_entries, at, put}
 use Rattle.assise_mail.proofs.Common.{without, AllLeave, Leaves, only_looks}
-use Rattle.assise_seq_tree.proofs.Calls.{list_leaves, read_leaves, rest_is_left, stat_leaves}
+use Rattle.assise_seq_tree.proofs.Shared.Calls.{list_leaves, read_leaves, rest_is_left, stat_leaves}
 
 -- ---- a call that only looks
 

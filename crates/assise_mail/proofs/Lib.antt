@@ -1,7 +1,7 @@
 mod Common
-pub mod Left
-pub mod Delivered
-pub mod Unlost
-pub mod Synced
-pub mod Readers
-pub mod Stopped
+mod Left
+mod Delivered
+mod Unlost
+mod Synced
+mod Readers
+mod Stopped

@@ -7,9 +7,9 @@ use Rattle.std.proofs.lemmas.List.{map_push, take_more}
 use Rattle.assise_names.specs.contracts.reply.ReplyPartialEq.TheImpl.{eq-value}
 use Rattle.assise_names.specs.declared.refusal.Refusal.{Refusal}
 use Rattle.assise_names.specs.declared.reply.Reply.{Reply}
-use Rattle.assise_history.proofs.Replies.{equal_replies}
+use Rattle.assise_history.proofs.Shared.Replies.{equal_replies}
 use Rattle.assise_libfs.specs.Calling.{SeesCall}
-use Rattle.assise_workers.proofs.Lists.{one_more_of}
+use Rattle.assise_workers.proofs.Shared.Lists.{one_more_of}
 use Rattle.assise_mail.specs.declared.fault.MailFault.{MailFault}
 use Rattle.assise_mail.specs.declared.due_call.DueCall.{DueCall}
 

@@ -3,8 +3,8 @@ use Rattle.assise_mail.proofs.Common.{◌≡◌, ℕ, ◌+◌, ◌<◌, true, fa
 use Rattle.assise_mail.proofs.Common.{eq-eqb, append_assoc, false_from_ne_true, Durability, Call, EntryValue, opens, calls, fails, IsTaken, is_lost, Fits}
 use Rattle.assise_mail.proofs.Common.{IsFair, IsLegal, IsNextCall, MayCall, MayLose, calls_made, is_failure_of, syncs, made_append, next_opened, opened_within}
 use Rattle.assise_mail.proofs.Common.{along, fits_in, prefix_in, taken, is_lost-append}
-use Rattle.assise_history.proofs.LivesOneMore.{StillCalls, may_call-last, one_place}
-use Rattle.assise_history.proofs.TestedElements.{cut_end, not_nil}
+use Rattle.assise_history.proofs.Shared.LivesOneMore.{StillCalls, may_call-last, one_place}
+use Rattle.assise_history.proofs.Shared.TestedElements.{cut_end, not_nil}
 
 one_of : (e f : EntryValue) (before behind : List EntryValue) → e ∷ [] ≡ before ++ f ∷ behind → e ≡ f
 one_of e f [] behind same = cc

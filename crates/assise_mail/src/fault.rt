@@ -43,6 +43,12 @@ impl From<Refusal> for MailFault {
 }
 
 impl From<AllocError> for MailFault {
+    ghost use Rattle.std.specs.Prelude.{◌≡◌};
+    ghost use Rattle.assise_names.specs.declared.refusal.Refusal.TheVariants.{OutOfMemory};
+    ghost use Rattle.assise_mail.specs.declared.fault.MailFault.TheVariants.{Refused};
+
+    ghost from_gives = { λ _ fault. fault ≡ Refused OutOfMemory };
+
     fn from(_error: AllocError) -> MailFault {
         MailFault::Refused(Refusal::OutOfMemory)
     }

@@ -1,5 +1,5 @@
 //! Messages in a file system.
-ghost use Rattle.std.specs.Prelude.{◌≡◌, ◌⊎◌, IfErr, IfOk, IsOkUnless, OnOk, Ok};
+ghost use Rattle.std.specs.Prelude.{◌≡◌, ◌⊎◌, IfErr, IfOk, OnOk, Ok};
 ghost use Rattle.assise_names.specs.declared.call.Op.TheVariants.{List as ListCall, Read};
 ghost use Rattle.assise_names.specs.declared.refusal.Refusal.TheVariants.{OutOfMemory};
 ghost use Rattle.assise_names.specs.declared.reply.Reply.TheVariants.{Bytes, Names};
@@ -18,16 +18,15 @@ use assise_names::name_list::NameList;
 use assise_names::path::Path;
 use assise_names::refusal::Refusal;
 use assise_names::reply::{Reply, TreeError};
-use std::alloc::Global;
+use std::alloc::{AllocError, Global};
 use std::sync::Wait;
 
 /// The most bytes of a message.
 pub const MOST_MESSAGE: u64 = 65_536;
 
-/// Two equal paths, or [`Refusal::OutOfMemory`].
-fn twice(path: &Path) -> Result<(Path, Path), Refusal>
+/// Two equal paths.
+fn twice(path: &Path) -> Result<(Path, Path), AllocError>
     ensures equal { IfOk result (λ both. (both.0 ≡ path.now) × (both.1 ≡ path.now)) }
-    ensures only_memory { IsOkUnless result OutOfMemory }
 {
     let first = path.copy()?;
     Ok((first, path.copy()?))

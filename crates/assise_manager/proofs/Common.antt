@@ -10,7 +10,7 @@ pub use Rattle.std.proofs.lemmas.List.Folds.{list_any-append, list_any_at}
 pub use Rattle.std.proofs.lemmas.Map.Keys.{sorted_from_strictly_increasing, below_from_sorted, IsStrictlyIncreasing-dedup}
 pub use Rattle.std.proofs.lemmas.Option.{none-some, same_Some, slice_get-map}
 pub use Rattle.std.specs.Cmp.{IsEquivalence, nat_cmp_total, Equal-is, tied_itself, nat_cmp_is, unsigned_tied}
-pub use Rattle.std.specs.FinSet.{members, contains-from_list, contains-insert, contains-remove, contains-empty, len-insert, nat_cmp-IsAntisymmetric}
+pub use Rattle.std.specs.FinSet.{members, from_list, contains-from_list, contains-insert, contains-remove, contains-empty, len-insert, nat_cmp-IsAntisymmetric}
 pub use Rattle.std.specs.FinSet.{contains-union, same_set, from_list_push}
 pub use Rattle.std.specs.List.{list_any, insert, dedup, slice_index_or, slice_get, AllByRecursion, slice_set, list_all}
 pub use Rattle.std.specs.List.Sorted.{IsNonDecreasingBy, IsPartitionPoint, IsPermutation}
@@ -24,7 +24,7 @@ pub use Rattle.assise_manager.specs.Changes.{filling_fault, copied_as, with_copi
 pub use Rattle.assise_manager.specs.Changes.{stale_of, IsLowestOf}
 pub use Rattle.assise_manager.specs.Membership.{Membership, IsMembership, first_listed, all_inodes, written_since, lowest_full, is_listed, is_known}
 pub use Rattle.assise_manager.specs.NodeLevels.{greater, joined_levels, level_of, plains}
-pub use Rattle.assise_manager.specs.Seen.{listed_inodes, has_list_room, has_last_room, standing, stale_inodes, listed_since, lowest_besides}
+pub use Rattle.assise_manager.specs.Seen.{listed_inodes, has_list_room, has_node_room, has_last_room, standing, stale_inodes, listed_since, lowest_besides}
 pub use Rattle.assise_manager.specs.Standings.{Standing, is_full, full_nodes, standing_of, with_standing, returning, full_from}
 pub use Rattle.assise_manager.specs.Standings.Standing.{full, down}
 pub use Rattle.assise_manager.specs.Whole.{membership}

@@ -1,7 +1,5 @@
 mod Common
-pub mod Sets
-pub mod AscendingSets
-pub mod Places
-pub mod Nodes
-pub mod Lawful
-pub mod Lasts
+pub mod Shared
+mod AscendingSets
+mod Places
+mod Lasts

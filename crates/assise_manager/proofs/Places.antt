@@ -12,8 +12,8 @@ use Rattle.std.specs.FinSet as set
 use Rattle.assise_manager.specs.declared.node.Node.{Node}
 use Rattle.assise_manager.specs.declared.node.Node.TheVariants.{Full}
 use Rattle.assise_manager.specs.declared.node.Return.{Return}
-use Rattle.assise_manager.proofs.Nodes.{full_from_set_away, count_all_full, all_full_count, set_place}
-use Rattle.assise_manager.proofs.Lawful.{known_of, copied_lawful, listed_both, one_fewer, same_first}
+use Rattle.assise_manager.proofs.Shared.Nodes.{full_from_set_away, count_all_full, all_full_count, set_place}
+use Rattle.assise_manager.proofs.Shared.Lawful.{known_of, copied_lawful, listed_both, one_fewer, same_first}
 use Rattle.assise_manager.proofs.AscendingSets.{lowest_or_none}
 use Rattle.assise_manager.specs.Standings.{full, down}
 

@@ -13,7 +13,7 @@ use crate::phase::Phase;
 use crate::stale_set::StaleSet;
 use crate::written_list::{WrittenList, insert_last, reserve_last};
 use assise_names::refusal::Refusal;
-use std::alloc::Global;
+use std::alloc::{AllocError, Global};
 use std::collections::VecDeque;
 
 /// The nodes of a cluster: which are full, which are down or come back, in which epoch, and which inodes were written while
@@ -60,11 +60,10 @@ impl Members {
     ghost use Rattle.assise_manager.specs.Standings.{full, returning, full_nodes, standing_of, phase_of};
     ghost use Rattle.assise_manager.specs.Whole.{membership, has_room_for};
 
-    /// `count` full nodes at the first level, in epoch 1. The one refusal is [`Refusal::OutOfMemory`].
-    pub fn new(alloc: Global, count: u32) -> Result<Members, Refusal>
+    /// `count` full nodes at the first level, in epoch 1.
+    pub fn new(alloc: Global, count: u32) -> Result<Members, AllocError>
         requires some { 0 < count }
         ensures full { IfOk result (λ m. membership m ≡ all_full count) }
-        ensures only_memory { IsOkUnless result OutOfMemory }
     {
         let mut nodes = Vec::with_capacity(alloc, count as usize)?;
         let mut full = Vec::with_capacity(alloc, count as usize)?;
@@ -183,7 +182,7 @@ impl Members {
     {
         match self.node(node)? {
             Node::Full if self.full.len() == 1 => Err(Refusal::LastNode),
-            Node::Full => self.fail_full(node, inodes),
+            Node::Full => Ok(self.fail_full(node, inodes)?),
             Node::Down(_) => Err(Refusal::WrongPhase),
             Node::Returning(returning) => {
                 let since = returning.since;
@@ -294,11 +293,10 @@ impl Members {
         Ok(())
     }
 
-    /// Makes room for `count` inodes that are written at a node. The one refusal is [`Refusal::OutOfMemory`].
-    pub fn reserve_written(&mut self, node: u32, count: usize) -> Result<(), Refusal>
+    /// Makes room for `count` inodes that are written at a node.
+    pub fn reserve_written(&mut self, node: u32, count: usize) -> Result<(), AllocError>
         ensures same { membership self.new ≡ membership self.old }
         ensures room { OnOk result (has_room_for self.new node count ≡ true) }
-        ensures only_memory { IsOkUnless result OutOfMemory }
     {
         reserve_last(&mut self.written, count)?;
         reserve_all(&mut self.nodes, node, count)?;
@@ -316,13 +314,11 @@ impl Members {
         note_all(&mut self.nodes, node, inodes);
     }
 
-    /// Inodes are written at a full node, as [`Members::note_reserved`] says. The one refusal is [`Refusal::OutOfMemory`],
-    /// and then all is as it was.
-    pub fn note_written(&mut self, node: u32, inodes: &[u64]) -> Result<(), Refusal>
+    /// Inodes are written at a full node, as [`Members::note_reserved`] says. Without memory all is as it was.
+    pub fn note_written(&mut self, node: u32, inodes: &[u64]) -> Result<(), AllocError>
         ensures ok { OnOk result (membership self.new ≡ noted (membership self.old) node
             (set.from_list inodes.now)) }
         ensures err { OnErr result (membership self.new ≡ membership self.old) }
-        ensures only_memory { IsOkUnless result OutOfMemory }
     {
         self.reserve_written(node, inodes.len())?;
         self.note_reserved(node, inodes);
@@ -389,14 +385,13 @@ impl Members {
     }
 
     /// A full node that isn't the only one fails.
-    fn fail_full(&mut self, node: u32, inodes: &[u64]) -> Result<(), Refusal>
+    fn fail_full(&mut self, node: u32, inodes: &[u64]) -> Result<(), AllocError>
         requires epoch_fits { (membership self.old).epoch + 1 < 2 ^ 64 }
         requires full { standing_of (membership self.old).nodes node ≡ Some full }
         requires others { 1 < length (full_nodes (membership self.old).nodes) }
         ensures ok { OnOk result (membership self.new ≡ failed (membership self.old) node
             (set.from_list inodes.now)) }
         ensures err { OnErr result (membership self.new ≡ membership self.old) }
-        ensures only_memory { IsOkUnless result OutOfMemory }
     {
         let list = WrittenList::of(self.alloc, inodes)?;
         let first = self.epoch + 1 - self.written.len() as u64;

@@ -1,8 +1,7 @@
 //! One node of the cluster.
-ghost use Rattle.std.specs.Prelude.{◌≡◌, ℕ, ◌<◌, ◌≤◌, ◌^◌, ◌-◌, IsSome, Some, None, option_map, option_copied, IfOk, IsOkUnless, OnErr, OnOk, drop, length, map, true, vec_capacity};
+ghost use Rattle.std.specs.Prelude.{◌≡◌, ℕ, ◌<◌, ◌≤◌, ◌^◌, ◌-◌, IsSome, Some, None, option_map, option_copied, IfOk, OnErr, OnOk, drop, length, map, true, vec_capacity};
 ghost use Rattle.std.specs.FinSet as set;
 ghost use Rattle.std.specs.List.{list_all};
-ghost use Rattle.assise_names.specs.declared.refusal.Refusal.TheVariants.{OutOfMemory};
 ghost use Rattle.assise_manager.specs.Changes.{IsLowestOf, copied_as, is_returning, refilled_from, stale_again, stale_of, without_stale};
 ghost use Rattle.assise_manager.specs.Membership.{all_inodes};
 ghost use Rattle.assise_manager.specs.Seen.{listed_since, lowest_besides, standing, standing_or, has_node_room};
@@ -10,7 +9,6 @@ ghost use Rattle.assise_manager.specs.Standings.{is_full, full_nodes, standing_o
 
 use crate::stale_set::StaleSet;
 use crate::written_list::WrittenList;
-use assise_names::refusal::Refusal;
 use std::alloc::{AllocError, Global};
 
 /// How a node stands, with what is known of it.
@@ -87,11 +85,10 @@ impl Node {
     }
 
     /// What is known of it once a full node failed, if that changes: who was filled from there starts over from another.
-    fn started_over(&self, refill: &Refill<'_>) -> Result<Option<Return>, Refusal>
+    fn started_over(&self, refill: &Refill<'_>) -> Result<Option<Return>, AllocError>
         ensures over { IfOk result (λ r. standing_or r (standing self.now) ≡ refilled_from
             (listed_since refill.now.lists.now refill.now.first) refill.now.donor refill.now.failed
             (standing self.now)) }
-        ensures only_memory { IsOkUnless result OutOfMemory }
     {
         let Node::Returning(returning) = self else {
             return Ok(None);
@@ -131,13 +128,12 @@ pub(crate) fn written_since(lists: &[WrittenList], first: u64, since: u64) -> &[
 }
 
 /// Nodes that were filled from a failed one start over from another. Where there is no memory nothing changes.
-pub(crate) fn refill_all(nodes: &mut [Node], refill: &Refill<'_>) -> Result<(), Refusal>
+pub(crate) fn refill_all(nodes: &mut [Node], refill: &Refill<'_>) -> Result<(), AllocError>
     ensures len { length nodes.new ≡ length nodes.old }
     ensures ok { OnOk result (map standing nodes.new ≡ map
         (refilled_from (listed_since refill.now.lists.now refill.now.first) refill.now.donor
         refill.now.failed) (map standing nodes.old)) }
     ensures err { OnErr result (map standing nodes.new ≡ map standing nodes.old) }
-    ensures only_memory { IsOkUnless result OutOfMemory }
 {
     let Some((node, rest)) = nodes.split_first_mut() else {
         return Ok(());
@@ -170,11 +166,9 @@ pub(crate) fn note_all(nodes: &mut [Node], node: u32, inodes: &[u64])
     ensures nodes { map standing nodes.new ≡ map (stale_again node (set.from_list inodes.now))
         (map standing nodes.old) }
 {
-    let Some((first, rest)) = nodes.split_first_mut() else {
-        return;
-    };
-    first.note_reserved(node, inodes);
-    note_all(rest, node, inodes);
+    for one in nodes.iter_mut() {
+        one.note_reserved(node, inodes);
+    }
 }
 
 /// Lists the numbers of the full nodes anew. It takes no memory.

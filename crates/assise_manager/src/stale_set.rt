@@ -4,7 +4,6 @@ ghost use Rattle.std.specs.Ordering.{nat_cmp};
 ghost use Rattle.std.proofs.Props.{props};
 
 use crate::written_list::WrittenList;
-use assise_names::refusal::Refusal;
 use std::alloc::{AllocError, Global};
 use std::collections::VecDeque;
 
@@ -16,19 +15,17 @@ pub(crate) struct StaleSet {
 }
 
 impl StaleSet {
-    ghost use Rattle.std.specs.Prelude.{◌≡◌, ◌+◌, ◌≤◌, IfOk, IfSome, IsOkUnless, None, OnOk, length, map, true, ℕ};
+    ghost use Rattle.std.specs.Prelude.{◌≡◌, ◌+◌, ◌≤◌, IfOk, IfSome, None, OnOk, length, map, true, ℕ};
     ghost use Rattle.std.specs.VecDeque.{deque_len, deque_capacity};
     ghost use Rattle.std.specs.FinSet as set;
-    ghost use Rattle.assise_names.specs.declared.refusal.Refusal.TheVariants.{OutOfMemory};
     ghost use Rattle.assise_manager.specs.Changes.{IsLowest};
     ghost use Rattle.assise_manager.specs.Membership.{all_inodes};
     ghost use Rattle.assise_manager.specs.Seen.{listed_inodes, stale_inodes, has_stale_room};
 
     /// All inodes of some lists.
-    pub(crate) fn of(alloc: Global, lists: &[WrittenList]) -> Result<StaleSet, Refusal>
+    pub(crate) fn of(alloc: Global, lists: &[WrittenList]) -> Result<StaleSet, AllocError>
         ensures inodes { IfOk result (λ s. stale_inodes s ≡ all_inodes
             (map listed_inodes lists.now)) }
-        ensures only_memory { IsOkUnless result OutOfMemory }
     {
         let mut inodes = Vec::new(alloc);
         for list in lists {

@@ -1,12 +1,10 @@
 //! Inodes that were written in an epoch.
-ghost use Rattle.std.specs.Prelude.{◌≡◌, ◌≤◌, IfOk, IsOk, IsOkUnless, OnOk, length, map, nat_eq, true};
+ghost use Rattle.std.specs.Prelude.{◌≡◌, ◌≤◌, IfOk, IsOk, OnOk, length, map, nat_eq, true};
 ghost use Rattle.std.specs.FinSet as set;
 ghost use Rattle.std.specs.List.{IsDistinct};
-ghost use Rattle.assise_names.specs.declared.refusal.Refusal.TheVariants.{OutOfMemory};
 ghost use Rattle.assise_manager.specs.Changes.{with_written};
 ghost use Rattle.assise_manager.specs.Seen.{listed_inodes, has_last_room, has_list_room};
 
-use assise_names::refusal::Refusal;
 use indexmap::IndexSet;
 use std::alloc::{AllocError, Global};
 
@@ -27,9 +25,8 @@ impl WrittenList {
     }
 
     /// The inodes of a list, which may have one many times.
-    pub(crate) fn of(alloc: Global, inodes: &[u64]) -> Result<WrittenList, Refusal>
+    pub(crate) fn of(alloc: Global, inodes: &[u64]) -> Result<WrittenList, AllocError>
         ensures inodes { IfOk result (λ l. listed_inodes l ≡ set.from_list inodes.now) }
-        ensures only_memory { IsOkUnless result OutOfMemory }
     {
         let mut list = WrittenList::new(alloc);
         list.reserve(inodes.len())?;

@@ -9,14 +9,14 @@ use Rattle.assise_model_events.proofs.Common.{not_yet, received, refused, replie
 use Rattle.assise_model_events.proofs.Common.{is_failed_again, is_joined, Delivering, Digesting, Releasing, is_released, is_ready, most_digested, undigested_to}
 use Rattle.assise_seq_tree.specs.Answer.{answer}
 use Rattle.assise_manager.specs.Standings.{full}
-use Rattle.assise_model_leases.proofs.LookUps.{revoked_serves}
-use Rattle.assise_model_leases.proofs.Waiters.{asked_other, asked_in_way, asked_elsewhere}
-use Rattle.assise_model_history.proofs.RecordKeeps.{same_tree}
+use Rattle.assise_model_leases.proofs.Shared.LookUps.{revoked_serves}
+use Rattle.assise_model_leases.proofs.Shared.Waiters.{asked_other, asked_in_way, asked_elsewhere}
+use Rattle.assise_model_history.proofs.Shared.RecordKeeps.{same_tree}
 use Rattle.assise_model_events.specs.Dsyncs.{is_refused, is_synced, lacks_memory}
 use Rattle.assise_model_events.specs.MemberEvents.{is_refused, lacks_memory}
 use Rattle.assise_model_events.specs.NodeEvents.{is_digested, is_refused, lacks_memory}
 use Rattle.assise_model_events.specs.Outcomes.{AwaitsLease}
-use Rattle.assise_model_events.proofs.LeaseSteps.{comes_to}
+use Rattle.assise_model_events.proofs.Shared.LeaseSteps.{comes_to}
 use Rattle.assise_model_events.proofs.ReleaseKeeps.{freed_same}
 
 -- ---- grants

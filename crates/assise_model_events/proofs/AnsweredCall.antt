@@ -2,7 +2,7 @@
 use Rattle.assise_model_events.proofs.Common.{◌≡◌, ℕ, ◌+◌, ◌<◌, ◌≤◌, true, [], ◌∷◌, ◌++◌, length, ap, arith, length-append, cases_eq, calls, syncs, has_some}
 use Rattle.assise_model_events.proofs.Common.{NumberedCall, MakesCall, World, end_of_log, received_by_all, step_at_home, EntryHappens, call, plain_call}
 use Rattle.assise_model_events.proofs.Common.{call_entry, Machine, MachineInvariant, Adds, state_of}
-use Rattle.assise_model_events.proofs.EventTraces.{with_world}
+use Rattle.assise_model_events.proofs.Shared.EventTraces.{with_world}
 
 -- the entry has the number that the client's next call has
 entry_of : (m m' : Machine) (x : NumberedCall) → MachineInvariant m → x.number ≡ m.world.next x.client → Adds m (call_entry m.history x.client x.op x.reply) m'

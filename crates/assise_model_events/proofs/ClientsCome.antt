@@ -6,13 +6,13 @@ use Rattle.assise_model_events.proofs.Common.{create_op, Calling, Crashing, Gran
 use Rattle.assise_model_events.proofs.Common.{IsMissing, call_of_client, Coalescing, coalesced_from, Answer, crash, crashed, not_yet, open_client, opened}
 use Rattle.assise_model_events.proofs.Common.{refused, replied, client_fault, MachineInvariant, Machine, Comes, IsReached}
 use Rattle.assise_model_events.specs.Dsyncs.{is_refused, lacks_memory}
-use Rattle.assise_model_events.proofs.Answerable.{awaited_can, crashed_can, opened_can, replicating_can, synced_can}
+use Rattle.assise_model_events.proofs.Shared.Answerable.{awaited_can, crashed_can, opened_can, replicating_can, synced_can}
 use Rattle.assise_model_events.proofs.ReachedCreate.{HasFile, file_made, has_file, has_file_as}
 use Rattle.assise_model_events.proofs.Trace.{HasLeases, IsOpen, has_effects, is_open, is_open_as, leases_had, reaches, served, tried, start, start_holds}
 use Rattle.assise_model_events.proofs.Trace.{start_reached}
-use Rattle.assise_model_events.proofs.EachEvent.{event_keeps}
-use Rattle.assise_model_events.proofs.LackAnswerable.{keeps_them, memory_can, with_granted}
-use Rattle.assise_model_events.proofs.Regroupable.{coalesced_can, coalescing_synced}
+use Rattle.assise_model_events.proofs.Shared.EachEvent.{event_keeps}
+use Rattle.assise_model_events.proofs.Shared.LackAnswerable.{keeps_them, memory_can, with_granted}
+use Rattle.assise_model_events.proofs.Shared.Regroupable.{coalesced_can, coalescing_synced}
 use Rattle.assise_model_events.proofs.MembersCome.{falls}
 
 -- ---- a client is opened

@@ -8,7 +8,7 @@ pub use Rattle.std.proofs.lemmas.List.{length-map, length-drop, length-take, nil
 pub use Rattle.std.proofs.lemmas.Option.{none-some, same_Some}
 pub use Rattle.std.specs.List.{slice_set, list_any, slice_get}
 pub use Rattle.std.specs.Ordering.{nat_cmp}
-pub use Rattle.assise_history.proofs.ClientCounts.{durability-still, early}
+pub use Rattle.assise_history.proofs.Shared.ClientCounts.{durability-still, early}
 pub use Rattle.assise_history.specs.Entries.{crashes, opens, calls, EntryValue, fails, returns}
 pub use Rattle.assise_history.specs.Kept.{kept, tree_after, IsRun}
 pub use Rattle.assise_history.specs.Legal.{is_sync, syncs, durability_of, calls_made, IsFair}
@@ -20,12 +20,12 @@ pub use Rattle.assise_inode_table.specs.Numbers.{inode_number}
 pub use Rattle.assise_inode_table.specs.Traces.{NumberedCall, Each}
 pub use Rattle.assise_lease_table.specs.Leases.{new_lease, revoke, lease_of, without_holder, is_own, serves, Among}
 pub use Rattle.assise_lease_table.specs.declared.lease.Lease.{Lease}
-pub use Rattle.assise_lease_tree.proofs.Lookups.{without_other, without_own}
+pub use Rattle.assise_lease_tree.proofs.Shared.Lookups.{without_other, without_own}
 pub use Rattle.assise_lease_tree.specs.Levels.{lives, is_busy, is_revoked, nodes_released}
 unfoldable pub use Rattle.assise_lease_tree.specs.Levels.{in_way, clients_granted, nodes_granted}
 pub use Rattle.assise_lease_tree.specs.TwoLevels.{is_free_for, IsIdle, TwoLevels, nobody}
-pub use Rattle.assise_manager.proofs.Lawful.{raised_lawful, all_full_lawful}
-pub use Rattle.assise_manager.proofs.Nodes.{never, one_full_less}
+pub use Rattle.assise_manager.proofs.Shared.Lawful.{raised_lawful, all_full_lawful}
+pub use Rattle.assise_manager.proofs.Shared.Nodes.{never, one_full_less}
 pub use Rattle.assise_manager.specs.Changes.{join_fault, is_returning, stale_again, failure_fault, failure_fault_of, failed_as, all_full}
 pub use Rattle.assise_manager.specs.Changes.{failed as failed_members, back as back_members, stale_of, raised as with_raised, filling_fault, filling_fault_of}
 pub use Rattle.assise_manager.specs.Changes.{join_fault_of, return_fault, back_as, copied_as, fulls}
@@ -51,10 +51,11 @@ pub use Rattle.assise_model_events.specs.NodeEvents.{part_of, DigestsNext, Diges
 pub use Rattle.assise_model_events.specs.NodeEvents.{world_after, frames_to, is_delivered, is_sent, is_set, is_stale, undigested, Gone, LetsGo, IsReleased}
 pub use Rattle.assise_model_events.specs.NodeEvents.Digesting.{is_digested}
 pub use Rattle.assise_model_events.specs.Reached.{Comes, IsReached}
-pub use Rattle.assise_model_history.proofs.FailureList.{exactly_lost, cut_there, is_left, least_kept, others_of}
-pub use Rattle.assise_model_history.proofs.LossReached.{create_op, IsNew, creation, first_step, step_is, create_step, creates, empty_root, no_links, of_either}
-pub use Rattle.assise_model_history.proofs.LossReached.{sees_root, made_number, may_create}
-pub use Rattle.assise_model_history.proofs.TracesKeep.{trace_sound, trace_recorded, begun_sound, begun_recorded, node_of, of_node, trace_lasts, kept_of}
+pub use Rattle.assise_model_history.proofs.Shared.FailureList.{exactly_lost, cut_there, is_left, least_kept, others_of}
+pub use Rattle.assise_model_history.proofs.Shared.LossReached.{create_op, IsNew, opened_new, creation, first_step, step_is}
+pub use Rattle.assise_model_history.proofs.Shared.LossReached.{create_step, creates, empty_root, no_links, of_either}
+pub use Rattle.assise_model_history.proofs.Shared.LossReached.{sees_root, made_number, may_create}
+pub use Rattle.assise_model_history.proofs.Shared.TracesKeep.{trace_sound, trace_recorded, begun_sound, begun_recorded, node_of, of_node, trace_lasts, kept_of}
 pub use Rattle.assise_model_history.specs.Entered.{raises_goals, coalesces, NeedsNoEntry, acquires}
 pub use Rattle.assise_model_history.specs.Entered.NeedsNoEntry.{delivers, digests, drops, rests, releases}
 pub use Rattle.assise_model_history.specs.Lost.{IsFirstLost, losses_of}
@@ -62,26 +63,28 @@ pub use Rattle.assise_model_history.specs.Numbered.{plain_call}
 pub use Rattle.assise_model_history.specs.State.{State, IsRecorded, IsNode, begun_with, down_from}
 pub use Rattle.assise_model_history.specs.Traces.{EntryHappens, call, IsTrace, last_of, quiet, opening, IsLasting, IsSafe}
 pub use Rattle.assise_model_history.specs.Traces.EntryHappens.{failure, failure_again, comeback}
-pub use Rattle.assise_model_leases.proofs.ClientEnds.{fail_keeps as leases_fail, crash_keeps}
-pub use Rattle.assise_model_leases.proofs.Possible.{may_open_at, may_call_under, may_ask, may_crash_with, may_grant, with_at, becomes, holding, holds_them}
-pub use Rattle.assise_model_leases.proofs.QuietLeases.{call_keeps, logs_keep, drop_keeps, coalesced_keeps, revoked_holder, holder_home, open_keeps}
+pub use Rattle.assise_model_leases.proofs.Shared.ClientEnds.{fail_keeps as leases_fail, crash_keeps}
+pub use Rattle.assise_model_leases.proofs.Shared.Possible.{may_open_at, may_call_under, may_ask, may_crash_with}
+pub use Rattle.assise_model_leases.proofs.Shared.Possible.{may_grant, with_at, becomes, holding, holds_them}
+pub use Rattle.assise_model_leases.proofs.Shared.QuietLeases.{call_keeps, logs_keep, drop_keeps, coalesced_keeps, revoked_holder, holder_home, open_keeps}
 pub use Rattle.assise_model_leases.specs.Chances.{MayCallUnder}
 pub use Rattle.assise_model_leases.specs.Handing.{Grants, asked_goal, FailsWithLeases as LeasesFail, CallsUnder, ReleasesReady}
 pub use Rattle.assise_model_leases.specs.Leases.{Leases, client_lease, IsRevokedLease, AreLeases, is_held, is_written}
-pub use Rattle.assise_model_members.proofs.DigestNoted.{areas_keep, keeps_areas, digest_keeps}
-pub use Rattle.assise_model_members.proofs.NodeChanged.{again_keeps, back_keeps, refill_keeps}
-pub use Rattle.assise_model_members.proofs.NodeStandings.{lowest_stands, set_here, set_else, returning_is, same_stale, none_failed}
-pub use Rattle.assise_model_members.proofs.StepsPossible.{may_digest, may_fail, may_fail_again, may_list, may_come_back, may_fill_one, may_refill, may_rejoin}
+pub use Rattle.assise_model_members.proofs.Shared.DigestNoted.{areas_keep, keeps_areas, digest_keeps}
+pub use Rattle.assise_model_members.proofs.Shared.NodeChanged.{again_keeps, back_keeps, refill_keeps}
+pub use Rattle.assise_model_members.proofs.Shared.NodeStandings.{lowest_stands, set_here, set_else, returning_is, same_stale, none_failed}
+pub use Rattle.assise_model_members.proofs.Shared.StepsPossible.{may_digest, may_fail, may_fail_again, may_list}
+pub use Rattle.assise_model_members.proofs.Shared.StepsPossible.{may_come_back, may_fill_one, may_refill, may_rejoin}
 pub use Rattle.assise_model_members.specs.Members.{AreMembers, since_of}
 pub use Rattle.assise_model_members.specs.Returns.{OtherAreasStay}
-pub use Rattle.assise_model_world.proofs.CallKeeps.{call_reply, call_dropped}
-pub use Rattle.assise_model_world.proofs.ClientsStaying.{raise_sound, acquire_sound, open_dropped}
-pub use Rattle.assise_model_world.proofs.DropKeeps.{drop_dropped}
-pub use Rattle.assise_model_world.proofs.FailureKeeps.{fail_sound, contains-filter, filter-contains}
-pub use Rattle.assise_model_world.proofs.QuietSteps.{still_dropped, end-same, received_by_all-same}
-pub use Rattle.assise_model_world.proofs.StepLists.{step_sound, begun_dropped}
-pub use Rattle.assise_model_world.proofs.WorldObserved.{least_of-same, received_by_all-below, end_is, digested_by_all-first, least_of-is, least_of-below}
-pub use Rattle.assise_model_world.proofs.WorldObserved.{received_by_all-end, first-received_by_all, least_of-above, least_of-end}
+pub use Rattle.assise_model_world.proofs.Shared.CallKeeps.{call_reply, call_dropped}
+pub use Rattle.assise_model_world.proofs.Shared.ClientsStaying.{raise_sound, acquire_sound, open_dropped}
+pub use Rattle.assise_model_world.proofs.Shared.DropKeeps.{drop_dropped}
+pub use Rattle.assise_model_world.proofs.Shared.FailureKeeps.{fail_sound, contains-filter, filter-contains}
+pub use Rattle.assise_model_world.proofs.Shared.QuietSteps.{still_dropped, end-same, received_by_all-same}
+pub use Rattle.assise_model_world.proofs.Shared.StepLists.{step_sound, begun_dropped}
+pub use Rattle.assise_model_world.proofs.Shared.WorldObserved.{least_of-same, received_by_all-below, end_is, digested_by_all-first, least_of-is, least_of-below}
+pub use Rattle.assise_model_world.proofs.Shared.WorldObserved.{received_by_all-end, first-received_by_all, least_of-above, least_of-end}
 pub use Rattle.assise_model_world.specs.ClientSteps.{MakesCall, RaisesGoals, Acquires, is_for_writing, Crashes, Opens}
 pub use Rattle.assise_model_world.specs.Coalescing.{Coalesces, GetsAll, HasNone}
 pub use Rattle.assise_model_world.specs.Invariant.{WorldInvariant, IsOrdered}

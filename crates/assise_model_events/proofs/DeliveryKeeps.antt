@@ -2,8 +2,8 @@
 use Rattle.assise_model_events.proofs.Common.{◌≡◌, ℕ, ◌≤◌, [], ◌∷◌, length, refl, ap, sym, subst, append-nil, arith, AreDropped, World, Full, delivers}
 use Rattle.assise_model_events.proofs.Common.{AreLeases, logs_keep, AreMembers, OtherAreasStay, areas_keep, keeps_areas, Membership, LogFrame, Answer}
 use Rattle.assise_model_events.proofs.Common.{place_after, Leads, Machine, MachineInvariant, Adds, IsDelivered, Delivering}
-use Rattle.assise_model_world.proofs.DeliveryKeeps.{deliver_dropped}
-use Rattle.assise_model_events.proofs.EventTraces.{leads_sound, leads_recorded, same_leads, same_holds, with_world, quietly, ends_as}
+use Rattle.assise_model_world.proofs.Shared.DeliveryKeeps.{deliver_dropped}
+use Rattle.assise_model_events.proofs.Shared.EventTraces.{leads_sound, leads_recorded, same_leads, same_holds, with_world, quietly, ends_as}
 
 -- ---- where no entry is added
 

@@ -4,7 +4,7 @@ use Rattle.assise_model_events.proofs.Common.{length-drop, World, digested_by_al
 use Rattle.assise_model_events.proofs.Common.{AreLeases, logs_keep, drop_keeps, AreMembers, digest_keeps, stale_again, Membership, Answer, Leads, Machine}
 use Rattle.assise_model_events.proofs.Common.{MachineInvariant, state_of, part_of, DigestsNext, DigestsTo, IsDigested, Digesting, is_digested}
 use Rattle.assise_model_events.specs.NodeEvents.Digesting.{lacks_memory, is_refused}
-use Rattle.assise_model_events.proofs.EventTraces.{same_leads, same_holds, with_world, quietly, ends_as}
+use Rattle.assise_model_events.proofs.Shared.EventTraces.{same_leads, same_holds, with_world, quietly, ends_as}
 use Rattle.assise_model_events.proofs.DeliveryKeeps.{quiet_holds, areas_stay}
 
 -- ---- a trace with one step more

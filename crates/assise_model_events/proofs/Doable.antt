@@ -3,9 +3,9 @@ use Rattle.assise_model_events.proofs.Common.{◌≡◌, ℕ, ◌+◌, ◌-◌, 
 use Rattle.assise_model_events.proofs.Common.{standing_of, Full, end_of_log, received_by_all, received_by_all-below, received, IsTimelyDelivery, delivery_fault}
 use Rattle.assise_model_events.proofs.Common.{fault_if, is_client, new_records, node_fault, place_after, MachineInvariant, Machine, Delivering}
 use Rattle.std.proofs.Math.Nat.{le-max_left, max-le}
-use Rattle.assise_model_world.proofs.Possible.{may_deliver}
+use Rattle.assise_model_world.proofs.Shared.Possible.{may_deliver}
 use Rattle.assise_model_events.specs.NodeEvents.Delivering.{is_delivered}
-use Rattle.assise_model_events.proofs.Faultless.{first_none, stands_full}
+use Rattle.assise_model_events.proofs.Shared.Faultless.{first_none, stands_full}
 use Rattle.assise_model_events.proofs.Steady.{old_delivers, with_old_areas}
 
 full_at : (m : Machine) (f : LogFrame) (n : ℕ) → MachineInvariant m → delivery_fault m f n ≡ None → Full m.world n
@@ -23,6 +23,6 @@ delivered_can m f n h fine timely =
     let here : Full m.world n = full_at m f n h fine in
     let known : m.world.received n f.client ≤ end_of_log m.world f.client = (h.sound.coherent.order n f.client here).known in
     let (u, e) = may_deliver m.world n f.client (place_after m f n) (grind (arith, le-max_left, max-le, frame_there)) in (
-      record { limit = m.limit; hot = m.hot; history = m.history; world = with_old_areas m.world u; leases = m.leases; members = m.members },
+      record m { world = with_old_areas m.world u },
       is_delivered fine refl (grind (arith, old_delivers m.world u n f.client (place_after m f n) e, append-nil m.history)),
     )

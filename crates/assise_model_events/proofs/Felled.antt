@@ -6,12 +6,12 @@ use Rattle.assise_model_events.proofs.Common.{leases_fail, logs_keep, drop_keeps
 use Rattle.assise_model_events.proofs.Common.{failure_again, rests, drops, losses_of, State, Answer, Leads, Machine, MachineInvariant, state_of, Failing}
 use Rattle.assise_model_events.proofs.Common.{IsFailed, IsFailedAgain}
 use Rattle.std.specs.FinSet as set
-use Rattle.assise_model_members.proofs.NodesFail.{fail_keeps as members_fail}
+use Rattle.assise_model_members.proofs.Shared.NodesFail.{fail_keeps as members_fail}
 use Rattle.assise_model_history.specs.Traces.EntryHappens.{quiet}
 use Rattle.assise_model_events.specs.MemberEvents.Failing.{is_failed, is_failed_again, lacks_memory, is_refused}
-use Rattle.assise_model_events.proofs.EventTraces.{leads_sound, leads_recorded, same_leads, same_holds}
+use Rattle.assise_model_events.proofs.Shared.EventTraces.{leads_sound, leads_recorded, same_leads, same_holds}
 use Rattle.assise_model_events.proofs.ReturnKeeps.{as_many, rest_holds}
-use Rattle.assise_model_events.proofs.Rejoined.{stands_is_node}
+use Rattle.assise_model_events.proofs.Shared.Rejoined.{stands_is_node}
 
 -- ---- the nodes stay as many, and an epoch begins where a full one fails
 

@@ -83,7 +83,7 @@ released_can m top h few =
     let r : LetOut m.world m.leases (pairs m.world.clients top) = let_out m.world m.leases (pairs m.world.clients top) in
     let k : Leases = leases_after m.leases r.gone in
     let f : FreedAll m.world k (length m.members.nodes) = free_all m.world k top (length m.members.nodes) (λ i above. r.empty i (few i above)) in (
-      record { limit = m.limit; hot = m.hot; history = m.history; world = world_after m.world r.gone; leases = leases_freed k f.freed; members = m.members },
+      record m { world = world_after m.world r.gone; leases = leases_freed k f.freed },
       (
         released (length r.gone),
         is_released r.gone f.freed refl (record {

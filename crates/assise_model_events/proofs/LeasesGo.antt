@@ -5,10 +5,10 @@ use Rattle.assise_model_events.proofs.Common.{digested_by_all, end_of_log, Lease
 use Rattle.assise_model_events.proofs.Common.{is_crashed, is_refused, lacks_memory, last_leases, Answer, crash, crashed, refused, released, try_call}
 use Rattle.assise_model_events.proofs.Common.{MachineInvariant, Machine, Releasing, is_ready, is_released, Comes, IsReached}
 use Rattle.assise_model_events.specs.NodeEvents.{is_refused, lacks_memory}
-use Rattle.assise_model_events.proofs.Answerable.{crashed_can}
+use Rattle.assise_model_events.proofs.Shared.Answerable.{crashed_can}
 use Rattle.assise_model_events.proofs.Trace.{HasLeases, IsOpen, is_open, leases_had, reaches, tried}
-use Rattle.assise_model_events.proofs.LackAnswerable.{keeps_them, with_granted}
-use Rattle.assise_model_events.proofs.EachEvent.{event_keeps}
+use Rattle.assise_model_events.proofs.Shared.LackAnswerable.{keeps_them, with_granted}
+use Rattle.assise_model_events.proofs.Shared.EachEvent.{event_keeps}
 use Rattle.assise_model_events.proofs.Freeable.{released_can}
 
 -- ---- client 1 crashes once it has leases

@@ -1,43 +1,28 @@
 mod Common
-pub mod EventTraces
-pub mod EntriesTold
-pub mod Members
-pub mod OpenAndCrash
-pub mod AnsweredCall
-pub mod SyncKeeps
-pub mod DsyncKeeps
-pub mod Regroupable
-pub mod LeaseSteps
-pub mod CallKeeps
-pub mod DeliveryKeeps
-pub mod ReleaseKeeps
-pub mod Digested
-pub mod ReturnKeeps
-pub mod Raised
-pub mod Rejoined
-pub mod Felled
-pub mod StartKeeps
-pub mod EachEvent
-pub mod Whatever
-pub mod AnswerSays
-pub mod OtherAreas
-pub mod NodeEventsPossible
-pub mod Failable
-pub mod Steady
-pub mod Faultless
-pub mod Answerable
-pub mod Doable
-pub mod Ready
-pub mod Freeable
-pub mod RefusalKeeps
-pub mod LackAnswerable
-pub mod Trace
-pub mod ReachedCreate
-pub mod ClientsCome
-pub mod MembersCome
-pub mod MembersFail
-pub mod Digestible
-pub mod NodesCome
-pub mod LeasesGo
-pub mod Rounds
-pub mod ReachedInodesSpent
+pub mod Shared
+mod EntriesTold
+mod Members
+mod OpenAndCrash
+mod AnsweredCall
+mod DeliveryKeeps
+mod ReleaseKeeps
+mod Digested
+mod ReturnKeeps
+mod Felled
+mod AnswerSays
+mod OtherAreas
+mod NodeEventsPossible
+mod Steady
+mod Doable
+mod Ready
+mod Freeable
+mod RefusalKeeps
+mod Trace
+mod ReachedCreate
+mod ClientsCome
+mod MembersCome
+mod MembersFail
+mod NodesCome
+mod LeasesGo
+mod Rounds
+mod ReachedInodesSpent

@@ -10,15 +10,15 @@ use Rattle.std.proofs.Math.Seq.{drop-nil, take-nil}
 use Rattle.std.specs.FinSet as set
 use Rattle.std.specs.Cmp.{nat_cmp_total}
 use Rattle.assise_manager.specs.Standings.{full, down, returning, is_full}
-use Rattle.assise_manager.proofs.Sets.{Numbers, same, union-empty}
-use Rattle.assise_model_members.proofs.StaleInodes.{refilled_stale}
+use Rattle.assise_manager.proofs.Shared.Sets.{Numbers, same, union-empty}
+use Rattle.assise_model_members.proofs.Shared.StaleInodes.{refilled_stale}
 use Rattle.assise_manager.specs.declared.level.Level.TheVariants.{Plain}
 use Rattle.assise_model_events.specs.MemberEvents.{is_refused, lacks_memory}
 use Rattle.assise_model_events.proofs.NodeEventsPossible.{back_can, joined_can, refilled_can}
 use Rattle.assise_model_events.proofs.Trace.{reaches, start, start_holds, start_reached}
 use Rattle.assise_model_events.proofs.ReachedCreate.{HasFile, file_record, has_file}
-use Rattle.assise_model_events.proofs.EachEvent.{event_keeps}
-use Rattle.assise_model_events.proofs.Failable.{failed_can}
+use Rattle.assise_model_events.proofs.Shared.EachEvent.{event_keeps}
+use Rattle.assise_model_events.proofs.Shared.Failable.{failed_can}
 
 -- ---- node 2 is down
 

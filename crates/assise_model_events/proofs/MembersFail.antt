@@ -2,7 +2,7 @@
 use Rattle.assise_model_events.proofs.Common.{◌≡◌, List, [], ◌∷◌, refl, arith, lt-ltb, Loss, never, kept_at_failure, call_at, end_of_log, least_of-below}
 use Rattle.assise_model_events.proofs.Common.{losses_of, cut_there, is_left, least_kept, others_of, failed, Machine, Failing, Comes}
 use Rattle.assise_model_events.proofs.ReachedCreate.{HasFile, has_file}
-use Rattle.assise_model_events.proofs.Failable.{failed_can}
+use Rattle.assise_model_events.proofs.Shared.Failable.{failed_can}
 
 -- client 1's first call
 abbrev first_call : Loss

@@ -8,7 +8,7 @@ use Rattle.std.specs.FinSet as set
 pub back_can : (m : Machine) (n : ℕ) → MachineInvariant m → return_fault m.members n ≡ None → (m' : Machine) × Returning m n (began (stale_at m'.members n)) m'
 back_can m n h fine =
     let (u, o, comes) = may_come_back m.world m.members n h.members fine in (
-      record { limit = m.limit; hot = m.hot; history = m.history; world = u; leases = m.leases; members = o },
+      record m { world = u; members = o },
       is_back fine refl (record { comes = comes; leases = refl; adds = record { history = sym (append-nil m.history); limit = refl; hot = refl } }),
     )
 
@@ -21,13 +21,13 @@ pub refilled_can : (m : Machine) (n : ℕ) → MachineInvariant m → filling_fa
 refilled_can m n h fine some =
     let (i, may) = may_fill_one m.members n (is_busy (standing_of m.members.nodes n) fine some) in
     let (u, o, refills) = may_refill m.world m.members n h.members i may in (
-      record { limit = m.limit; hot = m.hot; history = m.history; world = u; leases = m.leases; members = o },
+      record m { world = u; members = o },
       is_refilled fine refl (grind (arith, append-nil)),
     )
 
 pub joined_can : (m : Machine) (n : ℕ) → MachineInvariant m → join_fault m.members n ≡ None → (m' : Machine) × Joining m n joined m'
 joined_can m n h fine =
     let (u, o, rejoins) = may_rejoin m.world m.members n h.members fine in (
-      record { limit = m.limit; hot = m.hot; history = m.history ++ returns n ∷ []; world = u; leases = m.leases; members = o },
+      record m { history = m.history ++ returns n ∷ []; world = u; members = o },
       is_joined fine refl (record { rejoins = rejoins; leases = refl; adds = record { history = refl; limit = refl; hot = refl } }),
     )

@@ -9,13 +9,13 @@ use Rattle.assise_model_events.proofs.Common.{IsReached}
 use Rattle.assise_private_log.specs.Borders.{whole_count}
 use Rattle.assise_model_events.specs.MemberEvents.{is_refused, lacks_memory}
 use Rattle.assise_model_events.specs.NodeEvents.{is_refused, lacks_memory}
-use Rattle.assise_model_events.proofs.Answerable.{replicating_can}
+use Rattle.assise_model_events.proofs.Shared.Answerable.{replicating_can}
 use Rattle.assise_model_events.proofs.Trace.{reaches, start, start_holds, start_reached}
 use Rattle.assise_model_events.proofs.ReachedCreate.{HasFile, file_record, has_file, has_file_as}
-use Rattle.assise_model_events.proofs.Digestible.{digested_can}
+use Rattle.assise_model_events.proofs.Shared.Digestible.{digested_can}
 use Rattle.assise_model_events.proofs.Doable.{delivered_can}
-use Rattle.assise_model_events.proofs.EachEvent.{event_keeps}
-use Rattle.assise_model_events.proofs.Faultless.{stands_full}
+use Rattle.assise_model_events.proofs.Shared.EachEvent.{event_keeps}
+use Rattle.assise_model_events.proofs.Shared.Faultless.{stands_full}
 use Rattle.assise_model_events.proofs.MembersCome.{falls}
 
 -- ---- node 2 is down

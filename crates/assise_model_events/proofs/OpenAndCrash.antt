@@ -4,7 +4,7 @@ use Rattle.assise_model_events.proofs.Common.{open_dropped, still_dropped, open_
 use Rattle.assise_model_events.proofs.Common.{lacks_memory, IsOpened, Crashing, is_crashed, IsCrashed, Answer, open_fault, Leads, Machine, MachineInvariant}
 use Rattle.assise_model_events.proofs.Common.{state_of}
 use Rattle.assise_model_history.specs.Traces.{crash}
-use Rattle.assise_model_events.proofs.EventTraces.{leads_sound, leads_recorded, same_leads, same_holds}
+use Rattle.assise_model_events.proofs.Shared.EventTraces.{leads_sound, leads_recorded, same_leads, same_holds}
 use Rattle.assise_model_events.proofs.Members.{members_rest, epochs_stay, logs_stay}
 
 -- ---- faults

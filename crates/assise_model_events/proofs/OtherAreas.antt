@@ -1,7 +1,7 @@
 -- What happens at one node leaves the areas of all others.
 use Rattle.assise_model_events.proofs.Common.{◌≡◌, ◌≢◌, ℕ, zero, suc, ap, ◌∙◌, arith, Op, Reply, LogFrame, Membership, World, Full, Calling, digested, received}
 use Rattle.assise_model_events.proofs.Common.{replied, Machine, MachineInvariant, Delivering, Digesting, DigestsTo}
-use Rattle.assise_model_events.proofs.LeaseSteps.{comes_to, full_after}
+use Rattle.assise_model_events.proofs.Shared.LeaseSteps.{comes_to, full_after}
 
 pub delivered_areas : (m m' : Machine) (f : LogFrame) (n k : ℕ) → Delivering m f n (received k) m' → (j i : ℕ) → Full m.world j →
     m'.world.area j i ≡ m.world.area j i

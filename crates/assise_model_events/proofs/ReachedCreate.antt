@@ -4,7 +4,7 @@ use Rattle.assise_model_events.proofs.Common.{cases_eq, Durability, Pessimistic,
 use Rattle.assise_model_events.proofs.Common.{record_of, contains, new_lease, all_full, MakesCall, World, Full, end_of_log, step_at_home, CallsUnder, Leases}
 use Rattle.assise_model_events.proofs.Common.{may_call_under, creation, create_op, first_step, step_is, Calling, Granted, IsAnswered, is_answered, last_leases}
 use Rattle.assise_model_events.proofs.Common.{last_world, call_entry, replied, try_call, MachineInvariant, Machine, Comes, IsReached}
-use Rattle.assise_model_events.proofs.EachEvent.{event_keeps}
+use Rattle.assise_model_events.proofs.Shared.EachEvent.{event_keeps}
 use Rattle.assise_model_events.proofs.Steady.{old_call, with_old_areas}
 use Rattle.assise_model_events.proofs.Trace.{HasLeases, IsOpen, is_open, is_open_as, leases_had, may, reaches, same_call, tried_creation}
 
@@ -47,14 +47,7 @@ module _ (limit : ℕ) (m : Machine) (room : 0 < limit) (o : IsOpen limit m) (gs
   called = may_call_under w l creation h.rest.sound (may limit m o gs h)
 
   abbrev with_file : Machine
-  with_file = record {
-    limit = m.limit;
-    hot = m.hot;
-    history = m.history ++ call_entry m.history 1 create_op Done;
-    world = with_old_areas w called.0;
-    leases = l;
-    members = m.members;
-  }
+  with_file = record m { history = m.history ++ call_entry m.history 1 create_op Done; world = with_old_areas w called.0; leases = l }
 
   made_call : MakesCall w creation with_file.world
   made_call = old_call w called.0 creation called.1.call

@@ -6,9 +6,9 @@ use Rattle.assise_model_events.proofs.Common.{step_at_home, view, Grants, Leases
 use Rattle.assise_model_events.proofs.Common.{empty_root, no_links, of_either, sees_root, Calling, Granted, Gets, IsMissing, HasServingLeases, is_spent}
 use Rattle.assise_model_events.proofs.Common.{last_leases, last_world, refused, Machine, Comes}
 use Rattle.assise_model_events.proofs.Trace.{HasLeases, IsOpen, is_open, leases_had, one_client, same_call}
-use Rattle.assise_model_events.proofs.LeaseSteps.{Reached, comes_to}
+use Rattle.assise_model_events.proofs.Shared.LeaseSteps.{Reached, comes_to}
 use Rattle.assise_model_events.proofs.Steady.{with_old_areas, old_grants}
-use Rattle.assise_model_events.proofs.LackAnswerable.{keeps_them, with_granted}
+use Rattle.assise_model_events.proofs.Shared.LackAnswerable.{keeps_them, with_granted}
 use Rattle.assise_model_events.proofs.Rounds.{IsDone, MayDo, Runs, Stands, done, file_after_create, next_call, no_fault, one_link, reads_same}
 use Rattle.assise_model_events.proofs.Rounds.{root_after_create, root_after_unlink, unlink_op, unlink_step, unlinks}
 

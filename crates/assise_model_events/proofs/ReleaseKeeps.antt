@@ -3,9 +3,9 @@ use Rattle.assise_model_events.proofs.Common.{◌≡◌, ℕ, List, [], ◌∷�
 use Rattle.assise_model_events.proofs.Common.{without_other, AreDropped, World, still_dropped, IsTrace, last_of, releases, State, ReleasesReady, Leases}
 use Rattle.assise_model_events.proofs.Common.{AreLeases, client_lease, AreMembers, OtherAreasStay, Membership, Answer, Leads, Machine, MachineInvariant}
 use Rattle.assise_model_events.proofs.Common.{is_ready, Gone, LetsGo, world_after, leases_after, Freed, Frees, leases_freed, IsReleased, Releasing}
-use Rattle.assise_model_leases.proofs.LeasesGo.{goes, release_keeps, free_keeps}
+use Rattle.assise_model_leases.proofs.Shared.LeasesGo.{goes, release_keeps, free_keeps}
 use Rattle.assise_model_events.specs.NodeEvents.Releasing.{is_released}
-use Rattle.assise_model_events.proofs.EventTraces.{with_world, quietly, ends_as}
+use Rattle.assise_model_events.proofs.Shared.EventTraces.{with_world, quietly, ends_as}
 use Rattle.assise_model_events.proofs.DeliveryKeeps.{quiet_holds, areas_stay}
 
 -- ---- leases go

@@ -5,7 +5,7 @@ use Rattle.assise_model_events.proofs.Common.{back_keeps, refill_keeps, rests, A
 use Rattle.std.specs.FinSet as set
 use Rattle.assise_model_events.specs.MemberEvents.Returning.{is_back, lacks_memory, is_refused}
 use Rattle.assise_model_events.specs.MemberEvents.Refilling.{is_refilled, is_whole, lacks_memory as lacks_memory_there, is_refused as is_refused_there}
-use Rattle.assise_model_events.proofs.EventTraces.{leads_sound, leads_recorded, same_leads, same_holds, with_world, quietly, ends_as}
+use Rattle.assise_model_events.proofs.Shared.EventTraces.{leads_sound, leads_recorded, same_leads, same_holds, with_world, quietly, ends_as}
 
 -- ---- the nodes stay as many
 

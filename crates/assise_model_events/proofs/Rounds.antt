@@ -14,16 +14,16 @@ use Rattle.assise_names.specs.declared.reply.TreeError.{TreeError}
 use Rattle.assise_names.specs.declared.reply.TreeError.TheVariants.{NoEnt}
 use Rattle.assise_record.specs.declared.effect.Effect.TheVariants.{Unlink, Free}
 use Rattle.assise_record.specs.declared.effect.Effect.{Effect}
-use Rattle.assise_seq_tree.proofs.Sets.{same_itself}
+use Rattle.assise_seq_tree.proofs.Shared.Sets.{same_itself}
 use Rattle.assise_inode_table.specs.Calls.{as_regular, step, then_or_error, walk_from}
 use Rattle.assise_inode_table.specs.Interaction.{Interaction, finish, visits_of, reply_of, effects_of, Step}
 use Rattle.assise_inode_table.specs.Reach.{link_of}
-use Rattle.assise_inode_table.proofs.EffectValues.{contains-append}
-use Rattle.assise_digest.proofs.KeptStands.{value_after_one_more}
+use Rattle.assise_inode_table.proofs.Shared.EffectValues.{contains-append}
+use Rattle.assise_digest.proofs.Shared.KeptStands.{value_after_one_more}
 use Rattle.assise_lease_table.specs.Modes.{strong}
 use Rattle.assise_model_events.proofs.Trace.{reaches}
-use Rattle.assise_model_events.proofs.EachEvent.{event_keeps}
-use Rattle.assise_model_events.proofs.LeaseSteps.{Reached, comes_to, full_after}
+use Rattle.assise_model_events.proofs.Shared.EachEvent.{event_keeps}
+use Rattle.assise_model_events.proofs.Shared.LeaseSteps.{Reached, comes_to, full_after}
 use Rattle.assise_model_events.proofs.Steady.{old_call, with_old_areas}
 
 -- ---- a file is created in an empty root
@@ -203,14 +203,7 @@ module _ (limit : ℕ) (m : Machine) (op : Op) (gs : List Granted) (s : Stands l
   called = may_call_under w l x got.sound may
 
   abbrev after : Machine
-  after = record {
-    limit = m.limit;
-    hot = m.hot;
-    history = m.history ++ call_entry m.history 1 op Done;
-    world = with_old_areas w called.0;
-    leases = l;
-    members = m.members;
-  }
+  after = record m { history = m.history ++ call_entry m.history 1 op Done; world = with_old_areas w called.0; leases = l }
 
   made_call : MakesCall w x after.world
   made_call = old_call w called.0 x called.1.call

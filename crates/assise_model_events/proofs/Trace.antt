@@ -2,14 +2,15 @@
 use Rattle.assise_model_events.proofs.Common.{◌≡◌, ◌≢◌, ℕ, true, List, [], ◌∷◌, ◌++◌, Option, Some, None, refl, ap, sym, subst, ◌∙◌, arith, or_right}
 use Rattle.assise_model_events.proofs.Common.{Durability, Pessimistic, Mode, Read, Write, Done, durability_of, has_some, contains, touched, Lease, new_lease}
 use Rattle.assise_model_events.proofs.Common.{clients_granted, in_way, nodes_granted, is_free_for, all_full, World, Full, step_at_home, MayCallUnder, Grants}
-use Rattle.assise_model_events.proofs.Common.{Leases, client_lease, is_held, is_written, may_grant, OtherAreasStay, IsNew, creation, create_op, first_step}
-use Rattle.assise_model_events.proofs.Common.{made_number, may_create, of_either, step_is, Opening, Granted, Gets, IsFirstMissing, IsMissing, HasServingLeases}
-use Rattle.assise_model_events.proofs.Common.{IsTried, call_of_client, is_opened, is_refused, lacks_memory, last_leases, last_world, Answer, ClusterEvent}
-use Rattle.assise_model_events.proofs.Common.{open_client, opened, call_fault, AllHappen, Happens, MachineInvariant, Machine, begun_as, IsReached}
-use Rattle.assise_model_events.proofs.Answerable.{opened_can}
-use Rattle.assise_model_events.proofs.StartKeeps.{begun_holds}
-use Rattle.assise_model_events.proofs.EachEvent.{event_keeps}
-use Rattle.assise_model_events.proofs.LeaseSteps.{Reached, begins, one_more}
+use Rattle.assise_model_events.proofs.Common.{Leases, client_lease, is_held, is_written, may_grant, OtherAreasStay, IsNew, opened_new, creation, create_op}
+use Rattle.assise_model_events.proofs.Common.{first_step, made_number, may_create, of_either, step_is, Opening, Granted, Gets, IsFirstMissing, IsTried}
+use Rattle.assise_model_events.proofs.Common.{call_of_client, is_opened, is_refused, lacks_memory, last_leases, last_world, Answer, ClusterEvent, open_client}
+use Rattle.assise_model_events.proofs.Common.{opened, call_fault, AllHappen, Happens, MachineInvariant, Machine, IsReached, IsMissing, HasServingLeases}
+use Rattle.assise_model_events.proofs.Common.{begun_as}
+use Rattle.assise_model_events.proofs.Shared.Answerable.{opened_can}
+use Rattle.assise_model_events.proofs.Shared.StartKeeps.{begun_holds}
+use Rattle.assise_model_events.proofs.Shared.EachEvent.{event_keeps}
+use Rattle.assise_model_events.proofs.Shared.LeaseSteps.{Reached, begins, one_more}
 use Rattle.assise_model_events.proofs.Steady.{old_grants, with_old_areas}
 
 -- ---- what happens is reached
@@ -63,20 +64,7 @@ of_opening limit u m (is_opened fine is e) =
         holds = event_keeps (start limit) m (open_client 1 u) (opened 1) (start_holds limit) (is_opened fine is e);
         limit_is = e.adds.limit;
         members = e.keeps.members;
-        world = record {
-          clients = o.clients;
-          home = o.home_new;
-          lives = o.lives_new;
-          runs = o.crashed_new;
-          records = o.logs.records 1;
-          first = o.logs.first 1;
-          next = o.logs.next 1;
-          made = o.logs.made 1;
-          full = o.nodes.full;
-          log = (o.nodes.same 1 refl).log 1;
-          received = (o.nodes.same 2 refl).received 1;
-          area = (o.nodes.same 1 refl).area 0;
-        };
+        world = opened_new m.world o;
         goal = o.goal_new;
         borders = o.logs.border;
         log = λ n c f. (o.nodes.same n (there n f)).log c;

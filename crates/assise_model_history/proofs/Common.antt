@@ -6,10 +6,10 @@ pub use Rattle.std.proofs.lemmas.Bool.{cases_Bool, cases_eq, cases_lt, and_parts
 pub use Rattle.std.proofs.lemmas.Bool.{or_right, both_ways, lt-ltb, or_cases, not-true}
 pub use Rattle.std.proofs.lemmas.List.Elements.{Contains-append_cases, Contains-append_left, Contains-append_right, filter-append}
 pub use Rattle.std.specs.List.{list_any}
-pub use Rattle.assise_history.proofs.Legality.{prefix_in, legal-nil}
-pub use Rattle.assise_history.proofs.LivesOneMore.{down-failed, down-push, down-last, past_syncs-push, SamePlace, one_place, down-nil}
-pub use Rattle.assise_history.proofs.OneMore.{legal-failure, legal-return, legal-open, legal-call, legal-crash, follows_in}
-pub use Rattle.assise_history.proofs.TestedElements.{Passes, passes_from, not_nil, cut_end, passes_at}
+pub use Rattle.assise_history.proofs.Shared.Legality.{prefix_in, legal-nil}
+pub use Rattle.assise_history.proofs.Shared.LivesOneMore.{down-failed, down-push, down-last, past_syncs-push, SamePlace, one_place, down-nil}
+pub use Rattle.assise_history.proofs.Shared.OneMore.{legal-failure, legal-return, legal-open, legal-call, legal-crash, follows_in}
+pub use Rattle.assise_history.proofs.Shared.TestedElements.{Passes, passes_from, not_nil, cut_end, passes_at}
 pub use Rattle.assise_history.specs.Entries.{EntryValue, opens, calls, crashes, fails, returns}
 pub use Rattle.assise_history.specs.Kept.{loses, kept, is_lost, IsRun, exchange, tree_after, IsTaken}
 pub use Rattle.assise_history.specs.Legal.{syncs, is_sync, IsDown, IsFair, IsOn, IsPastSyncs, is_failure_of, ClientsAscend, is_call_of, is_crash_of, is_opening}
@@ -28,12 +28,13 @@ pub use Rattle.assise_model_history.specs.Numbered.{plain_call, kept_numbered, n
 pub use Rattle.assise_model_history.specs.State.{State, IsNode, begun_with, WasOpened, IsRecorded, down_from}
 pub use Rattle.assise_model_history.specs.Traces.{opening, call, crash, failure, comeback, IsTrace, last_of, IsEventful, quiet, IsLossy, WasSynced}
 pub use Rattle.assise_model_history.specs.Traces.{EntryHappens, failure_again, numbered_replicated, IsSafe, IsLasting}
-pub use Rattle.assise_model_world.proofs.Possible.{may_open, may_call, may_crash, may_fail, may_join, may_rest, may_acquire}
-pub use Rattle.assise_model_world.proofs.StepLists.{step_sound, step_falls, every_run, run_falls, run_stays}
-pub use Rattle.assise_model_world.proofs.WorldObserved.{received_by_all-end, call_at-mono, call_at-end, first-received_by_all, least_of-is, least_of-below}
-pub use Rattle.assise_model_world.proofs.WorldObserved.{least_of-above, received_by_all-below}
+pub use Rattle.assise_model_world.proofs.Shared.Possible.{may_open, may_call, may_crash, may_fail, may_join, may_rest, may_acquire}
+pub use Rattle.assise_model_world.proofs.Shared.StepLists.{step_sound, step_falls, every_run, run_falls, run_stays}
+pub use Rattle.assise_model_world.proofs.Shared.WorldObserved.{received_by_all-end, call_at-mono, call_at-end}
+pub use Rattle.assise_model_world.proofs.Shared.WorldObserved.{first-received_by_all, least_of-is, least_of-below}
+pub use Rattle.assise_model_world.proofs.Shared.WorldObserved.{least_of-above, received_by_all-below}
 pub use Rattle.assise_model_world.specs.Chances.{MayMakeCall, MayFail}
-pub use Rattle.assise_model_world.specs.ClientSteps.{Acquires, MakesCall}
+pub use Rattle.assise_model_world.specs.ClientSteps.{Acquires, MakesCall, Opens}
 pub use Rattle.assise_model_world.specs.Invariant.{WorldInvariant}
 unfoldable pub use Rattle.assise_model_world.specs.Invariant.{Counted}
 pub use Rattle.assise_model_world.specs.NodeSteps.{Fails}

@@ -3,9 +3,9 @@ use Rattle.assise_model_history.proofs.Common.{◌≡◌, true, false, List, [],
 use Rattle.assise_model_history.proofs.Common.{returns, is_sync, NumberedCall, WorldInvariant, Full, end_of_log, received_by_all, received_by_all-end}
 use Rattle.assise_model_history.proofs.Common.{plain_call, State, IsNode, begun_with, losses_of, IsOpening, IsCall, IsCrash, IsFailure, IsReturn, opening, call}
 use Rattle.assise_model_history.proofs.Common.{crash, failure, comeback, IsTrace, last_of, IsEventful}
-use Rattle.assise_model_world.proofs.QuietSteps.{end-same}
+use Rattle.assise_model_world.proofs.Shared.QuietSteps.{end-same}
 use Rattle.assise_model_history.proofs.EntriesPossible.{can_open, can_fsync, can_crash, can_fail, can_return}
-use Rattle.assise_model_history.proofs.TracesKeep.{begun_sound, happens_sound}
+use Rattle.assise_model_history.proofs.Shared.TracesKeep.{begun_sound, happens_sound}
 
 abbrev start : State
 start = begun_with 2

@@ -1,13 +1,6 @@
 mod Common
-pub mod NumberedCalls
-pub mod InodeMakers
-pub mod OneEntryMore
-pub mod FailureList
-pub mod RecordKeeps
-pub mod FailureKeeps
-pub mod Synced
-pub mod TracesKeep
-pub mod EntriesPossible
-pub mod Eventful
-pub mod LossReached
-pub mod NumberBounds
+pub mod Shared
+mod OneEntryMore
+mod Synced
+mod EntriesPossible
+mod Eventful

@@ -2,7 +2,7 @@
 use Rattle.assise_model_history.proofs.Common.{◌≡◌, ℕ, List, [], ◌∷◌, ◌++◌, Contains, refl, sym, subst, ◌∙◌, ◌⊎◌, inl, inr, arith, append_assoc, Call, Loss}
 use Rattle.assise_model_history.proofs.Common.{EntryValue, calls, fails, kept, IsTaken, IsFair, IsLegal, IsNextCall, IsOn, MayCall, MayLose, prefix_in}
 use Rattle.assise_model_history.proofs.Common.{follows_in, passes_at, one_place, WasSynced}
-use Rattle.assise_history.proofs.Lost.{kept_from}
+use Rattle.assise_history.proofs.Shared.Lost.{kept_from}
 
 -- where two entries of a list stand to one another
 record Between {X : Type 0} (before since : List X) (x : X) (prefix behind : List X) (y : X) : Type 0 where

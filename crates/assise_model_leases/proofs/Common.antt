@@ -5,14 +5,15 @@ pub use Rattle.std.proofs.lemmas.Bool.{both_ways, cases_eq, cases_Bool, and_righ
 pub use Rattle.std.specs.List.{list_any}
 pub use Rattle.assise_inode_table.specs.Effects.{touched, contains}
 pub use Rattle.assise_inode_table.specs.Traces.{NumberedCall}
-pub use Rattle.assise_lease_table.proofs.Elements.{among_map, map_among, any_among, among_any, none_among, both_true, not_true}
+pub use Rattle.assise_lease_table.proofs.Shared.Elements.{among_map, map_among, any_among, among_any, none_among, both_true, not_true}
 pub use Rattle.assise_lease_table.specs.LeaseMaps.{SameLeases, Becomes}
 pub use Rattle.assise_lease_table.specs.Leases.{lease_of, revoke, revoked_if, is_own, compatible, Among, new_lease, is_rival, serves, without_holder}
 pub use Rattle.assise_lease_table.specs.Modes.{against, strong}
 pub use Rattle.assise_lease_table.specs.declared.lease.Lease.{Lease}
-pub use Rattle.assise_lease_tree.proofs.ClientHomes.{lease_among, weaker_against, strong_raised, home_of}
-pub use Rattle.assise_lease_tree.proofs.Lookups.{with_own, with_other, without_own, without_other}
-pub use Rattle.assise_lease_tree.proofs.Steps.{asked_lawful, revoked_lawful, nobody_in_way, granted_lawful, released_lawful, freed_lawful, enrolled_lawful}
+pub use Rattle.assise_lease_tree.proofs.Shared.ClientHomes.{lease_among, weaker_against, strong_raised, home_of}
+pub use Rattle.assise_lease_tree.proofs.Shared.Lookups.{with_own, with_other, without_own, without_other}
+pub use Rattle.assise_lease_tree.proofs.Shared.Steps.{asked_lawful, revoked_lawful, nobody_in_way}
+pub use Rattle.assise_lease_tree.proofs.Shared.Steps.{granted_lawful, released_lawful, freed_lawful, enrolled_lawful}
 pub use Rattle.assise_lease_tree.specs.Levels.{is_revoked, Homes, Under, AskedBelow, is_node, lives, carries, raised_mode, is_free, nodes_granted, nodes_asked}
 pub use Rattle.assise_lease_tree.specs.Levels.{nodes_released}
 unfoldable pub use Rattle.assise_lease_tree.specs.Levels.{in_way, clients_granted}
@@ -21,8 +22,8 @@ pub use Rattle.assise_model_leases.specs.Handing.{Asks, is_newly_revoked, asked_
 pub use Rattle.assise_model_leases.specs.Handing.{HoldsAsLeased, CallsUnder, OpensAt, CoalescesUnder}
 pub use Rattle.assise_model_leases.specs.Leases.{Leases, client_lease, IsRevokedLease, CoversFrom, AreLeases, is_held, is_written}
 unfoldable pub use Rattle.assise_model_leases.specs.Leases.{client_records_from}
-pub use Rattle.assise_model_world.proofs.Logs.{drop-of_drop, contains-drop, contains-take, length-both, of_fresh}
-pub use Rattle.assise_model_world.proofs.WorldObserved.{part-whole, end-else, least_of-end, least_of-above}
+pub use Rattle.assise_model_world.proofs.Shared.Logs.{drop-of_drop, contains-drop, contains-take, length-both, of_fresh}
+pub use Rattle.assise_model_world.proofs.Shared.WorldObserved.{part-whole, end-else, least_of-end, least_of-above}
 pub use Rattle.assise_model_world.specs.ClientSteps.{IsModeFree, Acquires, is_for_writing, Releases}
 pub use Rattle.assise_model_world.specs.Invariant.{WorldInvariant}
 unfoldable pub use Rattle.assise_model_world.specs.Invariant.{AreDropped}

@@ -5,10 +5,10 @@ use Rattle.assise_model_leases.proofs.Common.{digested_by_all, records_between, 
 use Rattle.assise_model_leases.proofs.Common.{client_records_from, CoversFrom}
 use Rattle.std.proofs.Math.ListN.{drop_of_length-le}
 use Rattle.std.proofs.lemmas.List.{drop-take, length-drop, length-take-le}
-use Rattle.assise_record.proofs.Records.{all_effects-append}
-use Rattle.assise_inode_table.proofs.EffectValues.{contains-both}
+use Rattle.assise_record.proofs.Shared.Records.{all_effects-append}
+use Rattle.assise_inode_table.proofs.Shared.EffectValues.{contains-both}
 use Rattle.assise_model_world.specs.Coalescing.{Coalesces}
-use Rattle.assise_model_world.proofs.CoalescedTail.{touch_all}
+use Rattle.assise_model_world.proofs.Shared.CoalescedTail.{touch_all}
 
 -- records that don't touch the inode
 abbrev pub Spare : List LogRecord → ℕ → Type 0

@@ -1,10 +1,3 @@
 mod Common
-pub mod LookUps
-pub mod Waiters
-pub mod CutsCover
-pub mod QuietLeases
-pub mod GrantKeeps
-pub mod AskKeeps
-pub mod LeasesGo
-pub mod ClientEnds
-pub mod Possible
+pub mod Shared
+mod CutsCover

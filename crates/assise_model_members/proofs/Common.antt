@@ -12,9 +12,11 @@ pub use Rattle.std.specs.Option.{option_map}
 pub use Rattle.std.specs.Ordering.{nat_cmp, eq_by_cmp}
 pub use Rattle.std.specs.Prelude.{◌&&◌, ◌==◌, filter, ◌↔◌, if◌then◌else◌}
 pub use Rattle.assise_inode_table.specs.Effects.{contains, touched}
-pub use Rattle.assise_manager.proofs.Lawful.{noted_lawful, all_full_lawful, donor_full, joined_lawful, failed_lawful, back_lawful, copied_lawful, stale_written}
-pub use Rattle.assise_manager.proofs.Lawful.{down_listed, return_listed, list_there, with_node_full, Within, union_right, later_within, length_with_written}
-pub use Rattle.assise_manager.proofs.Lawful.{noted_keeps, noted_there}
+pub use Rattle.assise_manager.proofs.Shared.Lawful.{noted_lawful, all_full_lawful, donor_full, joined_lawful}
+pub use Rattle.assise_manager.proofs.Shared.Lawful.{failed_lawful, back_lawful, copied_lawful, stale_written}
+pub use Rattle.assise_manager.proofs.Shared.Lawful.{down_listed, return_listed, list_there, with_node_full}
+pub use Rattle.assise_manager.proofs.Shared.Lawful.{Within, union_right, later_within, length_with_written}
+pub use Rattle.assise_manager.proofs.Shared.Lawful.{noted_keeps, noted_there}
 pub use Rattle.assise_manager.specs.Changes.{fulls, all_full, noted, stale_again, donor_of, joined, join_fault_of, with_node, failed_as, failure_fault_of}
 pub use Rattle.assise_manager.specs.Changes.{back_as, copied_as, filling_fault_of, stale_of, refilled_from, is_returning, failure_fault, return_fault_of}
 pub use Rattle.assise_manager.specs.Changes.{with_epoch, with_new_donor, failed, back, with_copied, return_fault, join_fault, IsLowest, with_written}
@@ -23,7 +25,7 @@ pub use Rattle.assise_manager.specs.Standings.{standing_of, full_nodes, Standing
 pub use Rattle.assise_manager.specs.Standings.Standing.{full, returning, down}
 pub use Rattle.assise_model_members.specs.Members.{since_of, AreMembers}
 pub use Rattle.assise_model_members.specs.Returns.{OtherAreasStay, KeepsAreas, DigestsNoted, Rejoins, FailsAgain, BeginsReturn, Refills, FailsWithMembers}
-pub use Rattle.assise_model_world.proofs.Logs.{contains-take, take-of_take, contains-drop}
+pub use Rattle.assise_model_world.proofs.Shared.Logs.{contains-take, take-of_take, contains-drop}
 pub use Rattle.assise_model_world.specs.NodeSteps.{Joins, Fails, Rests}
 unfoldable pub use Rattle.assise_model_world.specs.NodeSteps.{kept_at_failure}
 pub use Rattle.assise_model_world.specs.World.{World, Full, received_by_all, undigested_below}

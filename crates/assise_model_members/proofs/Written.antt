@@ -4,7 +4,7 @@ use Rattle.assise_model_members.proofs.Common.{false_from_ne_true, with_written,
 use Rattle.assise_model_members.proofs.Common.{union_right, later_within, length_with_written, noted_keeps, noted_there}
 use Rattle.std.specs.FinSet as set
 use Rattle.std.proofs.lemmas.List.{length-append}
-use Rattle.assise_manager.proofs.Sets.{Numbers, all_push}
+use Rattle.assise_manager.proofs.Shared.Sets.{Numbers, all_push}
 
 -- what isn't in the greater set isn't in the smaller
 pub outside : (s t : Numbers) → Within s t → (q : ℕ) → set.contains t q ≡ false → set.contains s q ≡ false

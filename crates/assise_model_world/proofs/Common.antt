@@ -8,11 +8,11 @@ pub use Rattle.std.proofs.lemmas.Bool.{or_parts, false_from_ne_true, cases_lt, o
 pub use Rattle.std.proofs.lemmas.Bool.Decides.{nat_tests}
 pub use Rattle.std.proofs.lemmas.List.{append-nil, take_all, take-append-le, take-take, drop-take}
 pub use Rattle.std.specs.List.{list_any}
-pub use Rattle.assise_inode_table.proofs.AtOpening.{root_alone, opening_spells}
-pub use Rattle.assise_inode_table.proofs.CallSteps.{step_replies, step_spells}
-pub use Rattle.assise_inode_table.proofs.EffectValues.{value_after-append, contains-both, contains-append, untouched}
-pub use Rattle.assise_inode_table.proofs.Lateness.{in_window, late_client}
-pub use Rattle.assise_inode_table.proofs.PairwiseLists.{each-map, each-both, each-always}
+pub use Rattle.assise_inode_table.proofs.Shared.AtOpening.{root_alone, opening_spells}
+pub use Rattle.assise_inode_table.proofs.Shared.CallSteps.{step_replies, step_spells}
+pub use Rattle.assise_inode_table.proofs.Shared.EffectValues.{value_after-append, contains-both, contains-append, untouched}
+pub use Rattle.assise_inode_table.proofs.Shared.Lateness.{in_window, late_client}
+pub use Rattle.assise_inode_table.proofs.Shared.PairwiseLists.{each-map, each-both, each-always}
 pub use Rattle.assise_inode_table.specs.Contents.{Content, Values}
 pub use Rattle.assise_inode_table.specs.Effects.{touched, contains, value_after, after, makes, SameNetEffect}
 pub use Rattle.assise_inode_table.specs.Interaction.{Step, AgreeOn}
@@ -36,7 +36,7 @@ unfoldable pub use Rattle.assise_model_world.specs.World.{received_by_all, recor
 unfoldable pub use Rattle.assise_model_world.specs.World.{digested_by_all, calls_replicated, end_of_log, first_undigested, now, tree, value_below}
 unfoldable pub use Rattle.assise_model_world.specs.World.{undigested_below, alone_at, undigested_records, view}
 pub use Rattle.assise_names.specs.declared.mode.Mode.{Mode}
-pub use Rattle.assise_record.proofs.Records.{all_effects-append, all_effects-one, ascending-append}
+pub use Rattle.assise_record.proofs.Shared.Records.{all_effects-append, all_effects-one, ascending-append}
 pub use Rattle.assise_record.specs.LogRecord.{LogRecord}
 pub use Rattle.assise_record.specs.Records.{all_effects, has_some, record_of, Ascending, call_of}
 pub use Rattle.assise_record.specs.declared.effect.Effect.{Effect}

@@ -2,8 +2,8 @@
 use Rattle.assise_model_world.proofs.Common.{◌≡◌, ℕ, ◌<◌, inl, inr, true, List, [], ◌∷◌, IsSome, sym, subst, list_any, Values, after, makes, NumberedCall}
 use Rattle.assise_model_world.proofs.Common.{trace, step_of, values_after_calls, Each, IsMadeBy, IsMade, Counted, Numbered, AreMade, World, IsClient}
 use Rattle.assise_model_world.proofs.Common.{opening_values, steps, now, root_alone}
-use Rattle.assise_inode_table.proofs.CallEnds.{makes_own}
-use Rattle.assise_inode_table.proofs.InodeNumbers.{there_or_made}
+use Rattle.assise_inode_table.proofs.Shared.CallEnds.{makes_own}
+use Rattle.assise_inode_table.proofs.Shared.InodeNumbers.{there_or_made}
 
 -- after a call more
 pub made_here : (w : World) (v : Values) (x : NumberedCall) → IsClient w x.client →

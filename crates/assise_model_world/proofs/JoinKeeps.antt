@@ -2,8 +2,8 @@
 use Rattle.assise_model_world.proofs.Common.{◌≡◌, ℕ, ◌≤◌, sym, ◌∙◌, arith, Joins, NoneFalls, Areas, CallsInvariant, WorldInvariant, World, Full, least_of}
 use Rattle.assise_model_world.proofs.Common.{end_of_log, digested_by_all, received_by_all, first_undigested_at, value_below}
 use Rattle.assise_model_world.proofs.Lists.{below-same}
-use Rattle.assise_model_world.proofs.WorldObserved.{least_of-below, least_of-above, least_of-end, call_at-same, steps-same, area_at}
-use Rattle.assise_model_world.proofs.QuietSteps.{end-same, calm_coherent, calm_falls, guarded-same, compatible-same, held-same}
+use Rattle.assise_model_world.proofs.Shared.WorldObserved.{least_of-below, least_of-above, least_of-end, call_at-same, steps-same, area_at}
+use Rattle.assise_model_world.proofs.Shared.QuietSteps.{end-same, calm_coherent, calm_falls, guarded-same, compatible-same, held-same}
 
 -- all that the one node has now the other had before
 record IsAs (w w' : World) (m b : ℕ) : Type 0 where

@@ -1,22 +1,6 @@
 mod Common
-pub mod Lists
-pub mod Logs
-pub mod WorldObserved
-pub mod QuietSteps
-pub mod ClientsStaying
-pub mod Between
-pub mod InodeNumbers
-pub mod Views
-pub mod RegionAlone
-pub mod AreasAgree
-pub mod DeliveryKeeps
-pub mod JoinKeeps
-pub mod DropKeeps
-pub mod DigestKeeps
-pub mod FailureKeeps
-pub mod Replicated
-pub mod CallKeeps
-pub mod CoalescedTail
-pub mod RegroupKeeps
-pub mod StepLists
-pub mod Possible
+pub mod Shared
+mod Lists
+mod Between
+mod InodeNumbers
+mod JoinKeeps

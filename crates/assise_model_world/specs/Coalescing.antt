@@ -18,32 +18,15 @@ pub record GetsAll (n c : ℕ) (w' : World) : Type 0 where
   pub received : w'.received n c ≡ end_of_log w' c
   pub log : w'.log n c ≡ w'.records c
 
--- client c's records from a border s on become the new ones, which are no more than those were. Each border of them is one of what
--- was there: between each two borders the records have the net effect of those that were between those places, and touch what they
--- touched, and the call at a border is the one that was there. No full node has more than s, or it gets the whole, as the client's
--- home does
-pub record Coalesces (w : World) (c s : ℕ) (new : List LogRecord) (was : ℕ → ℕ) (w' : World) : Type 0 where
+-- client c's records from s on become the new ones: each full node has none of the old ones and gets none, or gets the whole, as the
+-- client's home does. All of its log is to be replicated then
+pub record GetsTail (w : World) (c s : ℕ) (new : List LogRecord) (w' : World) : Type 0 where
   pub lives : w.lives c ≡ true
-  pub at_border : w.border c s ≡ true
   pub low : received_by_all w c ≤ s
   pub high : s ≤ end_of_log w c
   pub records_own : w'.records c ≡ take (s - w.first c) (w.records c) ++ new
   pub records_else : (d : ℕ) → d ≢ c → w'.records d ≡ w.records d
-  -- the places that the new borders were
-  pub was_here : was s ≡ s
-  pub was_end : was (end_of_log w' c) ≡ end_of_log w c
-  pub was_ascends : (j k : ℕ) → j ≤ k → was j ≤ was k
-  pub was_border : (k : ℕ) → s ≤ k → k ≤ end_of_log w' c → w'.border c k ≡ true → w.border c (was k) ≡ true
-  pub same_call : (k : ℕ) → s ≤ k → k ≤ end_of_log w' c → w'.border c k ≡ true → call_at w' c k ≡ call_at w c (was k)
-  pub net : (j k : ℕ) → w'.border c j ≡ true → w'.border c k ≡ true → s ≤ j → j ≤ k → k ≤ end_of_log w' c →
-      SameNetEffect (all_effects (records_between w' c j k)) (all_effects (records_between w c (was j) (was k)))
-  pub touch : (i j k : ℕ) → w'.border c j ≡ true → w'.border c k ≡ true → s ≤ j → j ≤ k → k ≤ end_of_log w' c →
-      contains (touched (all_effects (records_between w' c j k))) i ≡ contains (touched (all_effects (records_between w c (was j) (was k)))) i
-  pub begins : call_of new 0 (w.next c) ≡ call_at w c s
-  pub ascending : Ascending new (w.next c)
-  pub no_more : end_of_log w' c ≤ end_of_log w c
   pub border_old : (k : ℕ) → k ≤ s → w'.border c k ≡ w.border c k
-  pub border_end : w'.border c (end_of_log w' c) ≡ true
   pub border_else : (d k : ℕ) → d ≢ c → w'.border d k ≡ w.border d k
   pub here : (n : ℕ) → Full w n → HasNone w n c s w' ⊎ GetsAll n c w'
   pub at_home : GetsAll (w.home c) c w'
@@ -60,3 +43,24 @@ pub record Coalesces (w : World) (c s : ℕ) (new : List LogRecord) (was : ℕ �
   pub goal_here : w'.goal c ≡ end_of_log w' c
   pub goal_else : (d : ℕ) → d ≢ c → w'.goal d ≡ w.goal d
   pub leases : KeepsLeases w w'
+
+-- client c's records from a border s on become the new ones, which are no more than those were. Each border of them is one of what
+-- was there: between each two borders the records have the net effect of those that were between those places, and touch what they
+-- touched, and the call at a border is the one that was there
+pub record Coalesces (w : World) (c s : ℕ) (new : List LogRecord) (was : ℕ → ℕ) (w' : World) : Type 0 where
+  pub tail : GetsTail w c s new w'
+  pub at_border : w.border c s ≡ true
+  -- the places that the new borders were
+  pub was_here : was s ≡ s
+  pub was_end : was (end_of_log w' c) ≡ end_of_log w c
+  pub was_ascends : (j k : ℕ) → j ≤ k → was j ≤ was k
+  pub was_border : (k : ℕ) → s ≤ k → k ≤ end_of_log w' c → w'.border c k ≡ true → w.border c (was k) ≡ true
+  pub same_call : (k : ℕ) → s ≤ k → k ≤ end_of_log w' c → w'.border c k ≡ true → call_at w' c k ≡ call_at w c (was k)
+  pub net : (j k : ℕ) → w'.border c j ≡ true → w'.border c k ≡ true → s ≤ j → j ≤ k → k ≤ end_of_log w' c →
+      SameNetEffect (all_effects (records_between w' c j k)) (all_effects (records_between w c (was j) (was k)))
+  pub touch : (i j k : ℕ) → w'.border c j ≡ true → w'.border c k ≡ true → s ≤ j → j ≤ k → k ≤ end_of_log w' c →
+      contains (touched (all_effects (records_between w' c j k))) i ≡ contains (touched (all_effects (records_between w c (was j) (was k)))) i
+  pub begins : call_of new 0 (w.next c) ≡ call_at w c s
+  pub ascending : Ascending new (w.next c)
+  pub no_more : end_of_log w' c ≤ end_of_log w c
+  pub border_end : w'.border c (end_of_log w' c) ≡ true

@@ -1,7 +1,7 @@
 mod Common
-pub mod Prefixes
-pub mod HexDigits
-pub mod PathLemmas
-pub mod AscendingNames
-pub mod Spellings
+mod Prefixes
+mod HexDigits
+mod PathLemmas
+mod AscendingNames
+mod Spellings
 mod FewNames

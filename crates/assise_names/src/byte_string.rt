@@ -1,12 +1,10 @@
 //! A list of bytes as one value.
-ghost use Rattle.std.specs.Prelude.{◌≡◌, ◌==◌, [], IfOk, IsOk, IsOkUnless, length};
+ghost use Rattle.std.specs.Prelude.{◌≡◌, ◌==◌, [], IfOk, IsOk, length};
 ghost use Rattle.std.proofs.Common.{rules};
 ghost use Rattle.std.specs.Cmp.Rules.{comparing};
 ghost use Rattle.std.specs.Cmp.Lexicographic.{pointwise};
 ghost use Rattle.std.specs.Ordering.{on};
-ghost use Rattle.assise_names.specs.declared.refusal.Refusal.TheVariants.{OutOfMemory};
 
-use crate::refusal::Refusal;
 use bytes::Bytes;
 use std::alloc::{AllocError, Global};
 use std::marker::Model;
@@ -103,11 +101,10 @@ impl ByteString {
         self.as_slice().is_empty()
     }
 
-    /// An equal value that shares the bytes, or [`Refusal::OutOfMemory`]. No bytes take no memory.
-    pub fn copy(&self) -> Result<ByteString, Refusal>
+    /// An equal value that shares the bytes. No bytes take no memory.
+    pub fn copy(&self) -> Result<ByteString, AllocError>
         ensures equal { IfOk result (λ copied. copied ≡ self.now) }
         ensures none { length self.now ≡ 0 → IsOk result }
-        ensures only_memory { IsOkUnless result OutOfMemory }
     {
         let Some(bytes) = &self.bytes else {
             return Ok(ByteString { bytes: None });

@@ -1,5 +1,5 @@
 //! The name of an entry.
-ghost use Rattle.std.specs.Prelude.{◌≡◌, ◌==◌, IfOk, IsOk, IsOkUnless, IsTrue, MatchResult, Some, length};
+ghost use Rattle.std.specs.Prelude.{◌≡◌, ◌==◌, IfOk, IsOk, IsTrue, MatchResult, Some, length};
 ghost use Rattle.std.specs.List.{list_any};
 ghost use Rattle.std.proofs.Common.{rules};
 ghost use Rattle.std.specs.Cmp.{partial_order_from_own_ties};
@@ -9,10 +9,8 @@ ghost use Rattle.std.specs.Ordering.{nat_cmp, on, as_partial_cmp};
 ghost use Rattle.assise_names.specs.Name.{is_name, name_of, is_barred, is_dots};
 ghost use Rattle.assise_names.specs.Path.{GivesPath};
 ghost use Rattle.assise_names.specs.declared.path.PathFault.{PathFault};
-ghost use Rattle.assise_names.specs.declared.refusal.Refusal.TheVariants.{OutOfMemory};
 
 use crate::path::PathFault;
-use crate::refusal::Refusal;
 use crate::text::Text;
 use std::alloc::{AllocError, Global};
 use std::cmp::Ordering;
@@ -57,11 +55,10 @@ impl Name {
         Ok(Name { text })
     }
 
-    /// The name that a text is which is one. The one refusal is [`Refusal::OutOfMemory`].
-    pub fn of_text(alloc: Global, text: &str) -> Result<Name, Refusal>
+    /// The name that a text is which is one.
+    pub fn of_text(alloc: Global, text: &str) -> Result<Name, AllocError>
         requires { IsTrue (is_name text.now) }
         ensures name { IfOk result (λ name. name ≡ text.now) }
-        ensures only_memory { IsOkUnless result OutOfMemory }
     {
         Ok(Name {
             text: Text::new(alloc, text)?,
@@ -76,11 +73,10 @@ impl Name {
         self.text.as_str()
     }
 
-    /// An equal value. It takes no memory: the one refusal, [`Refusal::OutOfMemory`], comes where the bytes are shared and the
-    /// count of those that share them is full.
-    pub fn copy(&self) -> Result<Name, Refusal>
+    /// An equal value. It takes no memory, and fails only where the bytes are shared and the count of those that share them
+    /// is full.
+    pub fn copy(&self) -> Result<Name, AllocError>
         ensures equal { IfOk result (λ copied. copied ≡ self.now) }
-        ensures only_memory { IsOkUnless result OutOfMemory }
     {
         Ok(self.clone()?)
     }
@@ -104,10 +100,9 @@ pub fn is_name(text: &str) -> bool
 }
 
 /// Equal names. None take no memory.
-pub(crate) fn copy_names(alloc: Global, names: &[Name]) -> Result<Vec<Name>, Refusal>
+pub(crate) fn copy_names(alloc: Global, names: &[Name]) -> Result<Vec<Name>, AllocError>
     ensures equal { IfOk result (λ copied. copied.items ≡ names.now) }
     ensures none { length names.now ≡ 0 → IsOk result }
-    ensures only_memory { IsOkUnless result OutOfMemory }
 {
     let mut copied = Vec::with_capacity(alloc, names.len())?;
     for name in names {

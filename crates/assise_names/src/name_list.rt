@@ -1,16 +1,14 @@
 //! A list of names as one value.
-ghost use Rattle.std.specs.Prelude.{◌≡◌, ◌==◌, ◌↔◌, IfOk, IsOk, IsOkUnless, IsTrue, length};
+ghost use Rattle.std.specs.Prelude.{◌≡◌, ◌==◌, ◌↔◌, IfOk, IsOk, IsTrue, length};
 ghost use Rattle.std.proofs.Common.{rules};
 ghost use Rattle.std.specs.Cmp.Rules.{comparing};
 ghost use Rattle.std.specs.Cmp.Lexicographic.{pointwise, slice_cmp};
 ghost use Rattle.std.specs.List.Sorted.{IsStrictlySortedBy};
 ghost use Rattle.std.specs.Map.{keys_of};
 ghost use Rattle.std.specs.Ordering.{nat_cmp, on};
-ghost use Rattle.assise_names.specs.declared.refusal.Refusal.TheVariants.{OutOfMemory};
 
 use crate::name::{Name, copy_names};
-use crate::refusal::Refusal;
-use std::alloc::Global;
+use std::alloc::{AllocError, Global};
 use std::collections::BTreeMap;
 use std::marker::Model;
 
@@ -49,11 +47,10 @@ impl NameList {
         true
     }
 
-    /// The names of a vector, which ascend, without a copy of them. The one refusal is [`Refusal::OutOfMemory`].
-    pub fn from_vec(alloc: Global, names: Vec<Name>) -> Result<NameList, Refusal>
+    /// The names of a vector, which ascend, without a copy of them.
+    pub fn from_vec(alloc: Global, names: Vec<Name>) -> Result<NameList, AllocError>
         requires ascending { IsStrictlySortedBy (slice_cmp nat_cmp) names.items }
         ensures names { IfOk result (λ list. list ≡ names.items) }
-        ensures only_memory { IsOkUnless result OutOfMemory }
     {
         if names.is_empty() {
             return Ok(NameList { names: None });
@@ -63,11 +60,10 @@ impl NameList {
         })
     }
 
-    /// The keys of an ordered map, which ascend by their bytes. The one refusal is [`Refusal::OutOfMemory`].
-    pub fn of_keys<V: Drop>(alloc: Global, map: &BTreeMap<Name, V>) -> Result<NameList, Refusal>
+    /// The keys of an ordered map, which ascend by their bytes.
+    pub fn of_keys<V: Drop>(alloc: Global, map: &BTreeMap<Name, V>) -> Result<NameList, AllocError>
         ensures keys { IfOk result (λ names. names ≡ keys_of map.now.entries) }
         ensures ascending { IfOk result (λ names. IsStrictlySortedBy (slice_cmp nat_cmp) names) }
-        ensures only_memory { IsOkUnless result OutOfMemory }
     {
         let mut names = Vec::with_capacity(alloc, map.len())?;
         for name in map.keys() {
@@ -87,11 +83,10 @@ impl NameList {
         }
     }
 
-    /// An equal value, or [`Refusal::OutOfMemory`]. No names take no memory.
-    pub fn copy(&self, alloc: Global) -> Result<NameList, Refusal>
+    /// An equal value. No names take no memory.
+    pub fn copy(&self, alloc: Global) -> Result<NameList, AllocError>
         ensures equal { IfOk result (λ copied. copied ≡ self.now) }
         ensures none { length self.now ≡ 0 → IsOk result }
-        ensures only_memory { IsOkUnless result OutOfMemory }
     {
         let Some(names) = &self.names else {
             return Ok(NameList { names: None });

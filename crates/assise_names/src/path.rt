@@ -9,10 +9,8 @@ ghost use Rattle.assise_names.specs.Name.{is_name};
 ghost use Rattle.assise_names.specs.Path.{GivesPath, GivesNames, IsProperPrefix, SpellsPath, name_count, is_proper_prefix, no_deeper, path_behind, path_of, path_of_pieces, names_behind, path_spelling, pieces_as_names, with_prefix};
 ghost use Rattle.assise_names.specs.Text.{path_fault_text};
 ghost use Rattle.assise_names.specs.declared.path.PathFault.{PathFault};
-ghost use Rattle.assise_names.specs.declared.refusal.Refusal.TheVariants.{OutOfMemory};
 
 use crate::name::{Name, check};
-use crate::refusal::Refusal;
 use std::alloc::{AllocError, AllocFailed, Global};
 use std::error::Error;
 use std::fmt;
@@ -187,12 +185,11 @@ impl Path {
         names.len() < others.len() && others.starts_with(names)
     }
 
-    /// An equal value. It takes no memory: the one refusal, [`Refusal::OutOfMemory`], comes where the count of those that share
-    /// the names is full. The root's copy is never refused.
-    pub fn copy(&self) -> Result<Path, Refusal>
+    /// An equal value. It takes no memory, and fails only where the count of those that share the names is full. The root's
+    /// copy is never refused.
+    pub fn copy(&self) -> Result<Path, AllocError>
         ensures equal { IfOk result (λ copied. copied ≡ self.now) }
         ensures root { length self.now ≡ 0 → IsOk result }
-        ensures only_memory { IsOkUnless result OutOfMemory }
     {
         match &self.names {
             PathNames::Root => Ok(Path {

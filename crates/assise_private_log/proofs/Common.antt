@@ -12,7 +12,7 @@ pub use Rattle.assise_private_log.specs.Groups.{groups_from, regrouped, with_gro
 pub use Rattle.assise_private_log.specs.NumberedLog.{HasOpenGroup, IsNumberedLog, NumberedLog, end, is_border, with_grouped, without_prefix, without_tail}
 pub use Rattle.assise_private_log.specs.NumberedLog.{records_from, record_at}
 pub use Rattle.assise_private_log.specs.Touches.{Covers, IsLastTouch, UntouchedFrom, found_touches, record_touches, touches, touches_after}
-pub use Rattle.assise_record.proofs.GroupRest.{group-shorter}
+pub use Rattle.assise_record.proofs.Shared.GroupRest.{group-shorter}
 pub use Rattle.assise_record.specs.Coalesced.{overridden, overrides}
 pub use Rattle.assise_record.specs.Groups.{AllHaveEffects, all_coalesced, all_marks, all_records, are_whole, begun_by, coalesced_group, groups_of, left_in}
 pub use Rattle.assise_record.specs.Groups.{marks_of, left_of}

@@ -1,5 +1,4 @@
 mod Common
-pub mod Borders
-pub mod LogGroups
+pub mod Shared
 mod Prefixes
 mod TouchedNumbers

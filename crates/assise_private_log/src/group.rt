@@ -1,16 +1,14 @@
 //! A group of records, without what is overridden in it.
-ghost use Rattle.std.specs.Prelude.{◌≡◌, ◌≤◌, ◌++◌, true, IfOk, IsOkUnless, OnOk, length};
+ghost use Rattle.std.specs.Prelude.{◌≡◌, ◌≤◌, ◌++◌, true, IfOk, OnOk, length};
 ghost use Rattle.std.specs.List.{list_any};
-ghost use Rattle.assise_names.specs.declared.refusal.Refusal.TheVariants.{OutOfMemory};
 ghost use Rattle.assise_record.specs.Coalesced.{overridden};
 ghost use Rattle.assise_record.specs.Groups.{AllHaveEffects, coalesced_group, left_of};
 ghost use Rattle.assise_record.specs.Records.{all_effects, has_some};
 ghost use Rattle.assise_private_log.specs.Groups.{with_left};
 
-use assise_names::refusal::Refusal;
 use assise_record::effect::Effect;
 use assise_record::record::Record;
-use std::alloc::Global;
+use std::alloc::{AllocError, Global};
 use std::marker::Model;
 
 /// The most records of a group.
@@ -35,12 +33,10 @@ impl Model for Group {
 
 impl Group {
     /// What is left of a group when the effects go that later ones of the group override. The bytes of writes are shared.
-    /// The one refusal is [`Refusal::OutOfMemory`].
-    pub(crate) fn coalesced(alloc: Global, group: &[Record]) -> Result<Group, Refusal>
+    pub(crate) fn coalesced(alloc: Global, group: &[Record]) -> Result<Group, AllocError>
         requires few { length group.now ≤ 64 }
         ensures left { IfOk result (λ left. left ≡ coalesced_group group.now) }
         ensures effects { OnOk result (AllHaveEffects group.now) }
-        ensures only_memory { IsOkUnless result OutOfMemory }
     {
         let mut records = Vec::new(alloc);
         let Some(begin) = group.first() else {
@@ -63,11 +59,10 @@ fn push_left(
     left: &mut Vec<Record>,
     added: &Record,
     later: &[Record],
-) -> Result<(), Refusal>
+) -> Result<(), AllocError>
     ensures ok { OnOk result (left.new.items ≡
         with_left begin left.old.items added.now (all_effects later.now)) }
     ensures some { OnOk result (has_some added.now.effects ≡ true) }
-    ensures only_memory { IsOkUnless result OutOfMemory }
 {
     let effects = left_of(alloc, added.effects(), later)?;
     if effects.is_empty() {
@@ -79,10 +74,9 @@ fn push_left(
 }
 
 /// Equal effects, of those that neither a later one of them nor one of these records overrides.
-fn left_of(alloc: Global, effects: &[Effect], later: &[Record]) -> Result<Vec<Effect>, Refusal>
+fn left_of(alloc: Global, effects: &[Effect], later: &[Record]) -> Result<Vec<Effect>, AllocError>
     ensures left { IfOk result (λ left. left.items ≡ left_of effects.now (all_effects later.now)) }
     ensures few { IfOk result (λ left. length left.items ≤ length effects.now) }
-    ensures only_memory { IsOkUnless result OutOfMemory }
 {
     let mut left = Vec::new(alloc);
     let mut rest = effects;

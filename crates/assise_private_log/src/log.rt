@@ -14,7 +14,7 @@ use crate::records::Records;
 use assise_names::refusal::Refusal;
 use assise_record::record::Record;
 use circular_buffer::HeapCircularBuffer;
-use std::alloc::Global;
+use std::alloc::{AllocError, Global};
 use std::marker::Model;
 
 /// The fewest records that a log's limit may be.
@@ -322,9 +322,8 @@ fn copies(
 fn copied_marks(
     alloc: Global,
     marks: &HeapCircularBuffer<bool>,
-) -> Result<HeapCircularBuffer<bool>, Refusal>
+) -> Result<HeapCircularBuffer<bool>, AllocError>
     ensures equal { IfOk result (λ copied. copied ≡ marks.now) }
-    ensures only_memory { IsOkUnless result OutOfMemory }
 {
     let mut copied = HeapCircularBuffer::with_capacity(alloc, marks.capacity())?;
     for mark in marks {

@@ -1,8 +1,9 @@
 -- An effect that is read is the effect that was spelled, and what is spelled is read again.
 use Rattle.assise_record.proofs.Common.{◌≡◌, ℕ, ◌==◌, cond, List, [], ◌∷◌, ◌++◌, Result, Ok, refl, sym, ap, subst, ◌∙◌, append_assoc, big_bytes, Effect}
-use Rattle.assise_record.proofs.Common.{NewFile, NewDir, Write, SetLen, Link, Unlink, Free, FrameFault, BadLength, IsEffect, tag_of, fields_of, effect_spelling}
-use Rattle.assise_record.proofs.Common.{patch_spelling, name_spelling, ◌>>=◌, number_at, extent_at, read_size, name_at, new_file_at, new_dir_at, write_at}
-use Rattle.assise_record.proofs.Common.{set_len_at, link_at, unlink_at, free_at, fields_at, effect_at, arith}
+use Rattle.assise_record.proofs.Common.{◌<◌, ◌^◌, Read, NewFile, NewDir, Write, SetLen, Link, Unlink, Free, FrameFault, BadLength, IsEffect, tag_of, arith}
+use Rattle.assise_record.proofs.Common.{fields_of, effect_spelling, patch_spelling, name_spelling, ◌>>=◌, number_at, name_at, new_file_at, new_dir_at, write_at}
+use Rattle.assise_record.proofs.Common.{set_len_at, link_at, unlink_at, free_at, fields_at, effect_at}
+use Rattle.assise_record.specs.Reading.{inode_at, inode_then_at}
 use Rattle.assise_record.proofs.Loop.{ok_is}
 use Rattle.assise_record.proofs.FieldLaws.{IsBytes, Takes, Takes-then, Reads, seq_takes, byte_reads, u64_reads, extent_reads, size_reads, name_reads}
 
@@ -15,47 +16,24 @@ made effect rest = Ok (effect, rest)
 
 -- ---- from bytes to effects
 
-new_file_takes : (bytes : List ℕ) (x : Effect × List ℕ) → IsBytes bytes → new_file_at bytes ≡ Ok x → TakesFields 1 bytes x
-unfolding new_file_at
-new_file_takes bytes x fits e =
-    let a = seq_takes (u64_reads BadLength) (λ inode. made (NewFile inode.0) inode.1) x bytes fits e in
-    subst (TakesFields 1 bytes) (ok_is (NewFile a.0.0, a.0.1) x a.3) (refl, a.1, a.2)
+-- an effect of an inode alone, and one of an inode and what is read behind it
+inode_takes : (tag : ℕ) (make : ℕ → Effect)
+    → ((text : List ℕ) (inode : ℕ) (rest : List ℕ) → Takes text (big_bytes 8 inode) rest → inode < 2 ^ 64 → TakesFields tag text (make inode, rest))
+    → (bytes : List ℕ) (x : Effect × List ℕ) → IsBytes bytes → inode_at make bytes ≡ Ok x → TakesFields tag bytes x
+inode_takes tag make is bytes x fits e =
+    let a = seq_takes (u64_reads BadLength) (λ inode. made (make inode.0) inode.1) x bytes fits e in
+    subst (TakesFields tag bytes) (ok_is (make a.0.0, a.0.1) x a.3) (is bytes a.0.0 a.0.1 a.1 a.2)
 
-new_dir_takes : (bytes : List ℕ) (x : Effect × List ℕ) → IsBytes bytes → new_dir_at bytes ≡ Ok x → TakesFields 2 bytes x
-unfolding new_dir_at
-new_dir_takes bytes x fits e =
-    let a = seq_takes (u64_reads BadLength) (λ inode. made (NewDir inode.0) inode.1) x bytes fits e in
-    subst (TakesFields 2 bytes) (ok_is (NewDir a.0.0, a.0.1) x a.3) (refl, a.1, a.2)
-
-free_takes : (bytes : List ℕ) (x : Effect × List ℕ) → IsBytes bytes → free_at bytes ≡ Ok x → TakesFields 7 bytes x
-unfolding free_at
-free_takes bytes x fits e =
-    let a = seq_takes (u64_reads BadLength) (λ inode. made (Free inode.0) inode.1) x bytes fits e in
-    subst (TakesFields 7 bytes) (ok_is (Free a.0.0, a.0.1) x a.3) (refl, a.1, a.2)
-
-write_takes : (bytes : List ℕ) (x : Effect × List ℕ) → IsBytes bytes → write_at bytes ≡ Ok x → TakesFields 3 bytes x
-unfolding write_at
-write_takes bytes x fits e =
-    let a = seq_takes (u64_reads BadLength) (λ inode. extent_at inode.1 >>= λ extent. made (Write inode.0 extent.0) extent.1) x bytes fits e in
-    let b = seq_takes extent_reads (λ extent. made (Write a.0.0 extent.0) extent.1) x a.0.1 a.1.rest_fits a.3 in
-    let both = Takes-then bytes (big_bytes 8 a.0.0) a.0.1 (patch_spelling b.0.0) b.0.1 a.1 b.1 in
-    subst (TakesFields 3 bytes) (ok_is (Write a.0.0 b.0.0, b.0.1) x b.3) (refl, both, (a.2, b.2))
-
-set_len_takes : (bytes : List ℕ) (x : Effect × List ℕ) → IsBytes bytes → set_len_at bytes ≡ Ok x → TakesFields 4 bytes x
-unfolding set_len_at
-set_len_takes bytes x fits e =
-    let a = seq_takes (u64_reads BadLength) (λ inode. read_size inode.1 >>= λ size. made (SetLen inode.0 size.0) size.1) x bytes fits e in
-    let b = seq_takes size_reads (λ size. made (SetLen a.0.0 size.0) size.1) x a.0.1 a.1.rest_fits a.3 in
-    let both = Takes-then bytes (big_bytes 8 a.0.0) a.0.1 (big_bytes 4 b.0.0) b.0.1 a.1 b.1 in
-    subst (TakesFields 4 bytes) (ok_is (SetLen a.0.0 b.0.0, b.0.1) x b.3) (refl, both, (a.2, b.2))
-
-unlink_takes : (bytes : List ℕ) (x : Effect × List ℕ) → IsBytes bytes → unlink_at bytes ≡ Ok x → TakesFields 6 bytes x
-unfolding unlink_at
-unlink_takes bytes x fits e =
-    let a = seq_takes (u64_reads BadLength) (λ directory. name_at directory.1 >>= λ name. made (Unlink directory.0 name.0) name.1) x bytes fits e in
-    let b = seq_takes name_reads (λ name. made (Unlink a.0.0 name.0) name.1) x a.0.1 a.1.rest_fits a.3 in
-    let both = Takes-then bytes (big_bytes 8 a.0.0) a.0.1 (name_spelling b.0.0) b.0.1 a.1 b.1 in
-    subst (TakesFields 6 bytes) (ok_is (Unlink a.0.0 b.0.0, b.0.1) x b.3) (refl, both, (a.2, b.2))
+inode_then_takes : {A : Type 0} {read : List ℕ → Read A} {spell : A → List ℕ} {Fits : A → Type 0} (reads : Reads read spell Fits) (tag : ℕ)
+    (make : ℕ → A → Effect)
+    → ((text : List ℕ) (inode : ℕ) (y : A) (rest : List ℕ) → Takes text (big_bytes 8 inode ++ spell y) rest → inode < 2 ^ 64 → Fits y →
+    TakesFields tag text (make inode y, rest)) → (bytes : List ℕ) (x : Effect × List ℕ) → IsBytes bytes → inode_then_at make read bytes ≡ Ok x →
+    TakesFields tag bytes x
+inode_then_takes {read = read} {spell = spell} reads tag make is bytes x fits e =
+    let a = seq_takes (u64_reads BadLength) (λ inode. read inode.1 >>= λ y. made (make inode.0 y.0) y.1) x bytes fits e in
+    let b = seq_takes reads (λ y. made (make a.0.0 y.0) y.1) x a.0.1 a.1.rest_fits a.3 in
+    let both = Takes-then bytes (big_bytes 8 a.0.0) a.0.1 (spell b.0.0) b.0.1 a.1 b.1 in
+    subst (TakesFields tag bytes) (ok_is (make a.0.0 b.0.0, b.0.1) x b.3) (is bytes a.0.0 b.0.0 b.0.1 both a.2 b.2)
 
 link_takes : (bytes : List ℕ) (x : Effect × List ℕ) → IsBytes bytes → link_at bytes ≡ Ok x → TakesFields 5 bytes x
 unfolding link_at
@@ -75,15 +53,16 @@ choose : {P : Type 0} (tag n : ℕ) (here there : Result (Effect × List ℕ) Fr
 choose {P} tag n here there x this other = grind arith
 
 fields_take : (tag : ℕ) (bytes : List ℕ) (x : Effect × List ℕ) → IsBytes bytes → fields_at tag bytes ≡ Ok x → TakesFields tag bytes x
-unfolding fields_at
+unfolding fields_at new_file_at new_dir_at write_at set_len_at unlink_at free_at
 fields_take tag bytes x fits =
     let is = λ (n : ℕ) (t : tag ≡ n) (h : TakesFields n bytes x). subst (λ (k : ℕ). TakesFields k bytes x) (sym t) h in
-    choose tag 1 _ _ x (λ t e. is 1 t (new_file_takes bytes x fits e))
-    (choose tag 2 _ _ x (λ t e. is 2 t (new_dir_takes bytes x fits e))
-    (choose tag 3 _ _ x (λ t e. is 3 t (write_takes bytes x fits e))
-    (choose tag 4 _ _ x (λ t e. is 4 t (set_len_takes bytes x fits e))
+    choose tag 1 _ _ x (λ t e. is 1 t (inode_takes 1 NewFile (λ b n r t f. (refl, t, f)) bytes x fits e))
+    (choose tag 2 _ _ x (λ t e. is 2 t (inode_takes 2 NewDir (λ b n r t f. (refl, t, f)) bytes x fits e))
+    (choose tag 3 _ _ x (λ t e. is 3 t (inode_then_takes extent_reads 3 Write (λ b n y r t f g. (refl, t, (f, g))) bytes x fits e))
+    (choose tag 4 _ _ x (λ t e. is 4 t (inode_then_takes size_reads 4 SetLen (λ b n y r t f g. (refl, t, (f, g))) bytes x fits e))
     (choose tag 5 _ _ x (λ t e. is 5 t (link_takes bytes x fits e))
-    (search (unlink_takes, free_takes, arith) parts 3)))))
+    (choose tag 6 _ _ x (λ t e. is 6 t (inode_then_takes name_reads 6 Unlink (λ b n y r t f g. (refl, t, (f, g))) bytes x fits e))
+    (choose tag 7 _ _ x (λ t e. is 7 t (inode_takes 7 Free (λ b n r t f. (refl, t, f)) bytes x fits e)) (λ e. absurd cc)))))))
 
 effect_takes : (bytes : List ℕ) (x : Effect × List ℕ) → IsBytes bytes → effect_at bytes ≡ Ok x → Takes bytes (effect_spelling x.0) x.1 × IsEffect x.0
 unfolding effect_at

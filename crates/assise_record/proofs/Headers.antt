@@ -3,7 +3,7 @@ use Rattle.assise_record.proofs.Common.{◌≡◌, ◌≢◌, ℕ, zero, suc, �
 use Rattle.assise_record.proofs.Common.{Ok, Err, refl, sym, ap, ap₂, subst, ◌∙◌, inl, inr, arith, true≢false, cases_Bool, cases_lt, eq-eqb, eqb-true, lt-ltb}
 use Rattle.assise_record.proofs.Common.{le-ltb, ltb-true, drop-drop, length-drop, big_number, Header, FrameFault, Short, BadMagic, BadVersion, BadValue}
 use Rattle.assise_record.proofs.Common.{HasCount, IsVersion, Read, has_count, is_version, version_at, numbers_at, header_at, HasLawfulFields, IsUnfinished}
-use Rattle.assise_record.proofs.Common.{field}
+use Rattle.assise_record.proofs.Common.{field, ◌>>=◌, number_at}
 use Rattle.std.proofs.Common.{◌⊎◌}
 use Rattle.assise_record.proofs.FrameLaws.{count_again, count_is, version_again, version_is}
 
@@ -98,48 +98,31 @@ module _ (newest v : ℕ) (known : is_version newest v ≡ true) (t : List ℕ) 
         no_number wrong = rw (known, epoch_there, client_there, somebody, first_there, count_there, counts, wrong) refl
 
         module _ (right : has_count first count ≡ true) where
-          no_size : length t < 26 → header_at newest bytes ≡ Short_
+          abbrev head : ℕ → Header
+          head n = record {
+            version = v;
+            epoch = big_number 8 (take 8 t);
+            client = client;
+            first = big_number 8 (take 8 (drop 4 (drop 8 t)));
+            count = big_number 2 (take 2 (drop 8 (drop 4 (drop 8 t))));
+            size = n;
+          }
+
+          abbrev r : List ℕ
+          r = drop 2 (drop 8 (drop 4 (drop 8 t)))
+
+          -- the size is what is left to read
+          behind_count : header_at newest bytes ≡ (number_at 4 Short r >>= λ n. Ok (head n.0, n.1))
           unfolding header_at version_at numbers_at
-          no_size few = rw (
-            known,
-            epoch_there,
-            client_there,
-            somebody,
-            first_there,
-            count_there,
-            counts,
-            right,
-            lt-ltb (length (drop 2 (drop 8 (drop 4 (drop 8 t))))) 4 (omega (arith, behind_22)),
-          ) refl
+          behind_count = rw (known, epoch_there, client_there, somebody, first_there, count_there, counts, right) refl
+
+          no_size : length t < 26 → header_at newest bytes ≡ Short_
+          no_size few = behind_count ∙ rw (lt-ltb (length r) 4 (omega (arith, behind_22))) refl
 
           whole : 26 ≤ length t → (h : Header) × (rest : List ℕ) × (header_at newest bytes ≡ Ok (h, rest)) × (h.size ≡ size) × (length rest + 26 ≡ length t)
-          unfolding header_at version_at numbers_at
           whole all =
-              let r = drop 2 (drop 8 (drop 4 (drop 8 t))) in
-              let h : Header = record {
-                version = v;
-                epoch = big_number 8 (take 8 t);
-                client = client;
-                first = big_number 8 (take 8 (drop 4 (drop 8 t)));
-                count = big_number 2 (take 2 (drop 8 (drop 4 (drop 8 t))));
-                size = big_number 4 (take 4 r);
-              } in (
-                h,
-                drop 4 r,
-                rw (
-                  known,
-                  epoch_there,
-                  client_there,
-                  somebody,
-                  first_there,
-                  count_there,
-                  counts,
-                  right,
-                  le-ltb (length r) 4 (omega (arith, behind_22)),
-                ) refl,
-                size_is,
-                omega (arith, length-drop 4 r, behind_22),
-              )
+              let there = le-ltb (length r) 4 (omega (arith, behind_22)) in
+              (head (big_number 4 (take 4 r)), drop 4 r, behind_count ∙ rw there refl, size_is, omega (arith, length-drop 4 r, behind_22))
 
 -- ---- any bytes
 

@@ -1,24 +1,18 @@
 mod Common
-pub mod EffectLaws
-pub mod Equality
-pub mod FieldLaws
-pub mod FrameLaws
-pub mod GroupRest
-pub mod Headers
-pub mod Loop
-pub mod GroupMarks
-pub mod Marks
-pub mod Names
-pub mod Never
-pub mod Outcomes
-pub mod Overrides
-pub mod RecordLaws
-pub mod Records
-pub mod Rests
-pub mod RoomLaws
-pub mod Shortness
-pub mod SizeBounds
-pub mod Stays
-pub mod Unique
-pub mod Versions
-pub mod WholeGroups
+pub mod Shared
+mod EffectLaws
+mod FieldLaws
+mod FrameLaws
+mod Headers
+mod Loop
+mod Marks
+mod Names
+mod Never
+mod Outcomes
+mod Overrides
+mod RecordLaws
+mod Rests
+mod RoomLaws
+mod Shortness
+mod SizeBounds
+mod Stays

@@ -82,27 +82,30 @@ name_at bytes = do
   name ← name_in text.0
   Ok (name, text.1)
 
-unfoldable pub new_file_at : List ℕ → Read Effect
-new_file_at bytes = do
+-- an effect of an inode alone
+abbrev pub inode_at : (ℕ → Effect) → List ℕ → Read Effect
+inode_at make bytes = do
   inode ← number_at 8 BadLength bytes
-  Ok (NewFile inode.0, inode.1)
+  Ok (make inode.0, inode.1)
+
+-- an effect of an inode and of what is read behind it
+abbrev pub inode_then_at : {A : Type 0} → (ℕ → A → Effect) → (List ℕ → Read A) → List ℕ → Read Effect
+inode_then_at make read bytes = do
+  inode ← number_at 8 BadLength bytes
+  field ← read inode.1
+  Ok (make inode.0 field.0, field.1)
+
+unfoldable pub new_file_at : List ℕ → Read Effect
+new_file_at bytes = inode_at NewFile bytes
 
 unfoldable pub new_dir_at : List ℕ → Read Effect
-new_dir_at bytes = do
-  inode ← number_at 8 BadLength bytes
-  Ok (NewDir inode.0, inode.1)
+new_dir_at bytes = inode_at NewDir bytes
 
 unfoldable pub write_at : List ℕ → Read Effect
-write_at bytes = do
-  inode ← number_at 8 BadLength bytes
-  extent ← extent_at inode.1
-  Ok (Write inode.0 extent.0, extent.1)
+write_at bytes = inode_then_at Write extent_at bytes
 
 unfoldable pub set_len_at : List ℕ → Read Effect
-set_len_at bytes = do
-  inode ← number_at 8 BadLength bytes
-  size ← read_size inode.1
-  Ok (SetLen inode.0 size.0, size.1)
+set_len_at bytes = inode_then_at SetLen read_size bytes
 
 unfoldable pub link_at : List ℕ → Read Effect
 link_at bytes = do
@@ -112,15 +115,10 @@ link_at bytes = do
   Ok (Link directory.0 name.0 inode.0, inode.1)
 
 unfoldable pub unlink_at : List ℕ → Read Effect
-unlink_at bytes = do
-  directory ← number_at 8 BadLength bytes
-  name ← name_at directory.1
-  Ok (Unlink directory.0 name.0, name.1)
+unlink_at bytes = inode_then_at Unlink name_at bytes
 
 unfoldable pub free_at : List ℕ → Read Effect
-free_at bytes = do
-  inode ← number_at 8 BadLength bytes
-  Ok (Free inode.0, inode.1)
+free_at bytes = inode_at Free bytes
 
 -- what stands behind a tag
 unfoldable pub fields_at : ℕ → List ℕ → Read Effect

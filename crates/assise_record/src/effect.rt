@@ -1,5 +1,5 @@
 //! What a call does to one inode.
-ghost use Rattle.std.specs.Prelude.{◌≡◌, ◌==◌, ◌+◌, ◌<◌, ◌≤◌, IfOk, IsOkUnless, OnErr, length};
+ghost use Rattle.std.specs.Prelude.{◌≡◌, ◌==◌, ◌+◌, ◌<◌, ◌≤◌, IfOk, OnErr, length};
 ghost use Rattle.std.proofs.Common.{rules};
 ghost use Rattle.std.specs.Cmp.Rules.{comparing};
 ghost use Rattle.std.specs.Cmp.Lexicographic.{pointwise};
@@ -8,11 +8,10 @@ ghost use Rattle.assise_record.specs.Coalesced.{covers, overrides};
 ghost use Rattle.assise_record.specs.Copied.{HoldsNameOrBytes};
 ghost use Rattle.assise_record.specs.Patch.{IsPatch};
 ghost use Rattle.assise_record.specs.Touched.{touched_by};
-ghost use Rattle.assise_names.specs.declared.refusal.Refusal.TheVariants.{OutOfMemory};
 
 use assise_names::name::Name;
-use assise_names::refusal::Refusal;
 use bytes::Bytes;
+use std::alloc::AllocError;
 use std::marker::Model;
 
 /// The most bytes of one write.
@@ -100,10 +99,9 @@ impl Extent {
         self.offset <= other.offset && other.offset as usize + other.bytes().len() <= end
     }
 
-    /// An equal value that shares the bytes, or [`Refusal::OutOfMemory`].
-    pub fn copy(&self) -> Result<Extent, Refusal>
+    /// An equal value that shares the bytes.
+    pub fn copy(&self) -> Result<Extent, AllocError>
         ensures equal { IfOk result (λ copied. copied ≡ self.now) }
-        ensures only_memory { IsOkUnless result OutOfMemory }
     {
         let bytes = self.bytes.clone()?;
         Ok(Extent {
@@ -126,9 +124,6 @@ impl PartialEq for Extent {
 impl Eq for Extent {
     ghost laws = { Prim.search (comparing, rules) };
 }
-
-/// The most bytes of a file.
-pub const MOST_FILE_BYTES: u32 = 1_048_576;
 
 /// The length of a file in bytes, at most 1,048,576. A contract sees the number.
 #[derive(Clone, Copy, Debug, PartialEq, Eq)]
@@ -308,11 +303,10 @@ impl Effect {
         }
     }
 
-    /// An equal value, which shares a name or the bytes of a write. The one refusal is [`Refusal::OutOfMemory`], and it comes
-    /// only where these are shared.
-    pub fn copy(&self) -> Result<Effect, Refusal>
+    /// An equal value, which shares a name or the bytes of a write. It takes no memory, and fails only where these are
+    /// shared.
+    pub fn copy(&self) -> Result<Effect, AllocError>
         ensures equal { IfOk result (λ copied. copied ≡ self.now) }
-        ensures only_memory { IsOkUnless result OutOfMemory }
         ensures only_name_or_bytes { OnErr result (HoldsNameOrBytes self.now) }
     {
         match self {

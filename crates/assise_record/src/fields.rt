@@ -4,8 +4,9 @@ ghost use Rattle.assise_names.specs.Name.{is_name};
 ghost use Rattle.assise_record.specs.Patch.{IsPatch};
 ghost use Rattle.assise_record.specs.Reading.{Exactly, byte_at, bytes_at, number_at, is_extent, extent_at, read_size, name_in, name_at};
 
-use crate::effect::{MOST_EXTENT_BYTES, MOST_FILE_BYTES};
+use crate::effect::MOST_EXTENT_BYTES;
 use crate::fault::FrameFault;
+use assise_names::limits::MOST_FILE_BYTES;
 use assise_names::name::is_name;
 use byteorder::{BigEndian, ByteOrder};
 
@@ -80,7 +81,7 @@ fn is_extent(offset: u32, size: u32) -> bool
 {
     0 < size
         && size as usize <= MOST_EXTENT_BYTES
-        && u64::from(offset) + u64::from(size) <= u64::from(MOST_FILE_BYTES)
+        && u64::from(offset) + u64::from(size) <= MOST_FILE_BYTES
 }
 
 /// The length of a file.
@@ -90,7 +91,7 @@ pub(crate) fn size_at(bytes: &[u8]) -> Result<(u32, &[u8]), FrameFault>
     ensures fits { IfOk result (λ x. x.0 ≤ 1048576) }
 {
     let (size, rest) = u32_at(bytes, FrameFault::BadLength)?;
-    if size > MOST_FILE_BYTES {
+    if u64::from(size) > MOST_FILE_BYTES {
         return Err(FrameFault::BadValue);
     }
     Ok((size, rest))

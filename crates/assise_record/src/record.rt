@@ -10,7 +10,7 @@ ghost use Rattle.assise_names.specs.declared.refusal.Refusal.TheVariants.{OutOfM
 
 use crate::effect::Effect;
 use assise_names::refusal::Refusal;
-use std::alloc::Global;
+use std::alloc::{AllocError, Global};
 use std::marker::Model;
 
 /// The most effects of a record.
@@ -101,9 +101,8 @@ impl Eq for Record {
 }
 
 /// Equal effects, in order.
-fn copies(alloc: Global, effects: &[Effect]) -> Result<Vec<Effect>, Refusal>
+fn copies(alloc: Global, effects: &[Effect]) -> Result<Vec<Effect>, AllocError>
     ensures equal { IfOk result (λ copied. copied.items ≡ effects.now) }
-    ensures only_memory { IsOkUnless result OutOfMemory }
 {
     let mut copied = Vec::with_capacity(alloc, effects.len())?;
     for effect in effects {

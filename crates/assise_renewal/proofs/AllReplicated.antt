@@ -5,14 +5,14 @@ use Rattle.assise_renewal.proofs.Common.{is_lost, kept, IsLegal, IsNextCall, cli
 use Rattle.assise_renewal.proofs.Common.{replicated_calls, replicated_to, HasReplicatedAll}
 use Rattle.std.proofs.Math.Bridge.{le_prop}
 use Rattle.std.proofs.Math.Logic.{∥∥₁_elim}
-use Rattle.assise_history.proofs.ClientCounts.{next_opened, number_below, opened_append, opened_within}
-use Rattle.assise_history.proofs.Legality.{fits_in, prefix_in}
+use Rattle.assise_history.proofs.Shared.ClientCounts.{next_opened, number_below, opened_append, opened_within}
+use Rattle.assise_history.proofs.Shared.Legality.{fits_in, prefix_in}
 use Rattle.assise_model_world.specs.World.{IsClient}
 use Rattle.assise_machine_state.specs.ClientValues.{ClientValue}
 use Rattle.assise_machine_state.specs.Whole.{value_of}
 use Rattle.assise_machine.specs.KnownClients.{IsKnownClient}
-use Rattle.assise_machine.proofs.Few.{few_clients}
-use Rattle.assise_machine.proofs.Replicated.{count_known}
+use Rattle.assise_machine.proofs.Shared.Few.{few_clients}
+use Rattle.assise_machine.proofs.Shared.Replicated.{count_known}
 
 -- ---- calls that all pass
 

@@ -22,6 +22,6 @@ pub use Rattle.assise_names.specs.declared.reply.Reply.{Reply}
 pub use Rattle.assise_renewal.specs.Led.{IsOfSort, IsThisCall, IsLedBy, IsOfFirst, IsDsync}
 pub use Rattle.assise_renewal.specs.Renewal.{IsBegunBy, IsCallOfFirst, IsOfOneClient, tree_kept, AreUp}
 pub use Rattle.assise_renewal.specs.ReplicatedClients.{HasReplicatedAll}
-pub use Rattle.assise_rounds.proofs.Traces.{round_trace, trace_then, trace_told}
+pub use Rattle.assise_rounds.proofs.Shared.Traces.{round_trace, trace_then, trace_told}
 pub use Rattle.assise_rounds.specs.Traces.{IsEvent, Nothing, Then, Told}
 pub use Rattle.assise_seq_tree.specs.Tree.{Tree, opening}

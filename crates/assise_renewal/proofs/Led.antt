@@ -13,7 +13,7 @@ use Rattle.assise_rounds.specs.Rounds.{delivery, is_refused, replicates}
 use Rattle.assise_rounds.specs.Trying.{settled_answer}
 use Rattle.assise_rounds.specs.CallTries.{FindsFull, InVain, IsTriedOut, MakesRoom, TriesInVain, WaitsOnce, ends_full, ends_waiting, full_in_vain}
 use Rattle.assise_rounds.specs.CallTries.{settles_at_last, spends_all, waits_in_vain}
-use Rattle.assise_rounds.proofs.CallTrace.{call_trace}
+use Rattle.assise_rounds.proofs.Shared.CallTrace.{call_trace}
 
 abbrev AllOf : (ℕ → Op → Type 0) → Told → Type 0
 AllOf Sort es = AllByRecursion (λ e. IsOfSort Sort e.0) es

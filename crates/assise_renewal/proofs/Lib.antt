@@ -1,5 +1,5 @@
 mod Common
-pub mod Led
+mod Led
 mod Added
 mod SameTree
 mod OneClient

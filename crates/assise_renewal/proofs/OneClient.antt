@@ -4,7 +4,7 @@ use Rattle.assise_renewal.proofs.Common.{all_entries, entries_of, open_client, o
 use Rattle.assise_renewal.proofs.Common.{Told, trace_told, IsLedBy, IsOfFirst, IsOfSort, IsBegunBy, IsCallOfFirst, IsOfOneClient}
 use Rattle.assise_names.specs.declared.durability.Durability.TheVariants.{Pessimistic}
 use Rattle.assise_model_events.specs.ClientEvents.{Opening, is_opened, is_refused, lacks_memory}
-use Rattle.assise_machine.proofs.EventLists.{served_told}
+use Rattle.assise_machine.proofs.Shared.EventLists.{served_told}
 use Rattle.assise_renewal.specs.declared.renewal.Sizes.{Sizes}
 use Rattle.assise_renewal.proofs.Added.{added}
 

@@ -3,7 +3,7 @@ use Rattle.assise_renewal.proofs.Common.{◌≡◌, ℕ, List, [], ◌∷◌, �
 use Rattle.assise_renewal.proofs.Common.{opening, Call, EntryValue, calls, kept, tree_after, calls_made, Answer, ClusterEvent, all_entries, call_entry}
 use Rattle.assise_renewal.proofs.Common.{entries_of, Machine, observed, ClusterOf, machine, Told, trace_told, IsDsync, IsLedBy, IsOfSort, tree_kept}
 use Rattle.assise_seq_tree.specs.Answer.{answer}
-use Rattle.assise_history.proofs.Runs.{kept-push, tree_after-push}
+use Rattle.assise_history.proofs.Shared.Runs.{kept-push, tree_after-push}
 use Rattle.assise_renewal.proofs.Added.{added}
 
 abbrev tree_of : List EntryValue → Tree

@@ -150,7 +150,7 @@ fn has_tree<C: Revokes + Drop>(
         return Ok(false);
     }
     let made = replicated_tree(alloc, cluster)?;
-    is_same(alloc, &made, tree)
+    Ok(is_same(alloc, &made, tree)?)
 }
 
 /// Whether nodes 1 to `nodes` are up.

@@ -1,7 +1,7 @@
 -- What is done over links that are faithful is done over links of which less is known.
 use Rattle.assise_rounds.proofs.Common.{◌≤◌, ℕ, zero, suc, Bool, Option, None, Some, arith, Refusal, MOST_NODES, node_fault, Machine, Told, EachFull}
 use Rattle.assise_rounds.proofs.Common.{RoundsOver, TakesTurn, UnlessAtFault, WithWork, is_refused, replicates}
-use Rattle.assise_rounds.proofs.Traces.{both}
+use Rattle.assise_rounds.proofs.Shared.Traces.{both}
 
 turn_of : (F G : Type 0) → (F → G) → (n : ℕ) (m : Machine) (es : Told) (m' : Machine) → TakesTurn G n m es m' → TakesTurn F n m es m'
 turn_of F G to n m es m' (replicates count h) =

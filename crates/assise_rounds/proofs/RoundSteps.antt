@@ -7,7 +7,7 @@ use Rattle.assise_rounds.proofs.Common.{TakesTurn, UnlessAtFault, WithWork, deli
 use Rattle.assise_rounds.proofs.Common.{is_settled, is_stuck, settled_answer}
 use Rattle.assise_rounds.proofs.Busy.{both_work, no_more_work, one_work, turn_work}
 use Rattle.assise_rounds.proofs.CarriedFrames.{carried_turn}
-use Rattle.assise_rounds.proofs.Traces.{both, event}
+use Rattle.assise_rounds.proofs.Shared.Traces.{both, event}
 
 -- ---- node by node
 

@@ -3,7 +3,7 @@ use Rattle.assise_rounds.proofs.Common.{◌≡◌, ◌<◌, ℕ, suc, Bool, true
 use Rattle.assise_rounds.proofs.Common.{Trying, Machine, Told, RoundsOver, settled_answer, InVain, IsTriedOut, MakesRoom, waits_in_vain, full_in_vain}
 use Rattle.assise_rounds.proofs.Common.{settles_at_last, ends_full, ends_waiting}
 use Rattle.assise_names.specs.declared.call.Op.TheVariants.{Dsync}
-use Rattle.assise_rounds.proofs.Traces.{both, event}
+use Rattle.assise_rounds.proofs.Shared.Traces.{both, event}
 
 pub room_made : (faithful : ℕ → Type 0) (busy : Bool) (c : ℕ) (a : Answer) (m v m' : Machine) → Trying m c Dsync a v →
     (es : Told) × RoundsOver faithful busy v es m' →

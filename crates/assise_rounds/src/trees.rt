@@ -17,7 +17,7 @@ use assise_machine::cluster::ClusterOf;
 use assise_names::limits::MOST_CLIENTS;
 use assise_names::refusal::Refusal;
 use assise_seq_tree::tree::Tree;
-use std::alloc::Global;
+use std::alloc::{AllocError, Global};
 
 /// The tree that a full node's region alone gives: that of all replicated calls. Refused with [`Refusal::BadNode`],
 /// [`Refusal::WrongPhase`] where the node isn't full, and [`Refusal::OutOfMemory`].
@@ -35,10 +35,8 @@ pub fn tree_at<C: Revokes + Drop>(
     ensures only_memory { node_fault (machine cluster.now) node ≡ None →
         IsOkUnless result OutOfMemory }
 {
-    match cluster.region(node) {
-        Ok(region) => tree_of(alloc, cluster, region),
-        Err(refusal) => Err(refusal),
-    }
+    let region = cluster.region(node)?;
+    tree_of(alloc, cluster, region)
 }
 
 /// The tree that a region of a cluster alone gives.
@@ -58,9 +56,11 @@ fn tree_of<C: Revokes + Drop>(
 }
 
 /// For each client the number below which all full nodes have its records.
-fn all_acked<C: Revokes + Drop>(alloc: Global, cluster: &ClusterOf<C>) -> Result<Vec<u64>, Refusal>
+fn all_acked<C: Revokes + Drop>(
+    alloc: Global,
+    cluster: &ClusterOf<C>,
+) -> Result<Vec<u64>, AllocError>
     ensures acked { IfOk result (λ acked. AreAcked (machine cluster.now).world acked.items) }
-    ensures only_memory { IsOkUnless result OutOfMemory }
 {
     let mut acked = Vec::new(alloc);
     for client in 0..MOST_CLIENTS {

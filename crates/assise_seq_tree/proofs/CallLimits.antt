@@ -4,13 +4,13 @@ use Rattle.assise_seq_tree.proofs.Common.{subst, Op, Create, Mkdir, Read, Write,
 use Rattle.assise_seq_tree.proofs.Common.{TreeError, TooBig, ◌>>=◌, answer, as_directory, room_for, room_at, file_at, entries_at, may_rename, may_unlink}
 use Rattle.assise_seq_tree.proofs.Common.{may_rmdir, reply_and_tree, overwritten, is_within, resized, Tree, file, dir, Entries, no_entries, count, at, put}
 use Rattle.assise_seq_tree.proofs.Common.{without, IsWithinLimits, same_path}
-use Rattle.assise_seq_tree.proofs.Moves.{Path, parent_and_last}
-use Rattle.assise_seq_tree.proofs.BytesRead.{length-overwritten}
-use Rattle.assise_seq_tree.proofs.Writes.{file_there}
-use Rattle.assise_seq_tree.proofs.FileResized.{length-resized}
-use Rattle.assise_seq_tree.proofs.Calls.{second, read_leaves, list_leaves, stat_leaves}
+use Rattle.assise_seq_tree.proofs.Shared.Moves.{Path, parent_and_last}
+use Rattle.assise_seq_tree.proofs.Shared.BytesRead.{length-overwritten}
+use Rattle.assise_seq_tree.proofs.Shared.Writes.{file_there}
+use Rattle.assise_seq_tree.proofs.Shared.FileResized.{length-resized}
+use Rattle.assise_seq_tree.proofs.Shared.Calls.{second, read_leaves, list_leaves, stat_leaves}
 use Rattle.assise_seq_tree.proofs.Limits.{put_there, put_new, within-without, within-at}
-use Rattle.assise_seq_tree.proofs.MovedTreeRoom.{received}
+use Rattle.assise_seq_tree.proofs.Shared.MovedTreeRoom.{received}
 
 -- ---- what the checks found
 has_room : (r : Result Tree TreeError) (name : List ℕ) → (r >>= λ found. as_directory found >>= λ es. room_for name es) ≡ Ok tt →

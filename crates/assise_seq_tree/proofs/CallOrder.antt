@@ -4,8 +4,8 @@ use Rattle.assise_seq_tree.proofs.Common.{Op, Create, Mkdir, Read, Write, Trunca
 use Rattle.assise_seq_tree.proofs.Common.{TooBig, ◌>>=◌, answer, room_at, file_at, entries_at, may_rename, may_unlink, may_rmdir, reply_and_tree, overwritten}
 use Rattle.assise_seq_tree.proofs.Common.{is_within, resized, Tree, file, dir, no_entries, opening, at, put, without, IsOrdered}
 use Rattle.assise_seq_tree.specs.Runs.{tree_after_calls}
-use Rattle.assise_seq_tree.proofs.Calls.{read_leaves, list_leaves, stat_leaves}
-use Rattle.assise_seq_tree.proofs.Moves.{Path, ordered-without}
+use Rattle.assise_seq_tree.proofs.Shared.Calls.{read_leaves, list_leaves, stat_leaves}
+use Rattle.assise_seq_tree.proofs.Shared.Moves.{Path, ordered-without}
 use Rattle.assise_seq_tree.proofs.Order.{ordered-put}
 use Rattle.assise_seq_tree.proofs.TreePlaced.{ordered-at}
 

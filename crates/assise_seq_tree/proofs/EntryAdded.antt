@@ -5,7 +5,7 @@ use Rattle.assise_seq_tree.proofs.Common.{arith}
 use Rattle.assise_seq_tree.proofs.Entries.{find-entries_of, insert-entries_of}
 use Rattle.assise_seq_tree.proofs.Order.{below_trans}
 use Rattle.assise_seq_tree.proofs.Walk.{at_missing}
-use Rattle.assise_seq_tree.proofs.Sets.{find_below}
+use Rattle.assise_seq_tree.proofs.Shared.Sets.{find_below}
 
 within : (other : List ℕ) (u : Tree) (b : Bool) (new changed inserted : Entries) → new ≡ cond b changed inserted →
     entry other u new ≡ cond b (entry other u changed) (entry other u inserted)

@@ -1,8 +1,8 @@
 -- What is unlinked or removed is gone.
 use Rattle.assise_seq_tree.proofs.Common.{◌≡◌, ◌<◌, false, ◌==◌, length, Result, Ok, arith, nat_tests, Done, Error, TreeError, NoEnt, ◌>>=◌, as_file}
 use Rattle.assise_seq_tree.proofs.Common.{unlink_answer, rmdir_answer, stat_answer, Tree, at, without, IsOrdered}
-use Rattle.assise_seq_tree.proofs.Moves.{Path}
-use Rattle.assise_seq_tree.proofs.Paths.{gone}
+use Rattle.assise_seq_tree.proofs.Shared.Moves.{Path}
+use Rattle.assise_seq_tree.proofs.Shared.Paths.{gone}
 
 below_the_root : (p : Path) → (length p == 0) ≡ false → 0 < length p
 below_the_root p h = grind (arith, nat_tests)

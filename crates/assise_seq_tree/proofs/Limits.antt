@@ -2,8 +2,8 @@
 use Rattle.assise_seq_tree.proofs.Common.{◌≡◌, ◌≤◌, ◌<◌, ◌+◌, arith, ℕ, List, [], ◌∷◌, ◌++◌, Some, Ok, Less, Equal, Greater, nat_cmp, refl, ap, sym, inl, inr}
 use Rattle.assise_seq_tree.proofs.Common.{subst, match_ordering, slice_cmp, cases_Bool, Tree, file, dir, Entries, no_entries, entry, same_name, find, replace}
 use Rattle.assise_seq_tree.proofs.Common.{insert, set, remove, count, at, put, without, IsWithinLimits, AreWithinLimits}
-use Rattle.assise_seq_tree.proofs.TreePut.{put_step, through_entry}
-use Rattle.assise_seq_tree.proofs.Moves.{Path, below}
+use Rattle.assise_seq_tree.proofs.Shared.TreePut.{put_step, through_entry}
+use Rattle.assise_seq_tree.proofs.Shared.Moves.{Path, below}
 
 -- ---- entries
 pub count-replace : (n : List ℕ) (x : Tree) (es : Entries) → count (replace n x es) ≡ count es

@@ -2,7 +2,7 @@
 use Rattle.assise_seq_tree.proofs.Common.{◌≡◌, ℕ, List, Result, Ok, Err, Less, nat_cmp, refl, ap, subst, slice_cmp, AllByRecursion, IsStrictlySortedBy, Names}
 use Rattle.assise_seq_tree.proofs.Common.{TreeError, ◌>>=◌, as_directory, reply_and_tree, list_answer, Tree, file, dir, Entries, no_entries, entry, names_of}
 use Rattle.assise_seq_tree.proofs.Common.{at, IsBelow, IsOrdered, AreOrdered}
-use Rattle.assise_seq_tree.proofs.Moves.{Path}
+use Rattle.assise_seq_tree.proofs.Shared.Moves.{Path}
 use Rattle.assise_seq_tree.proofs.TreePlaced.{ordered-at}
 
 names_above : (name : List ℕ) (es : Entries) → IsBelow name es → AllByRecursion (λ other. slice_cmp nat_cmp name other ≡ Less) (names_of es)

@@ -2,7 +2,7 @@
 use Rattle.assise_seq_tree.proofs.Common.{◌≡◌, ℕ, List, [], ◌∷◌, Some, Result, Ok, Err, OnOk, OnErr, Ordering, Less, Equal, Greater, nat_cmp, refl, ap, sym}
 use Rattle.assise_seq_tree.proofs.Common.{◌∙◌, ◌⊎◌, inl, inr, subst, ordering_reverse, slice_cmp, nat_list_cmp_total, cases_Bool, Tree, file, dir, Entries}
 use Rattle.assise_seq_tree.proofs.Common.{no_entries, entry, same_name, find, replace, insert, put, IsBelow, IsOrdered, AreOrdered, TreeError, arith}
-use Rattle.assise_seq_tree.proofs.TreePut.{cases_option}
+use Rattle.assise_seq_tree.proofs.Shared.TreePut.{cases_option}
 
 pub cases_ordering : (o : Ordering) → (o ≡ Less) ⊎ ((o ≡ Equal) ⊎ (o ≡ Greater))
 cases_ordering Less = inl refl

@@ -5,8 +5,8 @@ use Rattle.assise_seq_tree.proofs.Common.{Place, places_below, places_of, Tree, 
 use Rattle.assise_seq_tree.proofs.Common.{AreOrdered}
 use Rattle.std.proofs.lemmas.List.Elements.{Contains-append_left, Contains-append_right, Contains-append_cases, Contains-push, Contains-push_cases}
 use Rattle.std.specs.Cmp.Lexicographic.{nat_list_cmp_total}
-use Rattle.assise_seq_tree.proofs.Moves.{Path}
-use Rattle.assise_seq_tree.proofs.Sets.{find_below, one_name, same_itself}
+use Rattle.assise_seq_tree.proofs.Shared.Moves.{Path}
+use Rattle.assise_seq_tree.proofs.Shared.Sets.{find_below, one_name, same_itself}
 
 -- ---- lists
 

@@ -1,11 +1,11 @@
 -- A move of a tree to another path: a placeholder first, then the tree in its place.
 use Rattle.assise_seq_tree.proofs.Common.{◌≡◌, ℕ, ◌<◌, arith, List, [], ◌∷◌, ◌++◌, length, Option, Some, None, Ok, sym, subst, parent_of, last_name, Tree, file}
 use Rattle.assise_seq_tree.proofs.Common.{dir, Entries, no_entries, at, put, without, IsOrdered, AreDisjointPaths}
-use Rattle.assise_seq_tree.proofs.TreePut.{through_entry}
+use Rattle.assise_seq_tree.proofs.Shared.TreePut.{through_entry}
 use Rattle.assise_seq_tree.proofs.Order.{ordered-find}
-use Rattle.assise_seq_tree.proofs.Paths.{turned_disjoint}
-use Rattle.assise_seq_tree.proofs.Moves.{Path, Disjoint, at-put_disjoint, at-without_disjoint, without-put, put-put_any, at-put_new, ordered-without}
-use Rattle.assise_seq_tree.proofs.Moves.{parent_and_last}
+use Rattle.assise_seq_tree.proofs.Shared.Paths.{turned_disjoint}
+use Rattle.assise_seq_tree.proofs.Shared.Moves.{Path, Disjoint, at-put_disjoint, at-without_disjoint, without-put, put-put_any, at-put_new, ordered-without}
+use Rattle.assise_seq_tree.proofs.Shared.Moves.{parent_and_last}
 
 -- A placeholder at q, the tree at p taken out, and something put over the placeholder.
 pub record Moves (p q : Path) (t e : Tree) : Type 0 where

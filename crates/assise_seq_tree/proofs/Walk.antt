@@ -6,7 +6,7 @@ use Rattle.assise_seq_tree.proofs.Common.{map_entries, option_copied_mut, set_va
 use Rattle.std.proofs.lemmas.Map.Steps.{set_value_same}
 use Rattle.std.specs.Ordering.{nat_cmp}
 use Rattle.assise_seq_tree.proofs.Entries.{at_text, find-entries_of, insert-entries_of, replace-entries_of, remove-entries_of}
-use Rattle.assise_seq_tree.proofs.Moves.{replace_absent}
+use Rattle.assise_seq_tree.proofs.Shared.Moves.{replace_absent}
 
 pub no_items : {X : Type 0} (xs : List X) → length xs < 1 → xs ≡ []
 no_items [] h = refl
@@ -80,7 +80,7 @@ pub kept_found : (t : Tree) (name : List ℕ) (m n : BTreeMap (List ℕ) Tree) (
 kept_found t name m n r u w is some value written same = grind (arith, set_value_same)
 
 -- the same of a look-up that lends
-pub found_mut : (name : List ℕ) (m : BTreeMap (List ℕ) Tree) (r : Option (MutBor Tree)) (x : MutBor Tree) → r ≡ Some x →
+found_mut : (name : List ℕ) (m : BTreeMap (List ℕ) Tree) (r : Option (MutBor Tree)) (x : MutBor Tree) → r ≡ Some x →
     option_copied_mut r ≡ get_by (at_text name) m → find name (map_entries m.entries) ≡ Some x.now
 found_mut name m r x is value = find-entries_of name m.entries ∙ sym (rw is at value)
 
@@ -88,10 +88,25 @@ pub missing_mut : (name : List ℕ) (m : BTreeMap (List ℕ) Tree) (r : Option (
     find name (map_entries m.entries) ≡ None
 missing_mut name m r is value = find-entries_of name m.entries ∙ sym (rw is at value)
 
-pub at_below : (t : Tree) (names : List (List ℕ)) (es : Entries) (name : List ℕ) (p : List (List ℕ)) (x : Tree) → names ≡ name ∷ p → t ≡ dir es →
+at_below : (t : Tree) (names : List (List ℕ)) (es : Entries) (name : List ℕ) (p : List (List ℕ)) (x : Tree) → names ≡ name ∷ p → t ≡ dir es →
     find name es ≡ Some x → at t names ≡ at x p
 unfolding at
 at_below t names es name p x e is h = rw (e, is, h)
+
+-- an entry that was looked up, and what a swap below it leaves
+module _ (t : Tree) (names : List (List ℕ)) (name : List ℕ) (p : List (List ℕ)) (m : BTreeMap (List ℕ) Tree) (r : Option (MutBor Tree)) (u : MutBor Tree)
+    (e : names ≡ name ∷ p) (is : t ≡ dir (map_entries m.entries)) (some : r ≡ Some u) (value : option_copied_mut r ≡ get_by (at_text name) m) where
+  pub at_looked_up : at t names ≡ at u.now p
+  at_looked_up = at_below t names (map_entries m.entries) name p u.now e is (found_mut name m r u some value)
+
+  module _ (n : BTreeMap (List ℕ) Tree) (x y w : Tree) (written : n.entries ≡ set_value (is_at (at_text name)) m.entries w) where
+    pub swapped_there : (v : Tree) → (at u.now p ≡ Ok v → (y ≡ v) × (w ≡ put u.now p x)) → at t names ≡ Ok v →
+        (y ≡ v) × (dir (map_entries n.entries) ≡ put t names x)
+    swapped_there v below h = let b = below (sym at_looked_up ∙ h) in (b.0, put_found t x names name p m n r u w e is some value written b.1)
+
+    pub swapped_absent : (error : TreeError) → (at u.now p ≡ Err error → (y ≡ x) × (w ≡ u.now)) → at t names ≡ Err error →
+        (y ≡ x) × (dir (map_entries n.entries) ≡ t)
+    swapped_absent error below h = let b = below (sym at_looked_up ∙ h) in (b.0, kept_found t name m n r u w is some value written b.1)
 
 -- nothing is claimed where nothing stands at the path
 pub no_tree : {P : Type 0} (r : Result Tree TreeError) (e : TreeError) (x : Tree) → r ≡ Err e → r ≡ Ok x → P

@@ -8,16 +8,17 @@ ghost use Rattle.assise_seq_tree.specs.Answer.{answer, create_answer, entries_at
 ghost use Rattle.assise_seq_tree.specs.Memory.{CallAsksForMemory, size_at};
 ghost use Rattle.assise_seq_tree.specs.View.{map_entries};
 
-use crate::contents::{MOST_FILE_BYTES, bytes_from, copied, is_within};
+use crate::contents::{bytes_from, copied, is_within};
 use crate::renaming::rename;
 use crate::tree::Tree;
 use assise_names::byte_string::ByteString;
 use assise_names::call::Op;
+use assise_names::limits::MOST_FILE_BYTES;
 use assise_names::name::Name;
 use assise_names::name_list::NameList;
 use assise_names::refusal::Refusal;
 use assise_names::reply::{Reply, TreeError};
-use std::alloc::Global;
+use std::alloc::{AllocError, Global};
 use std::collections::BTreeMap;
 
 /// The most entries of a directory.
@@ -65,21 +66,21 @@ pub fn answer(alloc: Global, tree: &mut Tree, op: &Op) -> Result<Reply, Refusal>
     ensures only_memory { IsOkUnless result OutOfMemory }
 {
     match op {
-        Op::Create(path) => create(alloc, tree, path.names()),
-        Op::Mkdir(path) => mkdir(alloc, tree, path.names()),
-        Op::Read(path, offset, length) => read(alloc, tree, path.names(), *offset, *length),
-        Op::Write(path, offset, bytes) => write(
+        Op::Create(path) => Ok(create(alloc, tree, path.names())?),
+        Op::Mkdir(path) => Ok(mkdir(alloc, tree, path.names())?),
+        Op::Read(path, offset, length) => { Ok(read(alloc, tree, path.names(), *offset, *length)?) }
+        Op::Write(path, offset, bytes) => Ok(write(
             alloc,
             tree,
             path.names(),
             *offset,
             bytes.as_slice(),
-        ),
-        Op::Truncate(path, size) => truncate(alloc, tree, path.names(), *size),
-        Op::Rename(from, to) => rename(alloc, tree, from, to),
+        )?),
+        Op::Truncate(path, size) => Ok(truncate(alloc, tree, path.names(), *size)?),
+        Op::Rename(from, to) => Ok(rename(alloc, tree, from, to)?),
         Op::Unlink(path) => Ok(unlink(tree, path.names())),
         Op::Rmdir(path) => Ok(rmdir(tree, path.names())),
-        Op::List(path) => list(alloc, tree, path.names()),
+        Op::List(path) => Ok(list(alloc, tree, path.names())?),
         Op::Stat(path) => Ok(stat(tree, path.names())),
         Op::Fsync => Ok(Reply::Done),
         Op::Dsync => Ok(Reply::Done),
@@ -87,12 +88,11 @@ pub fn answer(alloc: Global, tree: &mut Tree, op: &Op) -> Result<Reply, Refusal>
 }
 
 /// Makes a file without bytes.
-fn create(alloc: Global, tree: &mut Tree, names: &[Name]) -> Result<Reply, Refusal>
+fn create(alloc: Global, tree: &mut Tree, names: &[Name]) -> Result<Reply, AllocError>
     ensures ok { IfOk result (λ reply. (reply, tree.new) ≡ create_answer tree.old names.now) }
     ensures err { OnErr result (tree.new ≡ tree.old) }
     ensures errors { (error : TreeError) → (create_answer tree.old names.now).0 ≡ Error error →
         IsOk result }
-    ensures only_memory { IsOkUnless result OutOfMemory }
 {
     if let Err(error) = room_at(tree, names) {
         return Ok(Reply::Error(error));
@@ -102,12 +102,11 @@ fn create(alloc: Global, tree: &mut Tree, names: &[Name]) -> Result<Reply, Refus
 }
 
 /// Makes a directory without entries.
-fn mkdir(alloc: Global, tree: &mut Tree, names: &[Name]) -> Result<Reply, Refusal>
+fn mkdir(alloc: Global, tree: &mut Tree, names: &[Name]) -> Result<Reply, AllocError>
     ensures ok { IfOk result (λ reply. (reply, tree.new) ≡ mkdir_answer tree.old names.now) }
     ensures err { OnErr result (tree.new ≡ tree.old) }
     ensures errors { (error : TreeError) → (mkdir_answer tree.old names.now).0 ≡ Error error →
         IsOk result }
-    ensures only_memory { IsOkUnless result OutOfMemory }
 {
     if let Err(error) = room_at(tree, names) {
         return Ok(Reply::Error(error));
@@ -123,13 +122,12 @@ fn read(
     names: &[Name],
     offset: u64,
     length: u64,
-) -> Result<Reply, Refusal>
+) -> Result<Reply, AllocError>
     ensures ok { IfOk result (λ reply. (reply, tree.now) ≡
         read_answer tree.now names.now offset length) }
     ensures errors { (error : TreeError) → (read_answer tree.now names.now offset length).0 ≡
         Error error → IsOk result }
     ensures asked { OnErr result ((0 < length) × (offset < size_at tree.now names.now)) }
-    ensures only_memory { IsOkUnless result OutOfMemory }
 {
     match file_at(tree, names) {
         Ok(bytes) => {
@@ -147,7 +145,7 @@ fn write(
     names: &[Name],
     offset: u64,
     new: &[u8],
-) -> Result<Reply, Refusal>
+) -> Result<Reply, AllocError>
     ensures ok { IfOk result (λ reply. (reply, tree.new) ≡
         write_answer tree.old names.now offset new.now) }
     ensures err { OnErr result (tree.new ≡ tree.old) }
@@ -155,7 +153,6 @@ fn write(
         Error error → IsOk result }
     ensures asked { OnErr result ((0 < length new.now) ×
         (size_at tree.old names.now < offset + length new.now)) }
-    ensures only_memory { IsOkUnless result OutOfMemory }
 {
     if let Err(error) = file_at(tree, names) {
         return Ok(Reply::Error(error));
@@ -171,14 +168,13 @@ fn write(
 }
 
 /// Gives a file another size.
-fn truncate(alloc: Global, tree: &mut Tree, names: &[Name], size: u64) -> Result<Reply, Refusal>
+fn truncate(alloc: Global, tree: &mut Tree, names: &[Name], size: u64) -> Result<Reply, AllocError>
     ensures ok { IfOk result (λ reply. (reply, tree.new) ≡
         truncate_answer tree.old names.now size) }
     ensures err { OnErr result (tree.new ≡ tree.old) }
     ensures errors { (error : TreeError) → (truncate_answer tree.old names.now size).0 ≡
         Error error → IsOk result }
     ensures asked { OnErr result (size_at tree.old names.now < size) }
-    ensures only_memory { IsOkUnless result OutOfMemory }
 {
     if let Err(error) = file_at(tree, names) {
         return Ok(Reply::Error(error));
@@ -217,11 +213,10 @@ fn rmdir(tree: &mut Tree, names: &[Name]) -> Reply
 }
 
 /// Lists the names of a directory's entries.
-fn list(alloc: Global, tree: &Tree, names: &[Name]) -> Result<Reply, Refusal>
+fn list(alloc: Global, tree: &Tree, names: &[Name]) -> Result<Reply, AllocError>
     ensures ok { IfOk result (λ reply. (reply, tree.now) ≡ list_answer tree.now names.now) }
     ensures errors { (error : TreeError) → (list_answer tree.now names.now).0 ≡ Error error →
         IsOk result }
-    ensures only_memory { IsOkUnless result OutOfMemory }
 {
     match entries_at(tree, names) {
         Ok(entries) => Ok(Reply::Names(NameList::of_keys(alloc, entries)?)),

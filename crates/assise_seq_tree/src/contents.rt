@@ -1,13 +1,9 @@
 //! What reads and writes do with the bytes of a file.
-ghost use Rattle.std.specs.Prelude.{◌≡◌, ◌+◌, ◌^◌, ◌<◌, ◌≤◌, ◌++◌, IfOk, IsOkUnless, OnOk, OnErr, length, nat_le, take, drop};
-ghost use Rattle.assise_names.specs.declared.refusal.Refusal.TheVariants.{OutOfMemory};
+ghost use Rattle.std.specs.Prelude.{◌≡◌, ◌+◌, ◌^◌, ◌<◌, ◌≤◌, ◌++◌, IfOk, OnOk, OnErr, length, nat_le, take, drop};
 ghost use Rattle.assise_seq_tree.specs.Contents.{bytes_from, is_within, overwritten, resized};
 
-use assise_names::refusal::Refusal;
-use std::alloc::Global;
-
-/// The most bytes of a file.
-pub const MOST_FILE_BYTES: u64 = 1_048_576;
+use assise_names::limits::MOST_FILE_BYTES;
+use std::alloc::{AllocError, Global};
 
 /// Whether a file that ends with the new bytes isn't too big.
 pub fn is_within(offset: u64, new: &[u8]) -> bool
@@ -26,11 +22,10 @@ pub fn bytes_from(bytes: &[u8], offset: u64, most: u64) -> &[u8]
     &rest[..end]
 }
 
-/// Equal bytes. The one refusal is [`Refusal::OutOfMemory`], where there is a byte to copy.
-pub fn copied(alloc: Global, bytes: &[u8]) -> Result<Vec<u8>, Refusal>
+/// Equal bytes. It asks for memory where there is a byte to copy.
+pub fn copied(alloc: Global, bytes: &[u8]) -> Result<Vec<u8>, AllocError>
     ensures equal { IfOk result (λ copied. copied.items ≡ bytes.now) }
     ensures asked { OnErr result (0 < length bytes.now) }
-    ensures only_memory { IsOkUnless result OutOfMemory }
 {
     let mut copied = Vec::with_capacity(alloc, bytes.len())?;
     copied.extend_from_slice(bytes)?;
@@ -38,13 +33,12 @@ pub fn copied(alloc: Global, bytes: &[u8]) -> Result<Vec<u8>, Refusal>
 }
 
 /// Writes at an offset. What lies between the old end and the offset is filled with zeros (POSIX.1-2017, lseek() and
-/// write()). The one refusal is [`Refusal::OutOfMemory`], where the bytes get longer, and it leaves them as they were.
-pub fn overwrite(bytes: &mut Vec<u8>, offset: usize, new: &[u8]) -> Result<(), Refusal>
+/// write()). It asks for memory where the bytes get longer; without it, it leaves them as they were.
+pub fn overwrite(bytes: &mut Vec<u8>, offset: usize, new: &[u8]) -> Result<(), AllocError>
     requires { offset + length new.now < 2 ^ 64 }
     ensures ok { OnOk result (bytes.new.items ≡ overwritten bytes.old.items offset new.now) }
     ensures err { OnErr result (bytes.new.items ≡ bytes.old.items) }
     ensures asked { OnErr result (length bytes.old.items < offset + length new.now) }
-    ensures only_memory { IsOkUnless result OutOfMemory }
 {
     let end = offset + new.len();
     if bytes.len() < end {
@@ -54,13 +48,12 @@ pub fn overwrite(bytes: &mut Vec<u8>, offset: usize, new: &[u8]) -> Result<(), R
     Ok(())
 }
 
-/// Cuts the bytes to a size, or fills them up to it with zeros (POSIX.1-2017, ftruncate()). The one refusal is
-/// [`Refusal::OutOfMemory`], where they get longer, and it leaves them as they were.
-pub fn resize(bytes: &mut Vec<u8>, size: usize) -> Result<(), Refusal>
+/// Cuts the bytes to a size, or fills them up to it with zeros (POSIX.1-2017, ftruncate()). It asks for memory where they
+/// get longer; without it, it leaves them as they were.
+pub fn resize(bytes: &mut Vec<u8>, size: usize) -> Result<(), AllocError>
     ensures ok { OnOk result (bytes.new.items ≡ resized bytes.old.items size) }
     ensures err { OnErr result (bytes.new.items ≡ bytes.old.items) }
     ensures asked { OnErr result (length bytes.old.items < size) }
-    ensures only_memory { IsOkUnless result OutOfMemory }
 {
     bytes.resize(size, 0)?;
     Ok(())

@@ -1,6 +1,5 @@
 //! Moves of what stands at a path to another.
-ghost use Rattle.std.specs.Prelude.{◌≡◌, IfOk, IsErr, IsOk, IsOkUnless, OnErr};
-ghost use Rattle.assise_names.specs.declared.refusal.Refusal.TheVariants.{OutOfMemory};
+ghost use Rattle.std.specs.Prelude.{◌≡◌, IfOk, IsErr, IsOk, OnErr};
 ghost use Rattle.assise_names.specs.declared.reply.Reply.TheVariants.{Error};
 ghost use Rattle.assise_names.specs.declared.reply.TreeError.{TreeError};
 ghost use Rattle.assise_seq_tree.specs.Answer.{may_receive, may_rename, rename_answer};
@@ -11,9 +10,8 @@ use crate::answer::{MOST_ENTRIES, entries_at};
 use crate::tree::Tree;
 use assise_names::name::Name;
 use assise_names::path::Path;
-use assise_names::refusal::Refusal;
 use assise_names::reply::{Reply, TreeError};
-use std::alloc::Global;
+use std::alloc::{AllocError, Global};
 use std::collections::BTreeMap;
 
 /// Moves what stands at a path to another.
@@ -22,13 +20,12 @@ pub(crate) fn rename(
     tree: &mut Tree,
     from: &Path,
     to: &Path,
-) -> Result<Reply, Refusal>
+) -> Result<Reply, AllocError>
     ensures ok { IfOk result (λ reply. (reply, tree.new) ≡ rename_answer tree.old from.now to.now) }
     ensures err { OnErr result (tree.new ≡ tree.old) }
     ensures errors { (error : TreeError) → (rename_answer tree.old from.now to.now).0 ≡
         Error error → IsOk result }
     ensures asked { OnErr result (IsErr (at tree.old to.now)) }
-    ensures only_memory { IsOkUnless result OutOfMemory }
 {
     if let Err(error) = may_rename(tree, from, to) {
         return Ok(Reply::Error(error));

@@ -1,21 +1,17 @@
 //! Whether two trees are the same.
-ghost use Rattle.std.specs.Prelude.{◌≡◌, ◌↔◌, ◌≤◌, ◌+◌, IfOk, IsOkUnless, IsTrue, OnOk};
-ghost use Rattle.assise_names.specs.declared.refusal.Refusal.TheVariants.{OutOfMemory};
+ghost use Rattle.std.specs.Prelude.{◌≡◌, ◌↔◌, ◌≤◌, ◌+◌, IfOk, IsTrue, OnOk};
 ghost use Rattle.assise_seq_tree.specs.Sameness.{ArePairsSame, size_of_pairs};
 ghost use Rattle.assise_seq_tree.specs.Tree.{size_of, sizes_of};
 ghost use Rattle.assise_seq_tree.specs.View.{map_entries};
 
 use crate::tree::Tree;
 use assise_names::name::Name;
-use assise_names::refusal::Refusal;
-use std::alloc::Global;
+use std::alloc::{AllocError, Global};
 use std::collections::BTreeMap;
 
-/// Whether two trees have the same files with the same bytes, and the same directories, however deep they are. The one refusal is
-/// [`Refusal::OutOfMemory`].
-pub fn is_same(alloc: Global, tree: &Tree, other: &Tree) -> Result<bool, Refusal>
+/// Whether two trees have the same files with the same bytes, and the same directories, however deep they are.
+pub fn is_same(alloc: Global, tree: &Tree, other: &Tree) -> Result<bool, AllocError>
     ensures same { IfOk result (λ same. IsTrue same ↔ (tree.now ≡ other.now)) }
-    ensures only_memory { IsOkUnless result OutOfMemory }
 {
     let mut pending = Vec::new(alloc);
     pending.push((tree, other))?;
@@ -32,12 +28,11 @@ fn is_same_but<'a>(
     tree: &'a Tree,
     other: &'a Tree,
     pending: &mut Vec<(&'a Tree, &'a Tree)>,
-) -> Result<bool, Refusal>
+) -> Result<bool, AllocError>
     ensures same { IfOk result (λ same. (IsTrue same × ArePairsSame pending.new.items) ↔
         ((tree.now ≡ other.now) × ArePairsSame pending.old.items)) }
     ensures smaller { OnOk result (size_of_pairs pending.new.items ≤
         size_of tree.now + size_of_pairs pending.old.items) }
-    ensures only_memory { IsOkUnless result OutOfMemory }
 {
     match (tree.entries(), other.entries()) {
         (Ok(entries), Ok(others)) => have_same_names(entries, others, pending),
@@ -54,12 +49,11 @@ fn have_same_names<'a>(
     entries: &'a BTreeMap<Name, Tree>,
     others: &'a BTreeMap<Name, Tree>,
     pending: &mut Vec<(&'a Tree, &'a Tree)>,
-) -> Result<bool, Refusal>
+) -> Result<bool, AllocError>
     ensures same { IfOk result (λ same. (IsTrue same × ArePairsSame pending.new.items) ↔
         ((entries.now.entries ≡ others.now.entries) × ArePairsSame pending.old.items)) }
     ensures size { OnOk result (size_of_pairs pending.new.items ≤
         sizes_of (map_entries entries.now.entries) + size_of_pairs pending.old.items) }
-    ensures only_memory { IsOkUnless result OutOfMemory }
 {
     let mut left = others.iter();
     for (name, tree) in entries {

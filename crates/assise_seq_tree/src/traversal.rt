@@ -1,14 +1,12 @@
 //! A traversal of a tree in preorder: each entry before what it holds.
-ghost use Rattle.std.specs.Prelude.{◌≡◌, ◌∷◌, ◌++◌, [], IfOk, IsOkUnless, MatchOption, OnErr, OnOk, map};
-ghost use Rattle.assise_names.specs.declared.refusal.Refusal.TheVariants.{OutOfMemory};
+ghost use Rattle.std.specs.Prelude.{◌≡◌, ◌∷◌, ◌++◌, [], IfOk, MatchOption, OnErr, OnOk, map};
 ghost use Rattle.assise_seq_tree.specs.Lines.{places_below, places_of};
 ghost use Rattle.assise_seq_tree.specs.View.{map_entries};
 ghost use Rattle.assise_seq_tree.specs.Traversals.{Traversed};
 
 use crate::tree::Tree;
 use assise_names::name::Name;
-use assise_names::refusal::Refusal;
-use std::alloc::Global;
+use std::alloc::{AllocError, Global};
 use std::collections::BTreeMap;
 use std::collections::btree_map::Iter;
 use std::marker::Model;
@@ -80,12 +78,11 @@ impl<'a> Traversal<'a> {
         }
     }
 
-    /// Goes down to what an entry that came last holds: that comes next. Where it refuses, with [`Refusal::OutOfMemory`], nothing of it is.
-    pub fn enter(&mut self, name: &'a Name, tree: &'a Tree) -> Result<(), Refusal>
+    /// Goes down to what an entry that came last holds: that comes next. Without memory nothing of it is.
+    pub fn enter(&mut self, name: &'a Name, tree: &'a Tree) -> Result<(), AllocError>
         ensures ok { OnOk result (self.new.left ≡
             places_below (self.old.path ++ name.now ∷ []) tree.now ++ self.old.left) }
         ensures err { OnErr result (self.new.left ≡ self.old.left) }
-        ensures only_memory { IsOkUnless result OutOfMemory }
     {
         let Ok(entries) = tree.entries() else {
             return Ok(());

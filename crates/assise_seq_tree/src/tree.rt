@@ -1,6 +1,5 @@
 //! A tree of files and directories, and the walks along a path.
-ghost use Rattle.std.specs.Prelude.{◌≡◌, ◌∷◌, ◌+◌, ◌^◌, ◌<◌, ◌≤◌, IfNone, IfSome, IsErr, IsFalse, IsOkUnless, IsTrue, List, MatchResult, OnErr, OnOk, [], length, ℕ};
-ghost use Rattle.assise_names.specs.declared.refusal.Refusal.TheVariants.{OutOfMemory};
+ghost use Rattle.std.specs.Prelude.{◌≡◌, ◌∷◌, ◌+◌, ◌^◌, ◌<◌, ◌≤◌, IfNone, IfSome, IsErr, IsFalse, IsTrue, List, MatchResult, OnErr, OnOk, [], length, ℕ};
 ghost use Rattle.assise_seq_tree.specs.Answer.{as_directory, as_file, description_of, may_replace, parent_of};
 ghost use Rattle.assise_seq_tree.specs.Contents.{overwritten, resized};
 ghost use Rattle.assise_seq_tree.specs.Tree.{AreDisjointPaths, AreOrdered, IsOrdered, at, dir, file, opening, put, size_of, sizes_of, without};
@@ -9,9 +8,8 @@ ghost use Rattle.assise_seq_tree.specs.View.{map_entries, tree_of};
 use crate::answer::vacant;
 use crate::contents;
 use assise_names::name::Name;
-use assise_names::refusal::Refusal;
 use assise_names::reply::{Reply, TreeError};
-use std::alloc::Global;
+use std::alloc::{AllocError, Global};
 use std::collections::BTreeMap;
 use std::marker::Model;
 use std::mem;
@@ -254,11 +252,15 @@ impl Tree {
 
     /// Puts a tree at a path. A directory that is missing on the way is made. Where something stands at the path, it
     /// takes no memory.
-    pub(crate) fn put(&mut self, alloc: Global, names: &[Name], tree: Tree) -> Result<(), Refusal>
+    pub(crate) fn put(
+        &mut self,
+        alloc: Global,
+        names: &[Name],
+        tree: Tree,
+    ) -> Result<(), AllocError>
         ensures ok { OnOk result (self.new ≡ put self.old names.now tree) }
         ensures err { OnErr result (self.new ≡ self.old) }
         ensures asked { OnErr result (IsErr (at self.old names.now)) }
-        ensures only_memory { IsOkUnless result OutOfMemory }
     {
         // A look at the field tells the proof that the new tree is ordered.
         let _ = &tree.node;
@@ -281,13 +283,12 @@ impl Tree {
         }
     }
 
-    /// Gives a directory an entry, in place of one of the same name. A file stays as it is. The one refusal is
-    /// [`Refusal::OutOfMemory`], where the name is new, and it leaves the tree as it was.
-    pub fn insert(&mut self, name: Name, tree: Tree) -> Result<(), Refusal>
+    /// Gives a directory an entry, in place of one of the same name. A file stays as it is. It asks for memory where the
+    /// name is new; without it, it leaves the tree as it was.
+    pub fn insert(&mut self, name: Name, tree: Tree) -> Result<(), AllocError>
         ensures ok { OnOk result (self.new ≡ put self.old (name ∷ []) tree) }
         ensures err { OnErr result (self.new ≡ self.old) }
         ensures asked { OnErr result (IsErr (at self.old (name ∷ []))) }
-        ensures only_memory { IsOkUnless result OutOfMemory }
     {
         // A look at the field tells the proof that the new tree is ordered.
         let _ = &tree.node;
@@ -352,22 +353,20 @@ impl Tree {
         }
     }
 
-    /// Moves the tree at a path to another, where the parent of that is a directory and neither path begins with the
-    /// other. What stood there is gone. The one refusal is [`Refusal::OutOfMemory`], where nothing stood there, and it
-    /// leaves the tree as it was.
+    /// Moves the tree at a path to another, where the parent of that is a directory and neither path begins with the other.
+    /// What stood there is gone. It asks for memory where nothing stood there; without it, it leaves the tree as it was.
     pub(crate) fn move_entry(
         &mut self,
         alloc: Global,
         from: &[Name],
         to: &[Name],
-    ) -> Result<(), Refusal>
+    ) -> Result<(), AllocError>
         requires disjoint { AreDisjointPaths from.now to.now }
         requires parent { (es : _) × (at self.old (parent_of to.now) ≡ Ok (dir es)) }
         ensures ok { (moved : _) → at self.old from.now ≡ Ok moved →
             OnOk result (self.new ≡ put (without self.old from.now) to.now moved) }
         ensures err { OnErr result (self.new ≡ self.old) }
         ensures asked { OnErr result (IsErr (at self.old to.now)) }
-        ensures only_memory { IsOkUnless result OutOfMemory }
     {
         let _ = &self.node;
         // Only this step takes memory. What stands there from then on is exchanged in its place.
@@ -379,14 +378,13 @@ impl Tree {
     }
 
     /// Writes into the file of which this tree consists, if it is one.
-    fn overwrite(&mut self, offset: usize, new: &[u8]) -> Result<(), Refusal>
+    fn overwrite(&mut self, offset: usize, new: &[u8]) -> Result<(), AllocError>
         requires { offset + length new.now < 2 ^ 64 }
         ensures ok { (bytes : List ℕ) → self.old ≡ file bytes →
             OnOk result (self.new ≡ file (overwritten bytes offset new.now)) }
         ensures err { OnErr result (self.new ≡ self.old) }
         ensures asked { (bytes : List ℕ) → self.old ≡ file bytes →
             OnErr result (length bytes < offset + length new.now) }
-        ensures only_memory { IsOkUnless result OutOfMemory }
     {
         match &mut self.node {
             Node::File(bytes) => contents::overwrite(bytes, offset, new),
@@ -401,7 +399,7 @@ impl Tree {
         names: &[Name],
         offset: usize,
         new: &[u8],
-    ) -> Result<(), Refusal>
+    ) -> Result<(), AllocError>
         requires { offset + length new.now < 2 ^ 64 }
         ensures ok { (bytes : List ℕ) → at self.old names.now ≡ Ok (file bytes) →
             OnOk result (self.new ≡ put self.old names.now
@@ -410,7 +408,6 @@ impl Tree {
             OnErr result (self.new ≡ self.old) }
         ensures asked { (bytes : List ℕ) → at self.old names.now ≡ Ok (file bytes) →
             OnErr result (length bytes < offset + length new.now) }
-        ensures only_memory { IsOkUnless result OutOfMemory }
     {
         let mut tree = Tree::empty_file(alloc);
         self.swap(names, &mut tree);
@@ -420,13 +417,12 @@ impl Tree {
     }
 
     /// Gives the file of which this tree consists another size, if it is one.
-    fn resize(&mut self, size: usize) -> Result<(), Refusal>
+    fn resize(&mut self, size: usize) -> Result<(), AllocError>
         ensures ok { (bytes : List ℕ) → self.old ≡ file bytes →
             OnOk result (self.new ≡ file (resized bytes size)) }
         ensures err { OnErr result (self.new ≡ self.old) }
         ensures asked { (bytes : List ℕ) → self.old ≡ file bytes →
             OnErr result (length bytes < size) }
-        ensures only_memory { IsOkUnless result OutOfMemory }
     {
         match &mut self.node {
             Node::File(bytes) => contents::resize(bytes, size),
@@ -440,14 +436,13 @@ impl Tree {
         alloc: Global,
         names: &[Name],
         size: usize,
-    ) -> Result<(), Refusal>
+    ) -> Result<(), AllocError>
         ensures ok { (bytes : List ℕ) → at self.old names.now ≡ Ok (file bytes) →
             OnOk result (self.new ≡ put self.old names.now (file (resized bytes size))) }
         ensures err { (bytes : List ℕ) → at self.old names.now ≡ Ok (file bytes) →
             OnErr result (self.new ≡ self.old) }
         ensures asked { (bytes : List ℕ) → at self.old names.now ≡ Ok (file bytes) →
             OnErr result (length bytes < size) }
-        ensures only_memory { IsOkUnless result OutOfMemory }
     {
         let mut tree = Tree::empty_file(alloc);
         self.swap(names, &mut tree);

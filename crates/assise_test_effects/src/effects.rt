@@ -1,7 +1,8 @@
 //! Effects written as text: a name, the inode that is changed, and what else there is.
 use assise_inode_table::store::InodeStore;
+use assise_names::limits::MOST_FILE_BYTES;
 use assise_names::name::Name;
-use assise_record::effect::{Effect, Extent, FileSize, MOST_FILE_BYTES};
+use assise_record::effect::{Effect, Extent, FileSize};
 use bytes::Bytes;
 use std::alloc::Global;
 
@@ -67,7 +68,7 @@ fn set_len_of(text: &str) -> Option<Effect> {
 /// The length that a text says, if a file may have it.
 pub fn size_of(text: &str) -> Option<FileSize> {
     let bytes = text.parse::<u32>().ok()?;
-    if bytes <= MOST_FILE_BYTES {
+    if u64::from(bytes) <= MOST_FILE_BYTES {
         Some(FileSize::new(bytes))
     } else {
         None

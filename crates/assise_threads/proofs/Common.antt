@@ -22,8 +22,8 @@ pub use Rattle.assise_fault_script.specs.declared.command.Command.TheVariants.{C
 pub use Rattle.assise_fault_script.specs.declared.parse.NumberedCommand.{NumberedCommand}
 pub use Rattle.assise_history.specs.Entries.{EntryValue, opens, calls}
 pub use Rattle.assise_history.specs.Legal.{IsLegal, calls_made}
-pub use Rattle.assise_keeper.proofs.LedStates.{led_from}
-pub use Rattle.assise_keeper.proofs.PassAdds.{opened-in, openings-append, calls-append, extends-same, all-openings-append, drop-prefix, no_openings}
+pub use Rattle.assise_keeper.proofs.Shared.LedStates.{led_from}
+pub use Rattle.assise_keeper.proofs.Shared.PassAdds.{opened-in, openings-append, calls-append, extends-same, all-openings-append, drop-prefix, no_openings}
 pub use Rattle.assise_keeper.specs.Clients.{calls_by, openings_of, Extends, openings, calls_of, MayAddAll, MayGive, added, client_after}
 pub use Rattle.assise_keeper.specs.Passes.{last, seen, client, mine, taken}
 pub use Rattle.assise_keeper.specs.Rule.{IsLed}
@@ -66,6 +66,6 @@ pub use Rattle.assise_threads.specs.Stretches.{AreCalls, IsClientCall, AreCallsS
 pub use Rattle.assise_threads.specs.Stretches.{outcomes_of, HasCalls, MakesCalls, libfs_at, outcomes_at, sight_at, untold}
 pub use Rattle.assise_threads.specs.Takes.{Happened, InOneTake, AddsNobodys, AreNobodys}
 pub use Rattle.assise_threads.specs.Threads.{DoesTake, main_seen, main_keeper}
-pub use Rattle.assise_workers.proofs.Lists.{told-append, extends-on}
+pub use Rattle.assise_workers.proofs.Shared.Lists.{told-append, extends-on}
 pub use Rattle.assise_workers.specs.ClusterTurns.{cluster_acts, cluster_history, cluster_reads}
 pub use Rattle.assise_workers.specs.Told.{told_all, SeesAll, AreCallsMade, Turned}

@@ -7,7 +7,7 @@ use Rattle.assise_threads.proofs.Common.{HearsStretch, sight_of, Sights, opening
 use Rattle.assise_threads.proofs.Common.{calls_in, commands_said, outcome_answer, AreCalls, IsClientCall}
 use Rattle.std.proofs.Math.Bridge.{le_prop}
 use Rattle.std.proofs.Common.{eq-eqb}
-use Rattle.assise_history.proofs.ClientCounts.{opens_once}
+use Rattle.assise_history.proofs.Shared.ClientCounts.{opens_once}
 use Rattle.assise_threads.proofs.FirstOf.{first-skips}
 use Rattle.assise_threads.proofs.CallLines.{one_or_none}
 

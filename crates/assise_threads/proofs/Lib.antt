@@ -1,18 +1,18 @@
 mod Common
-pub mod FirstOf
-pub mod SaidMore
-pub mod Heard
-pub mod CallLines
-pub mod Ends
-pub mod AllSaid
-pub mod Nobodys
-pub mod LedTakes
-pub mod Ahead
-pub mod RunOn
-pub mod ShownTrees
-pub mod ReturnTries
-pub mod Openings
-pub mod Fronts
-pub mod Meetings
-pub mod MachineTurns
-pub mod WithoutRevoker
+mod FirstOf
+mod SaidMore
+mod Heard
+mod CallLines
+mod Ends
+mod AllSaid
+mod Nobodys
+mod LedTakes
+mod Ahead
+mod RunOn
+mod ShownTrees
+mod ReturnTries
+mod Openings
+mod Fronts
+mod Meetings
+mod MachineTurns
+mod WithoutRevoker

@@ -2,6 +2,7 @@
 use Rattle.assise_threads.proofs.Common.{◌≡◌, ◌∙◌, ℕ, List, [], ◌∷◌, ◌++◌, refl, sym, ap, ap₂, subst, append-nil, drop, length, Option, None, ∥∥₁_map}
 use Rattle.assise_threads.proofs.Common.{EntryValue, opens, calls, IsLegal, Opens, Never, Extends, MayAddAll, MayGive, added, client_after, openings_of}
 use Rattle.assise_threads.proofs.Common.{all-openings-append, drop-prefix, no_openings, machine, ClusterOf, extends-on, OpensNone, AddsNobodys, AreNobodys}
+use Rattle.assise_threads.proofs.LedTakes.{leads_itself, not_never}
 
 -- ---- a pass without a client may give such entries
 
@@ -34,6 +35,9 @@ may_give_same client o taken now is = ([], sym (append-nil taken ∙ is), tt)
 pub stays_nobody_same : (client : Option ℕ) (taken now : List EntryValue) → client ≡ None → taken ≡ now → client_after client (added taken now) ≡ None
 stays_nobody_same client taken now nobody is = stays_nobody client taken now now nobody is record { more = []; split = sym (append-nil now); nobodys = tt }
 
+-- how it may be given back so
+pub ruleset given_as_taken = (may_give_same, stays_nobody_same, leads_itself, not_never, append-nil)
+
 -- what was seen before the take is a prefix of what is given
 pub given_extends : (seen before after given : List EntryValue) → Extends before seen → AddsNobodys before after → given ≡ after → Extends given seen
 given_extends seen before after given prefix adds is = subst (λ h. Extends h seen) (sym is) (extends-on after before seen (adds.more, adds.split) prefix)
@@ -46,9 +50,6 @@ pub given_opens_none : (seen before after given : List EntryValue) → openings_
 given_opens_none seen before after given known adds is =
     ap openings_of (is ∙ adds.split)
     ∙ (all-openings-append before adds.more ∙ ap₂ (λ x y. x ++ y) known (no_openings None adds.more (may_add Never adds.more adds.nobodys)))
-
-pub same_opens_none : (seen taken given : List EntryValue) → openings_of taken ≡ openings_of seen → given ≡ taken → OpensNone seen given
-same_opens_none seen taken given known is = ap openings_of is ∙ (known ∙ sym (append-nil (openings_of seen)))
 
 pub none_then_none : (a b d : List EntryValue) → OpensNone a b → OpensNone b d → OpensNone a d
 none_then_none a b d first second = second ∙ (append-nil (openings_of b) ∙ first)

@@ -6,7 +6,7 @@ use Rattle.assise_threads.proofs.Common.{Refused, Carried, Shown, Whole, Checked
 use Rattle.assise_threads.proofs.Common.{Shows, is_verdict, is_made, is_out, is_shown, lacks_memory, lacks_room, not_shown, LibFs, AnswersCommand, joins}
 use Rattle.assise_threads.proofs.Common.{stops_filling, is_refused, is_busy, is_opened, is_carried, is_nowhere, is_replied, lacks_revoker, machine_begun}
 use Rattle.assise_threads.proofs.Common.{AreSaidNext, is_one, is_stretch, sights, IsRunSaid, AreMet, Sights, AreAllSaid}
-use Rattle.assise_history.proofs.Legality.{legal-nil}
+use Rattle.assise_history.proofs.Shared.Legality.{legal-nil}
 use Rattle.assise_threads.proofs.Meetings.{met_none}
 use Rattle.assise_threads.proofs.AllSaid.{is_run, nothing_said, one_added, stretch_added}
 

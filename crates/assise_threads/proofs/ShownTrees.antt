@@ -6,15 +6,15 @@ use Rattle.assise_seq_tree.specs.Tree.{Tree, opening}
 use Rattle.assise_history.specs.Kept.{tree_after}
 use Rattle.assise_inode_table.specs.Spelled.{Spells}
 use Rattle.assise_inode_table.specs.Traces.{NumberedCall, below, ops}
-use Rattle.assise_inode_table.proofs.SpellingUnique.{spelled_is_one}
+use Rattle.assise_inode_table.proofs.Shared.SpellingUnique.{spelled_is_one}
 use Rattle.assise_manager.specs.Standings.{Standing, full, down, returning, standing_of}
 use Rattle.assise_model_world.specs.World.{alone_at, first_unreplicated}
 use Rattle.assise_model_history.specs.Numbered.{kept_numbered, plain_call}
 use Rattle.assise_model_history.specs.Traces.{numbered_replicated}
 use Rattle.assise_model_events.specs.Faults.{node_fault, unless_full}
-use Rattle.assise_model_events.proofs.Whatever.{safe}
+use Rattle.assise_model_events.proofs.Shared.Whatever.{safe}
 use Rattle.assise_machine.specs.Headline.{kept_below}
-use Rattle.assise_machine.proofs.Replicated.{kept_below_is}
+use Rattle.assise_machine.proofs.Shared.Replicated.{kept_below_is}
 use Rattle.assise_console.specs.Steps.{is_refused}
 use Rattle.assise_threads.specs.Trees.{IsReplicatedTree}
 

@@ -1,7 +1,6 @@
 //! The calls of clients among commands that stand together.
-ghost use Rattle.std.specs.Prelude.{◌≡◌, IfOk, IsOkUnless, map};
+ghost use Rattle.std.specs.Prelude.{◌≡◌, IfOk, map};
 ghost use Rattle.std.specs.List.{AllZip};
-ghost use Rattle.assise_names.specs.declared.refusal.Refusal.TheVariants.{OutOfMemory};
 ghost use Rattle.assise_threads.specs.Said.{calls_in};
 ghost use Rattle.assise_threads.specs.Stretches.{HasCalls};
 
@@ -10,19 +9,17 @@ use assise_fault_script::parse::NumberedCommand;
 use assise_libfs::libfs::LibFs;
 use assise_machine::cluster::Cluster;
 use assise_names::call::Op;
-use assise_names::refusal::Refusal;
 use assise_workers::serving::ClientList;
-use std::alloc::Global;
+use std::alloc::{AllocError, Global};
 
 /// The calls of a client among commands, in order, which are lent.
 fn calls_of<'a>(
     alloc: Global,
     stretch: &'a [NumberedCommand],
     client: u32,
-) -> Result<Vec<&'a Op>, Refusal>
+) -> Result<Vec<&'a Op>, AllocError>
     ensures calls { IfOk result (λ calls. map (λ op. op.now) calls.items ≡
         calls_in client stretch.now) }
-    ensures only_memory { IsOkUnless result OutOfMemory }
 {
     let mut calls = Vec::new(alloc);
     for line in stretch {
@@ -40,14 +37,13 @@ fn list_of<'a>(
     alloc: Global,
     libfs: LibFs<'a, Cluster>,
     stretch: &'a [NumberedCommand],
-) -> Result<ClientList<'a, Cluster>, Refusal>
+) -> Result<ClientList<'a, Cluster>, AllocError>
     ensures list { IfOk result (λ list. HasCalls stretch.now libfs.entry list) }
-    ensures only_memory { IsOkUnless result OutOfMemory }
 {
     let calls = calls_of(alloc, stretch, libfs.client())?;
     match ClientList::new(alloc, libfs, calls) {
         Ok(list) => Ok(list),
-        Err(_) => Err(Refusal::OutOfMemory),
+        Err(_) => Err(AllocError),
     }
 }
 
@@ -56,10 +52,9 @@ pub(crate) fn lists_of<'a>(
     alloc: Global,
     clients: Vec<LibFs<'a, Cluster>>,
     stretch: &'a [NumberedCommand],
-) -> Result<Vec<ClientList<'a, Cluster>>, Refusal>
+) -> Result<Vec<ClientList<'a, Cluster>>, AllocError>
     ensures lists { IfOk result (λ lists.
         AllZip (HasCalls stretch.now) clients.entry.items lists.items) }
-    ensures only_memory { IsOkUnless result OutOfMemory }
 {
     let mut lists = Vec::with_capacity(alloc, clients.len())?;
     for libfs in clients {

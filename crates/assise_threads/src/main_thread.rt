@@ -154,6 +154,7 @@ impl<'a, C: Revokes + Drop> MainThreadOf<'a, C> {
     }
 
     /// Why no client can be opened on a node where there is no revoker for one.
+    #[tactic(auto, using(crate::proofs::Nobodys::given_as_taken))]
     pub(crate) fn refuse_open<R: Wait>(&mut self, rt: &R, node: u32) -> Refusal
         ensures keeper { main_keeper self.new ≡ main_keeper self.old }
         ensures lacks { InOneTake (LacksRevoker node result)
@@ -241,6 +242,7 @@ impl<'a, C: Revokes + Drop> MainThreadOf<'a, C> {
     }
 
     /// The text of the history so far.
+    #[tactic(auto, using(crate::proofs::Nobodys::given_as_taken))]
     pub(crate) fn history<R: Wait>(&mut self, rt: &R, alloc: Global) -> Result<String, AllocError>
         ensures extends { Extends (main_seen self.new).history (main_seen self.old).history }
         ensures keeper { main_keeper self.new ≡ main_keeper self.old }

@@ -5,7 +5,7 @@ pub use Rattle.std.proofs.lemmas.List.{map-append, take_more}
 pub use Rattle.std.specs.List.{AllByRecursion, AllZip}
 pub use Rattle.std.specs.Prelude.{is_ok, min, IfErr, IfOk, vec_capacity}
 pub use Rattle.assise_history.specs.Entries.{EntryValue, calls}
-pub use Rattle.assise_keeper.proofs.LedStates.{led_from}
+pub use Rattle.assise_keeper.proofs.Shared.LedStates.{led_from}
 pub use Rattle.assise_keeper.specs.Clients.{calls_by, Extends}
 pub use Rattle.assise_keeper.specs.Passes.{IsPassOf, client, last, opens, seen}
 pub use Rattle.assise_libfs.specs.Clients.{client_of, limit_of, seen_by, IsSameClient}

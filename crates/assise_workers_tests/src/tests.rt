@@ -1,10 +1,18 @@
 //! What contracts can't say: that workers and clients get on, and that none is held up by another's frame.
-use crate::begun::{begin, revokers};
-use crate::crowds::{Crowd, run_crowd};
-use crate::gates::{AllAtOnce, UntilAnswered};
-use crate::held::stat_beside_fsync;
-use crate::renewed::renewed_once;
-use crate::runs::{Clients, answered};
+mod begun;
+mod crowds;
+mod gates;
+mod held;
+mod refused;
+mod renewed;
+mod runs;
+
+use crate::tests::begun::{begin, revokers};
+use crate::tests::crowds::{Crowd, run_crowd};
+use crate::tests::gates::{AllAtOnce, UntilAnswered};
+use crate::tests::held::stat_beside_fsync;
+use crate::tests::renewed::renewed_once;
+use crate::tests::runs::{Clients, answered};
 use assise_machine::cluster::Cluster;
 use assise_names::durability::Durability;
 use assise_names::reply::Reply;

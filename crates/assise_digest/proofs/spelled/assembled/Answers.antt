@@ -24,8 +24,10 @@ unreachable-requires g c =
     let one : c.loop-place.trees.items ≡ g.t ∷ [] = whole_tree c.loop-place.places.items c.loop-place.trees.items g.t none c.loop-place.invariant in
     omega (arith, ap length one, c.loop-place.trees.ok.0, c.in_default-pop.ensures.cases)
 
-pub returns-clause-tree : goal.returns-clause-tree
-returns-clause-tree g c =
-    let none : length c.loop-place.places.items ≡ 0 = omega (arith, c.loop-place.places.ok.0, c.in_default.ensures.cases) in
-    let one : c.loop-place.trees.items ≡ g.t ∷ [] = whole_tree c.loop-place.places.items c.loop-place.trees.items g.t none c.loop-place.invariant in
-    (same_from_push c.pop-2.new.self.items [] c.in-Some-pop.tree g.t (sym c.in-Some-pop.ensures.items ∙ one)).1
+pub returns : goal.returns
+returns g c = record {
+  tree =
+      let none : length c.loop-place.places.items ≡ 0 = omega (arith, c.loop-place.places.ok.0, c.in_default.ensures.cases) in
+      let one : c.loop-place.trees.items ≡ g.t ∷ [] = whole_tree c.loop-place.places.items c.loop-place.trees.items g.t none c.loop-place.invariant in
+      (same_from_push c.pop-2.new.self.items [] c.in-Some-pop.tree g.t (sym c.in-Some-pop.ensures.items ∙ one)).1;
+}

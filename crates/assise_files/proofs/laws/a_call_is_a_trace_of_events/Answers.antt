@@ -1,5 +1,5 @@
 use Rattle.assise_files.proofs.Common.{FaithfulAt, call_trace}
-use Rattle.assise_files.proofs.TriesTrace.{redo_trace}
+use Rattle.assise_files.proofs.Shared.TriesTrace.{redo_trace}
 use Rattle.assise_files.proofs.laws.a_call_is_a_trace_of_events.Goals as goal
 
 pub returns-clause-call : goal.returns-clause-call

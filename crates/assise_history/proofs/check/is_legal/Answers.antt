@@ -1,6 +1,6 @@
 use Rattle.assise_history.proofs.Common.{◌≡◌, ◌∙◌, ap, sym, take, true, false, subst, opening, kept, kept_more, IsRun, summary, follows, summary_after, Goes}
 use Rattle.assise_history.proofs.Common.{played_calls}
-use Rattle.assise_history.proofs.Legality.{legal-nil}
+use Rattle.assise_history.proofs.Shared.Legality.{legal-nil}
 use Rattle.assise_history.proofs.CheckLoop.{not_allowed, no_run, checked_more, kept_at, summary_at}
 use Rattle.assise_history.proofs.check.is_legal.Goals as goal
 

@@ -1,5 +1,5 @@
 use Rattle.assise_history.proofs.Common.{◌≡◌, ◌∙◌, ap, false, length, map, nat_lt, not, rules, filter_same, loses}
-use Rattle.assise_history.proofs.Runs.{filter_mapped, map-filter}
+use Rattle.assise_history.proofs.Shared.Runs.{filter_mapped, map-filter}
 use Rattle.assise_history.proofs.kept.drop_lost.Goals as goal
 
 pub returns-clause-left : goal.returns-clause-left

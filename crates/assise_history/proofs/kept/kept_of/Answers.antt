@@ -1,5 +1,5 @@
 use Rattle.assise_history.proofs.Common.{◌≡◌, ◌∙◌, ap, sym, take, ◌+◌, ◌++◌, ◌∷◌, [], take_more, kept, kept_more}
-use Rattle.assise_history.proofs.Runs.{kept-push}
+use Rattle.assise_history.proofs.Shared.Runs.{kept-push}
 use Rattle.assise_history.proofs.kept.kept_of.Goals as goal
 
 pub loop-entry-preserved : goal.loop-entry-preserved

@@ -1,5 +1,5 @@
 use Rattle.assise_history.proofs.Common.{calls, IsNextCall}
-use Rattle.assise_history.proofs.OneMore.{answered_in, follows_in}
+use Rattle.assise_history.proofs.Shared.OneMore.{answered_in, follows_in}
 use Rattle.assise_history.proofs.laws.a_call_is_the_next_of_an_open_client.Goals as goal
 
 pub returns : goal.returns

@@ -1,5 +1,5 @@
 use Rattle.assise_history.proofs.Common.{◌++◌, ◌∷◌, refl, fails, IsFair, MayLose}
-use Rattle.assise_history.proofs.OneMore.{follows_in}
+use Rattle.assise_history.proofs.Shared.OneMore.{follows_in}
 use Rattle.assise_history.proofs.laws.a_failure_is_fair.Goals as goal
 
 pub returns-clause-ascending : goal.returns-clause-ascending

@@ -1,6 +1,6 @@
 use Rattle.assise_history.proofs.Common.{opens, returns, MayOpen}
-use Rattle.assise_history.proofs.ClientCounts.{opens_once}
-use Rattle.assise_history.proofs.OneMore.{follows_in}
+use Rattle.assise_history.proofs.Shared.ClientCounts.{opens_once}
+use Rattle.assise_history.proofs.Shared.OneMore.{follows_in}
 use Rattle.assise_history.proofs.laws.clients_are_opened_in_order.Goals as goal
 
 pub returns-clause-next : goal.returns-clause-next

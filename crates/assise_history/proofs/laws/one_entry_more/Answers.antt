@@ -1,5 +1,5 @@
-use Rattle.assise_history.proofs.Legality.{one_more}
-use Rattle.assise_history.proofs.OneMore.{open_more, call_more, crash_more, failure_more, return_more}
+use Rattle.assise_history.proofs.Shared.Legality.{one_more}
+use Rattle.assise_history.proofs.Shared.OneMore.{open_more, call_more, crash_more, failure_more, return_more}
 use Rattle.assise_history.proofs.laws.one_entry_more.Goals as goal
 
 pub returns : goal.returns

@@ -1,5 +1,5 @@
 use Rattle.assise_history.proofs.Common.{crashes}
-use Rattle.assise_history.proofs.OneMore.{follows_in}
+use Rattle.assise_history.proofs.Shared.OneMore.{follows_in}
 use Rattle.assise_history.proofs.laws.only_an_open_client_crashes.Goals as goal
 
 pub returns : goal.returns

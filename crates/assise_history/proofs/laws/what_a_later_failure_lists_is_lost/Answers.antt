@@ -1,4 +1,4 @@
-use Rattle.assise_history.proofs.Lost.{lost_exactly}
+use Rattle.assise_history.proofs.Shared.Lost.{lost_exactly}
 use Rattle.assise_history.proofs.laws.what_a_later_failure_lists_is_lost.Goals as goal
 
 pub returns : goal.returns

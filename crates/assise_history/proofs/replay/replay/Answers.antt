@@ -1,5 +1,5 @@
 use Rattle.assise_history.proofs.Common.{◌≡◌, ◌++◌, ◌∷◌, [], map, take, false, true, ap, sym, ◌∙◌, ◌+◌, opening}
-use Rattle.assise_history.proofs.Runs.{stops, played_wrong, played_right, calls_more}
+use Rattle.assise_history.proofs.Shared.Runs.{stops, played_wrong, played_right, calls_more}
 use Rattle.assise_history.proofs.replay.replay.Goals as goal
 
 pub returns-then-not-is_answer-clause-ok : goal.returns-then-not-is_answer-clause-ok

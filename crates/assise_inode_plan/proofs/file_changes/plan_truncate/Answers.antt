@@ -30,12 +30,8 @@ returns-clause-exact g c = c.finished.ensures
     c.args.size c.in_default.field-0.now c.in_default.ensures (grind (arith, nat_tests, c.if-size-gt-MOST_FILE_BYTES.false))
 
 pub returns-in_err-reached-clause-asked : goal.returns-in_err-reached-clause-asked
-returns-in_err-reached-clause-asked g c =
-    on_err c.from_residual.result _
-    (note_walk (g.V.View.leased c.args.view.now) (values (g.V.Inodes.contents c.args.view.now)) c.args.names.now _ c.in_err-reached.ensures.asked)
+returns-in_err-reached-clause-asked g c = on_err c.from_residual.result _ (search (note_walk, c.in_err-reached.ensures.asked))
 
 pub returns-in_err-effects-clause-asked : goal.returns-in_err-effects-clause-asked
 returns-in_err-effects-clause-asked g c =
-    on_err c.from_residual-in_err-effects.result _
-    (note_walk (g.V.View.leased c.args.view.now) (values (g.V.Inodes.contents c.args.view.now)) c.args.names.now _
-    (seen_here c.in_ok-reached.field-0 c.in_ok-reached.ensures.seen c.in-Ok.is))
+    on_err c.from_residual-in_err-effects.result _ (search (note_walk, seen_here c.in_ok-reached.field-0 c.in_ok-reached.ensures.seen c.in-Ok.is))

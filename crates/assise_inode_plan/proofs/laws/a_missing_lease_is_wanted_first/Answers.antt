@@ -1,5 +1,5 @@
 use Rattle.assise_inode_plan.proofs.Common.{wants}
-use Rattle.assise_inode_plan.proofs.LackedLeases.{missing_is_first, ready_has_all}
+use Rattle.assise_inode_plan.proofs.Shared.LackedLeases.{missing_is_first, ready_has_all}
 use Rattle.assise_inode_plan.proofs.laws.a_missing_lease_is_wanted_first.Goals as goal
 
 pub returns-clause-missing : goal.returns-clause-missing

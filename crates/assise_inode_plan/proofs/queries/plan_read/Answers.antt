@@ -25,12 +25,8 @@ returns-in-Err-file-clause-exact g c =
     c.args.length c.in-Err-file.error c.in-Err-file.ensures
 
 pub returns-in_err-reached-clause-asked : goal.returns-in_err-reached-clause-asked
-returns-in_err-reached-clause-asked g c =
-    on_err c.from_residual.result _
-    (note_walk (g.V.View.leased c.args.view.now) (values (g.V.Inodes.contents c.args.view.now)) c.args.names.now _ c.in_err-reached.ensures.asked)
+returns-in_err-reached-clause-asked g c = on_err c.from_residual.result _ (search (note_walk, c.in_err-reached.ensures.asked))
 
 pub returns-in_err-bytes-in-Ok-file-clause-asked : goal.returns-in_err-bytes-in-Ok-file-clause-asked
 returns-in_err-bytes-in-Ok-file-clause-asked g c =
-    on_err c.from_residual-in_err-bytes-in-Ok-file.result _
-    (note_walk (g.V.View.leased c.args.view.now) (values (g.V.Inodes.contents c.args.view.now)) c.args.names.now _
-    (seen_here c.in_ok-reached.field-0 c.in_ok-reached.ensures.seen c.in-Ok.is))
+    on_err c.from_residual-in_err-bytes-in-Ok-file.result _ (search (note_walk, seen_here c.in_ok-reached.field-0 c.in_ok-reached.ensures.seen c.in-Ok.is))

@@ -16,6 +16,4 @@ returns-in-Err-clause-exact g c = c.stopped.ensures ∙ at_stop (g.V.View.leased
     c.in-Err.is _
 
 pub returns-in_err-inode-clause-asked : goal.returns-in_err-inode-clause-asked
-returns-in_err-inode-clause-asked g c =
-    on_err c.from_residual.result _
-    (note_walk (g.V.View.leased c.args.view.now) (values (g.V.Inodes.contents c.args.view.now)) c.args.names.now _ c.in_err-inode.ensures.asked)
+returns-in_err-inode-clause-asked g c = on_err c.from_residual.result _ (search (note_walk, c.in_err-inode.ensures.asked))

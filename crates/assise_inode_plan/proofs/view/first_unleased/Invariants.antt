@@ -1,4 +1,4 @@
-use Rattle.assise_inode_plan.proofs.WriteLeases.{LooksAt}
+use Rattle.assise_inode_plan.proofs.Shared.WriteLeases.{LooksAt}
 use Rattle.assise_inode_plan.proofs.view.first_unleased.Given as goal
 
 abbrev pub invariant-loop-effect : goal.invariant-loop-effect

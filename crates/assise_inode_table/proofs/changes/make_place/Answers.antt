@@ -1,6 +1,6 @@
 use Rattle.assise_inode_table.proofs.Common.{◌∙◌, ap, rules, map_without}
 use Rattle.std.specs.FinMap as map
-use Rattle.assise_inode_table.proofs.MapChanges.{no_content, other_kept, without_new}
+use Rattle.assise_inode_table.proofs.Shared.MapChanges.{no_content, other_kept, without_new}
 use Rattle.assise_inode_table.proofs.changes.make_place.Goals as goal
 
 pub returns-in_err-insert-clause-noted : goal.returns-in_err-insert-clause-noted

@@ -1,5 +1,5 @@
 use Rattle.assise_inode_table.proofs.Common.{◌∙◌, ap, sym, placed_one}
-use Rattle.assise_inode_table.proofs.MapChanges.{one_more_placed}
+use Rattle.assise_inode_table.proofs.Shared.MapChanges.{one_more_placed}
 use Rattle.assise_inode_table.proofs.changes.make_places.Goals as goal
 
 pub loop-change-preserved : goal.loop-change-preserved

@@ -1,5 +1,5 @@
 use Rattle.assise_inode_table.proofs.Common.{◌∙◌, ap, placed}
-use Rattle.assise_inode_table.proofs.MapChanges.{all_left, next_left, next_there}
+use Rattle.assise_inode_table.proofs.Shared.MapChanges.{all_left, next_left, next_there}
 use Rattle.assise_inode_table.proofs.changes.put_all.Goals as goal
 
 pub loop-change-init : goal.loop-change-init

@@ -1,5 +1,5 @@
 use Rattle.assise_inode_table.proofs.Common.{◌≡◌}
-use Rattle.assise_inode_table.proofs.MapChanges.{IsLeft}
+use Rattle.assise_inode_table.proofs.Shared.MapChanges.{IsLeft}
 use Rattle.assise_inode_table.proofs.changes.put_all.Given as goal
 
 abbrev pub invariant-loop-change : goal.invariant-loop-change

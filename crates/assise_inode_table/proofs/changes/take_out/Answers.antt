@@ -1,5 +1,5 @@
 use Rattle.assise_inode_table.proofs.Common.{◌∙◌}
-use Rattle.assise_inode_table.proofs.MapChanges.{without_last}
+use Rattle.assise_inode_table.proofs.Shared.MapChanges.{without_last}
 use Rattle.assise_inode_table.proofs.changes.take_out.Goals as goal
 
 pub loop-inode-preserved : goal.loop-inode-preserved

@@ -1,5 +1,5 @@
 use Rattle.assise_inode_table.proofs.Common.{group-effects, group-begins, group-ascending, group-shorter}
-use Rattle.assise_inode_table.proofs.Grouped.{same_group}
+use Rattle.assise_inode_table.proofs.Shared.Grouped.{same_group}
 use Rattle.assise_inode_table.proofs.laws.a_coalesced_group_stands_for_the_group.Goals as goal
 
 pub returns-clause-effects : goal.returns-clause-effects

@@ -1,4 +1,4 @@
-use Rattle.assise_inode_table.proofs.SpellingUnique.{spelled_is_one, spelled_is_ordered}
+use Rattle.assise_inode_table.proofs.Shared.SpellingUnique.{spelled_is_one, spelled_is_ordered}
 use Rattle.assise_inode_table.proofs.laws.a_map_spells_one_tree.Goals as goal
 
 pub returns-clause-one : goal.returns-clause-one

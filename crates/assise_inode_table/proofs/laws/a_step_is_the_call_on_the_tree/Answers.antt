@@ -1,4 +1,4 @@
-use Rattle.assise_inode_table.proofs.CallSteps.{step_replies, step_spells}
+use Rattle.assise_inode_table.proofs.Shared.CallSteps.{step_replies, step_spells}
 use Rattle.assise_inode_table.proofs.laws.a_step_is_the_call_on_the_tree.Goals as goal
 
 pub returns-clause-reply : goal.returns-clause-reply

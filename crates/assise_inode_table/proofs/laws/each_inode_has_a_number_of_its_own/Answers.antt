@@ -1,4 +1,4 @@
-use Rattle.assise_inode_table.proofs.InodeNumbers.{one_number, not_the_root}
+use Rattle.assise_inode_table.proofs.Shared.InodeNumbers.{one_number, not_the_root}
 use Rattle.assise_inode_table.proofs.laws.each_inode_has_a_number_of_its_own.Goals as goal
 
 pub returns-clause-own : goal.returns-clause-own

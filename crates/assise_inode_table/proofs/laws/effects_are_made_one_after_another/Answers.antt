@@ -1,4 +1,4 @@
-use Rattle.assise_inode_table.proofs.EffectValues.{value_after-append, untouched, get-applied}
+use Rattle.assise_inode_table.proofs.Shared.EffectValues.{value_after-append, untouched, get-applied}
 use Rattle.assise_inode_table.proofs.laws.effects_are_made_one_after_another.Goals as goal
 
 -- src/laws.rt

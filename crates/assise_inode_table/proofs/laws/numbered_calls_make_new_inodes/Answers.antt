@@ -1,4 +1,4 @@
-use Rattle.assise_inode_table.proofs.InodeNumbers.{one_more, new_from_opening}
+use Rattle.assise_inode_table.proofs.Shared.InodeNumbers.{one_more, new_from_opening}
 use Rattle.assise_inode_table.proofs.laws.numbered_calls_make_new_inodes.Goals as goal
 
 pub returns-clause-more : goal.returns-clause-more

@@ -1,4 +1,4 @@
-use Rattle.assise_inode_table.proofs.CallsRemoved.{tails_trace, tails_run, tails_new, tails_spelled}
+use Rattle.assise_inode_table.proofs.Shared.CallsRemoved.{tails_trace, tails_run, tails_new, tails_spelled}
 use Rattle.assise_inode_table.proofs.laws.tails.Goals as goal
 
 pub returns-clause-run : goal.returns-clause-run

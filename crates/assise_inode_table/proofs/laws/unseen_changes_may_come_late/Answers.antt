@@ -1,4 +1,4 @@
-use Rattle.assise_inode_table.proofs.Lateness.{late, late_client}
+use Rattle.assise_inode_table.proofs.Shared.Lateness.{late, late_client}
 use Rattle.assise_inode_table.proofs.laws.unseen_changes_may_come_late.Goals as goal
 
 pub returns-clause-any : goal.returns-clause-any

@@ -1,6 +1,6 @@
 use Rattle.assise_inode_table.proofs.Common.{◌≡◌, ◌∷◌, List, ◌-◌, length, take, drop, ◌∙◌, ap, sym, subst, arith, take_all, Effect, all_applied, applied}
 use Rattle.assise_inode_table.proofs.Common.{OnlyFirstAsks}
-use Rattle.assise_inode_table.proofs.EffectLists.{first_ahead, one_more_applied, takes_away_at}
+use Rattle.assise_inode_table.proofs.Shared.EffectLists.{first_ahead, one_more_applied, takes_away_at}
 use Rattle.assise_inode_table.proofs.whole.apply_in_order.Goals as goal
 
 pub take_away-requires : goal.take_away-requires

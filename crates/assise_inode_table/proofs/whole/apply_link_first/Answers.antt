@@ -1,6 +1,6 @@
 use Rattle.assise_inode_table.proofs.Common.{◌++◌, ◌∷◌, [], ◌∙◌, ap, sym, arith, take_all, filter, all_applied, applied, leaves_entry}
 use Rattle.assise_inode_table.proofs.LinkingFirst.{link_first, one_more_left, one_passed_over}
-use Rattle.assise_inode_table.proofs.EffectLists.{takes_away_at}
+use Rattle.assise_inode_table.proofs.Shared.EffectLists.{takes_away_at}
 use Rattle.assise_inode_table.proofs.whole.apply_link_first.Goals.{then-leaves_entry, else-leaves_entry}
 use Rattle.assise_inode_table.proofs.whole.apply_link_first.Goals as goal
 

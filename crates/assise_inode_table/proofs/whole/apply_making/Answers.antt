@@ -1,7 +1,7 @@
 use Rattle.assise_inode_table.proofs.Common.{◌∙◌, ap, with_value}
 use Rattle.std.specs.Option.{is_some}
 use Rattle.std.specs.FinMap as map
-use Rattle.assise_inode_table.proofs.EffectLists.{given_back, inserted_there}
+use Rattle.assise_inode_table.proofs.Shared.EffectLists.{given_back, inserted_there}
 use Rattle.assise_inode_table.proofs.whole.apply_making.Goals as goal
 
 pub put_value-requires : goal.put_value-requires

@@ -1,5 +1,5 @@
 use Rattle.assise_lease_table.proofs.Common.{sym, ◌∙◌, not-true}
-use Rattle.assise_lease_table.proofs.Compatibles.{no_rivals}
+use Rattle.assise_lease_table.proofs.Shared.Compatibles.{no_rivals}
 use Rattle.assise_lease_table.proofs.holders.may_be_held.Goals as goal
 
 pub returns-then-may_raise-clause-free : goal.returns-then-may_raise-clause-free

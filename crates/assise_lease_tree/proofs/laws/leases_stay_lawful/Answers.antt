@@ -1,4 +1,4 @@
-use Rattle.assise_lease_tree.proofs.Steps.{call_lawful, after_all}
+use Rattle.assise_lease_tree.proofs.Shared.Steps.{call_lawful, after_all}
 use Rattle.assise_lease_tree.proofs.laws.leases_stay_lawful.Goals as goal
 
 pub returns-clause-call : goal.returns-clause-call

@@ -1,6 +1,6 @@
 use Rattle.assise_libfs.proofs.Common.{rules, ◌≡◌, ◌∙◌, sym, subst, IfOk, calls_made, MayOpenClients, seen, led_from}
 use Rattle.assise_libfs.proofs.Openings.{no_other_opened, none_opened}
-use Rattle.assise_libfs.proofs.Tries.{none_of_opened}
+use Rattle.assise_libfs.proofs.Shared.Tries.{none_of_opened}
 use Rattle.assise_libfs.proofs.turns.open_turn.Goals as goal
 
 pub returns-clause-no_calls : goal.returns-clause-no_calls

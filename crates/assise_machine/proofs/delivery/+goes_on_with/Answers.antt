@@ -1,5 +1,5 @@
 use Rattle.assise_machine.proofs.Common.{◌≡◌, ◌+◌, ◌∙◌, length, take, ap, sym, subst, true≢false, option_copied, records_from}
-use Rattle.assise_record.proofs.Equality.{records_decided}
+use Rattle.assise_record.proofs.Shared.Equality.{records_decided}
 use Rattle.assise_machine.proofs.LogAgrees.{first_agrees, goes_on, more_agrees, nothing_agrees, nothing_there, rest_agrees}
 use Rattle.assise_machine.proofs.delivery.+goes_on_with.Goals as goal
 

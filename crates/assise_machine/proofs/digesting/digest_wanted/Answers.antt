@@ -1,6 +1,6 @@
 use Rattle.assise_machine.proofs.Common.{◌≤◌, length, ap, arith, full_nodes, standings, value_of}
 use Rattle.assise_machine.proofs.Digested.{digests_unlisted, has_here, touch_disjoint, whole_as}
-use Rattle.assise_machine.proofs.Results.{if_ok_as, if_ok_both}
+use Rattle.assise_machine.proofs.Shared.Results.{if_ok_as, if_ok_both}
 use Rattle.assise_machine.proofs.digesting.digest_wanted.Given as given
 use Rattle.assise_machine.proofs.digesting.digest_wanted.Goals as goal
 

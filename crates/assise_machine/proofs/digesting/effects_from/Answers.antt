@@ -1,6 +1,6 @@
 use Rattle.assise_machine.proofs.Common.{◌≡◌, ◌+◌, ◌≤◌, length, take, ap, ◌∙◌, arith, LogRecord, all_effects}
 use Rattle.std.proofs.lemmas.List.{length-append}
-use Rattle.assise_machine_state.proofs.TouchedFrom.{taken_first}
+use Rattle.assise_machine_state.proofs.Shared.TouchedFrom.{taken_first}
 use Rattle.assise_machine.proofs.digesting.effects_from.Goals as goal
 
 pub loop-record-preserved : goal.loop-record-preserved

@@ -1,5 +1,5 @@
 use Rattle.assise_machine.proofs.Common.{◌∙◌, Ok, ap, sym, WrongPhase, standing_of, membership, observed}
-use Rattle.assise_machine_state.proofs.NodesAway.{away_other, away_refused, full_served, none_refused}
+use Rattle.assise_machine_state.proofs.Shared.NodesAway.{away_other, away_refused, full_served, none_refused}
 use Rattle.assise_machine.proofs.faults.node_refusal.Goals as goal
 
 pub returns-in-Err : goal.returns-in-Err

@@ -1,6 +1,6 @@
 use Rattle.assise_machine.proofs.Common.{◌<◌, ◌∙◌, subst, sym, ∥∥₁_map, clients_opened, observed, value_of, all_acked, history_of}
 use Rattle.assise_machine.proofs.Decided.{legal_known}
-use Rattle.assise_machine.proofs.Replicated.{alone_gives, count_known, first_at, first_length, one_is_up, run_known, synced_known, up_is_full}
+use Rattle.assise_machine.proofs.Shared.Replicated.{alone_gives, count_known, first_at, first_length, one_is_up, run_known, synced_known, up_is_full}
 use Rattle.assise_machine.proofs.headline.headline.Goals as goal
 
 pub returns-clause-legal : goal.returns-clause-legal

@@ -1,4 +1,4 @@
-use Rattle.assise_machine.proofs.Replicated.{handed_known}
+use Rattle.assise_machine.proofs.Shared.Replicated.{handed_known}
 use Rattle.assise_machine.proofs.headline.what_is_handed_over_is_replicated.Goals as goal
 
 pub returns : goal.returns

@@ -1,4 +1,4 @@
-use Rattle.assise_machine.proofs.EventLists.{all_keep, all_told}
+use Rattle.assise_machine.proofs.Shared.EventLists.{all_keep, all_told}
 use Rattle.assise_machine.proofs.laws.whatever_is_served_it_holds.Goals as goal
 
 pub returns-clause-keeps : goal.returns-clause-keeps

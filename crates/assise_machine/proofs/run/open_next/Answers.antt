@@ -1,5 +1,5 @@
 use Rattle.assise_machine.proofs.Common.{◌≡◌, length, arith, machine, happens}
-use Rattle.assise_machine.proofs.EventLists.{opened_bare}
+use Rattle.assise_machine.proofs.Shared.EventLists.{opened_bare}
 use Rattle.assise_machine.proofs.run.open_next.Goals as goal
 
 pub returns-in_default-clause-served : goal.returns-in_default-clause-served

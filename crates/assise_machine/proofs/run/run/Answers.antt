@@ -1,8 +1,8 @@
 use Rattle.assise_machine.proofs.Common.{◌≡◌, ◌≤◌, ◌++◌, ◌∙◌, ℕ, Contains, length, subst, sym, take, arith, take_all, observed, machine, revokers, history_of}
 use Rattle.assise_machine.proofs.Common.{all_opened, answer_seen, event_seen, last_first, stocked, told}
 use Rattle.assise_machine.proofs.Opened.{gets_on, opened_anew, opened_now, others_on}
-use Rattle.assise_machine.proofs.Replicated.{bounds_stay, calls_stay, nodes_stay}
-use Rattle.assise_machine.proofs.EventLists.{all_last, applied_on, count_on, prefix_on, left_on, served_on, told_all}
+use Rattle.assise_machine.proofs.Shared.Replicated.{bounds_stay, calls_stay, nodes_stay}
+use Rattle.assise_machine.proofs.Shared.EventLists.{all_last, applied_on, count_on, prefix_on, left_on, served_on, told_all}
 use Rattle.assise_machine.proofs.ToldEntries.{history_told}
 use Rattle.assise_machine.proofs.run.run.Goals as goal
 

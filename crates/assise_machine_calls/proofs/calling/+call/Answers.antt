@@ -1,11 +1,12 @@
-use Rattle.assise_machine_calls.proofs.Common.{◌≡◌, ◌<◌, true, refl, Some, ap, arith, sym, subst, ◌∙◌, err_from_is_err_and, first_missing, wants, shown}
-use Rattle.assise_machine_calls.proofs.Common.{inode_number, lease_of, is_revoked, levels_of, stored_by, IsGranted, is_free_for, Calling, refused, after_leases}
-use Rattle.assise_machine_calls.proofs.Common.{client_in, observed, world_of, CutsInvariant, leases_of, machine_of, value_of, turn_answer, next_step, step_in}
+use Rattle.assise_machine_calls.proofs.Common.{◌≡◌, ◌<◌, true, refl, Some, ap, arith, sym, subst, ◌∙◌, err_from_is_err_and, first_missing, wants, leases_shaped}
+use Rattle.assise_machine_calls.proofs.Common.{shown, inode_number, lease_of, is_revoked, levels_of, stored_by, IsGranted, is_free_for, Calling, refused}
+use Rattle.assise_machine_calls.proofs.Common.{after_leases, client_in, observed, world_of, CutsInvariant, leases_of, machine_of, value_of, turn_answer}
+use Rattle.assise_machine_calls.proofs.Common.{next_step, step_in}
 use Rattle.assise_machine_calls.proofs.AnsweredCuts.{nothing_revoked}
 use Rattle.assise_machine_calls.proofs.CallCommits.{call_made, call_number, call_unfailed}
 use Rattle.assise_machine_calls.proofs.LeaseFacts.{home_known}
 use Rattle.assise_machine_calls.proofs.CallTries.{awaited, cuts_then, fewer_then, fine_then, goes_on, holds_then, lacking_as, lacks_visit, noted_then}
-use Rattle.assise_machine_calls.proofs.CallTries.{planned_now, visited_now, same_levels, same_levels_revoked, served, shape_then}
+use Rattle.assise_machine_calls.proofs.CallTries.{planned_now, visited_now, same_levels, same_levels_revoked, served}
 use Rattle.assise_machine_calls.proofs.FewerLacked.{unserved}
 use Rattle.assise_machine_calls.proofs.calling.+call.Given.{Over}
 use Rattle.assise_machine_calls.proofs.calling.+call.Goals.{In-Missing, In_ok-grant-in-Missing}
@@ -30,7 +31,7 @@ returns-in_err-outcome-clause-happens g t c =
     let error = err_from_is_err_and c.from_residual.result c.from_residual.ensures.1 in
     let m = observed (value_of c.args.state.now) in
     lacking_as m m c.args.client c.args.op.now (turn_answer c.from_residual.result) error.0 c.requires.fine
-    (ap turn_answer error.1) (error.2 ∙ c.in_err-outcome.ensures.only_memory) refl
+    (ap turn_answer error.1) error.2 refl
 
 pub lease_changes-requires-clause-visited : goal.lease_changes-requires-clause-visited
 lease_changes-requires-clause-visited g t c =
@@ -77,7 +78,7 @@ returns-in_err-ask-in-Missing-clause-happens g t c =
     let error = err_from_is_err_and c.from_residual-in_err-ask-in-Missing.result c.from_residual-in_err-ask-in-Missing.ensures.1 in
     lacking_as (machine_of c.args.state.now) (machine_of c.ask.new.state) c.args.client c.args.op.now
     (turn_answer c.from_residual-in_err-ask-in-Missing.result) error.0 c.requires.fine
-    (ap turn_answer error.1) (error.2 ∙ c.in_err-ask-in-Missing.ensures.only_memory) c.in_err-ask-in-Missing.ensures.err
+    (ap turn_answer error.1) error.2 c.in_err-ask-in-Missing.ensures.err
 
 pub returns-then-not-is_free-clause-happens : goal.returns-then-not-is_free-clause-happens
 unfolding observed world_of
@@ -98,7 +99,7 @@ returns-in_err-grant-in-Missing-clause-happens g t c =
     let same : levels_of c.grant.new.self ≡ s.levels = same_levels s.levels (levels_of c.grant.new.self) c.in_err-grant-in-Missing.ensures.err in
     lacking_as (observed s) (observed (after_leases s (levels_of c.grant.new.self))) c.args.client c.args.op.now
     (turn_answer c.from_residual-in_err-grant-in-Missing.result) error.0 c.requires.fine
-    (ap turn_answer error.1) (error.2 ∙ c.in_err-grant-in-Missing.ensures.only_memory) (ap (λ l. observed (after_leases s l)) same)
+    (ap turn_answer error.1) error.2 (ap (λ l. observed (after_leases s l)) same)
 
 -- it was free, and is granted
 granted_now : (g : Over) (t : _) (c : In_ok-grant-in-Missing g t) →
@@ -135,7 +136,7 @@ call-requires g t c =
             c.requires.call,
             record {
               holds = holds_then s c.args.client c.args.op.now shape holds fine c.in-Missing.inode c.in-Missing.mode levels lack got.0 got.1 c.requires.call;
-              shape = shape_then s c.args.client c.args.op.now shape holds fine c.in-Missing.inode c.in-Missing.mode levels lack got.0 got.1;
+              shape = leases_shaped s levels shape;
               noted =
                   noted_then s c.args.client c.args.op.now shape holds fine c.in-Missing.inode c.in-Missing.mode levels lack got.0 got.1
                   c.requires.invariant.noted;

@@ -1,10 +1,10 @@
 use Rattle.assise_machine_calls.proofs.Common.{◌≡◌, true, refl, Some, IfErr, ap, sym, subst, ◌∙◌, err_from_is_err_and, Write, Refusal, levels_of, stored_by}
 use Rattle.assise_machine_calls.proofs.Common.{IsGranted, is_free_for, Calling, refused, after_leases, CutsInvariant, ShapeInvariant, observed, world_of}
-use Rattle.assise_machine_calls.proofs.Common.{StateValue, leases_of, machine_of, value_of, GotLeases, step_in}
+use Rattle.assise_machine_calls.proofs.Common.{StateValue, leases_of, leases_shaped, machine_of, value_of, GotLeases, step_in}
 use Rattle.assise_machine_calls.proofs.AnsweredCuts.{nothing_revoked}
 use Rattle.assise_machine_calls.proofs.CallCommits.{call_number}
 use Rattle.assise_machine_calls.proofs.LeaseFacts.{home_known}
-use Rattle.assise_machine_calls.proofs.CallTries.{awaited, got_then, lacking_as, lacks_change, noted_then, same_levels, same_levels_revoked, shape_then}
+use Rattle.assise_machine_calls.proofs.CallTries.{awaited, got_then, lacking_as, lacks_change, noted_then, same_levels, same_levels_revoked}
 use Rattle.assise_machine_calls.proofs.calling.lease_change.Given.{Over}
 use Rattle.assise_machine_calls.proofs.calling.lease_change.Goals.{In_ok-grant}
 use Rattle.assise_machine_calls.proofs.calling.lease_change.Goals as goal
@@ -19,7 +19,7 @@ returns-in_err-ask-clause-refused g c =
     let P : Refusal → Type 0 = λ e. Calling m c.args.client c.args.op.now (refused e) (machine_of c.ask.new.state) in
     subst (λ o. IfErr o P) (sym error.1)
     (lacking_as m (machine_of c.ask.new.state) c.args.client c.args.op.now (refused error.0) error.0 c.requires.fine refl
-    (error.2 ∙ c.in_err-ask.ensures.only_memory) c.in_err-ask.ensures.err)
+    error.2 c.in_err-ask.ensures.err)
 
 pub returns-then-not-is_free-clause-waits : goal.returns-then-not-is_free-clause-waits
 unfolding observed world_of
@@ -46,7 +46,7 @@ returns-in_err-grant-clause-refused g c =
     let P : Refusal → Type 0 = λ e. Calling (observed s) c.args.client c.args.op.now (refused e) after in
     subst (λ o. IfErr o P) (sym error.1)
     (lacking_as (observed s) after c.args.client c.args.op.now (refused error.0) error.0 c.requires.fine refl
-    (error.2 ∙ c.in_err-grant.ensures.only_memory) (ap (λ l. observed (after_leases s l)) same))
+    error.2 (ap (λ l. observed (after_leases s l)) same))
 
 pub returns-in_err-grant-clause-cuts : goal.returns-in_err-grant-clause-cuts
 returns-in_err-grant-clause-cuts g c =
@@ -76,7 +76,7 @@ granted_now g c =
     let free = subst (λ n. is_free_for s.levels c.args.client n c.args.inode Write ≡ true) home (sym c.is_free.ensures ∙ c.if-not-is_free.false) in
     let granted = subst (λ n. IsGranted s.levels levels c.args.client n c.args.inode Write) home c.in_ok-grant.ensures.granted in (
       got_then s c.args.client c.args.op.now shape holds fine c.args.inode Write levels lack free granted c.requires.call step c.requires.visited,
-      shape_then s c.args.client c.args.op.now shape holds fine c.args.inode Write levels lack free granted,
+      leases_shaped s levels shape,
       noted_then s c.args.client c.args.op.now shape holds fine c.args.inode Write levels lack free granted c.requires.invariant.noted,
     )
 

@@ -1,13 +1,10 @@
-use Rattle.assise_machine_calls.proofs.Common.{Err, refl, sym, subst, ◌∙◌, ∥∥₁_map, durability_of, stored_by, is_refused, Trying, calling_keeps, machine_of}
-use Rattle.assise_machine_calls.proofs.Common.{turn_answer}
+use Rattle.assise_machine_calls.proofs.Common.{Err, refl, sym, ◌∙◌, ∥∥₁_map, durability_of, stored_by, is_refused, calling_keeps, machine_of, turn_answer}
 use Rattle.assise_machine_calls.proofs.AnsweredCuts.{dsync_revokes_nothing, fsync_revokes_nothing, nothing_revoked}
 use Rattle.assise_machine_calls.proofs.CallTries.{is_tried, no_sync}
 use Rattle.assise_machine_calls.proofs.calling.try_call.Goals as goal
 
 pub returns-in-Fsync-clause-happens : goal.returns-in-Fsync-clause-happens
-returns-in-Fsync-clause-happens g c =
-    subst (λ op. Trying (machine_of c.args.sound.now.state) c.args.client op (turn_answer c.try_fsync.result) (machine_of c.try_fsync.new.sound.state))
-    (sym c.in-Fsync.is) c.try_fsync.ensures.happens
+returns-in-Fsync-clause-happens g c = rw c.in-Fsync.is c.try_fsync.ensures.happens
 
 pub returns-in-Fsync-clause-cuts : goal.returns-in-Fsync-clause-cuts
 returns-in-Fsync-clause-cuts g c =
@@ -16,9 +13,7 @@ returns-in-Fsync-clause-cuts g c =
     (durability_of c.args.client m.history) (turn_answer c.try_fsync.result) c.try_fsync.ensures.happens
 
 pub returns-in-Dsync-clause-happens : goal.returns-in-Dsync-clause-happens
-returns-in-Dsync-clause-happens g c =
-    subst (λ op. Trying (machine_of c.args.sound.now.state) c.args.client op (turn_answer c.try_dsync.result) (machine_of c.try_dsync.new.sound.state))
-    (sym c.in-Dsync.is) c.try_dsync.ensures.happens
+returns-in-Dsync-clause-happens g c = rw c.in-Dsync.is c.try_dsync.ensures.happens
 
 pub returns-in-Dsync-clause-cuts : goal.returns-in-Dsync-clause-cuts
 returns-in-Dsync-clause-cuts g c =

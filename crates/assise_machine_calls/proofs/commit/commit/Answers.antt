@@ -50,7 +50,7 @@ returns-in_err-reserve-clause-happens g c =
     let error = err_from_is_err_and c.from_residual-in_err-reserve.result c.from_residual-in_err-reserve.ensures.1 in
     lacking_given (value_of c.args.state.now) c.args.client c.args.op.now c.from_residual-in_err-reserve.result _ c.args.state.now.nodes
     c.reserve.new.self.events c.requires.fine
-    error.1 (error.2 ∙ c.in_err-reserve.ensures.only_memory) refl c.reserve.ensures.same
+    error.1 error.2 refl c.reserve.ensures.same
 
 pub add_record-requires-clause-there : goal.add_record-requires-clause-there
 add_record-requires-clause-there g c =
@@ -81,7 +81,7 @@ returns-in_err-add_record-clause-happens g c =
     let error = err_from_is_err_and c.from_residual-in_err-add_record.result c.from_residual-in_err-add_record.ensures.1 in
     lacking_given (value_of c.args.state.now) c.args.client c.args.op.now c.from_residual-in_err-add_record.result _ c.add_record.new.nodes
     c.reserve.new.self.events c.requires.fine
-    error.1 (error.2 ∙ c.in_err-add_record.ensures.only_memory) c.in_err-add_record.ensures.err c.reserve.ensures.same
+    error.1 error.2 c.in_err-add_record.ensures.err c.reserve.ensures.same
 
 pub note_call-requires-clause-client : goal.note_call-requires-clause-client
 note_call-requires-clause-client g c = call_number (value_of c.args.state.now) c.args.client c.args.op.now c.requires.fine

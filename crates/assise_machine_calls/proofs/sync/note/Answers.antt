@@ -10,7 +10,7 @@ returns-in_err-reserve g c =
     let s = value_of c.args.sound.now.state in
     let error = err_from_is_err_and c.from_residual.result c.from_residual.ensures.1 in
     record {
-      happens = lacks_memory c.requires.fine (ap turn_answer error.1 ∙ ap refused (error.2 ∙ c.in_err-reserve.ensures.only_memory))
+      happens = lacks_memory c.requires.fine (ap turn_answer error.1 ∙ ap refused error.2)
           (ap (λ h. observed (record s { history = h })) c.reserve.ensures.same);
       revokers = λ d. refl;
     }

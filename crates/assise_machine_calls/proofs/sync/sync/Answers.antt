@@ -57,7 +57,7 @@ returns-in_err-reserve g c =
     let all = all_received s c.args.client c.acked.result c.end-end.result c.acked.ensures place c.if-acked-end.false in
     let error = err_from_is_err_and c.from_residual.result c.from_residual.ensures.1 in
     record {
-      happens = lacks_memory c.requires.fine all (ap turn_answer error.1 ∙ ap refused (error.2 ∙ c.in_err-reserve.ensures.only_memory))
+      happens = lacks_memory c.requires.fine all (ap turn_answer error.1 ∙ ap refused error.2)
           (ap (λ h. observed (record s { history = h })) c.reserve.ensures.same);
       revokers = λ d. refl;
     }

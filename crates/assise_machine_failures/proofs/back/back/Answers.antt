@@ -1,7 +1,7 @@
 use Rattle.assise_machine_failures.proofs.Common.{ap, ◌∙◌, ∥∥₁_map, err_from_is_err_and, return_fault, membership, back_event, began, refused, Returning}
 use Rattle.assise_machine_failures.proofs.Common.{event_keeps, observed, value_of, returning_answer}
 use Rattle.assise_machine_failures.proofs.ComingBack.{IsComing, back_happens, back_left, back_noted, back_refused, back_shaped}
-use Rattle.assise_machine_failures.proofs.RefusedFailures.{fault_or}
+use Rattle.assise_machine_failures.proofs.Shared.RefusedFailures.{fault_or}
 use Rattle.assise_machine_failures.proofs.back.back.Given as given
 use Rattle.assise_machine_failures.proofs.back.back.Goals as goal
 

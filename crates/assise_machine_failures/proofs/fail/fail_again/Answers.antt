@@ -12,7 +12,7 @@ returns-in_err-reserve-clause-happens g c =
     let error = err_from_is_err_and c.from_residual.result c.from_residual.ensures.1 in
     lacks_so s (record s { history = c.reserve.new.self.events }) c.args.node (failing_answer c.from_residual.result)
     (back_fine s.members _ c.requires.returning)
-    (ap failing_answer error.1 ∙ ap refused (error.2 ∙ c.in_err-reserve.ensures.only_memory)) (λ i. record s { history = c.reserve.ensures.same i })
+    (ap failing_answer error.1 ∙ ap refused error.2) (λ i. record s { history = c.reserve.ensures.same i })
 
 pub fail-requires : goal.fail-requires
 fail-requires g c =

@@ -2,7 +2,7 @@ use Rattle.assise_machine_failures.proofs.Common.{ap, refl, ◌∙◌, arith, er
 use Rattle.assise_machine_failures.proofs.Failed.{IsRefreshed}
 use Rattle.assise_machine_failures.proofs.FailedFull.{AreCopiesDropped, ArePrefixesDropped, IsTakenDown, given_now, happens_now, refreshed_now}
 use Rattle.assise_machine_failures.proofs.FailedFull.{lacks_so, last_fault, no_fault, refused_as, returning_now, shaped_now}
-use Rattle.assise_machine_failures.proofs.TakenDown.{few_clients, sound_so}
+use Rattle.assise_machine_failures.proofs.Shared.TakenDown.{few_clients, sound_so}
 use Rattle.assise_machine_failures.proofs.fail.fail_full.Given as given
 use Rattle.assise_machine_failures.proofs.fail.fail_full.Goals as goal
 
@@ -70,7 +70,7 @@ returns-in_err-failure-clause-happens g c =
     let error = err_from_is_err_and c.from_residual.result c.from_residual.ensures.1 in
     let fine = no_fault s.members c.args.node c.full_nodes.result.now c.requires.full c.full_nodes.ensures c.if-full_nodes-eq1.false in
     lacks_so s s c.args.node (failing_answer c.from_residual.result) fine
-    (ap failing_answer error.1 ∙ ap refused (error.2 ∙ c.in_err-failure.ensures.only_memory)) refl
+    (ap failing_answer error.1 ∙ ap refused error.2) refl
 
 pub returns-in_err-losses-clause-happens : goal.returns-in_err-losses-clause-happens
 returns-in_err-losses-clause-happens g c =

@@ -2,7 +2,7 @@ use Rattle.assise_machine_failures.proofs.Common.{◌<◌, ◌++◌, ◌∷◌, 
 use Rattle.assise_machine_failures.proofs.Common.{with_clients_cut, HasLog, IsUndigestedFrom, log_in, IsNumber, value_of, home_number, kept_in}
 use Rattle.std.specs.FinSet as set
 use Rattle.assise_machine_failures.proofs.KeptPlaces.{kept_count}
-use Rattle.assise_machine_failures.proofs.TakenDown.{few_clients, is_after, number, sound_so, undigested}
+use Rattle.assise_machine_failures.proofs.Shared.TakenDown.{few_clients, is_after, number, sound_so, undigested}
 use Rattle.assise_machine_failures.proofs.TakenIn.{epoch_fits}
 use Rattle.assise_machine_failures.proofs.fail.take_down.Goals as goal
 

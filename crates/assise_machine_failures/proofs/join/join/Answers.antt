@@ -2,7 +2,7 @@ use Rattle.assise_machine_failures.proofs.Common.{◌≡◌, ℕ, ◌<◌, ◌++
 use Rattle.assise_machine_failures.proofs.Common.{membership, join_event, joined, refused, MachineInvariant, event_keeps, observed, CutsInvariant}
 use Rattle.assise_machine_failures.proofs.Common.{ShapeInvariant, StateValue, value_of, joining_answer}
 use Rattle.assise_machine_failures.proofs.RefillHappens.{donor_number, filled_logless, filled_number, filling}
-use Rattle.assise_machine_failures.proofs.RefusedFailures.{fault_or, never}
+use Rattle.assise_machine_failures.proofs.Shared.RefusedFailures.{fault_or, never}
 use Rattle.assise_machine_failures.proofs.TakenIn.{IsTakenIn, epoch_fits, got_number, join_busy, join_fine, join_happens}
 use Rattle.assise_machine_failures.proofs.TakenIn.{join_lacks, join_left, join_noted, join_refused, logs_back, same_all}
 use Rattle.assise_machine_failures.proofs.join.join.Given as given
@@ -26,7 +26,7 @@ returns-in_err-reserve-clause-happens g c =
     let error = err_from_is_err_and c.from_residual-in_err-reserve.result c.from_residual-in_err-reserve.ensures.1 in
     let fine = join_fine s c.args.node _ c.in_ok-lowest_stale.ensures.lowest (sym c.is_some.ensures ∙ c.if-is_some.false) in
     join_lacks s c.args.node _ (joining_answer c.from_residual-in_err-reserve.result) fine (λ i. record s { history = c.reserve.ensures.same i })
-    (ap joining_answer error.1 ∙ ap refused (error.2 ∙ c.in_err-reserve.ensures.only_memory))
+    (ap joining_answer error.1 ∙ ap refused error.2)
 
 pub copy_logs-requires-clause-node : goal.copy_logs-requires-clause-node
 copy_logs-requires-clause-node g c = filled_number (filling c.args.sound.now c.args.node c.in_ok-donor.donor c.in_ok-donor.ensures.donor)

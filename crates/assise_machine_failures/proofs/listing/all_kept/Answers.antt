@@ -14,19 +14,21 @@ loop-client-preserved g c =
       last = omega (arith, c.loop-client-test.true, c.len-client-end.ensures);
     }
 
-pub returns-clause-kept : goal.returns-clause-kept
-returns-clause-kept g c =
-    let s = value_of c.args.state.now in
-    let w = world_of s in
-    elim c.loop-client-test.branch [
-      | else-loop-client-test b ↦
-          let last : c.loop-client.client - 1 ≡ length s.clients =
-          omega (arith, b.loop-client-test.false, c.loop-client.auto.client, c.loop-client.invariant.last, c.len-client-end.ensures) in
-          ap (λ v. v.items) b.all-is ∙ c.loop-client.invariant.places ∙ ap (kept_to w c.args.node) last
-      | then-loop-client-test+in_ok-push+else-client-client-end b ↦
-          let last : c.loop-client.client ≡ length s.clients = omega (arith, b.loop-client-test.true, c.len-client-end.ensures) in
-          ap (λ v. v.items) b.all-is
-          ∙ one_kept w c.args.node c.loop-client.client b.kept.result c.loop-client.all.items b.push.new.self.items c.loop-client.auto.client
-          c.loop-client.invariant.places b.in_ok-push.ensures.items b.kept.ensures
-          ∙ ap (kept_to w c.args.node) last
-    ]
+pub returns : goal.returns
+returns g c = record {
+  kept =
+      let s = value_of c.args.state.now in
+      let w = world_of s in
+      elim c.loop-client-test.branch [
+        | else-loop-client-test b ↦
+            let last : c.loop-client.client - 1 ≡ length s.clients =
+            omega (arith, b.loop-client-test.false, c.loop-client.auto.client, c.loop-client.invariant.last, c.len-client-end.ensures) in
+            ap (λ v. v.items) b.all-is ∙ c.loop-client.invariant.places ∙ ap (kept_to w c.args.node) last
+        | then-loop-client-test+in_ok-push+else-client-client-end b ↦
+            let last : c.loop-client.client ≡ length s.clients = omega (arith, b.loop-client-test.true, c.len-client-end.ensures) in
+            ap (λ v. v.items) b.all-is
+            ∙ one_kept w c.args.node c.loop-client.client b.kept.result c.loop-client.all.items b.push.new.self.items c.loop-client.auto.client
+            c.loop-client.invariant.places b.in_ok-push.ensures.items b.kept.ensures
+            ∙ ap (kept_to w c.args.node) last
+      ];
+}

@@ -4,24 +4,13 @@ use Rattle.assise_machine_failures.proofs.listing.losses.Goals as goal
 use Rattle.assise_machine_failures.proofs.listing.losses.Goals.{in-Some+in_ok-push, in_default}
 
 pub overflow_cast-client : goal.overflow_cast-client
-overflow_cast-client g c = omega (
-  arith,
-  c.requires.few,
-  place_within (value_of c.args.state.now) c.args.node c.args.kept.now c.requires.kept c.loop-place.place
-      c.loop-place-test.true,
-)
+overflow_cast-client g c = omega (arith, c.requires.few, place_within (value_of c.args.state.now) _ _ c.requires.kept _ c.loop-place-test.true)
 
 pub overflow_add-client : goal.overflow_add-client
-overflow_add-client g c = omega (
-  arith,
-  c.requires.few,
-  place_within (value_of c.args.state.now) c.args.node c.args.kept.now c.requires.kept c.loop-place.place
-      c.loop-place-test.true,
-)
+overflow_add-client g c = omega (arith, c.requires.few, place_within (value_of c.args.state.now) _ _ c.requires.kept _ c.loop-place-test.true)
 
 pub own_log-log-requires-clause-client : goal.own_log-log-requires-clause-client
-own_log-log-requires-clause-client g c =
-    place_client (value_of c.args.state.now) c.args.node c.args.kept.now c.requires.kept c.loop-place.place c.loop-place-test.true
+own_log-log-requires-clause-client g c = place_client _ _ _ c.requires.kept _ c.loop-place-test.true
 
 pub loop-place-preserved : goal.loop-place-preserved
 loop-place-preserved g c =
@@ -47,7 +36,10 @@ loop-place-preserved g c =
           none_lost w n k c.loop-place.losses.items c.match-get.losses.items c.loop-place.invariant (ap (λ v. v.items) b.losses-is) whole
     ]
 
-pub returns-clause-losses : goal.returns-clause-losses
+pub returns : goal.returns
 unfolding world_of
-returns-clause-losses g c = c.loop-place.invariant ∙ ap (losses_to (world_of (value_of c.args.state.now)) c.args.node)
-    (all_places (value_of c.args.state.now) c.args.node c.args.kept.now c.loop-place.place c.requires.kept c.loop-place.auto.place-end c.loop-place-test.false)
+returns g c = record {
+  losses = c.loop-place.invariant ∙ ap (losses_to (world_of (value_of c.args.state.now)) c.args.node)
+      (all_places (value_of c.args.state.now) c.args.node c.args.kept.now c.loop-place.place
+      c.requires.kept c.loop-place.auto.place-end c.loop-place-test.false);
+}

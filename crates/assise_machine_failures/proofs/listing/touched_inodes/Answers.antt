@@ -3,24 +3,13 @@ use Rattle.assise_machine_failures.proofs.Cuts.{all_places, first_kept, one_touc
 use Rattle.assise_machine_failures.proofs.listing.touched_inodes.Goals as goal
 
 pub overflow_cast-place : goal.overflow_cast-place
-overflow_cast-place g c = omega (
-  arith,
-  c.requires.few,
-  place_within (value_of c.args.state.now) c.args.node c.args.kept.now c.requires.kept c.loop-place.place
-      c.loop-place-test.true,
-)
+overflow_cast-place g c = omega (arith, c.requires.few, place_within (value_of c.args.state.now) _ _ c.requires.kept _ c.loop-place-test.true)
 
 pub overflow_add-place : goal.overflow_add-place
-overflow_add-place g c = omega (
-  arith,
-  c.requires.few,
-  place_within (value_of c.args.state.now) c.args.node c.args.kept.now c.requires.kept c.loop-place.place
-      c.loop-place-test.true,
-)
+overflow_add-place g c = omega (arith, c.requires.few, place_within (value_of c.args.state.now) _ _ c.requires.kept _ c.loop-place-test.true)
 
 pub own_log-log-requires-clause-client : goal.own_log-log-requires-clause-client
-own_log-log-requires-clause-client g c =
-    place_client (value_of c.args.state.now) c.args.node c.args.kept.now c.requires.kept c.loop-place.place c.loop-place-test.true
+own_log-log-requires-clause-client g c = place_client _ _ _ c.requires.kept _ c.loop-place-test.true
 
 pub overflow_sub-end : goal.overflow_sub-end
 overflow_sub-end g c =
@@ -46,6 +35,9 @@ loop-place-preserved g c =
     one_touched (world_of s) n k c.loop-place.inodes.items c.push_touched_from.new.inodes.items c.loop-place.invariant
     (c.in_ok-push_touched_from.ensures.added ∙ ap (λ is. c.loop-place.inodes.items ++ is) added)
 
-pub returns-clause-inodes : goal.returns-clause-inodes
-returns-clause-inodes g c = c.loop-place.invariant ∙ ap (kept_inodes (world_of (value_of c.args.state.now)) c.args.node)
-    (all_places (value_of c.args.state.now) c.args.node c.args.kept.now c.loop-place.place c.requires.kept c.loop-place.auto.place-end c.loop-place-test.false)
+pub returns : goal.returns
+returns g c = record {
+  inodes = c.loop-place.invariant ∙ ap (kept_inodes (world_of (value_of c.args.state.now)) c.args.node)
+      (all_places (value_of c.args.state.now) c.args.node c.args.kept.now c.loop-place.place
+      c.requires.kept c.loop-place.auto.place-end c.loop-place-test.false);
+}

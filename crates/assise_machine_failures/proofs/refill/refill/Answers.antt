@@ -1,10 +1,10 @@
 use Rattle.assise_machine_failures.proofs.Common.{ℕ, ap, subst, sym, ◌∙◌, ∥∥₁_map, err_from_is_err_and, IsLowestOf, filling_fault, stale_of, standing_of}
 use Rattle.assise_machine_failures.proofs.Common.{membership, refill_event, refused, Refilling, event_keeps, region_in, observed, StateValue, standings}
-use Rattle.assise_machine_failures.proofs.Common.{value_of, refilling_answer}
+use Rattle.assise_machine_failures.proofs.Common.{value_of, refilling_answer, refl, OutOfMemory}
 use Rattle.assise_machine_failures.proofs.DroppedCopies.{logless_quiet}
 use Rattle.assise_machine_failures.proofs.RefillHappens.{IsCopied, donor_number, filled_fine, filled_logless, filled_number, filling, lacks_memory_so}
 use Rattle.assise_machine_failures.proofs.RefillHappens.{refill_answers, refill_noted, refill_refused, refill_shaped, whole_so}
-use Rattle.assise_machine_failures.proofs.RefusedFailures.{fault_or, never}
+use Rattle.assise_machine_failures.proofs.Shared.RefusedFailures.{fault_or, never}
 use Rattle.assise_machine_failures.proofs.refill.refill.Given as given
 use Rattle.assise_machine_failures.proofs.refill.refill.Goals as goal
 
@@ -48,9 +48,9 @@ returns-in_err-refill_one-clause-happens g c =
     let a = refilling_answer c.from_residual-in_err-refill_one.result in
     let error = err_from_is_err_and c.from_residual-in_err-refill_one.result c.from_residual-in_err-refill_one.ensures.1 in
     subst (λ rs. Refilling (observed s) c.args.node a (observed (record s { nodes = rs }))) (sym c.in_err-refill_one.ensures.err)
-    (lacks_memory_so (filling c.args.sound.now c.args.node c.in_ok-donor.donor c.in_ok-donor.ensures.donor) c.in-Some.inode c.in_err-refill_one.field-0.0 a
+    (lacks_memory_so (filling c.args.sound.now c.args.node c.in_ok-donor.donor c.in_ok-donor.ensures.donor) c.in-Some.inode OutOfMemory a
     (subst (IsLowestOf (stale_of (standing_of (standings s) c.args.node))) c.in-Some.is c.in_ok-inode.ensures.lowest)
-    (ap refilling_answer error.1 ∙ ap refused error.2) c.in_err-refill_one.ensures.only_memory)
+    (ap refilling_answer error.1 ∙ ap refused error.2) refl)
 
 -- the node has the inode
 copied_now : (g : given.Over) (c : goal.After-note_copied g) →

@@ -1,5 +1,5 @@
 use Rattle.assise_machine_state.proofs.Common.{subst, sym, arith, AreDigested}
-use Rattle.assise_machine_state.proofs.Dropped.{found}
+use Rattle.assise_machine_state.proofs.Shared.Dropped.{found}
 use Rattle.assise_machine_state.proofs.dropping.drop_digested.Goals as goal
 
 pub digested-digested-requires : goal.digested-digested-requires

@@ -1,6 +1,6 @@
 use Rattle.assise_machine_state.proofs.Common.{◌≡◌, ◌∷◌, ◌+◌, ◌∙◌, true, false, ap, sym, on_ok_weaker, contains, full_nodes, membership, with_logs_begun}
 use Rattle.assise_machine_state.proofs.Common.{is_full_in}
-use Rattle.assise_machine_state.proofs.NodesAway.{begins, begins_none}
+use Rattle.assise_machine_state.proofs.Shared.NodesAway.{begins, begins_none}
 use Rattle.assise_machine_state.proofs.nodes.+begin_all.Goals as goal
 
 pub returns-then-not-contains-clause-ok : goal.returns-then-not-contains-clause-ok

@@ -1,5 +1,5 @@
 use Rattle.assise_machine_state.proofs.Common.{◌≡◌, ◌<◌, ◌-◌, ◌+◌, ◌∙◌, get_or, length, ap, subst, arith, IsBegun, log_of, no_log, copied}
-use Rattle.assise_machine_state.proofs.RecordsTaken.{one_copied, one_sound}
+use Rattle.assise_machine_state.proofs.Shared.RecordsTaken.{one_copied, one_sound}
 use Rattle.assise_machine_state.proofs.nodes.copies_of.Goals as goal
 
 pub loop-place-preserved : goal.loop-place-preserved

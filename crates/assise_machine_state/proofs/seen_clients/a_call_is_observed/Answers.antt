@@ -1,6 +1,6 @@
 use Rattle.assise_machine_state.proofs.Common.{observed}
-use Rattle.assise_machine_state.proofs.CallObserved.{call_areas, call_seen, call_shaped}
-use Rattle.assise_machine_state.proofs.Noted.{call_noted}
+use Rattle.assise_machine_state.proofs.Shared.CallObserved.{call_areas, call_seen, call_shaped}
+use Rattle.assise_machine_state.proofs.Shared.Noted.{call_noted}
 use Rattle.assise_machine_state.proofs.seen_clients.a_call_is_observed.Goals as goal
 
 pub returns : goal.returns

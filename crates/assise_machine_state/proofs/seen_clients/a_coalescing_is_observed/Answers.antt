@@ -1,4 +1,4 @@
-use Rattle.assise_machine_state.proofs.CoalescingSeen.{coalesced_groups, coalesced_shape, coalescing_areas, coalescing_noted}
+use Rattle.assise_machine_state.proofs.Shared.CoalescingSeen.{coalesced_groups, coalesced_shape, coalescing_areas, coalescing_noted}
 use Rattle.assise_machine_state.proofs.seen_clients.a_coalescing_is_observed.Goals as goal
 
 pub returns : goal.returns

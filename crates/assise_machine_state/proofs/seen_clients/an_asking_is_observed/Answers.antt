@@ -1,6 +1,6 @@
 use Rattle.assise_machine_state.proofs.Common.{arith, world_of}
-use Rattle.assise_machine_state.proofs.AskingSeen.{asking_noted, asking_seen, asking_shaped}
-use Rattle.assise_machine_state.proofs.ShapedClients.{areas_stay}
+use Rattle.assise_machine_state.proofs.Shared.AskingSeen.{asking_noted, asking_seen, asking_shaped}
+use Rattle.assise_machine_state.proofs.Shared.ShapedClients.{areas_stay}
 use Rattle.assise_machine_state.proofs.seen_clients.an_asking_is_observed.Goals as goal
 
 pub returns : goal.returns

@@ -1,5 +1,5 @@
-use Rattle.assise_machine_state.proofs.FailureSeen.{failure_areas, failure_seen, failure_shaped}
-use Rattle.assise_machine_state.proofs.Noted.{failure_noted}
+use Rattle.assise_machine_state.proofs.Shared.FailureSeen.{failure_areas, failure_seen, failure_shaped}
+use Rattle.assise_machine_state.proofs.Shared.Noted.{failure_noted}
 use Rattle.assise_machine_state.proofs.seen_failures.a_failure_is_observed.Goals as goal
 
 pub returns : goal.returns

@@ -1,4 +1,4 @@
-use Rattle.assise_machine_state.proofs.JoinObserved.{join_shaped, node_rejoins}
+use Rattle.assise_machine_state.proofs.Shared.JoinObserved.{join_shaped, node_rejoins}
 use Rattle.assise_machine_state.proofs.seen_failures.a_return_is_observed.Goals as goal
 
 pub returns : goal.returns

@@ -1,4 +1,4 @@
-use Rattle.assise_machine_state.proofs.AwayObserved.{members_areas, members_rest, members_shaped}
+use Rattle.assise_machine_state.proofs.Shared.AwayObserved.{members_areas, members_rest, members_shaped}
 use Rattle.assise_machine_state.proofs.seen_failures.members_are_observed.Goals as goal
 
 pub returns : goal.returns

@@ -1,4 +1,4 @@
-use Rattle.assise_machine_state.proofs.DigestSeen.{digest_noted, digest_shaped}
+use Rattle.assise_machine_state.proofs.Shared.DigestSeen.{digest_noted, digest_shaped}
 use Rattle.assise_machine_state.proofs.seen_nodes.a_digest_is_observed.Goals as goal
 
 pub returns : goal.returns

@@ -1,6 +1,6 @@
 use Rattle.assise_machine_state.proofs.Common.{arith, touched-append}
 use Rattle.std.proofs.Common.{append_assoc}
-use Rattle.assise_machine_state.proofs.TouchedFrom.{taken_first}
+use Rattle.assise_machine_state.proofs.Shared.TouchedFrom.{taken_first}
 use Rattle.assise_machine_state.proofs.touching.push_touched_from.Goals as goal
 
 pub loop-record-preserved : goal.loop-record-preserved

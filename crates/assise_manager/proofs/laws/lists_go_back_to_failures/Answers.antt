@@ -1,4 +1,4 @@
-use Rattle.assise_manager.proofs.Lawful.{down_listed, return_listed, list_there}
+use Rattle.assise_manager.proofs.Shared.Lawful.{down_listed, return_listed, list_there}
 use Rattle.assise_manager.proofs.laws.lists_go_back_to_failures.Goals as goal
 
 pub returns-clause-down : goal.returns-clause-down

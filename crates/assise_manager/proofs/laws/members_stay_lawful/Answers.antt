@@ -1,4 +1,4 @@
-use Rattle.assise_manager.proofs.Lawful.{call_lawful, after_all}
+use Rattle.assise_manager.proofs.Shared.Lawful.{call_lawful, after_all}
 use Rattle.assise_manager.proofs.laws.members_stay_lawful.Goals as goal
 
 pub returns-clause-call : goal.returns-clause-call

@@ -1,4 +1,4 @@
-use Rattle.assise_model_events.proofs.LackAnswerable.{spent_can, full_can, memory_can}
+use Rattle.assise_model_events.proofs.Shared.LackAnswerable.{spent_can, full_can, memory_can}
 use Rattle.assise_model_events.proofs.chances.what_a_call_lacks_can_be_answered.Goals as goal
 
 pub returns-clause-inodes : goal.returns-clause-inodes

@@ -1,4 +1,4 @@
-use Rattle.assise_model_events.proofs.Answerable.{awaited_can, called_can, crashed_can, opened_can, replicating_can, synced_can}
+use Rattle.assise_model_events.proofs.Shared.Answerable.{awaited_can, called_can, crashed_can, opened_can, replicating_can, synced_can}
 use Rattle.assise_model_events.proofs.chances.what_clients_do_can_be_answered.Goals as goal
 
 pub returns-clause-opened : goal.returns-clause-opened

@@ -1,5 +1,5 @@
 use Rattle.assise_model_events.proofs.NodeEventsPossible.{back_can, joined_can, refilled_can}
-use Rattle.assise_model_events.proofs.Failable.{failed_can}
+use Rattle.assise_model_events.proofs.Shared.Failable.{failed_can}
 use Rattle.assise_model_events.proofs.chances.what_happens_to_nodes_can_happen.Goals as goal
 
 pub returns-clause-failed : goal.returns-clause-failed

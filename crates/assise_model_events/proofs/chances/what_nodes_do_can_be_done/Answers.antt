@@ -1,6 +1,6 @@
 use Rattle.assise_model_events.proofs.Common.{refl, with_hot}
 use Rattle.assise_model_events.specs.NodeEvents.SettingHot.{is_set}
-use Rattle.assise_model_events.proofs.Digestible.{digested_can}
+use Rattle.assise_model_events.proofs.Shared.Digestible.{digested_can}
 use Rattle.assise_model_events.proofs.Doable.{delivered_can}
 use Rattle.assise_model_events.proofs.Freeable.{released_can}
 use Rattle.assise_model_events.proofs.chances.what_nodes_do_can_be_done.Goals as goal

@@ -1,4 +1,4 @@
-use Rattle.assise_model_events.proofs.SyncKeeps.{syncing_leads, syncing_keeps}
+use Rattle.assise_model_events.proofs.Shared.SyncKeeps.{syncing_leads, syncing_keeps}
 use Rattle.assise_model_events.proofs.clients.a_sync_keeps_the_invariant.Goals as goal
 
 pub returns-clause-leads : goal.returns-clause-leads

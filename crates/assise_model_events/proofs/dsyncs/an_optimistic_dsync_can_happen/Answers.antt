@@ -1,4 +1,4 @@
-use Rattle.assise_model_events.proofs.Regroupable.{can_regroup, coalesced_can, coalescing_synced}
+use Rattle.assise_model_events.proofs.Shared.Regroupable.{can_regroup, coalesced_can, coalescing_synced}
 use Rattle.assise_model_events.proofs.dsyncs.an_optimistic_dsync_can_happen.Goals as goal
 
 pub returns : goal.returns

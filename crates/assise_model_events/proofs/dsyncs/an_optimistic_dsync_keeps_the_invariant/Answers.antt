@@ -1,4 +1,4 @@
-use Rattle.assise_model_events.proofs.DsyncKeeps.{coalesced_holds, coalesced_leads}
+use Rattle.assise_model_events.proofs.Shared.DsyncKeeps.{coalesced_holds, coalesced_leads}
 use Rattle.assise_model_events.proofs.EntriesTold.{coalescing_told}
 use Rattle.assise_model_events.proofs.dsyncs.an_optimistic_dsync_keeps_the_invariant.Goals as goal
 

@@ -1,4 +1,4 @@
-use Rattle.assise_model_events.proofs.Rejoined.{join_leads, join_holds}
+use Rattle.assise_model_events.proofs.Shared.Rejoined.{join_leads, join_holds}
 use Rattle.assise_model_events.proofs.failures.a_join_keeps_the_invariant.Goals as goal
 
 pub returns-clause-leads : goal.returns-clause-leads

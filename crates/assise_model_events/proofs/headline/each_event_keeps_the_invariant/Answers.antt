@@ -1,4 +1,4 @@
-use Rattle.assise_model_events.proofs.EachEvent.{event_told, event_leads, event_keeps}
+use Rattle.assise_model_events.proofs.Shared.EachEvent.{event_told, event_leads, event_keeps}
 use Rattle.assise_model_events.proofs.headline.each_event_keeps_the_invariant.Goals as goal
 
 pub returns-clause-told : goal.returns-clause-told

@@ -1,5 +1,5 @@
 use Rattle.assise_model_events.proofs.Common.{begun_as}
-use Rattle.assise_model_events.proofs.Whatever.{all_told, handed_over_replicated, lasts, only_tails, reached_holds, remaining, safe}
+use Rattle.assise_model_events.proofs.Shared.Whatever.{all_told, handed_over_replicated, lasts, only_tails, reached_holds, remaining, safe}
 use Rattle.assise_model_events.proofs.headline.model_headline.Goals as goal
 
 pub returns-clause-legal : goal.returns-clause-legal

@@ -1,5 +1,5 @@
-use Rattle.assise_model_events.proofs.StartKeeps.{begun_holds}
-use Rattle.assise_model_events.proofs.Whatever.{all_keep}
+use Rattle.assise_model_events.proofs.Shared.StartKeeps.{begun_holds}
+use Rattle.assise_model_events.proofs.Shared.Whatever.{all_keep}
 use Rattle.assise_model_events.proofs.headline.whatever_happens_it_holds.Goals as goal
 
 pub returns-clause-begun : goal.returns-clause-begun

@@ -1,4 +1,4 @@
-use Rattle.assise_model_events.proofs.EachEvent.{hot_holds, hot_leads}
+use Rattle.assise_model_events.proofs.Shared.EachEvent.{hot_holds, hot_leads}
 use Rattle.assise_model_events.proofs.EntriesTold.{hot_told}
 use Rattle.assise_model_events.proofs.nodes.a_hot_change_keeps_the_invariant.Goals as goal
 

@@ -1,4 +1,4 @@
-use Rattle.assise_model_history.proofs.RecordKeeps.{crash_fits, crash_recorded}
+use Rattle.assise_model_history.proofs.Shared.RecordKeeps.{crash_fits, crash_recorded}
 use Rattle.assise_model_history.proofs.entries.a_crash_is_recorded.Goals as goal
 
 pub returns : goal.returns

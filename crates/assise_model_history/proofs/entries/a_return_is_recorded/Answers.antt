@@ -1,4 +1,4 @@
-use Rattle.assise_model_history.proofs.FailureKeeps.{return_fits, return_recorded}
+use Rattle.assise_model_history.proofs.Shared.FailureKeeps.{return_fits, return_recorded}
 use Rattle.assise_model_history.proofs.entries.a_return_is_recorded.Goals as goal
 
 pub returns : goal.returns

@@ -1,4 +1,4 @@
-use Rattle.assise_model_history.proofs.FailureKeeps.{failure_again_recorded, nothing_fair}
+use Rattle.assise_model_history.proofs.Shared.FailureKeeps.{failure_again_recorded, nothing_fair}
 use Rattle.assise_model_history.proofs.entries.a_second_failure_is_recorded.Goals as goal
 
 pub returns : goal.returns

@@ -1,4 +1,4 @@
-use Rattle.assise_model_history.proofs.RecordKeeps.{opening_fits, opening_recorded}
+use Rattle.assise_model_history.proofs.Shared.RecordKeeps.{opening_fits, opening_recorded}
 use Rattle.assise_model_history.proofs.entries.an_opening_is_recorded.Goals as goal
 
 pub returns : goal.returns

@@ -1,4 +1,4 @@
-use Rattle.assise_model_history.proofs.RecordKeeps.{quiet_recorded}
+use Rattle.assise_model_history.proofs.Shared.RecordKeeps.{quiet_recorded}
 use Rattle.assise_model_history.proofs.entries.what_is_quiet_needs_no_entry.Goals as goal
 
 pub returns : goal.returns

@@ -1,5 +1,5 @@
-use Rattle.assise_model_history.proofs.FailureKeeps.{failure_takes}
-use Rattle.assise_model_history.proofs.FailureList.{exactly_lost, losses_ascend}
+use Rattle.assise_model_history.proofs.Shared.FailureKeeps.{failure_takes}
+use Rattle.assise_model_history.proofs.Shared.FailureList.{exactly_lost, losses_ascend}
 use Rattle.assise_model_history.proofs.losses.a_failure_lists_the_first_lost_calls.Goals as goal
 
 pub returns : goal.returns

@@ -1,6 +1,6 @@
 use Rattle.assise_model_history.proofs.Common.{losses_of}
-use Rattle.assise_model_history.proofs.FailureKeeps.{loss_answered, past_syncs}
-use Rattle.assise_model_history.proofs.FailureList.{in_midst}
+use Rattle.assise_model_history.proofs.Shared.FailureKeeps.{loss_answered, past_syncs}
+use Rattle.assise_model_history.proofs.Shared.FailureList.{in_midst}
 use Rattle.assise_model_history.proofs.losses.a_failure_takes_no_synced_call.Goals as goal
 
 pub returns : goal.returns

@@ -1,4 +1,4 @@
-use Rattle.assise_model_history.proofs.NumberedCalls.{numbered_parts, kept_parts, kept_exactly, kept_plain}
+use Rattle.assise_model_history.proofs.Shared.NumberedCalls.{numbered_parts, kept_parts, kept_exactly, kept_plain}
 use Rattle.assise_model_history.proofs.numbers.the_kept_calls_have_their_numbers.Goals as goal
 
 pub returns : goal.returns

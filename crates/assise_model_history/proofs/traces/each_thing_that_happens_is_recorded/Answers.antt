@@ -1,4 +1,4 @@
-use Rattle.assise_model_history.proofs.TracesKeep.{happens_moves, happens_recorded}
+use Rattle.assise_model_history.proofs.Shared.TracesKeep.{happens_moves, happens_recorded}
 use Rattle.assise_model_history.proofs.traces.each_thing_that_happens_is_recorded.Goals as goal
 
 pub returns : goal.returns

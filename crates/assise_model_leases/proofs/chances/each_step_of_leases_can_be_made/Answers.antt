@@ -1,4 +1,4 @@
-use Rattle.assise_model_leases.proofs.Possible.{may_open_at, may_call_under, may_grant, may_ask, may_release, may_free, may_crash_with, may_fail_with}
+use Rattle.assise_model_leases.proofs.Shared.Possible.{may_open_at, may_call_under, may_grant, may_ask, may_release, may_free, may_crash_with, may_fail_with}
 use Rattle.assise_model_leases.proofs.chances.each_step_of_leases_can_be_made.Goals as goal
 
 pub returns-clause-opened : goal.returns-clause-opened

@@ -1,4 +1,4 @@
-use Rattle.assise_model_leases.proofs.QuietLeases.{call_keeps}
+use Rattle.assise_model_leases.proofs.Shared.QuietLeases.{call_keeps}
 use Rattle.assise_model_leases.proofs.handing.a_call_keeps_leases.Goals as goal
 
 pub returns : goal.returns

@@ -1,4 +1,4 @@
-use Rattle.assise_model_leases.proofs.GrantKeeps.{grant_acquires, grant_keeps}
+use Rattle.assise_model_leases.proofs.Shared.GrantKeeps.{grant_acquires, grant_keeps}
 use Rattle.assise_model_leases.proofs.handing.a_grant_keeps_leases.Goals as goal
 
 pub returns-clause-acquires : goal.returns-clause-acquires

@@ -1,4 +1,4 @@
-use Rattle.assise_model_leases.proofs.LeasesGo.{goes, release_keeps, free_keeps}
+use Rattle.assise_model_leases.proofs.Shared.LeasesGo.{goes, release_keeps, free_keeps}
 use Rattle.assise_model_leases.proofs.handing.a_release_keeps_leases.Goals as goal
 
 pub returns-clause-releases : goal.returns-clause-releases

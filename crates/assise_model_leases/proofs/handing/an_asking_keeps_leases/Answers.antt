@@ -1,4 +1,4 @@
-use Rattle.assise_model_leases.proofs.AskKeeps.{ask_keeps}
+use Rattle.assise_model_leases.proofs.Shared.AskKeeps.{ask_keeps}
 use Rattle.assise_model_leases.proofs.handing.an_asking_keeps_leases.Goals as goal
 
 pub returns : goal.returns

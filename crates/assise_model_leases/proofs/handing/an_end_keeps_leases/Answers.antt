@@ -1,4 +1,4 @@
-use Rattle.assise_model_leases.proofs.ClientEnds.{crash_keeps, fail_keeps}
+use Rattle.assise_model_leases.proofs.Shared.ClientEnds.{crash_keeps, fail_keeps}
 use Rattle.assise_model_leases.proofs.handing.an_end_keeps_leases.Goals as goal
 
 pub returns-clause-crash : goal.returns-clause-crash

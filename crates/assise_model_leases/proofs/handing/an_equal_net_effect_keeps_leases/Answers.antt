@@ -1,4 +1,4 @@
-use Rattle.assise_model_leases.proofs.QuietLeases.{coalesced_keeps}
+use Rattle.assise_model_leases.proofs.Shared.QuietLeases.{coalesced_keeps}
 use Rattle.assise_model_leases.proofs.handing.an_equal_net_effect_keeps_leases.Goals as goal
 
 pub returns : goal.returns

@@ -1,4 +1,4 @@
-use Rattle.assise_model_leases.proofs.QuietLeases.{open_keeps}
+use Rattle.assise_model_leases.proofs.Shared.QuietLeases.{open_keeps}
 use Rattle.assise_model_leases.proofs.handing.an_open_keeps_leases.Goals as goal
 
 pub returns : goal.returns

@@ -1,4 +1,4 @@
-use Rattle.assise_model_leases.proofs.QuietLeases.{drop_keeps, logs_keep}
+use Rattle.assise_model_leases.proofs.Shared.QuietLeases.{drop_keeps, logs_keep}
 use Rattle.assise_model_leases.proofs.handing.what_leaves_logs_keeps_leases.Goals as goal
 
 pub returns-clause-drops : goal.returns-clause-drops

@@ -1,5 +1,5 @@
 use Rattle.assise_model_leases.proofs.Common.{client_lease}
-use Rattle.assise_model_leases.proofs.LookUps.{revoked_serves, none_serves}
+use Rattle.assise_model_leases.proofs.Shared.LookUps.{revoked_serves, none_serves}
 use Rattle.assise_model_leases.proofs.waiting.a_revoked_lease_serves_no_call.Goals as goal
 
 pub returns-clause-revoked : goal.returns-clause-revoked

@@ -1,4 +1,4 @@
-use Rattle.assise_model_leases.proofs.Waiters.{ready_alive, ready_left}
+use Rattle.assise_model_leases.proofs.Shared.Waiters.{ready_alive, ready_left}
 use Rattle.assise_model_leases.proofs.waiting.no_revoked_lease_is_stuck.Goals as goal
 
 pub returns-clause-alive : goal.returns-clause-alive

@@ -1,4 +1,4 @@
-use Rattle.assise_model_leases.proofs.Waiters.{asked_other, asked_in_way, asked_elsewhere}
+use Rattle.assise_model_leases.proofs.Shared.Waiters.{asked_other, asked_in_way, asked_elsewhere}
 use Rattle.assise_model_leases.proofs.waiting.what_is_asked_for_is_awaited.Goals as goal
 
 pub returns-clause-awaited : goal.returns-clause-awaited

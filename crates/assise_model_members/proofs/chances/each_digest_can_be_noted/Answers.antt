@@ -1,4 +1,4 @@
-use Rattle.assise_model_members.proofs.StepsPossible.{may_digest}
+use Rattle.assise_model_members.proofs.Shared.StepsPossible.{may_digest}
 use Rattle.assise_model_members.proofs.chances.each_digest_can_be_noted.Goals as goal
 
 pub returns : goal.returns

@@ -1,4 +1,4 @@
-use Rattle.assise_model_members.proofs.StepsPossible.{may_come_back, may_refill, may_rejoin, may_fill_one}
+use Rattle.assise_model_members.proofs.Shared.StepsPossible.{may_come_back, may_refill, may_rejoin, may_fill_one}
 use Rattle.assise_model_members.proofs.chances.each_step_of_a_return_can_be_made.Goals as goal
 
 pub returns : goal.returns

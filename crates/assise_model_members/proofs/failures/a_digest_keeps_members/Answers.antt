@@ -1,4 +1,4 @@
-use Rattle.assise_model_members.proofs.DigestNoted.{digest_keeps}
+use Rattle.assise_model_members.proofs.Shared.DigestNoted.{digest_keeps}
 use Rattle.assise_model_members.proofs.failures.a_digest_keeps_members.Goals as goal
 
 pub returns : goal.returns

@@ -1,4 +1,4 @@
-use Rattle.assise_model_members.proofs.NodesFail.{fail_keeps}
+use Rattle.assise_model_members.proofs.Shared.NodesFail.{fail_keeps}
 use Rattle.assise_model_members.proofs.failures.a_failure_keeps_members.Goals as goal
 
 pub returns : goal.returns

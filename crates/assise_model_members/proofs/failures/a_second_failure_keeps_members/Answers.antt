@@ -1,4 +1,4 @@
-use Rattle.assise_model_members.proofs.NodeChanged.{again_keeps}
+use Rattle.assise_model_members.proofs.Shared.NodeChanged.{again_keeps}
 use Rattle.assise_model_members.proofs.failures.a_second_failure_keeps_members.Goals as goal
 
 pub returns : goal.returns

@@ -1,5 +1,5 @@
 use Rattle.assise_model_world.specs.Runs.Moves.{digests, fails, joins, rests}
-use Rattle.assise_model_members.proofs.JoinKeeps.{rejoin_joins}
+use Rattle.assise_model_members.proofs.Shared.JoinKeeps.{rejoin_joins}
 use Rattle.assise_model_members.proofs.moves.each_step_is_one_of_the_machine.Goals as goal
 
 pub returns : goal.returns

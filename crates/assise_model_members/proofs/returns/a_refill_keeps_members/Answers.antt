@@ -1,4 +1,4 @@
-use Rattle.assise_model_members.proofs.NodeChanged.{refill_keeps}
+use Rattle.assise_model_members.proofs.Shared.NodeChanged.{refill_keeps}
 use Rattle.assise_model_members.proofs.returns.a_refill_keeps_members.Goals as goal
 
 pub returns : goal.returns

@@ -1,5 +1,5 @@
-use Rattle.assise_model_members.proofs.NodesFail.{fail_over}
-use Rattle.assise_model_members.proofs.StaleInodes.{back_stale, again_down}
+use Rattle.assise_model_members.proofs.Shared.NodesFail.{fail_over}
+use Rattle.assise_model_members.proofs.Shared.StaleInodes.{back_stale, again_down}
 use Rattle.assise_model_members.proofs.staleness.a_stale_set_begins_as_what_was_written.Goals as goal
 
 pub returns : goal.returns

@@ -1,4 +1,4 @@
-use Rattle.assise_model_members.proofs.StaleInodes.{refilled_stale, digested_stale, digested_else}
+use Rattle.assise_model_members.proofs.Shared.StaleInodes.{refilled_stale, digested_stale, digested_else}
 use Rattle.assise_model_members.proofs.staleness.a_stale_set_changes.Goals as goal
 
 pub returns : goal.returns

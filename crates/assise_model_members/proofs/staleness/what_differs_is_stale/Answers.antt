@@ -1,4 +1,4 @@
-use Rattle.assise_model_members.proofs.StaleInodes.{differing_is_stale}
+use Rattle.assise_model_members.proofs.Shared.StaleInodes.{differing_is_stale}
 use Rattle.assise_model_members.proofs.staleness.what_differs_is_stale.Goals as goal
 
 pub returns : goal.returns

@@ -1,4 +1,4 @@
-use Rattle.assise_model_world.proofs.Possible.{may_open, may_call, may_raise, may_crash, may_acquire, may_release}
+use Rattle.assise_model_world.proofs.Shared.Possible.{may_open, may_call, may_raise, may_crash, may_acquire, may_release}
 use Rattle.assise_model_world.proofs.chances.each_step_of_a_client_can_be_made.Goals as goal
 
 pub returns : goal.returns

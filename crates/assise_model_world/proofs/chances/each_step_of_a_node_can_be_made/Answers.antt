@@ -1,4 +1,4 @@
-use Rattle.assise_model_world.proofs.Possible.{may_deliver, may_digest, may_drop, may_fail, may_join, may_rest}
+use Rattle.assise_model_world.proofs.Shared.Possible.{may_deliver, may_digest, may_drop, may_fail, may_join, may_rest}
 use Rattle.assise_model_world.proofs.chances.each_step_of_a_node_can_be_made.Goals as goal
 
 pub returns : goal.returns

@@ -1,4 +1,4 @@
-use Rattle.assise_model_world.proofs.Views.{reads_truth, true_step, true_reply}
+use Rattle.assise_model_world.proofs.Shared.Views.{reads_truth, true_step, true_reply}
 use Rattle.assise_model_world.proofs.reading.a_client_reads_what_the_calls_made.Goals as goal
 
 pub returns : goal.returns

@@ -1,4 +1,4 @@
-use Rattle.assise_model_world.proofs.RegionAlone.{rebuilds, rebuilds_tree, rebuilds_run}
+use Rattle.assise_model_world.proofs.Shared.RegionAlone.{rebuilds, rebuilds_tree, rebuilds_run}
 use Rattle.assise_model_world.proofs.reading.a_region_alone_says_the_replicated_calls.Goals as goal
 
 pub returns : goal.returns

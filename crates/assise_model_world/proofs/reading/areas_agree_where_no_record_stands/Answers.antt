@@ -1,4 +1,4 @@
-use Rattle.assise_model_world.proofs.AreasAgree.{same_areas}
+use Rattle.assise_model_world.proofs.Shared.AreasAgree.{same_areas}
 use Rattle.assise_model_world.proofs.reading.areas_agree_where_no_record_stands.Goals as goal
 
 pub returns : goal.returns

@@ -1,4 +1,4 @@
-use Rattle.assise_model_world.proofs.StepLists.{begun_dropped, every_run, run_falls, run_stays}
+use Rattle.assise_model_world.proofs.Shared.StepLists.{begun_dropped, every_run, run_falls, run_stays}
 use Rattle.assise_model_world.proofs.runs.whatever_happens_it_holds.Goals as goal
 
 pub returns : goal.returns

@@ -1,4 +1,4 @@
-use Rattle.assise_model_world.proofs.CallKeeps.{call_sound, call_dropped, call_reply}
+use Rattle.assise_model_world.proofs.Shared.CallKeeps.{call_sound, call_dropped, call_reply}
 use Rattle.assise_model_world.proofs.steps.a_call_keeps_the_invariant.Goals as goal
 
 pub returns : goal.returns

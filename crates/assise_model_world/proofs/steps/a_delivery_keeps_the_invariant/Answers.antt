@@ -1,4 +1,4 @@
-use Rattle.assise_model_world.proofs.DeliveryKeeps.{deliver_sound, deliver_dropped}
+use Rattle.assise_model_world.proofs.Shared.DeliveryKeeps.{deliver_sound, deliver_dropped}
 use Rattle.assise_model_world.proofs.steps.a_delivery_keeps_the_invariant.Goals as goal
 
 pub returns : goal.returns

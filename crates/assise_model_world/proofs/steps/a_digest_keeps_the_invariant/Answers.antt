@@ -1,4 +1,4 @@
-use Rattle.assise_model_world.proofs.DigestKeeps.{digest_sound}
+use Rattle.assise_model_world.proofs.Shared.DigestKeeps.{digest_sound}
 use Rattle.assise_model_world.proofs.steps.a_digest_keeps_the_invariant.Goals as goal
 
 pub returns : goal.returns

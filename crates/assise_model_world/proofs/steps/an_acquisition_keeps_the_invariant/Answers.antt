@@ -1,5 +1,5 @@
-use Rattle.assise_model_world.proofs.ClientsStaying.{acquire_sound}
-use Rattle.assise_model_world.proofs.QuietSteps.{still_dropped}
+use Rattle.assise_model_world.proofs.Shared.ClientsStaying.{acquire_sound}
+use Rattle.assise_model_world.proofs.Shared.QuietSteps.{still_dropped}
 use Rattle.assise_model_world.proofs.steps.an_acquisition_keeps_the_invariant.Goals as goal
 
 pub returns : goal.returns

@@ -1,5 +1,5 @@
-use Rattle.assise_model_world.proofs.ClientsStaying.{raise_sound}
-use Rattle.assise_model_world.proofs.QuietSteps.{still_dropped}
+use Rattle.assise_model_world.proofs.Shared.ClientsStaying.{raise_sound}
+use Rattle.assise_model_world.proofs.Shared.QuietSteps.{still_dropped}
 use Rattle.assise_model_world.proofs.steps.raised_goals_keep_the_invariant.Goals as goal
 
 pub returns : goal.returns

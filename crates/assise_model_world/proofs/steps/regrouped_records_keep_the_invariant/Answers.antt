@@ -1,4 +1,4 @@
-use Rattle.assise_model_world.proofs.RegroupKeeps.{regroups_to, regroup_sound, regroup_dropped}
+use Rattle.assise_model_world.proofs.Shared.RegroupKeeps.{regroups_to, regroup_sound, regroup_dropped}
 use Rattle.assise_model_world.proofs.steps.regrouped_records_keep_the_invariant.Goals as goal
 
 pub returns : goal.returns

@@ -1,5 +1,5 @@
-use Rattle.assise_model_world.proofs.ClientsStaying.{rest_sound}
-use Rattle.assise_model_world.proofs.QuietSteps.{still_dropped}
+use Rattle.assise_model_world.proofs.Shared.ClientsStaying.{rest_sound}
+use Rattle.assise_model_world.proofs.Shared.QuietSteps.{still_dropped}
 use Rattle.assise_model_world.proofs.steps.what_other_nodes_have_is_free.Goals as goal
 
 pub returns : goal.returns

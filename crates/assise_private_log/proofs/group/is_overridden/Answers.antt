@@ -1,5 +1,5 @@
 use Rattle.assise_private_log.proofs.Common.{◌≡◌, ◌||◌, true, false, ap, sym, ◌∙◌, rules, list_any, overridden}
-use Rattle.assise_private_log.proofs.LogGroups.{overridden_both}
+use Rattle.assise_private_log.proofs.Shared.LogGroups.{overridden_both}
 use Rattle.assise_private_log.proofs.group.is_overridden.Goals as goal
 
 pub returns-then-is_overridden_by : goal.returns-then-is_overridden_by

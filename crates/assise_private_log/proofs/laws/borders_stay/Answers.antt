@@ -1,5 +1,5 @@
 use Rattle.assise_private_log.proofs.Common.{true, refl}
-use Rattle.assise_private_log.proofs.Borders.{border_prefix, border_grouped, border_tail}
+use Rattle.assise_private_log.proofs.Shared.Borders.{border_prefix, border_grouped, border_tail}
 use Rattle.assise_private_log.proofs.laws.borders_stay.Goals as goal
 
 pub returns : goal.returns

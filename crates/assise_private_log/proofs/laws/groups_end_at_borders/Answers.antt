@@ -1,4 +1,4 @@
-use Rattle.assise_private_log.proofs.Borders.{is_whole, next_border}
+use Rattle.assise_private_log.proofs.Shared.Borders.{is_whole, next_border}
 use Rattle.assise_private_log.proofs.laws.groups_end_at_borders.Goals as goal
 
 pub returns : goal.returns

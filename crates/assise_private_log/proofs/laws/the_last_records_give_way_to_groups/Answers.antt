@@ -1,4 +1,4 @@
-use Rattle.assise_private_log.proofs.LogGroups.{regrouped_among, regrouped_before, regrouped_records, regrouped_shorter}
+use Rattle.assise_private_log.proofs.Shared.LogGroups.{regrouped_among, regrouped_before, regrouped_records, regrouped_shorter}
 use Rattle.assise_private_log.proofs.laws.the_last_records_give_way_to_groups.Goals as goal
 
 pub returns : goal.returns

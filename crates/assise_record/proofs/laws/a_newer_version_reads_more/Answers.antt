@@ -1,4 +1,4 @@
-use Rattle.assise_record.proofs.Versions.{above, later_reads, later_spells}
+use Rattle.assise_record.proofs.Shared.Versions.{above, later_reads, later_spells}
 use Rattle.assise_record.proofs.laws.a_newer_version_reads_more.Goals as goal
 
 pub returns-clause-above : goal.returns-clause-above

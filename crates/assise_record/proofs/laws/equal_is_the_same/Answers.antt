@@ -1,4 +1,4 @@
-use Rattle.assise_record.proofs.Equality.{effects_decided, records_decided}
+use Rattle.assise_record.proofs.Shared.Equality.{effects_decided, records_decided}
 use Rattle.assise_record.proofs.laws.equal_is_the_same.Goals as goal
 
 pub returns-clause-effects : goal.returns-clause-effects

@@ -1,4 +1,4 @@
-use Rattle.assise_record.proofs.Unique.{one_text, one_frame}
+use Rattle.assise_record.proofs.Shared.Unique.{one_text, one_frame}
 use Rattle.assise_record.proofs.laws.one_spelling.Goals as goal
 
 pub returns-clause-spelling : goal.returns-clause-spelling

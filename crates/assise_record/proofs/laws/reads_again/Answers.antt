@@ -1,4 +1,4 @@
-use Rattle.assise_record.proofs.Unique.{again}
+use Rattle.assise_record.proofs.Shared.Unique.{again}
 use Rattle.assise_record.proofs.laws.reads_again.Goals as goal
 
 pub returns : goal.returns

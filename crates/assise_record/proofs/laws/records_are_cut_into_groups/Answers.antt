@@ -1,5 +1,5 @@
-use Rattle.assise_record.proofs.GroupMarks.{groups-all, groups-are, marked}
-use Rattle.assise_record.proofs.WholeGroups.{calls_same}
+use Rattle.assise_record.proofs.Shared.GroupMarks.{groups-all, groups-are, marked}
+use Rattle.assise_record.proofs.Shared.WholeGroups.{calls_same}
 use Rattle.assise_record.proofs.laws.records_are_cut_into_groups.Goals as goal
 
 pub returns-clause-all : goal.returns-clause-all

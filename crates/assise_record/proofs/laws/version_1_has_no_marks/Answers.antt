@@ -1,4 +1,4 @@
-use Rattle.assise_record.proofs.Versions.{no_marks_in_1, spelled_in_1}
+use Rattle.assise_record.proofs.Shared.Versions.{no_marks_in_1, spelled_in_1}
 use Rattle.assise_record.proofs.laws.version_1_has_no_marks.Goals as goal
 
 pub returns-clause-marks : goal.returns-clause-marks

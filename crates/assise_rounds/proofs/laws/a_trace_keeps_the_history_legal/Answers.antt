@@ -1,4 +1,4 @@
-use Rattle.assise_rounds.proofs.Traces.{trace_keeps, trace_legal, trace_told}
+use Rattle.assise_rounds.proofs.Shared.Traces.{trace_keeps, trace_legal, trace_told}
 use Rattle.assise_rounds.proofs.laws.a_trace_keeps_the_history_legal.Goals as goal
 
 pub returns-clause-keeps : goal.returns-clause-keeps

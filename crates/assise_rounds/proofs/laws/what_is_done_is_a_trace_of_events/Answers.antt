@@ -1,5 +1,5 @@
-use Rattle.assise_rounds.proofs.ReturnTrace.{return_trace}
-use Rattle.assise_rounds.proofs.Traces.{trace_of, round_trace, tries_trace}
+use Rattle.assise_rounds.proofs.Shared.ReturnTrace.{return_trace}
+use Rattle.assise_rounds.proofs.Shared.Traces.{trace_of, round_trace, tries_trace}
 use Rattle.assise_rounds.proofs.laws.what_is_done_is_a_trace_of_events.Goals as goal
 
 pub returns-clause-turn : goal.returns-clause-turn

@@ -1,4 +1,4 @@
-use Rattle.assise_rounds.proofs.Traces.{trace_unreplicated}
+use Rattle.assise_rounds.proofs.Shared.Traces.{trace_unreplicated}
 use Rattle.assise_rounds.proofs.laws.what_is_replicated_stays_replicated.Goals as goal
 
 pub returns : goal.returns

@@ -1,7 +1,7 @@
 use Rattle.assise_rounds.proofs.Common.{map, ◌≡◌, ◌-◌, [], refl, sym, subst, ◌∙◌, arith, ◌≤◌, ℕ, false, is_none, MOST_NODES, node_fault, machine, Told}
 use Rattle.assise_rounds.proofs.Common.{FaithfulAt, EachFull, TakesTurn, WithWork}
 use Rattle.assise_rounds.proofs.Faithful.{turn_over}
-use Rattle.assise_rounds.proofs.NodeLinks.{at_node, set_same, still}
+use Rattle.assise_rounds.proofs.Shared.NodeLinks.{at_node, set_same, still}
 use Rattle.assise_rounds.proofs.LastNode.{none_there}
 use Rattle.assise_rounds.proofs.RoundSteps.{faulty_next, full_next, none_behind}
 use Rattle.assise_rounds.proofs.rounds.replicate_all.Goals as goal

@@ -1,6 +1,6 @@
 use Rattle.assise_rounds.proofs.Common.{⊤, refl, rules, ◌≤◌, length, arith, MOST_NODES, machine}
 use Rattle.assise_rounds.proofs.Faithful.{round_with}
-use Rattle.assise_rounds.proofs.NodeLinks.{all_faithful}
+use Rattle.assise_rounds.proofs.Shared.NodeLinks.{all_faithful}
 use Rattle.assise_rounds.proofs.rounds.round.Goals as goal
 
 pub returns : goal.returns

@@ -1,5 +1,5 @@
 use Rattle.assise_rounds.proofs.Common.{◌+◌, refl, sym, subst, arith, machine}
-use Rattle.assise_machine.proofs.Few.{few_clients}
+use Rattle.assise_machine.proofs.Shared.Few.{few_clients}
 use Rattle.assise_rounds.proofs.Acked.{AreAckedTo, all_acked, no_more_acked, none_acked, not_both, one_acked}
 use Rattle.assise_rounds.proofs.trees.all_acked.Goals as goal
 use Rattle.assise_rounds.proofs.trees.all_acked.Goals.{in-Ok+in_ok-push, in_default}
@@ -21,8 +21,10 @@ loop-client-preserved g c =
           (no_more_acked world i c.loop-client.acked.items c.loop-client.invariant (λ there. not_both (w.in_default.ensures.ok.1 (omega arith, there))))
     ]
 
-pub returns-clause-acked : goal.returns-clause-acked
-returns-clause-acked g c =
-    let world = (machine c.args.cluster.now).world in
-    let few = few_clients c.args.cluster.now in
-    all_acked world c.loop-client.client c.loop-client.acked.items (omega (arith, few, c.loop-client-test.false)) c.loop-client.invariant
+pub returns : goal.returns
+returns g c = record {
+  acked =
+      let world = (machine c.args.cluster.now).world in
+      let few = few_clients c.args.cluster.now in
+      all_acked world c.loop-client.client c.loop-client.acked.items (omega (arith, few, c.loop-client-test.false)) c.loop-client.invariant;
+}

@@ -1,5 +1,5 @@
 use Rattle.assise_seq_tree.proofs.Common.{◌∙◌, ap, sym, arith, length}
-use Rattle.assise_seq_tree.proofs.BytesOverwritten.{within, filled, whole}
+use Rattle.assise_seq_tree.proofs.Shared.BytesOverwritten.{within, filled, whole}
 use Rattle.assise_seq_tree.proofs.contents.overwrite.Goals as goal
 use Rattle.assise_seq_tree.proofs.contents.overwrite.Goals.{then-len-end+in_ok-resize, else-len-end}
 

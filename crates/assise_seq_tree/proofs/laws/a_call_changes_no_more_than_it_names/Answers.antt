@@ -1,4 +1,4 @@
-use Rattle.assise_seq_tree.proofs.Calls.{rest_is_left}
+use Rattle.assise_seq_tree.proofs.Shared.Calls.{rest_is_left}
 use Rattle.assise_seq_tree.proofs.laws.a_call_changes_no_more_than_it_names.Goals as goal
 
 pub returns-clause-rest : goal.returns-clause-rest

@@ -1,4 +1,4 @@
-use Rattle.assise_seq_tree.proofs.FileResized.{size_given, prefix_kept, grown_by_zeros}
+use Rattle.assise_seq_tree.proofs.Shared.FileResized.{size_given, prefix_kept, grown_by_zeros}
 use Rattle.assise_seq_tree.proofs.laws.a_file_grows_by_zeros.Goals as goal
 
 pub returns-clause-size : goal.returns-clause-size

@@ -1,4 +1,4 @@
-use Rattle.assise_seq_tree.proofs.Writes.{gap_is_zeros, size_after}
+use Rattle.assise_seq_tree.proofs.Shared.Writes.{gap_is_zeros, size_after}
 use Rattle.assise_seq_tree.proofs.laws.a_gap_reads_as_zeros.Goals as goal
 
 pub returns-clause-gap : goal.returns-clause-gap

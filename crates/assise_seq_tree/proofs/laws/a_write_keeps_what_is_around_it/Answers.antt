@@ -1,4 +1,4 @@
-use Rattle.assise_seq_tree.proofs.Writes.{kept_before, kept_behind}
+use Rattle.assise_seq_tree.proofs.Shared.Writes.{kept_before, kept_behind}
 use Rattle.assise_seq_tree.proofs.laws.a_write_keeps_what_is_around_it.Goals as goal
 
 pub returns-clause-before : goal.returns-clause-before

@@ -1,5 +1,5 @@
-use Rattle.assise_seq_tree.proofs.Moves.{at-put_disjoint}
-use Rattle.assise_seq_tree.proofs.Paths.{turned_disjoint}
+use Rattle.assise_seq_tree.proofs.Shared.Moves.{at-put_disjoint}
+use Rattle.assise_seq_tree.proofs.Shared.Paths.{turned_disjoint}
 use Rattle.assise_seq_tree.proofs.laws.what_is_put_leaves_the_rest.Goals as goal
 
 pub returns : goal.returns

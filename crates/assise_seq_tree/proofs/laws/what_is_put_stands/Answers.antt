@@ -1,5 +1,5 @@
-use Rattle.assise_seq_tree.proofs.Moves.{put-put_any}
-use Rattle.assise_seq_tree.proofs.Paths.{put_stands}
+use Rattle.assise_seq_tree.proofs.Shared.Moves.{put-put_any}
+use Rattle.assise_seq_tree.proofs.Shared.Paths.{put_stands}
 use Rattle.assise_seq_tree.proofs.laws.what_is_put_stands.Goals as goal
 
 pub returns-clause-found : goal.returns-clause-found

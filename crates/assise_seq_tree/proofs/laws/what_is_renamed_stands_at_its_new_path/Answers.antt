@@ -1,4 +1,4 @@
-use Rattle.assise_seq_tree.proofs.Renamed.{stands_at_its_new_path, gone_from_its_old_path}
+use Rattle.assise_seq_tree.proofs.Shared.Renamed.{stands_at_its_new_path, gone_from_its_old_path}
 use Rattle.assise_seq_tree.proofs.laws.what_is_renamed_stands_at_its_new_path.Goals as goal
 
 pub returns-clause-stands : goal.returns-clause-stands

@@ -1,5 +1,5 @@
-use Rattle.assise_seq_tree.proofs.Moves.{at-without_disjoint, without-put}
-use Rattle.assise_seq_tree.proofs.Paths.{gone, step_disjoint}
+use Rattle.assise_seq_tree.proofs.Shared.Moves.{at-without_disjoint, without-put}
+use Rattle.assise_seq_tree.proofs.Shared.Paths.{gone, step_disjoint}
 use Rattle.assise_seq_tree.proofs.laws.what_is_taken_out_is_gone.Goals as goal
 
 pub returns-clause-gone : goal.returns-clause-gone

@@ -1,4 +1,4 @@
-use Rattle.assise_seq_tree.proofs.Writes.{written_is_read}
+use Rattle.assise_seq_tree.proofs.Shared.Writes.{written_is_read}
 use Rattle.assise_seq_tree.proofs.laws.what_is_written_is_read.Goals as goal
 
 pub returns : goal.returns

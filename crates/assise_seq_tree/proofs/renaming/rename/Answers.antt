@@ -1,5 +1,5 @@
 use Rattle.assise_seq_tree.proofs.Common.{sym, ◌∙◌}
-use Rattle.assise_seq_tree.proofs.Checks.{passed, not_true}
+use Rattle.assise_seq_tree.proofs.Shared.Checks.{passed, not_true}
 use Rattle.assise_seq_tree.proofs.renaming.rename.Goals as goal
 
 pub move_entry-requires-clause-disjoint : goal.move_entry-requires-clause-disjoint

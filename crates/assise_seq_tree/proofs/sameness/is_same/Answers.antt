@@ -14,9 +14,11 @@ loop-first-preserved c =
     let yes : IsTrue c.in_ok-is_same_but.field-0 = search rules in
     (λ same. c.loop-first.invariant.0 (together (down (yes, same))), λ is. (up (apart (c.loop-first.invariant.1 is))).1)
 
-pub returns-then-not-branch-clause-same : goal.returns-then-not-branch-clause-same
-returns-then-not-branch-clause-same c =
-    let (apart, together) = same_last _ _ _ c.in-Some.ensures.items in
-    let (down, up) = c.in_ok-is_same_but.ensures.same in
-    let no : IsTrue c.in_ok-is_same_but.field-0 → IsTrue false = search rules in
-    (λ yes. absurd (cc), λ is. no (up (apart (c.loop-first.invariant.1 is))).0)
+pub returns-then-not-branch : goal.returns-then-not-branch
+returns-then-not-branch c = record {
+  same =
+      let (apart, together) = same_last _ _ _ c.in-Some.ensures.items in
+      let (down, up) = c.in_ok-is_same_but.ensures.same in
+      let no : IsTrue c.in_ok-is_same_but.field-0 → IsTrue false = search rules in
+      (λ yes. absurd (cc), λ is. no (up (apart (c.loop-first.invariant.1 is))).0);
+}

@@ -1,5 +1,5 @@
 use Rattle.assise_threads.proofs.Common.{arith, ap, length}
-use Rattle.assise_workers.proofs.Pairs.{one_taken, zip_pushed}
+use Rattle.assise_workers.proofs.Shared.Pairs.{one_taken, zip_pushed}
 use Rattle.assise_threads.proofs.lists.lists_of.Goals as goal
 
 pub loop-libfs-preserved : goal.loop-libfs-preserved

@@ -1,5 +1,5 @@
 use Rattle.assise_workers.proofs.Common.{arith, ap, length}
-use Rattle.assise_workers.proofs.Pairs.{one_taken, zip_pushed}
+use Rattle.assise_workers.proofs.Shared.Pairs.{one_taken, zip_pushed}
 use Rattle.assise_workers.proofs.running.join_clients.Goals as goal
 
 pub loop-handle-preserved : goal.loop-handle-preserved

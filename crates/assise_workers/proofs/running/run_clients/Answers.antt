@@ -1,5 +1,5 @@
 use Rattle.assise_workers.proofs.Common.{◌≡◌, arith, length, HasServed}
-use Rattle.assise_workers.proofs.Pairs.{zip_of_all}
+use Rattle.assise_workers.proofs.Shared.Pairs.{zip_of_all}
 use Rattle.assise_workers.proofs.running.run_clients.Goals as goal
 
 pub returns : goal.returns

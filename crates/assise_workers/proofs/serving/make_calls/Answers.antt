@@ -1,6 +1,6 @@
 use Rattle.assise_workers.proofs.Common.{arith, ◌≡◌, ◌∙◌, ◌+◌, ◌++◌, ◌∷◌, [], map, take, subst, sym, ap, client_of, limit_of, seen_by, TurnsTo, SeesAll, Turned}
-use Rattle.assise_libfs.proofs.Same.{same-then}
-use Rattle.assise_workers.proofs.Lists.{lent_more, one_more_of}
+use Rattle.assise_libfs.proofs.Shared.Same.{same-then}
+use Rattle.assise_workers.proofs.Shared.Lists.{lent_more, one_more_of}
 use Rattle.assise_workers.proofs.serving.make_calls.Goals as goal
 
 pub loop-op-preserved : goal.loop-op-preserved

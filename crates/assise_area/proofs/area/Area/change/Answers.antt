@@ -2,7 +2,7 @@ use Rattle.assise_area.proofs.Common.{◌≡◌, None, Some, option_map, sym, ap
 use Rattle.assise_area.proofs.Common.{changed, with_value, with_inodes, AreaInvariant, cold_at, hot_at, area_seen}
 use Rattle.std.specs.FinMap as map
 use Rattle.assise_record.specs.Touched.{touched_by}
-use Rattle.assise_area.proofs.Seen.{either, err_map, ok_map, value_of_cold, value_of_hot}
+use Rattle.assise_area.proofs.Shared.Seen.{either, err_map, ok_map, value_of_cold, value_of_hot}
 use Rattle.assise_area.proofs.WrittenValues.{seen_cold, seen_set, sound_cold, sound_set}
 use Rattle.assise_area.proofs.area.Area.change.Goals as goal
 use Rattle.assise_area.proofs.area.Area.change.Goals.{In_default}

@@ -1,5 +1,5 @@
 use Rattle.assise_area.proofs.Common.{◌∙◌, sym}
-use Rattle.assise_area.proofs.Seen.{hot_now}
+use Rattle.assise_area.proofs.Shared.Seen.{hot_now}
 use Rattle.assise_area.proofs.area.Area.is_hot.Goals as goal
 
 pub returns : goal.returns

@@ -1,5 +1,5 @@
 use Rattle.assise_area.proofs.Common.{◌∙◌, sym}
-use Rattle.assise_area.proofs.Seen.{value_of_cold, value_of_hot}
+use Rattle.assise_area.proofs.Shared.Seen.{value_of_cold, value_of_hot}
 use Rattle.assise_area.proofs.area.Area.peek.Goals as goal
 
 pub returns-in-Some : goal.returns-in-Some

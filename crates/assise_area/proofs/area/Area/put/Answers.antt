@@ -1,6 +1,6 @@
 use Rattle.assise_area.proofs.Common.{Some, sym, ap, ◌∙◌, on_err, is_there, with_inodes}
 use Rattle.std.specs.FinMap as map
-use Rattle.assise_area.proofs.Seen.{value_of_cold, value_of_hot}
+use Rattle.assise_area.proofs.Shared.Seen.{value_of_cold, value_of_hot}
 use Rattle.assise_area.proofs.WrittenValues.{seen_cold, seen_set, sound_cold, sound_set}
 use Rattle.assise_area.proofs.area.Area.put.Goals as goal
 

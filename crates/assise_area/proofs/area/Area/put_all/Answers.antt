@@ -1,6 +1,6 @@
 use Rattle.assise_area.proofs.Common.{sym, ap, ◌∙◌, option_or, value_in}
 use Rattle.std.specs.FinMap as map
-use Rattle.assise_area.proofs.Seen.{get-joined, value_of}
+use Rattle.assise_area.proofs.Shared.Seen.{get-joined, value_of}
 use Rattle.assise_area.proofs.area.Area.put_all.Goals as goal
 
 pub returns-clause-values : goal.returns-clause-values

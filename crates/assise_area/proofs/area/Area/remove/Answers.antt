@@ -1,5 +1,5 @@
 use Rattle.assise_area.proofs.Common.{sym, ◌∙◌, is_there}
-use Rattle.assise_area.proofs.Seen.{value_of_cold, value_of_hot}
+use Rattle.assise_area.proofs.Shared.Seen.{value_of_cold, value_of_hot}
 use Rattle.assise_area.proofs.WrittenValues.{seen_out_of_cold, seen_out_of_hot, sound_out_of_cold, sound_out_of_hot}
 use Rattle.assise_area.proofs.area.Area.remove.Goals as goal
 

@@ -1,5 +1,5 @@
 use Rattle.assise_area.proofs.Common.{◌≡◌, sym, ap, ◌∙◌, AreaInvariant, hot_at, area_seen}
-use Rattle.assise_area.proofs.Seen.{either_two, nothing}
+use Rattle.assise_area.proofs.Shared.Seen.{either_two, nothing}
 use Rattle.assise_area.proofs.HotUse.{seen_promoted, seen_same, seen_warmed, sound_promoted, sound_same, sound_warmed, touched_hot, touched_kept, touched_warm}
 use Rattle.assise_area.proofs.HotUse.{unmoved}
 use Rattle.assise_area.proofs.area.Area.touch.Goals as goal

@@ -1,5 +1,5 @@
 use Rattle.assise_console.proofs.Common.{rules, ◌≡◌, ◌-◌, ◌<◌, Some, length, subst, sym, BadNode, MOST_NODES, kind_of_link, node_fault, machine, console_seen}
-use Rattle.assise_rounds.proofs.NodeLinks.{at_node, set_same}
+use Rattle.assise_rounds.proofs.Shared.NodeLinks.{at_node, set_same}
 use Rattle.assise_console.proofs.SmallNumbers.{no_node_so_large}
 use Rattle.assise_console.proofs.Links.{below_most}
 use Rattle.assise_console.proofs.OneCommand.{carries_none, carries_nowhere, carries_refused, carries_some}

@@ -1,4 +1,4 @@
-use Rattle.assise_digest.proofs.Common.{◌&&◌, ◌∙◌, ap, is_some, nat_eq, not, sym, list_any, get-numbers}
+use Rattle.assise_digest.proofs.Common.{◌&&◌, ◌∙◌, ap, is_some, nat_eq, not, sym, list_any, get-seen}
 use Rattle.std.specs.FinMap as map
 use Rattle.assise_digest.proofs.MovedInodes.{any_key, found_or_left}
 use Rattle.assise_digest.proofs.numbers.Numbers.beyond.Goals as goal
@@ -9,4 +9,4 @@ loop-inode-init c = λ i.
     ∙ ap (λ ks. list_any (nat_eq i) ks && not (is_some (map.get c.args.inodes.now i)))
     (c.into_iter-inode-iterator.ensures.into_iter_gives ∙ c.keys-inode-items.ensures.rest)
     ∙ ap (λ b. b && not (is_some (map.get c.args.inodes.now i)))
-    (any_key c.self.inside.numbers.entries i ∙ ap is_some (sym (get-numbers c.self.inside.numbers.entries i)) ∙ ap (λ m. is_some (map.get m i)) c.self.view_is)
+    (any_key c.self.inside.numbers.entries i ∙ ap is_some (sym (get-seen _ i c.self.view_is)))

@@ -1,5 +1,5 @@
 use Rattle.assise_digest.proofs.Common.{◌≡◌, None, ◌∙◌, ap, sym}
-use Rattle.assise_inode_table.proofs.MapChanges.{no_content}
+use Rattle.assise_inode_table.proofs.Shared.MapChanges.{no_content}
 use Rattle.std.specs.FinMap as map
 use Rattle.assise_digest.proofs.KeptInodes.{put_and_removed}
 use Rattle.assise_digest.proofs.pending.Pending.hold.Goals as goal

@@ -11,17 +11,14 @@ coalesce-requires-clause-sound c =
     (m, here_sound m c.self.inside.logs.items c.args.self.now c.args.client _ c.self.invariant c.self.view_is c.requires.client c.index_mut.ensures.value)
 
 pub invariant_of-self : goal.invariant_of-self
-invariant_of-self c =
-    let m = c.self.inside.area.inodes in
-    changed_sound m c.self.inside.logs.items c.args.self.now c.args.client _ c.coalesce.new.self
-    c.self.invariant c.self.view_is c.requires.client c.index_mut.ensures.value (c.coalesce.ensures.sound m)
+invariant_of-self c = changed_sound c.self.inside.area.inodes _ _ c.args.client _ _ c.self.invariant c.self.view_is c.requires.client
+    c.index_mut.ensures.value (c.coalesce.ensures.sound c.self.inside.area.inodes)
 
 pub returns-clause-ok : goal.returns-clause-ok
 returns-clause-ok c =
     ok_map c.coalesce.result c.coalesce.ensures.seen (λ step.
-    changed_there (λ l. regrouped_from l c.args.from) c.self.inside.area.inodes c.self.inside.logs.items c.args.self.now c.args.client c.index_mut.result.now
-    c.coalesce.new.self c.self.view_is
-    c.requires.client c.index_mut.ensures.value step)
+    changed_there (λ l. regrouped_from l c.args.from) c.self.inside.area.inodes _ _ c.args.client _ _ c.self.view_is c.requires.client
+    c.index_mut.ensures.value step)
 
 there : (c : After-coalesce) → log_of c.args.self.now c.args.client ≡ seen_log c.index_mut.result.now
 there c =

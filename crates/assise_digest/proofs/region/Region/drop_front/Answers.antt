@@ -3,13 +3,9 @@ use Rattle.assise_digest.proofs.RegionLogs.{changed_sound, changed_there}
 use Rattle.assise_digest.proofs.region.Region.drop_front.Goals as goal
 
 pub invariant_of-self : goal.invariant_of-self
-invariant_of-self c =
-    let m = c.self.inside.area.inodes in
-    changed_sound m c.self.inside.logs.items c.args.self.now c.args.client _ c.drop_front.new.self
-    c.self.invariant c.self.view_is c.requires.client c.index_mut.ensures.value (c.drop_front.ensures.sound m)
+invariant_of-self c = changed_sound c.self.inside.area.inodes _ _ c.args.client _ _ c.self.invariant c.self.view_is c.requires.client
+    c.index_mut.ensures.value (c.drop_front.ensures.sound c.self.inside.area.inodes)
 
 pub returns : goal.returns
-returns c =
-    changed_there (λ l. from_number l c.args.to) c.self.inside.area.inodes c.self.inside.logs.items c.args.self.now c.args.client c.index_mut.result.now
-    c.drop_front.new.self c.self.view_is
-    c.requires.client c.index_mut.ensures.value c.drop_front.ensures.seen
+returns c = changed_there (λ l. from_number l c.args.to) c.self.inside.area.inodes _ _ c.args.client _ _ c.self.view_is c.requires.client
+    c.index_mut.ensures.value c.drop_front.ensures.seen

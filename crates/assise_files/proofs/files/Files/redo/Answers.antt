@@ -1,6 +1,6 @@
-use Rattle.assise_files.proofs.Common.{rules, ◌≡◌, ◌∙◌, ◌++◌, ◌∷◌, [], ap, sym, subst, true, false, FaithfulAt, Told, IsTriedOut, cluster_seen, links_seen}
+use Rattle.assise_files.proofs.Common.{rules, ◌≡◌, ◌∙◌, ◌++◌, ◌∷◌, [], ap, sym, subst, true, false, FaithfulAt, cluster_seen, links_seen}
 use Rattle.assise_files.proofs.Common.{most_tries, lost_changes, tree_with, IsNumbered}
-use Rattle.assise_files.proofs.MadeAgain.{all_made, all_tree, made_next, numbered, stopped}
+use Rattle.assise_files.proofs.MadeAgain.{all_made, all_tree, made_next, numbered, stopped, tried_as}
 use Rattle.assise_files.proofs.QuietRounds.{tree_is}
 use Rattle.assise_files.proofs.files.Files.redo.Goals as goal
 
@@ -11,15 +11,8 @@ pub returns-then-not-is_done-clause-made : goal.returns-then-not-is_done-clause-
 returns-then-not-is_done-clause-made c =
     let last : c.loop-change.left.items ≡ c.pop.new.self.items ++ c.in-Some.change ∷ [] = search rules in
     let undone : c.is_done.result ≡ false = search rules in
-    stopped (FaithfulAt (links_seen c.args.self.now)) (most_tries c.args.self.now) c.args.first c.args.client
-    (lost_changes c.args.lost c.args.first (cluster_seen c.args.self.now).history)
-    c.loop-change.left.items c.pop.new.self.items c.in-Some.change c.call-came.result (cluster_seen c.args.self.now) (cluster_seen c.loop-change.self)
-    (cluster_seen c.call-came.new.self) c.loop-change.invariant.made last
-    (subst (λ turns. (es : Told) × IsTriedOut (FaithfulAt (links_seen c.args.self.now)) turns c.args.client c.in-Some.change.op c.call-came.result
-    (cluster_seen c.loop-change.self) es (cluster_seen c.call-came.new.self)) c.loop-change.invariant.turns
-    (subst (λ links. (es : Told) × IsTriedOut (FaithfulAt links) (most_tries c.loop-change.self) c.args.client c.in-Some.change.op c.call-came.result
-    (cluster_seen c.loop-change.self) es (cluster_seen c.call-came.new.self)) c.loop-change.invariant.links
-    c.call-came.ensures.tried))
+    stopped _ _ c.args.first _ _ _ _ _ _ _ _ _ c.loop-change.invariant.made last
+    (tried_as _ _ _ _ _ _ _ _ _ c.loop-change.invariant.links c.loop-change.invariant.turns c.call-came.ensures.tried)
     (λ done. cc (undone, c.is_done.ensures.1 done))
 
 pub loop-change-preserved : goal.loop-change-preserved
@@ -28,15 +21,8 @@ loop-change-preserved c =
     let is : c.is_done.result ≡ true = search rules in
     record {
       made =
-          made_next (FaithfulAt (links_seen c.args.self.now)) (most_tries c.args.self.now) c.args.client
-          (lost_changes c.args.lost c.args.first (cluster_seen c.args.self.now).history)
-          c.loop-change.left.items c.pop.new.self.items c.in-Some.change c.call-came.result (cluster_seen c.args.self.now) (cluster_seen c.loop-change.self)
-          (cluster_seen c.call-came.new.self) c.loop-change.invariant.made last
-          (subst (λ turns. (es : Told) × IsTriedOut (FaithfulAt (links_seen c.args.self.now)) turns c.args.client c.in-Some.change.op c.call-came.result
-          (cluster_seen c.loop-change.self) es (cluster_seen c.call-came.new.self)) c.loop-change.invariant.turns
-          (subst (λ links. (es : Told) × IsTriedOut (FaithfulAt links) (most_tries c.loop-change.self) c.args.client c.in-Some.change.op c.call-came.result
-          (cluster_seen c.loop-change.self) es (cluster_seen c.call-came.new.self)) c.loop-change.invariant.links
-          c.call-came.ensures.tried))
+          made_next _ _ _ _ _ _ _ _ _ _ _ c.loop-change.invariant.made last
+          (tried_as _ _ _ _ _ _ _ _ _ c.loop-change.invariant.links c.loop-change.invariant.turns c.call-came.ensures.tried)
           (c.is_done.ensures.0 is);
       turns = search rules;
       links = search rules;

@@ -15,10 +15,12 @@ from_vec-requires c =
     ∙ c.deref-piece-items.ensures.value) in
     record { ascending = subst (IsStrictlySortedBy (slice_cmp nat_cmp)) (sym all) (listed_sorted c.self.inside.pieces.items c.self.invariant.ascend) }
 
-pub returns-clause-names : goal.returns-clause-names
-returns-clause-names c =
-    let all = c.loop-piece.invariant
-    ∙ ap (λ ps. keys_of (live (slots_in ps))) (take_all c.loop-piece.piece-index c.deref-piece-items.result.now c.loop-piece-test.false
-    ∙ c.deref-piece-items.ensures.value) in
-    IfOk-weaker c.from_vec.result _ _ (λ names e. e ∙ all ∙ sym (listed_all c.self.inside.pieces.items c.self.invariant.ascend) ∙ ap map.keys c.self.view_is)
-    c.from_vec.ensures.names
+pub returns : goal.returns
+returns c = record {
+  names =
+      let all = c.loop-piece.invariant
+      ∙ ap (λ ps. keys_of (live (slots_in ps))) (take_all c.loop-piece.piece-index c.deref-piece-items.result.now c.loop-piece-test.false
+      ∙ c.deref-piece-items.ensures.value) in
+      IfOk-weaker c.from_vec.result _ _ (λ names e. e ∙ all ∙ sym (listed_all c.self.inside.pieces.items c.self.invariant.ascend) ∙ ap map.keys c.self.view_is)
+      c.from_vec.ensures.names;
+}

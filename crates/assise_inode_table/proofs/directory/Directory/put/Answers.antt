@@ -2,7 +2,7 @@ use Rattle.assise_inode_table.proofs.Common.{◌≡◌, ◌+◌, ◌∙◌, ◌�
 use Rattle.assise_inode_table.proofs.Common.{slice_cmp, nil_from_length, AddsSlot, Ascend, IsDirectory, IsGapFor, IsPieceFor, IsSlotOf, StandsAt, live}
 use Rattle.assise_inode_table.proofs.Common.{piece_at}
 use Rattle.std.specs.FinMap as map
-use Rattle.assise_inode_table.proofs.TableView.{on_err}
+use Rattle.assise_inode_table.proofs.Shared.TableView.{on_err}
 use Rattle.assise_inode_table.proofs.PieceSlots.{nothing_at, one_entry, piece_ascend, read_piece, link_read, link_set, got_none, got_slot, added_links}
 use Rattle.assise_inode_table.proofs.PieceSlots.{added_ascend, added_count, count_any, full_gone, gone_count, not_below, put_slot, set_ascend, set_filled}
 use Rattle.assise_inode_table.proofs.directory.Directory.put.Goals as goal

@@ -28,10 +28,12 @@ loop-at-preserved c =
           ap (λ v. v.items) w.names-is ∙ c.loop-at.invariant ∙ ap (λ ks. c.args.names.now.items ++ ks) (sym (listed_none ns m few c.loop-at.at inside gone))
     ]
 
-pub returns-clause-ok : goal.returns-clause-ok
-returns-clause-ok c =
-    let ns = (arc_value c.self.inside.names).items in
-    let names : c.len-at-end.result ≡ length ns = search (arith, rules) in
-    let m = links_or_none c.self.inside.links c.self.inside.gone in
-    c.loop-at.invariant ∙ ap (λ slots. c.args.names.now.items ++ keys_of (live slots))
-    (take_side_all ns m c.loop-at.at (names_few c.self.invariant) (omega (arith, names, c.loop-at-test.false)) ∙ c.self.view_is)
+pub returns : goal.returns
+returns c = record {
+  ok =
+      let ns = (arc_value c.self.inside.names).items in
+      let names : c.len-at-end.result ≡ length ns = search (arith, rules) in
+      let m = links_or_none c.self.inside.links c.self.inside.gone in
+      c.loop-at.invariant ∙ ap (λ slots. c.args.names.now.items ++ keys_of (live slots))
+      (take_side_all ns m c.loop-at.at (names_few c.self.invariant) (omega (arith, names, c.loop-at-test.false)) ∙ c.self.view_is);
+}

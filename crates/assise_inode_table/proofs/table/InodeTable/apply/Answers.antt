@@ -1,5 +1,5 @@
 use Rattle.assise_inode_table.proofs.Common.{◌∙◌}
-use Rattle.assise_inode_table.proofs.TableView.{applied_change}
+use Rattle.assise_inode_table.proofs.Shared.TableView.{applied_change}
 use Rattle.assise_inode_table.proofs.table.InodeTable.apply.Goals as goal
 
 pub returns-in_ok-change-in_default-clause-ok : goal.returns-in_ok-change-in_default-clause-ok

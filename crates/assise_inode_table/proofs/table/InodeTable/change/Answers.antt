@@ -1,7 +1,7 @@
 use Rattle.assise_inode_table.proofs.Common.{◌∙◌, ap, sym, subst, Some, nat_eq, touched_by, AsksForMemory}
 use Rattle.std.specs.FinMap as map
 use Rattle.std.proofs.lemmas.Map.Steps.{set_value_same}
-use Rattle.assise_inode_table.proofs.TableView.{change_none, change_some, value_at, is_there, on_err}
+use Rattle.assise_inode_table.proofs.Shared.TableView.{change_none, change_some, value_at, is_there, on_err}
 use Rattle.assise_inode_table.proofs.table.InodeTable.change.Goals as goal
 
 pub returns-in_default-clause-ok : goal.returns-in_default-clause-ok

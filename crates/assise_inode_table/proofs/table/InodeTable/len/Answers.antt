@@ -1,6 +1,6 @@
 use Rattle.assise_inode_table.proofs.Common.{◌∙◌, ap, sym}
 use Rattle.std.specs.FinMap as map
-use Rattle.assise_inode_table.proofs.MapView.{len-numbers}
+use Rattle.assise_inode_table.proofs.Shared.MapView.{len-numbers}
 use Rattle.assise_inode_table.proofs.table.InodeTable.len.Goals as goal
 
 pub returns : goal.returns

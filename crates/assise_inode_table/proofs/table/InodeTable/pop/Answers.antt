@@ -1,6 +1,6 @@
-use Rattle.assise_inode_table.proofs.Common.{◌≡◌, ◌++◌, ◌∙◌, IfSome, None, Option, Some, ap, cond, nat_eq, refl, sym, nat_eq_equiv, lookup, option_to_list}
+use Rattle.assise_inode_table.proofs.Common.{◌≡◌, ◌++◌, ◌∙◌, IfSome, None, Option, Some, ap, cond, nat_eq, refl, nat_eq_equiv, lookup, option_to_list}
 use Rattle.std.specs.FinMap as map
-use Rattle.assise_inode_table.proofs.MapView.{get-numbers, last_of, remove-numbers}
+use Rattle.assise_inode_table.proofs.Shared.MapView.{get-seen, last_of, remove-numbers}
 use Rattle.assise_inode_table.proofs.table.InodeTable.pop.Goals as goal
 
 some_map : {A : Type 0} {P Q : A → Type 0} (o : Option A) → IfSome o P → ((x : A) → o ≡ Some x → P x → Q x) → IfSome o Q
@@ -12,7 +12,7 @@ returns-clause-there c =
     let es = c.self.inside.inodes.entries in
     let fs = c.pop.new.self.entries in
     some_map c.pop.result c.pop.ensures.updates (λ taken is updates.
-    ap (λ m. map.get m taken.0) (sym c.self.view_is) ∙ get-numbers es taken.0
+    get-seen es taken.0 c.self.view_is
     ∙ ap (lookup (nat_eq taken.0)) (c.pop.ensures.entries ∙ ap (λ o. fs ++ option_to_list o) is)
     ∙ last_of fs taken.0 taken.1 (updates.0 taken.0 ∙ ap (λ b. cond b None (lookup (nat_eq taken.0) es)) (nat_eq_equiv.refl taken.0)))
 

@@ -1,5 +1,5 @@
 use Rattle.assise_lease_table.proofs.Common.{ℕ, nat_eq, is_some, get, leases_at, revoke, is_own}
-use Rattle.assise_lease_table.proofs.LeaseChanges.{Fits, Known, all_each, revoke_fits, revoke_known}
+use Rattle.assise_lease_table.proofs.Shared.LeaseChanges.{Fits, Known, all_each, revoke_fits, revoke_known}
 use Rattle.assise_lease_table.proofs.client_table.ClientTableOf.freeze.Goals as goal
 
 pub invariant_of-self : goal.invariant_of-self

@@ -1,5 +1,5 @@
 use Rattle.assise_lease_table.proofs.Common.{ℕ, nat_eq, is_some, get, leases_at, is_own}
-use Rattle.assise_lease_table.proofs.LeaseChanges.{Fits, Known, becomes_each, leave_out_fits, leave_out_known}
+use Rattle.assise_lease_table.proofs.Shared.LeaseChanges.{Fits, Known, becomes_each, leave_out_fits, leave_out_known}
 use Rattle.assise_lease_table.proofs.client_table.ClientTableOf.release.Goals as goal
 
 pub invariant_of-self : goal.invariant_of-self

@@ -1,5 +1,5 @@
 use Rattle.assise_lease_table.proofs.Common.{sym, ◌∙◌, SmallVec, Lease}
-use Rattle.assise_lease_table.proofs.Retained.{none_at, some_at}
+use Rattle.assise_lease_table.proofs.Shared.Retained.{none_at, some_at}
 use Rattle.assise_lease_table.proofs.lease_map.LeaseMap.is_any_chosen.Goals as goal
 
 pub returns-clause-none : goal.returns-clause-none

@@ -1,5 +1,5 @@
 use Rattle.assise_lease_table.proofs.Common.{◌≡◌, refl, rules, ap, ◌∙◌, SmallVec, Lease, revoke, is_any}
-use Rattle.assise_lease_table.proofs.Retained.{middle, lists_after, held_after, revoke_any}
+use Rattle.assise_lease_table.proofs.Shared.Retained.{middle, lists_after, held_after, revoke_any}
 use Rattle.assise_lease_table.proofs.lease_map.LeaseMap.revoke_everywhere.Goals as goal
 
 pub invariant_of-self : goal.invariant_of-self

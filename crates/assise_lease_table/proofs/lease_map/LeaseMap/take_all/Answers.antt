@@ -1,5 +1,5 @@
 use Rattle.assise_lease_table.proofs.Common.{refl, rules, SmallVec, Lease, without_holder, is_any}
-use Rattle.assise_lease_table.proofs.Retained.{kept_after, all_held, nothing_left}
+use Rattle.assise_lease_table.proofs.Shared.Retained.{kept_after, all_held, nothing_left}
 use Rattle.assise_lease_table.proofs.lease_map.LeaseMap.take_all.Goals as goal
 
 pub invariant_of-self : goal.invariant_of-self

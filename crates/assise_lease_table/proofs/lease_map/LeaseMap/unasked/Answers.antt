@@ -1,5 +1,5 @@
 use Rattle.assise_lease_table.proofs.Common.{◌≡◌, ap, ◌∙◌, SmallVec, Lease, is_asked, are_once, are_uncut}
-use Rattle.assise_lease_table.proofs.Unasked.{all_listed, once_in, unasked_in, uncut_in, which_in}
+use Rattle.assise_lease_table.proofs.Shared.Unasked.{all_listed, once_in, unasked_in, uncut_in, which_in}
 use Rattle.assise_lease_table.proofs.lease_map.LeaseMap.unasked.Given.{Over}
 use Rattle.assise_lease_table.proofs.lease_map.LeaseMap.unasked.Goals as goal
 use Rattle.assise_lease_table.proofs.lease_map.LeaseMap.unasked.Goals.{In-None}

@@ -1,5 +1,5 @@
 use Rattle.assise_lease_table.proofs.Common.{◌≡◌, ◌++◌, SmallVec, Lease}
-use Rattle.assise_lease_table.proofs.Unasked.{unasked_in}
+use Rattle.assise_lease_table.proofs.Shared.Unasked.{unasked_in}
 use Rattle.assise_lease_table.proofs.lease_map.LeaseMap.unasked.Given as goal
 
 -- with what is left to list they are all

@@ -1,5 +1,5 @@
 use Rattle.assise_lease_table.proofs.Common.{leases_at, leave_out, is_own}
-use Rattle.assise_lease_table.proofs.LeaseChanges.{Fits, all_each, leave_out_fits}
+use Rattle.assise_lease_table.proofs.Shared.LeaseChanges.{Fits, all_each, leave_out_fits}
 use Rattle.assise_lease_table.proofs.node_table.NodeTable.free.Goals as goal
 
 pub invariant_of-self : goal.invariant_of-self

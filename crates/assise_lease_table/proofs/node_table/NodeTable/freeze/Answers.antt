@@ -1,5 +1,5 @@
 use Rattle.assise_lease_table.proofs.Common.{leases_at, revoke, is_own}
-use Rattle.assise_lease_table.proofs.LeaseChanges.{Fits, all_each, revoke_fits}
+use Rattle.assise_lease_table.proofs.Shared.LeaseChanges.{Fits, all_each, revoke_fits}
 use Rattle.assise_lease_table.proofs.node_table.NodeTable.freeze.Goals as goal
 
 pub invariant_of-self : goal.invariant_of-self

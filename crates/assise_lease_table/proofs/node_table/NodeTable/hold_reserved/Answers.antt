@@ -1,5 +1,5 @@
 use Rattle.assise_lease_table.proofs.Common.{leases_at}
-use Rattle.assise_lease_table.proofs.LeaseChanges.{Fits, becomes_each, with_lease_fits}
+use Rattle.assise_lease_table.proofs.Shared.LeaseChanges.{Fits, becomes_each, with_lease_fits}
 use Rattle.assise_lease_table.proofs.node_table.NodeTable.hold_reserved.Goals as goal
 
 pub invariant_of-self : goal.invariant_of-self

@@ -1,6 +1,6 @@
 use Rattle.assise_lease_table.proofs.Common.{ap, sym, ◌∙◌, list_any, leases_at, is_rival}
-use Rattle.assise_lease_table.proofs.LeaseChanges.{Fits, becomes_each}
-use Rattle.assise_lease_table.proofs.Compatibles.{no_rivals, raise_compatible}
+use Rattle.assise_lease_table.proofs.Shared.LeaseChanges.{Fits, becomes_each}
+use Rattle.assise_lease_table.proofs.Shared.Compatibles.{no_rivals, raise_compatible}
 use Rattle.assise_lease_table.proofs.node_table.NodeTable.raise.Goals as goal
 
 pub invariant_of-self : goal.invariant_of-self

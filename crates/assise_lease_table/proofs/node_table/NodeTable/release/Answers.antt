@@ -1,5 +1,5 @@
 use Rattle.assise_lease_table.proofs.Common.{leases_at, is_own}
-use Rattle.assise_lease_table.proofs.LeaseChanges.{Fits, becomes_each, leave_out_fits}
+use Rattle.assise_lease_table.proofs.Shared.LeaseChanges.{Fits, becomes_each, leave_out_fits}
 use Rattle.assise_lease_table.proofs.node_table.NodeTable.release.Goals as goal
 
 pub invariant_of-self : goal.invariant_of-self

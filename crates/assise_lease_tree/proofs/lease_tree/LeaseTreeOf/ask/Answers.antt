@@ -1,6 +1,6 @@
 use Rattle.assise_lease_tree.proofs.Common.{nat_eq, get, clients_at, nodes_at, levels_of}
 use Rattle.assise_lease_tree.proofs.CallsOnLevels.{tree_lawful, is_asked_for}
-use Rattle.assise_lease_tree.proofs.Steps.{asked_lawful}
+use Rattle.assise_lease_tree.proofs.Shared.Steps.{asked_lawful}
 use Rattle.assise_lease_tree.proofs.lease_tree.LeaseTreeOf.ask.Goals as goal
 
 pub returns-clause-asked : goal.returns-clause-asked

@@ -3,7 +3,7 @@ use Rattle.assise_lease_tree.proofs.Common.{◌≡◌, ◌≢◌, ℕ, nat_eq, i
 use Rattle.assise_lease_tree.proofs.Common.{levels_of}
 use Rattle.assise_lease_tree.proofs.CallsOnLevels.{tree_lawful, known_after, on_ok}
 use Rattle.assise_lease_tree.proofs.Lawful.{same_lawful}
-use Rattle.assise_lease_tree.proofs.Steps.{enrolled_lawful}
+use Rattle.assise_lease_tree.proofs.Shared.Steps.{enrolled_lawful}
 use Rattle.assise_lease_tree.proofs.lease_tree.LeaseTreeOf.enrol.Goals as goal
 
 pub invariant_of-self-in-Break-1 : goal.invariant_of-self-in-Break-1

@@ -1,6 +1,6 @@
 use Rattle.assise_lease_tree.proofs.Common.{nat_eq, refl, get, clients_at, nodes_at, levels_of}
 use Rattle.assise_lease_tree.proofs.CallsOnLevels.{tree_lawful}
-use Rattle.assise_lease_tree.proofs.Steps.{freed_lawful}
+use Rattle.assise_lease_tree.proofs.Shared.Steps.{freed_lawful}
 use Rattle.assise_lease_tree.proofs.lease_tree.LeaseTreeOf.free_node.Goals as goal
 
 pub invariant_of-self : goal.invariant_of-self

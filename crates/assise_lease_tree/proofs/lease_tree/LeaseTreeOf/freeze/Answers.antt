@@ -1,6 +1,6 @@
 use Rattle.assise_lease_tree.proofs.Common.{nat_eq, refl, get, clients_at, nodes_at, levels_of}
 use Rattle.assise_lease_tree.proofs.CallsOnLevels.{tree_lawful}
-use Rattle.assise_lease_tree.proofs.Steps.{revoked_lawful}
+use Rattle.assise_lease_tree.proofs.Shared.Steps.{revoked_lawful}
 use Rattle.assise_lease_tree.proofs.lease_tree.LeaseTreeOf.freeze.Goals as goal
 
 pub invariant_of-self : goal.invariant_of-self

@@ -1,6 +1,6 @@
 use Rattle.assise_lease_tree.proofs.Common.{nat_eq, refl, sym, get, clients_at, nodes_at, levels_of}
 use Rattle.assise_lease_tree.proofs.CallsOnLevels.{tree_lawful}
-use Rattle.assise_lease_tree.proofs.Steps.{released_lawful}
+use Rattle.assise_lease_tree.proofs.Shared.Steps.{released_lawful}
 use Rattle.assise_lease_tree.proofs.lease_tree.LeaseTreeOf.release.Goals as goal
 
 pub invariant_of-self-2 : goal.invariant_of-self-2

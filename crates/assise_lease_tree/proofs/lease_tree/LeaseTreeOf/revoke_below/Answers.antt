@@ -1,6 +1,6 @@
 use Rattle.assise_lease_tree.proofs.Common.{nat_eq, refl, get, clients_at, nodes_at, lives, levels_of}
 use Rattle.assise_lease_tree.proofs.CallsOnLevels.{tree_lawful}
-use Rattle.assise_lease_tree.proofs.Steps.{all_revoked_lawful}
+use Rattle.assise_lease_tree.proofs.Shared.Steps.{all_revoked_lawful}
 use Rattle.assise_lease_tree.proofs.lease_tree.LeaseTreeOf.revoke_below.Goals as goal
 
 pub invariant_of-self : goal.invariant_of-self

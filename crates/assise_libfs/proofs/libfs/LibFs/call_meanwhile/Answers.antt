@@ -1,7 +1,7 @@
 use Rattle.assise_libfs.proofs.Common.{◌∙◌, ap, subst, Ok, of_calls, MayRefuse, client_of, node_of, seen_by, IsOpenedOn}
 use Rattle.assise_libfs.proofs.Refused.{refused-opened}
-use Rattle.assise_libfs.proofs.Same.{same-then}
-use Rattle.assise_libfs.proofs.Tries.{others_then_try}
+use Rattle.assise_libfs.proofs.Shared.Same.{same-then}
+use Rattle.assise_libfs.proofs.Shared.Tries.{others_then_try}
 use Rattle.assise_libfs.proofs.TurnsAdd.{answered_by, refused_by, waits_on}
 use Rattle.assise_libfs.proofs.libfs.LibFs.call_meanwhile.Goals as goal
 

@@ -1,5 +1,5 @@
 use Rattle.assise_libfs.proofs.Common.{subst, sym, ∥∥₁_map, IsLegal}
-use Rattle.assise_libfs.proofs.Tries.{opened-extends}
+use Rattle.assise_libfs.proofs.Shared.Tries.{opened-extends}
 use Rattle.assise_libfs.proofs.libfs.LibFs.meet.Goals as goal
 
 pub invariant_of-first-clause-opened : goal.invariant_of-first-clause-opened

@@ -1,5 +1,5 @@
 use Rattle.assise_libfs.proofs.Common.{arith, ∥∥₁_map}
-use Rattle.assise_libfs.proofs.Tries.{answers-few, opened-extends, try-counts, try-extends}
+use Rattle.assise_libfs.proofs.Shared.Tries.{answers-few, opened-extends, try-counts, try-extends}
 use Rattle.assise_libfs.proofs.libfs.LibFs.turn.Goals as goal
 
 pub overflow_add-self : goal.overflow_add-self

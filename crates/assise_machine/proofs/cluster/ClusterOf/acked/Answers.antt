@@ -1,6 +1,6 @@
 use Rattle.assise_machine.proofs.Common.{◌∙◌, sym}
 use Rattle.assise_machine.proofs.Alone.{if_ok_from}
-use Rattle.assise_machine.proofs.Replicated.{acked_seen}
+use Rattle.assise_machine.proofs.Shared.Replicated.{acked_seen}
 use Rattle.assise_machine.proofs.cluster.ClusterOf.acked.Goals as goal
 
 pub returns-clause-seen : goal.returns-clause-seen

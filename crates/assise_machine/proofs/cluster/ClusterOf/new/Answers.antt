@@ -1,4 +1,4 @@
-use Rattle.assise_machine.proofs.Replicated.{begun_so}
+use Rattle.assise_machine.proofs.Shared.Replicated.{begun_so}
 use Rattle.assise_machine.proofs.cluster.ClusterOf.new.Goals as goal
 
 pub returns-clause-history : goal.returns-clause-history

@@ -1,7 +1,7 @@
 use Rattle.assise_machine.proofs.Common.{◌∙◌, ap, sym, phase_of, standing_of, value_of}
 use Rattle.assise_machine.proofs.Phases.{full_has_no_fault, no_fault_is_full}
 use Rattle.assise_machine.proofs.RaisedNode.{members_as}
-use Rattle.assise_machine.proofs.Replicated.{fine_is_up, up_is_fine}
+use Rattle.assise_machine.proofs.Shared.Replicated.{fine_is_up, up_is_fine}
 use Rattle.assise_machine.proofs.cluster.ClusterOf.phase.Goals as goal
 
 pub returns-clause-phase : goal.returns-clause-phase

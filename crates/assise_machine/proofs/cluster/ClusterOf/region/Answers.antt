@@ -1,6 +1,6 @@
 use Rattle.assise_machine.proofs.Common.{refl, value_of}
 use Rattle.assise_machine.proofs.Alone.{gives_alone, if_ok_from, same_alone}
-use Rattle.assise_machine.proofs.Replicated.{fine_is_up, up_is_fine}
+use Rattle.assise_machine.proofs.Shared.Replicated.{fine_is_up, up_is_fine}
 use Rattle.assise_machine.proofs.cluster.ClusterOf.region.Goals as goal
 
 pub returns-clause-alone : goal.returns-clause-alone

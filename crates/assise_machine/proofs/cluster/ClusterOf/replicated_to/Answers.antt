@@ -1,6 +1,6 @@
 use Rattle.assise_machine.proofs.Common.{◌∙◌, sym}
 use Rattle.assise_machine.proofs.Alone.{if_ok_from}
-use Rattle.assise_machine.proofs.Replicated.{replicated_seen}
+use Rattle.assise_machine.proofs.Shared.Replicated.{replicated_seen}
 use Rattle.assise_machine.proofs.cluster.ClusterOf.replicated_to.Goals as goal
 
 pub returns-clause-replicated : goal.returns-clause-replicated

@@ -1,4 +1,4 @@
-use Rattle.assise_machine_state.proofs.ItemSeen.{client_found}
+use Rattle.assise_machine_state.proofs.Shared.ItemSeen.{client_found}
 use Rattle.assise_machine_state.proofs.clients.Clients.get.Goals as goal
 
 pub returns : goal.returns

@@ -1,6 +1,6 @@
 use Rattle.assise_machine_state.proofs.Common.{◌≡◌, ℕ, Bool, List, ◌∷◌, ◌∙◌, drop, ap, sym, arith, [], drop_all, nil_from_length, LogRecord, is_border, log_in}
 use Rattle.assise_machine_state.proofs.Common.{with_log_in, with_records}
-use Rattle.assise_machine_state.proofs.RecordsTaken.{none_taken, one_taken}
+use Rattle.assise_machine_state.proofs.Shared.RecordsTaken.{none_taken, one_taken}
 use Rattle.assise_machine_state.proofs.nodes.Nodes.+take_in.Goals as goal
 
 pub returns-in_default : goal.returns-in_default

@@ -1,5 +1,5 @@
 use Rattle.assise_machine_state.proofs.Common.{arith}
-use Rattle.assise_machine_state.proofs.LogChanges.{changed_log, log_found, refused_back}
+use Rattle.assise_machine_state.proofs.Shared.LogChanges.{changed_log, log_found, refused_back}
 use Rattle.assise_machine_state.proofs.nodes.Nodes.coalesce.Goals as goal
 
 pub coalesce-requires-clause-digested : goal.coalesce-requires-clause-digested

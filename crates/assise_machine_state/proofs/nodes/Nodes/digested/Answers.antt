@@ -1,5 +1,5 @@
 use Rattle.assise_machine_state.proofs.Common.{◌∙◌, ap}
-use Rattle.assise_machine_state.proofs.LogChanges.{log_found}
+use Rattle.assise_machine_state.proofs.Shared.LogChanges.{log_found}
 use Rattle.assise_machine_state.proofs.nodes.Nodes.digested.Goals as goal
 
 pub returns : goal.returns

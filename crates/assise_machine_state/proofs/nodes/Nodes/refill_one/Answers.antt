@@ -1,4 +1,4 @@
-use Rattle.assise_machine_state.proofs.LogChanges.{refused_back}
+use Rattle.assise_machine_state.proofs.Shared.LogChanges.{refused_back}
 use Rattle.assise_machine_state.proofs.nodes.Nodes.refill_one.Goals as goal
 
 pub returns-clause-err : goal.returns-clause-err

@@ -1,4 +1,4 @@
-use Rattle.assise_machine_state.proofs.LogChanges.{region_found}
+use Rattle.assise_machine_state.proofs.Shared.LogChanges.{region_found}
 use Rattle.assise_machine_state.proofs.nodes.Nodes.region.Goals as goal
 
 pub returns : goal.returns

@@ -1,6 +1,6 @@
 use Rattle.assise_machine_state.proofs.Common.{arith}
-use Rattle.assise_machine_state.proofs.ItemSeen.{is_set}
-use Rattle.assise_machine_state.proofs.LogChanges.{region_found}
+use Rattle.assise_machine_state.proofs.Shared.ItemSeen.{is_set}
+use Rattle.assise_machine_state.proofs.Shared.LogChanges.{region_found}
 use Rattle.assise_machine_state.proofs.nodes.Nodes.region_mut.Goals as goal
 
 pub returns : goal.returns

@@ -1,8 +1,8 @@
 use Rattle.assise_machine_state.proofs.Common.{◌≡◌, ◌∙◌, ap, subst, sym, arith, end, is_border, open_group, with_one, log_in, with_log_in, with_next}
 use Rattle.assise_machine_state.proofs.Common.{with_region}
-use Rattle.assise_machine_state.proofs.RecordsTaken.{TakesOne, takes_one}
+use Rattle.assise_machine_state.proofs.Shared.RecordsTaken.{TakesOne, takes_one}
 use Rattle.assise_machine_state.proofs.nodes.Nodes.take_one.Goals as goal
-use Rattle.assise_machine_state.proofs.LogChanges.{log_found, log_put}
+use Rattle.assise_machine_state.proofs.Shared.LogChanges.{log_found, log_put}
 
 pub append_grouped-requires-clause-open_group : goal.append_grouped-requires-clause-open_group
 append_grouped-requires-clause-open_group c joins = grind (arith, log_found, open_group)

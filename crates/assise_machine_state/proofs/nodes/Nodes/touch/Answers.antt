@@ -1,5 +1,5 @@
 use Rattle.assise_machine_state.proofs.Common.{◌∙◌, ap, with_region}
-use Rattle.assise_machine_state.proofs.LogChanges.{region_back}
+use Rattle.assise_machine_state.proofs.Shared.LogChanges.{region_back}
 use Rattle.assise_machine_state.proofs.nodes.Nodes.touch.Goals as goal
 
 pub returns : goal.returns

@@ -1,5 +1,5 @@
 use Rattle.assise_machine_state.proofs.Common.{◌<◌, refl, arith, value_of}
-use Rattle.assise_machine_state.proofs.Fullness.{client_number, number_client}
+use Rattle.assise_machine_state.proofs.Shared.Fullness.{client_number, number_client}
 use Rattle.assise_machine_state.proofs.sound.SoundOf.check_client.Goals as goal
 use Rattle.assise_machine_state.proofs.sound.SoundOf.check_client.Goals.{then-client-eq0-via-then-client-eq0}
 use Rattle.assise_machine_state.proofs.sound.SoundOf.check_client.Goals.{then-client-eq0-via-else-client-eq0+then-client-len}

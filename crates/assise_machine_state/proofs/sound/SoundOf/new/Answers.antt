@@ -1,5 +1,5 @@
 use Rattle.assise_machine_state.proofs.Common.{subst, sym, MachineInvariant}
-use Rattle.assise_model_events.proofs.StartKeeps.{begun_holds}
+use Rattle.assise_model_events.proofs.Shared.StartKeeps.{begun_holds}
 use Rattle.assise_machine_state.proofs.sound.SoundOf.new.Goals as goal
 
 pub invariant_of-result : goal.invariant_of-result

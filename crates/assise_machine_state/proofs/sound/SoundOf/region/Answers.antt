@@ -1,8 +1,8 @@
 use Rattle.assise_machine_state.proofs.Common.{◌≡◌, ◌∙◌, Ok, Some, None, true, ap, sym, arith, err_from_is_err_and, Refusal, standing_of, membership}
 use Rattle.assise_machine_state.proofs.Common.{is_full_in, observed, value_of}
 use Rattle.assise_names.specs.declared.refusal.Refusal.TheVariants.{WrongPhase}
-use Rattle.assise_machine_state.proofs.NodesAway.{away_other, away_refused, full_served, none_refused, phase_full}
-use Rattle.assise_machine_state.proofs.Fullness.{full_number}
+use Rattle.assise_machine_state.proofs.Shared.NodesAway.{away_other, away_refused, full_served, none_refused, phase_full}
+use Rattle.assise_machine_state.proofs.Shared.Fullness.{full_number}
 use Rattle.assise_machine_state.proofs.sound.SoundOf.region.Goals as goal
 
 same_refusal : (r e : Refusal) → Some r ≡ Some e → r ≡ e

@@ -1,5 +1,5 @@
 use Rattle.assise_machine_state.proofs.Common.{arith, end_of_log, received_by_all, own_seen, world_of}
-use Rattle.assise_machine_state.proofs.OwnLogs.{next_least, next_log, whole_least}
+use Rattle.assise_machine_state.proofs.Shared.OwnLogs.{next_least, next_log, whole_least}
 use Rattle.assise_machine_state.proofs.state.StateOf.acked.Goals as goal
 
 pub log-requires : goal.log-requires

@@ -1,5 +1,5 @@
 use Rattle.assise_machine_state.proofs.Common.{arith, digested_by_all, end_of_log, own_seen, world_of}
-use Rattle.assise_machine_state.proofs.OwnLogs.{next_least, next_log, whole_least}
+use Rattle.assise_machine_state.proofs.Shared.OwnLogs.{next_least, next_log, whole_least}
 use Rattle.assise_machine_state.proofs.state.StateOf.digested.Goals as goal
 
 pub digested-digested-requires : goal.digested-digested-requires

@@ -1,5 +1,5 @@
 use Rattle.assise_machine_state.proofs.Common.{arith}
-use Rattle.assise_machine_state.proofs.Noted.{none_noted}
+use Rattle.assise_machine_state.proofs.Shared.Noted.{none_noted}
 use Rattle.assise_machine_state.proofs.StartObserved.{starts, starts_shaped}
 use Rattle.assise_machine_state.proofs.state.StateOf.new.Goals as goal
 

@@ -1,5 +1,5 @@
 use Rattle.assise_machine_state.proofs.Common.{◌≡◌, ◌∙◌, get_or, ap, sym, membership, client_in, own_node}
-use Rattle.assise_machine_state.proofs.OwnLogs.{own_log, own_of_failed, own_of_unfailed}
+use Rattle.assise_machine_state.proofs.Shared.OwnLogs.{own_log, own_of_failed, own_of_unfailed}
 use Rattle.assise_machine_state.proofs.state.StateOf.own_node.Goals as goal
 
 -- the lowest full node

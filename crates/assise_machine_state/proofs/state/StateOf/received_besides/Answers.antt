@@ -1,7 +1,7 @@
 use Rattle.assise_machine_state.proofs.Common.{arith, ne_eqb}
 use Rattle.std.proofs.lemmas.Bool.{eq-eqb}
 use Rattle.assise_machine_state.proofs.Besides.{next_most, next_same}
-use Rattle.assise_machine_state.proofs.OwnLogs.{next_log, whole_taken}
+use Rattle.assise_machine_state.proofs.Shared.OwnLogs.{next_log, whole_taken}
 use Rattle.assise_machine_state.proofs.state.StateOf.received_besides.Goals as goal
 use Rattle.assise_machine_state.proofs.state.StateOf.received_besides.Goals.{then-node-home, else-node-home}
 

@@ -1,6 +1,6 @@
 use Rattle.assise_machine_state.proofs.Common.{◌≡◌, ◌∙◌, all_effects, all_applied, ahead, log_of, client_in, log_in, value_of}
-use Rattle.assise_machine_state.proofs.LogChanges.{log_found}
-use Rattle.assise_machine_state.proofs.OwnLogs.{home_known, home_log}
+use Rattle.assise_machine_state.proofs.Shared.LogChanges.{log_found}
+use Rattle.assise_machine_state.proofs.Shared.OwnLogs.{home_known, home_log}
 use Rattle.assise_machine_state.proofs.state.StateOf.view.Given as given
 use Rattle.assise_machine_state.proofs.state.StateOf.view.Goals as goal
 

@@ -1,5 +1,5 @@
 use Rattle.assise_mail_example.proofs.Common.{rules, ◌≡◌, ◌∙◌, sym}
-use Rattle.assise_keeper.proofs.LedStates.{led_from}
+use Rattle.assise_keeper.proofs.Shared.LedStates.{led_from}
 use Rattle.assise_keeper.specs.declared.view.Opens.TheVariants.{AmongOthers, Never}
 use Rattle.assise_keeper.specs.Passes.{taken}
 use Rattle.assise_mail_example.proofs.Changes.{may_give}

@@ -2,7 +2,7 @@ use Rattle.assise_manager.proofs.Common.{is_some, ◌∙◌, Some, sym, ap, map,
 use Rattle.assise_manager.proofs.Common.{standing, membership}
 use Rattle.std.specs.FinSet as set
 use Rattle.assise_manager.proofs.Places.{stands_now, known_as, donor_is, down_listed, since_is}
-use Rattle.assise_manager.proofs.Lawful.{back_known}
+use Rattle.assise_manager.proofs.Shared.Lawful.{back_known}
 use Rattle.assise_manager.proofs.members.Members.back.Goals as goal
 
 pub first_listed-requires : goal.first_listed-requires

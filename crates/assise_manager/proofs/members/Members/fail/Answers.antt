@@ -1,5 +1,5 @@
 use Rattle.assise_manager.proofs.Common.{◌∙◌, Some, ap, standing, membership}
-use Rattle.assise_manager.proofs.Lawful.{down_known}
+use Rattle.assise_manager.proofs.Shared.Lawful.{down_known}
 use Rattle.assise_manager.proofs.members.Members.fail.Goals as goal
 
 pub put-requires-clause-known : goal.put-requires-clause-known

@@ -4,7 +4,7 @@ use Rattle.assise_manager.proofs.Common.{membership}
 use Rattle.std.specs.FinSet as set
 use Rattle.assise_manager.specs.Standings.{down}
 use Rattle.assise_manager.proofs.Places.{whole, listed_is, first_is, failed_is, may_fail, new_donor_is}
-use Rattle.assise_manager.proofs.Lawful.{failed_lawful}
+use Rattle.assise_manager.proofs.Shared.Lawful.{failed_lawful}
 use Rattle.assise_manager.proofs.members.Members.fail_full.Goals as goal
 use Rattle.assise_manager.proofs.members.Members.fail_full.Goals.{After-put}
 

@@ -2,9 +2,10 @@ use Rattle.assise_manager.proofs.Common.{◌≡◌, ◌+◌, true, false, Some, 
 use Rattle.assise_manager.proofs.Common.{map-append, length-map, donor_of, joined, Membership, IsMembership, standing_of, with_standing, full_nodes, standing}
 use Rattle.assise_manager.proofs.Common.{listed_inodes, joined_levels, membership}
 use Rattle.std.specs.FinSet as set
+use Rattle.std.specs.Prelude.{◌≤◌, vec_capacity}
 use Rattle.assise_manager.specs.Standings.{full}
 use Rattle.assise_manager.proofs.Places.{whole, joined_is, all_counted, some_away}
-use Rattle.assise_manager.proofs.Lawful.{joined_lawful}
+use Rattle.assise_manager.proofs.Shared.Lawful.{joined_lawful}
 use Rattle.assise_manager.proofs.members.Members.join.Goals as goal
 use Rattle.assise_manager.proofs.members.Members.join.Goals.{After-len-2, After-clear, After-push_reserved}
 
@@ -37,6 +38,16 @@ facts c =
           ∙ sym (ap (joined_levels (membership old).levels c.args.node) c.in_ok-donor.ensures.donor),
     )
 
+-- what holds of the members then
+sound : (c : After-len-2) (lists : List (set.FinSet nat_cmp)) → now c lists ≡ joined (membership c.args.self.now) c.args.node → IsMembership (now c lists)
+    × (c.list_full.new.full.items ≡ full_nodes (now c []).nodes) × (c.args.self.now.nodes.len ≤ vec_capacity c.list_full.new.full)
+sound c lists is =
+    let old = c.args.self.now in (
+      subst IsMembership (sym is) (joined_lawful (membership old) c.args.node old.lawful (c.in_ok-donor.ensures.faultless.0 refl)),
+      c.list_full.ensures.full ∙ ap (λ ns. full_nodes (map standing ns)) c.deref.ensures.value,
+      (let l = c.list_full.ensures.capacity in let r = old.room in omega arith),
+    )
+
 all_full : (c : After-clear)
     → now (goal.at.After-clear c).After-len-2 (map listed_inodes c.clear.new.self.items) ≡ joined (membership c.args.self.now) c.args.node
 all_full c =
@@ -61,22 +72,12 @@ returns-else-len-clause-ok c = one_away (goal.at.returns-else-len-clause-ok c).A
 
 pub invariant_of-self-then-len : goal.invariant_of-self-then-len
 invariant_of-self-then-len c =
-    let old = c.args.self.now in
-    record {
-      lawful = subst IsMembership (sym (all_full (goal.at.invariant_of-self-then-len c).After-clear))
-          (joined_lawful (membership old) c.args.node old.lawful (c.in_ok-donor.ensures.faultless.0 refl));
-      listed = c.list_full.ensures.full ∙ ap (λ ns. full_nodes (map standing ns)) c.deref.ensures.value;
-      room = (let l = c.list_full.ensures.capacity in let r = old.room in omega arith);
-      few = old.few;
-    }
+    let at = goal.at.invariant_of-self-then-len c in
+    let s = sound at.After-len-2 _ (all_full at.After-clear) in
+    record { lawful = s.0; listed = s.1; room = s.2; few = c.args.self.now.few }
 
 pub invariant_of-self-else-len : goal.invariant_of-self-else-len
 invariant_of-self-else-len c =
-    let old = c.args.self.now in
-    record {
-      lawful = subst IsMembership (sym (one_away (goal.at.invariant_of-self-else-len c).After-push_reserved))
-          (joined_lawful (membership old) c.args.node old.lawful (c.in_ok-donor.ensures.faultless.0 refl));
-      listed = c.list_full.ensures.full ∙ ap (λ ns. full_nodes (map standing ns)) c.deref.ensures.value;
-      room = (let l = c.list_full.ensures.capacity in let r = old.room in omega arith);
-      few = old.few;
-    }
+    let at = goal.at.invariant_of-self-else-len c in
+    let s = sound at.After-len-2 _ (one_away at.After-push_reserved) in
+    record { lawful = s.0; listed = s.1; room = s.2; few = c.args.self.now.few }

@@ -1,6 +1,6 @@
 use Rattle.assise_manager.proofs.Common.{[], ◌≡◌, ◌∙◌, sym, ap, map, subst, arith, fulls, IsMembership, plains, full_nodes, standing, listed_inodes}
 use Rattle.assise_manager.proofs.Places.{fulls_push, plains_push}
-use Rattle.assise_manager.proofs.Lawful.{all_full_lawful}
+use Rattle.assise_manager.proofs.Shared.Lawful.{all_full_lawful}
 use Rattle.assise_manager.proofs.members.Members.new.Goals as goal
 
 pub loop-preserved : goal.loop-preserved

@@ -2,8 +2,8 @@ use Rattle.assise_manager.proofs.Common.{◌∙◌, ◌++◌, sym, ap, map, take
 use Rattle.assise_manager.proofs.Common.{listed_inodes, membership}
 use Rattle.std.specs.FinSet as set
 use Rattle.assise_manager.proofs.Places.{whole}
-use Rattle.assise_manager.proofs.Nodes.{full_from_map}
-use Rattle.assise_manager.proofs.Lawful.{noted_lawful, stale_full}
+use Rattle.assise_manager.proofs.Shared.Nodes.{full_from_map}
+use Rattle.assise_manager.proofs.Shared.Lawful.{noted_lawful, stale_full}
 use Rattle.assise_manager.proofs.members.Members.note_reserved.Goals as goal
 
 pub invariant_of-self : goal.invariant_of-self

@@ -1,6 +1,6 @@
 use Rattle.assise_manager.proofs.Common.{◌∙◌, sym, ap, map, subst, length, IsMembership, with_standing, full_nodes, standing, listed_inodes, membership}
 use Rattle.assise_manager.proofs.Places.{whole, full_away}
-use Rattle.assise_manager.proofs.Lawful.{with_node_lawful}
+use Rattle.assise_manager.proofs.Shared.Lawful.{with_node_lawful}
 use Rattle.assise_manager.proofs.members.Members.put.Goals as goal
 
 pub invariant_of-self : goal.invariant_of-self

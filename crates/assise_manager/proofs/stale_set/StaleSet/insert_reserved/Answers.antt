@@ -1,5 +1,5 @@
 use Rattle.assise_manager.proofs.Common.{get_or, ◌∙◌, sym, ap, arith, leb-true}
-use Rattle.assise_manager.proofs.Sets.{union-empty, union_take}
+use Rattle.assise_manager.proofs.Shared.Sets.{union-empty, union_take}
 use Rattle.std.specs.FinSet as set
 use Rattle.assise_manager.proofs.stale_set.StaleSet.insert_reserved.Goals as goal
 

@@ -2,7 +2,7 @@ use Rattle.assise_manager.proofs.Common.{◌∙◌, sym, ap, subst, take, map, n
 use Rattle.assise_manager.proofs.Common.{sorted_from_strictly_increasing, take_all, all_inodes, listed_inodes}
 use Rattle.std.specs.FinSet as set
 use Rattle.std.proofs.lemmas.List.Filters.{dedup_is}
-use Rattle.assise_manager.proofs.Sets.{from_append, from_permutation, all_take}
+use Rattle.assise_manager.proofs.Shared.Sets.{from_append, from_permutation, all_take}
 use Rattle.assise_manager.proofs.AscendingSets.{dedup_set}
 use Rattle.assise_manager.proofs.stale_set.StaleSet.of.Goals as goal
 
@@ -20,10 +20,12 @@ invariant_of-result c = record {
       (sorted_from_strictly_increasing _ (IsStrictlyIncreasing-dedup _ c.sort_unstable.ensures.sorted));
 }
 
-pub returns-clause-inodes : goal.returns-clause-inodes
-returns-clause-inodes c =
-    ap set.from_list (c.from_vec-inodes.ensures.items ∙ dedup_is _ _ _ c.dedup.ensures.filtered)
-    ∙ dedup_set _
-    ∙ from_permutation _ _ c.sort_unstable.ensures.permutation
-    ∙ c.loop-list.invariant
-    ∙ ap (λ l. all_inodes (map listed_inodes l)) (take_all _ _ c.loop-list-test.false)
+pub returns : goal.returns
+returns c = record {
+  inodes =
+      ap set.from_list (c.from_vec-inodes.ensures.items ∙ dedup_is _ _ _ c.dedup.ensures.filtered)
+      ∙ dedup_set _
+      ∙ from_permutation _ _ c.sort_unstable.ensures.permutation
+      ∙ c.loop-list.invariant
+      ∙ ap (λ l. all_inodes (map listed_inodes l)) (take_all _ _ c.loop-list-test.false);
+}

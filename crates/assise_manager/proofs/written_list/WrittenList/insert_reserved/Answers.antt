@@ -1,6 +1,6 @@
 use Rattle.assise_manager.proofs.Common.{get_or, ◌∙◌, sym, ap, arith, leb-true}
 use Rattle.std.specs.FinSet as set
-use Rattle.assise_manager.proofs.Sets.{union-empty, union_take, listed_insert}
+use Rattle.assise_manager.proofs.Shared.Sets.{union-empty, union_take, listed_insert}
 use Rattle.assise_manager.proofs.written_list.WrittenList.insert_reserved.Goals as goal
 
 pub loop-inode-init : goal.loop-inode-init

@@ -1,7 +1,7 @@
 use Rattle.assise_names.proofs.Common.{◌≡◌, ◌∷◌, ◌++◌, [], ℕ, List, Result, Ok, Err, IfOk, nat_cmp, ◌∙◌, ap, ap₂, sym, subst, append-nil, slice_cmp}
 use Rattle.assise_names.proofs.Common.{IsStrictlySortedBy, keys_of}
 use Rattle.std.proofs.lemmas.List.{append_assoc}
-use Rattle.assise_names.specs.declared.refusal.Refusal.{Refusal}
+use Rattle.std.specs.declared.alloc.AllocError.{AllocError}
 use Rattle.assise_names.proofs.name_list.NameList.of_keys.Goals as goal
 
 pub loop-name-init : goal.loop-name-init
@@ -14,14 +14,14 @@ loop-name-preserved g c =
     ∙ ap (λ ns. c.loop-name.names.items ++ ns) (sym c.in-Some.ensures.steps) ∙ c.loop-name.invariant
 
 -- the names that are made are these
-made : (r : Result (List (List ℕ)) Refusal) (names keys : List (List ℕ)) → IfOk r (λ list. list ≡ names) → names ≡ keys → IfOk r (λ list. list ≡ keys)
+made : (r : Result (List (List ℕ)) AllocError) (names keys : List (List ℕ)) → IfOk r (λ list. list ≡ names) → names ≡ keys → IfOk r (λ list. list ≡ keys)
 made (Ok list) names keys is same = is ∙ same
-made (Err refusal) names keys is same = tt
+made (Err error) names keys is same = tt
 
-sorted : (r : Result (List (List ℕ)) Refusal) (keys : List (List ℕ)) → IfOk r (λ list. list ≡ keys) → IsStrictlySortedBy (slice_cmp nat_cmp) keys →
+sorted : (r : Result (List (List ℕ)) AllocError) (keys : List (List ℕ)) → IfOk r (λ list. list ≡ keys) → IsStrictlySortedBy (slice_cmp nat_cmp) keys →
     IfOk r (IsStrictlySortedBy (slice_cmp nat_cmp))
 sorted (Ok list) keys is ascend = subst (IsStrictlySortedBy (slice_cmp nat_cmp)) (sym is) ascend
-sorted (Err refusal) keys is ascend = tt
+sorted (Err error) keys is ascend = tt
 
 pub from_vec-requires : goal.from_vec-requires
 from_vec-requires g c =

@@ -1,5 +1,5 @@
 use Rattle.assise_private_log.proofs.Common.{arith, group-shorter}
-use Rattle.assise_private_log.proofs.LogGroups.{left_all}
+use Rattle.assise_private_log.proofs.Shared.LogGroups.{left_all}
 use Rattle.assise_private_log.proofs.group.Group.coalesced.Goals as goal
 
 pub invariant_of-result-2 : goal.invariant_of-result-2

@@ -1,5 +1,5 @@
 use Rattle.assise_private_log.proofs.Common.{◌≡◌, ◌==◌, ◌++◌, ◌∙◌, Result, Err, IsOk, length, ap, sym, subst, true≢false, arith, end}
-use Rattle.assise_private_log.proofs.LogGroups.{HasRest, all_passed, first_begins, group_more, group_open, has_rest, one_passed}
+use Rattle.assise_private_log.proofs.Shared.LogGroups.{HasRest, all_passed, first_begins, group_more, group_open, has_rest, one_passed}
 use Rattle.assise_private_log.proofs.log.Log.append_group.Goals as goal
 use Rattle.assise_private_log.proofs.log.Log.append_group.Goals.{In-Some, After-end}
 

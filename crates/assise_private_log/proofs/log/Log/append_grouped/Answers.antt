@@ -1,6 +1,6 @@
 use Rattle.assise_private_log.proofs.Common.{◌≡◌, rules, subst, sym, HasOpenGroup}
 use Rattle.assise_private_log.specs.contracts.log_view.LogView.{the_view}
-use Rattle.assise_private_log.proofs.Borders.{rings_grouped}
+use Rattle.assise_private_log.proofs.Shared.Borders.{rings_grouped}
 use Rattle.assise_private_log.proofs.log.Log.append_grouped.Goals as goal
 
 pub invariant_of-self-inside : goal.invariant_of-self-inside

@@ -1,4 +1,4 @@
-use Rattle.assise_private_log.proofs.Borders.{rings_tail}
+use Rattle.assise_private_log.proofs.Shared.Borders.{rings_tail}
 use Rattle.assise_private_log.proofs.log.Log.cut_tail.Goals as goal
 
 pub invariant_of-self-inside : goal.invariant_of-self-inside

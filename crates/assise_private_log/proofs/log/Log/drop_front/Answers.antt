@@ -1,5 +1,5 @@
 use Rattle.assise_private_log.proofs.Common.{rules}
-use Rattle.assise_private_log.proofs.Borders.{rings_prefix}
+use Rattle.assise_private_log.proofs.Shared.Borders.{rings_prefix}
 use Rattle.assise_private_log.proofs.log.Log.drop_front.Goals as goal
 
 pub invariant_of-self-inside : goal.invariant_of-self-inside

@@ -1,5 +1,5 @@
 use Rattle.assise_private_log.proofs.Common.{arith}
-use Rattle.assise_private_log.proofs.LogGroups.{effects_more, groups_more}
+use Rattle.assise_private_log.proofs.Shared.LogGroups.{effects_more, groups_more}
 use Rattle.assise_private_log.proofs.log.Log.groups_from.Goals as goal
 
 pub loop-rest-preserved : goal.loop-rest-preserved

@@ -1,5 +1,5 @@
 use Rattle.assise_private_log.proofs.Common.{arith}
-use Rattle.assise_private_log.proofs.LogGroups.{all_passed, groups_one_more, one_passed, room_for_group}
+use Rattle.assise_private_log.proofs.Shared.LogGroups.{all_passed, groups_one_more, one_passed, room_for_group}
 use Rattle.assise_private_log.proofs.log.Log.regroup.Goals as goal
 
 pub append_group-requires : goal.append_group-requires

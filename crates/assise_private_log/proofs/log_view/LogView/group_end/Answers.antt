@@ -1,5 +1,5 @@
 use Rattle.assise_private_log.proofs.Common.{◌≤◌, rules, arith, end}
-use Rattle.assise_private_log.proofs.Borders.{border_end, covers_group, next_is_group_end}
+use Rattle.assise_private_log.proofs.Shared.Borders.{border_end, covers_group, next_is_group_end}
 use Rattle.assise_private_log.proofs.log_view.LogView.group_end.Goals as goal
 
 pub returns-then-is_border-clause-end : goal.returns-then-is_border-clause-end

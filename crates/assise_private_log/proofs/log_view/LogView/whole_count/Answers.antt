@@ -1,5 +1,5 @@
 use Rattle.assise_private_log.proofs.Common.{◌≡◌, ℕ, ◌<◌, ◌≤◌, inl, rules, arith, ap, sym, ◌∙◌, whole_count, IsNumberedLog, NumberedLog}
-use Rattle.assise_private_log.proofs.Borders.{some_whole, whole_here, whole_none, whole_passed}
+use Rattle.assise_private_log.proofs.Shared.Borders.{some_whole, whole_here, whole_none, whole_passed}
 use Rattle.assise_private_log.proofs.log_view.LogView.whole_count.Goals as goal
 
 pub loop-count-preserved : goal.loop-count-preserved

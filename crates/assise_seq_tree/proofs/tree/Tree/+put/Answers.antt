@@ -1,6 +1,6 @@
 use Rattle.assise_seq_tree.proofs.Common.{subst, IsErr, IsOrdered, at, ◌≡◌, ◌∙◌, Err, ap, sym, tree_of, NoEnt, on_ok_weaker, on_err_weaker}
 use Rattle.assise_seq_tree.proofs.Order.{ordered-after}
-use Rattle.assise_seq_tree.proofs.Walk.{no_items, first_and_rest, found_mut, missing_mut, at_missing, at_below, fails_at_none, put_root, put_file, put_found}
+use Rattle.assise_seq_tree.proofs.Walk.{no_items, first_and_rest, missing_mut, at_missing, at_looked_up, fails_at_none, put_root, put_file, put_found}
 use Rattle.assise_seq_tree.proofs.Walk.{put_missing, kept_found}
 use Rattle.assise_seq_tree.proofs.tree.Tree.+put.Goals as goal
 use Rattle.assise_seq_tree.proofs.tree.Tree.+put.Goals.{In-None, in-File, in-Directory+in-Some}
@@ -70,9 +70,8 @@ returns-clause-asked t c =
     elim c.match-self.branch [
       | in-File w ↦ rw w.result-is tt
       | in-Directory+in-Some w ↦
-          let is = sym c.self.view_is ∙ ap tree_of w.in-Directory.is in
-          let below = at_below _ _ _ _ _ _ (first_and_rest _ _ c.in-len1-up.len_at_least c.name-item.is) is
-          (found_mut _ w.in-Directory.entries w.get_mut.result _ w.in-Some.is w.get_mut.ensures.value) in
+          let below = at_looked_up _ _ _ _ w.in-Directory.entries w.get_mut.result _ (first_and_rest _ _ c.in-len1-up.len_at_least c.name-item.is)
+          (sym c.self.view_is ∙ ap tree_of w.in-Directory.is) w.in-Some.is w.get_mut.ensures.value in
           rw w.result-is (on_err_weaker w.put.result (λ h. subst IsErr (sym below) h) w.put.ensures.asked)
       | in-Directory+in-None+in_ok-put-in-None+in_ok-key-in-None+in_ok-insert-in-None w ↦ rw w.result-is tt
     ]

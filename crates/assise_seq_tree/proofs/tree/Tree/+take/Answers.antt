@@ -1,6 +1,6 @@
 use Rattle.assise_seq_tree.proofs.Common.{◌∙◌, ap, sym, subst, IsOrdered, tree_of}
-use Rattle.assise_seq_tree.proofs.Moves.{ordered-without}
-use Rattle.assise_seq_tree.proofs.Walk.{is_none, is_more, first_and_rest, found_mut, missing_mut, at_file, at_missing, at_below, no_tree, taken_last}
+use Rattle.assise_seq_tree.proofs.Shared.Moves.{ordered-without}
+use Rattle.assise_seq_tree.proofs.Walk.{is_none, is_more, first_and_rest, missing_mut, at_file, at_missing, at_looked_up, no_tree, taken_last}
 use Rattle.assise_seq_tree.proofs.Walk.{without_file, without_last, without_found, without_missing}
 use Rattle.assise_seq_tree.proofs.tree.Tree.+take.Goals as goal
 use Rattle.assise_seq_tree.proofs.tree.Tree.+take.Goals.{in-File, in-Directory+then-is_empty, in-Directory+else-is_empty+in-Some}
@@ -17,9 +17,8 @@ returns-clause-taken t c = λ found h.
           w.remove.ensures.value h)
       | in-Directory+else-is_empty+in-Some w ↦
           let is = sym c.self.view_is ∙ ap tree_of w.in-Directory.is in
-          let value = w.get_mut.ensures.value in
-          rw w.result-is (w.take.ensures.taken found
-          (sym (at_below _ _ _ _ _ _ step is (found_mut _ w.in-Directory.entries w.get_mut.result _ w.in-Some.is value)) ∙ h))
+          let below = at_looked_up _ _ _ _ w.in-Directory.entries w.get_mut.result _ step is w.in-Some.is w.get_mut.ensures.value in
+          rw w.result-is (w.take.ensures.taken found (sym below ∙ h))
       | in-Directory+else-is_empty+in-None w ↦
           let value = w.get_mut.ensures.value in
           no_tree _ _ _ (at_missing _ _ _ _ _ step (sym c.self.view_is ∙ ap tree_of w.in-Directory.is)

@@ -1,5 +1,5 @@
 use Rattle.assise_seq_tree.proofs.Common.{subst, IsOrdered}
-use Rattle.assise_seq_tree.proofs.Paths.{step_disjoint}
+use Rattle.assise_seq_tree.proofs.Shared.Paths.{step_disjoint}
 use Rattle.assise_seq_tree.proofs.TreePlaced.{below_the_root, moved_whole, moved_none}
 use Rattle.assise_seq_tree.proofs.tree.Tree.move_entry.Goals as goal
 

@@ -1,17 +1,11 @@
-use Rattle.assise_seq_tree.proofs.Common.{◌∙◌, ap, on_ok_weaker, on_err_weaker, file, put}
-use Rattle.assise_seq_tree.proofs.TreePut.{put-at, swapped_back}
+use Rattle.assise_seq_tree.proofs.Common.{file}
+use Rattle.assise_seq_tree.proofs.Shared.TreePut.{swapped_ok, swapped_err}
 use Rattle.assise_seq_tree.proofs.tree.Tree.overwrite_at.Goals as goal
 
 pub returns-clause-ok : goal.returns-clause-ok
-returns-clause-ok c = λ bytes h.
-    let first = c.swap.ensures.there (file bytes) h in
-    let back = swapped_back c.args.names.now c.args.self.now (file bytes) _ _ _ _ h first.1 (λ v there. (c.swap-2.ensures.there v there).1) in
-    on_ok_weaker c.overwrite-outcome.result (λ e. back ∙ ap (put c.args.self.now c.args.names.now) e) (c.overwrite-outcome.ensures.ok bytes first.0)
+returns-clause-ok c = λ bytes h. swapped_ok c.overwrite-outcome.result c.args.names.now c.args.self.now _ _ h (c.swap.ensures.there (file bytes) h)
+    c.swap-2.ensures.there _ (c.overwrite-outcome.ensures.ok bytes)
 
 pub returns-clause-err : goal.returns-clause-err
-returns-clause-err c = λ bytes h.
-    let first = c.swap.ensures.there (file bytes) h in
-    let back = swapped_back c.args.names.now c.args.self.now (file bytes) _ _ _ _ h first.1 (λ v there. (c.swap-2.ensures.there v there).1) in
-    on_err_weaker c.overwrite-outcome.result
-    (λ e. back ∙ ap (put c.args.self.now c.args.names.now) (e ∙ first.0)
-    ∙ put-at c.args.names.now c.args.self.now (file bytes) h) c.overwrite-outcome.ensures.err
+returns-clause-err c = λ bytes h. swapped_err c.overwrite-outcome.result c.args.names.now c.args.self.now _ _ h (c.swap.ensures.there (file bytes) h)
+    c.swap-2.ensures.there c.overwrite-outcome.ensures.err

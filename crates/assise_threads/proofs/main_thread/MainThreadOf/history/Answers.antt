@@ -1,26 +1,6 @@
-use Rattle.assise_threads.proofs.Common.{rules, ◌≡◌, ◌∙◌, ap, is_some, sym, Extends, openings_of, last, seen, taken, machine, machine_seen, OpensNone}
-use Rattle.assise_threads.proofs.LedTakes.{between, leads_itself, not_never, works_seen}
-use Rattle.assise_threads.proofs.Nobodys.{may_give_same, same_opens_none, stays_nobody_same}
+use Rattle.assise_threads.proofs.Common.{rules, ◌∙◌, ap, sym, Extends, last, seen, machine_seen}
+use Rattle.assise_threads.proofs.LedTakes.{between, works_seen}
 use Rattle.assise_threads.proofs.main_thread.MainThreadOf.history.Goals as goal
-
-pub give-requires-clause-grows : goal.give-requires-clause-grows
-give-requires-clause-grows g c =
-    let is : taken c.take-held.new.pass ≡ (machine c.state.result.now).history = search rules in
-    may_give_same _ _ _ _ is
-
-pub give-requires-clause-leads : goal.give-requires-clause-leads
-give-requires-clause-leads g c = leads_itself _ _ _ c.take-held.ensures.state c.state.ensures.value
-
-pub invariant_of-self : goal.invariant_of-self
-invariant_of-self g c =
-    let is : taken c.take-held.new.pass ≡ (machine c.state.result.now).history = search rules in
-    record {
-      ours = c.give.ensures.free;
-      nobody = c.give.ensures.client ∙ stays_nobody_same _ _ _ (c.take-held.ensures.same.1 ∙ c.args.self.now.nobody) is;
-      alone = c.give.ensures.right ∙ (c.take-held.ensures.right ∙ c.args.self.now.alone);
-      met = ap is_some c.give.ensures.last;
-      known = c.give.ensures.seen ∙ sym (ap (λ z. (machine_seen z).history) c.give.ensures.last);
-    }
 
 pub returns-clause-worked : goal.returns-clause-worked
 returns-clause-worked g c = works_seen (last c.args.self.now.pass) (last c.give.new.pass) c.take-held.result c.args.self.now.met
@@ -33,16 +13,3 @@ returns-clause-extends g c =
     let extends : Extends (seen new) (seen old) = search rules in
     between (λ a b. Extends b a) (seen old) (seen new) c.args.self.now.known
     (c.give.ensures.seen ∙ sym (ap (λ z. (machine_seen z).history) c.give.ensures.last)) extends
-
-pub returns-clause-none_opened : goal.returns-clause-none_opened
-returns-clause-none_opened g c =
-    let old = c.args.self.now.pass in
-    let new = c.give.new.pass in
-    let is : taken c.take-held.new.pass ≡ (machine c.state.result.now).history = search rules in
-    let opened : openings_of (machine c.state.result.now).history ≡ openings_of (seen old) = ap openings_of (sym is ∙ c.take-held.ensures.taken)
-    ∙ c.take-held.ensures.alone c.args.self.now.alone in
-    between OpensNone (seen old) (seen new) c.args.self.now.known (c.give.ensures.seen ∙ sym (ap (λ z. (machine_seen z).history) c.give.ensures.last))
-    (same_opens_none (seen old) (machine c.state.result.now).history (seen new) opened c.give.ensures.seen)
-
-pub give-requires-clause-works : goal.give-requires-clause-works
-give-requires-clause-works g c = λ never. absurd (not_never _ (c.take-held.ensures.right ∙ c.args.self.now.alone) never)

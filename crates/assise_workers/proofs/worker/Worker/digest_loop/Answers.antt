@@ -1,5 +1,5 @@
 use Rattle.assise_workers.proofs.Common.{◌∙◌, ◌∷◌, seen_at}
-use Rattle.assise_workers.proofs.Lists.{extends-on}
+use Rattle.assise_workers.proofs.Shared.Lists.{extends-on}
 use Rattle.assise_workers.proofs.worker.Worker.digest_loop.Goals as goal
 
 pub returns-then-not-rest-clause-turns : goal.returns-then-not-rest-clause-turns

@@ -1,7 +1,7 @@
 use Rattle.assise_workers.proofs.Common.{rules, ◌≡◌, ◌++◌, ◌∷◌, [], ◌∙◌, append_assoc, refl, subst, sym, perfect, HasCarried, AreReadBy, letter_of, seen_at}
-use Rattle.assise_keeper.proofs.PassAdds.{extends-same}
+use Rattle.assise_keeper.proofs.Shared.PassAdds.{extends-same}
 use Rattle.assise_workers.proofs.Deliveries.{none_carried, one_more_carried, read_parts, rest_kept}
-use Rattle.assise_workers.proofs.Lists.{extends-on}
+use Rattle.assise_workers.proofs.Shared.Lists.{extends-on}
 use Rattle.assise_workers.proofs.worker.Worker.send_all.Goals as goal
 
 pub loop-letter-init : goal.loop-letter-init

@@ -1,6 +1,6 @@
 use Rattle.assise_workers.proofs.Common.{rules, ◌≡◌, Extends, led_from, seen, seen_at}
 use Rattle.assise_keeper.specs.Working.{pass_of}
-use Rattle.assise_workers.proofs.Lists.{both_ok}
+use Rattle.assise_workers.proofs.Shared.Lists.{both_ok}
 use Rattle.assise_workers.proofs.worker.Worker.take_outgoing.Goals as goal
 
 pub returns-clause-sent : goal.returns-clause-sent

@@ -1,0 +1,2 @@
+-- The lemmas that other crates import.
+pub mod KeptStands

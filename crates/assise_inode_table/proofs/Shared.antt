@@ -1,0 +1,21 @@
+-- The lemmas that other crates import.
+pub mod EffectValues
+pub mod Local
+pub mod PairwiseLists
+pub mod Lateness
+pub mod CallSteps
+pub mod CallsRemoved
+pub mod DirectoryNames
+pub mod SpellingUnique
+pub mod MapView
+pub mod LiveSlots
+pub mod TableView
+pub mod ReachedSpelling
+pub mod CallEnds
+pub mod AtOpening
+pub mod InodeNumbers
+pub mod EffectLists
+pub mod Wholeness
+pub mod MapChanges
+pub mod Grouped
+pub mod LeftWhole

@@ -1,0 +1,3 @@
+-- The lemmas that other crates import.
+pub mod Borders
+pub mod LogGroups
